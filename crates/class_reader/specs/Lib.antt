@@ -1,0 +1,3 @@
+pub mod Stage
+pub use Rattle.jk_model.specs.ClassFile
+pub use Rattle.jk_model.specs.Text

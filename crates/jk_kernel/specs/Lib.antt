@@ -1,0 +1,5 @@
+pub mod Form
+pub use Rattle.jk_model.specs.ClassFile
+pub use Rattle.jk_model.specs.Machine
+pub use Rattle.jk_model.specs.Outside
+pub use Rattle.jk_model.specs.Output

@@ -1,0 +1,61 @@
+//! Files, as something that lists folders and reads files.
+
+ghost use Rattle.std.specs.Prelude.{◌≡◌, ℕ, ◌≤◌, List, length, Option, IfOk, Err};
+ghost use Rattle.jk_model.specs.Outside.{Tree, FolderIs, FileIs, FolderIsAbsent, FileIsAbsent, FolderIsLong, FileIsLong, HasRisen, NeverFalls};
+
+use jk_model::{Bytes, Entry, List};
+use thiserror::Error;
+
+/// Why a folder was not listed, or a file not read.
+#[derive(Clone, Copy, Debug, PartialEq, Eq, Error)]
+pub enum FilesError {
+    /// A fault of the files, which was counted.
+    #[error("cannot read")]
+    Failed,
+    /// There is no such folder, or no such file.
+    #[error("not there")]
+    Absent,
+    /// It has more entries, or more bytes, than the limit.
+    #[error("too long")]
+    TooLong,
+    #[error("out of memory")]
+    OutOfMemory,
+}
+
+/// Folders that can be listed and files that can be read. A path is made of names joined by `/`.
+pub trait Files {
+    /// The folders and files, where they are told. They never change.
+    ghost tree: { Self → Option Tree };
+
+    /// How many faults there were. At its last value, 2 ^ 64 - 1, it stands still.
+    ghost faults: { Self → ℕ };
+
+    /// How many bytes and entries were taken, which counts where no tree is told.
+    ghost taken: { Self → ℕ };
+
+    /// What stands in a folder, in any order, if there are at most `limit` entries.
+    fn list(&mut self, folder: &str, limit: u32) -> Result<List<Entry>, FilesError>
+        ensures found { IfOk result (λ entries. FolderIs (tree self.old) folder.now entries) }
+        ensures within { IfOk result (λ entries. length entries ≤ limit) }
+        ensures failed { result ≡ Err FilesError.Failed → HasRisen (faults self.old) (faults self.new) }
+        ensures absent { result ≡ Err FilesError.Absent
+            → FolderIsAbsent (tree self.old) folder.now (faults self.old) (faults self.new) }
+        ensures too_long { result ≡ Err FilesError.TooLong
+            → FolderIsLong (tree self.old) folder.now limit (taken self.old) (taken self.new) }
+        ensures stays { tree self.new ≡ tree self.old }
+        ensures faults { NeverFalls (faults self.old) (faults self.new) }
+        ensures taken { NeverFalls (taken self.old) (taken self.new) };
+
+    /// The bytes of a file, if there are at most `limit`.
+    fn read(&mut self, path: &str, limit: u32) -> Result<Bytes, FilesError>
+        ensures found { IfOk result (λ bytes. FileIs (tree self.old) path.now bytes) }
+        ensures within { IfOk result (λ bytes. length bytes ≤ limit) }
+        ensures failed { result ≡ Err FilesError.Failed → HasRisen (faults self.old) (faults self.new) }
+        ensures absent { result ≡ Err FilesError.Absent
+            → FileIsAbsent (tree self.old) path.now (faults self.old) (faults self.new) }
+        ensures too_long { result ≡ Err FilesError.TooLong
+            → FileIsLong (tree self.old) path.now limit (taken self.old) (taken self.new) }
+        ensures stays { tree self.new ≡ tree self.old }
+        ensures faults { NeverFalls (faults self.old) (faults self.new) }
+        ensures taken { NeverFalls (taken self.old) (taken self.new) };
+}

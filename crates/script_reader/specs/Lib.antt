@@ -1,0 +1,2 @@
+pub mod Events
+pub use Rattle.jk_model.specs.Script
