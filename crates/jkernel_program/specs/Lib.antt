@@ -1,4 +1,5 @@
 pub mod Calls
+pub mod Folders
 pub mod Loading
 pub mod Messages
 pub mod Statuses

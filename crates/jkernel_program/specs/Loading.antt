@@ -44,6 +44,10 @@ pub record HasOneClass (entries : List Entry) (class : List ℕ) : Type 0 where
   pub found : find is_class_file entries ≡ Some file
   pub named : file.name ≡ class_file_name class
 
+-- the same, with the name of the file
+abbrev pub IsOneClass : List Entry → List ℕ → List ℕ → Type 0
+IsOneClass entries file class = (one : HasOneClass entries class) × (one.file.name ≡ file)
+
 -- The folder at a path has one class file, which is a class of the form that runs, under its own name.
 pub record IsLoadable (tree : Tree) (folder class : List ℕ) (texts : List (List ℕ)) : Type 0 where
   pub entries : List Entry

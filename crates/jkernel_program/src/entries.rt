@@ -2,7 +2,7 @@
 
 ghost use Rattle.std.specs.Prelude.{◌≡◌, ℕ, ◌≤◌, List, length, MatchOption, count_by, find, option_copied};
 ghost use Rattle.std.specs.List.{list_all};
-ghost use Rattle.jkernel_program.specs.Loading.{HasOneClass, is_allowed, is_class_file, MAX_ENTRIES};
+ghost use Rattle.jkernel_program.specs.Loading.{HasOneClass, IsOneClass, is_allowed, is_class_file, MAX_ENTRIES};
 
 use jk_model::Entry;
 
@@ -41,18 +41,18 @@ fn class_file(entries: &[Entry]) -> Option<&Entry>
     entries.iter().find(|entry| is_class_entry(entry))
 }
 
-/// The name of a folder's one class, where the folder has the file of one class and nothing that
-/// isn't built yet: no folder, and no `resolver.txt`.
-pub fn one_class(entries: &[Entry]) -> Option<&[u8]>
+/// The one class file of a folder, with the class's name, where the folder has the file of one class
+/// and nothing that isn't built yet: no folder, and no `resolver.txt`.
+pub fn one_class(entries: &[Entry]) -> Option<(&[u8], &[u8])>
     requires { length entries.now ≤ MAX_ENTRIES }
     ensures { MatchOption result ((class : List ℕ) → HasOneClass entries.now class → ⊥)
-        (λ class. HasOneClass entries.now class.now) }
+        (λ found. IsOneClass entries.now found.0.now found.1.now) }
 {
     if !are_allowed(entries) || class_count(entries) != 1 {
         return None;
     }
-    match class_file(entries) {
-        None => None,
-        Some(file) => file.name.as_slice().strip_suffix(b".class"),
-    }
+    let file = class_file(entries)?;
+    let name = file.name.as_slice();
+    let class = name.strip_suffix(b".class")?;
+    Some((name, class))
 }

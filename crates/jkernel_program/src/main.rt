@@ -3,8 +3,10 @@
 
 mod calls;
 mod entries;
+mod folders;
 mod paths;
 mod status;
+mod stop;
 
 pub use status::Status;
 
