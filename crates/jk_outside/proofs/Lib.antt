@@ -1,0 +1,4 @@
+pub mod Buffered
+pub mod Pieces
+pub mod Sent
+pub mod Splits
