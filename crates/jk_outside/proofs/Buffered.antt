@@ -1,8 +1,8 @@
 -- One more byte in the buffer, which may fill it.
-use Rattle.std.proofs.Common.{◌≡◌, ℕ, ◌+◌, ◌<◌, List, [], ◌∷◌, ◌++◌, Option, length, take, set, refl, sym, ap, ◌∙◌, subst, arith}
+use Rattle.std.proofs.Common.{◌≡◌, ℕ, ◌+◌, ◌<◌, List, [], ◌∷◌, ◌++◌, Option, length, take, set, sym, ap, ◌∙◌, subst, arith}
 use Rattle.std.proofs.lemmas.List.{take_more_set, take_all, length-set, length_push, length-take-le}
 use Rattle.jk_model.specs.Outside.{Appends, AppendsPart}
-use Rattle.jk_outside.specs.Lines.{whole_pieces, rest_of_pieces, BreaksOff, GoesOut}
+use Rattle.jk_outside.specs.Lines.{whole_pieces, rest_of_pieces, BreaksOff}
 use Rattle.jk_outside.proofs.Pieces.{whole_pieces-full, rest_of_pieces-full, whole_pieces-short, rest_of_pieces-short}
 use Rattle.jk_outside.proofs.Sent.{Appends-nil, BreaksOff-from_part}
 

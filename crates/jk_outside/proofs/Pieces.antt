@@ -1,5 +1,5 @@
 -- A text in pieces of 256 bytes, and what more text does to them.
-use Rattle.std.proofs.Common.{◌≡◌, ℕ, ◌+◌, ◌-◌, ◌*◌, ◌/◌, ◌%◌, ◌<◌, ◌≤◌, List, [], ◌∷◌, ◌++◌, length, take, drop, refl, sym, ap, ◌∙◌, subst, arith, rules, length-append, length-drop, append_assoc}
+use Rattle.std.proofs.Common.{◌≡◌, ℕ, ◌+◌, ◌-◌, ◌%◌, ◌<◌, List, [], ◌++◌, length, take, refl, sym, ap, ◌∙◌, arith, length-append, length-drop, append_assoc}
 use Rattle.std.proofs.Math.Seq.{take-append-add}
 use Rattle.std.proofs.lemmas.List.{take-append-drop, take_all, drop_all, append_cancel_left, length-take-le}
 use Rattle.jk_outside.specs.Lines.{whole_pieces, rest_of_pieces}
@@ -63,9 +63,9 @@ rest_of_pieces-append x y =
     let more = rest_of_pieces x ++ y in
     let split : x ++ y ≡ whole_pieces x ++ more = ap (λ (t : List ℕ). t ++ y) (sym (whole_pieces-append-rest x)) ∙ append_assoc (whole_pieces x) (rest_of_pieces x) y in
     let ends : whole_pieces x ++ (whole_pieces more ++ rest_of_pieces (x ++ y)) ≡ whole_pieces x ++ more =
-        sym (append_assoc (whole_pieces x) (whole_pieces more) (rest_of_pieces (x ++ y)))
-            ∙ ap (λ (t : List ℕ). t ++ rest_of_pieces (x ++ y)) (sym (whole_pieces-append x y))
-            ∙ whole_pieces-append-rest (x ++ y) ∙ split in
+    sym (append_assoc (whole_pieces x) (whole_pieces more) (rest_of_pieces (x ++ y)))
+    ∙ ap (λ (t : List ℕ). t ++ rest_of_pieces (x ++ y)) (sym (whole_pieces-append x y))
+    ∙ whole_pieces-append-rest (x ++ y) ∙ split in
     let same : whole_pieces more ++ rest_of_pieces (x ++ y) ≡ whole_pieces more ++ rest_of_pieces more =
-        append_cancel_left (whole_pieces x) _ _ ends ∙ sym (whole_pieces-append-rest more) in
+    append_cancel_left (whole_pieces x) _ _ ends ∙ sym (whole_pieces-append-rest more) in
     append_cancel_left (whole_pieces more) _ _ same

@@ -1,6 +1,6 @@
 -- What went out to a sink, one text behind the other.
-use Rattle.std.proofs.Common.{◌≡◌, ℕ, ◌+◌, ◌-◌, ◌^◌, ◌<◌, ◌≤◌, ◌⊎◌, List, [], ◌∷◌, ◌++◌, Option, Some, None, length, refl, sym, ap, ◌∙◌, subst, inl, inr, ⊎_elim, arith, rules, append_assoc, append-nil}
-use Rattle.jk_model.specs.Outside.{Appends, AppendsPart, IsPrefix, HasRisen, NeverFalls}
+use Rattle.std.proofs.Common.{◌≡◌, ℕ, ◌^◌, ◌<◌, List, [], ◌++◌, Option, Some, None, length, refl, sym, ap, ◌∙◌, subst, inl, inr, ⊎_elim, arith, append_assoc, append-nil}
+use Rattle.jk_model.specs.Outside.{Appends, AppendsPart, HasRisen, NeverFalls}
 use Rattle.jk_outside.specs.Lines.{whole_pieces, rest_of_pieces, Holds, CarriesOn, GoesOut, BreaksOff}
 use Rattle.jk_outside.proofs.Pieces.{whole_pieces-append-rest, whole_pieces-append, rest_of_pieces-append, whole_pieces-short, rest_of_pieces-short}
 
@@ -36,7 +36,7 @@ Took-append a b c g h k x y first second =
     let P : List ℕ → Type 0 = λ held. Appends b c (whole_pieces (held ++ y)) in
     let then_written : Appends b c (whole_pieces (rest_of_pieces (g ++ x) ++ y)) = subst P first.held second.written in
     let all_written : Appends a c (whole_pieces (g ++ x) ++ whole_pieces (rest_of_pieces (g ++ x) ++ y)) =
-        Appends-append a b c _ _ first.written then_written in
+    Appends-append a b c _ _ first.written then_written in
     let joined : g ++ x ++ y ≡ g ++ (x ++ y) = append_assoc g x y in
     record {
       written = rw (← joined, whole_pieces-append (g ++ x) y) all_written;
@@ -46,11 +46,11 @@ Took-append a b c g h k x y first second =
 carries_on : (a b : Option (List ℕ)) (g h text : List ℕ) → Took a b g h text → (before : Option (List ℕ)) (put : List ℕ) → Holds before a g put → Holds before b h (put ++ text)
 carries_on a b g h text took before put (written, appends, is) =
     let all : written ++ whole_pieces (g ++ text) ++ h ≡ put ++ text =
-        append_assoc written (whole_pieces (g ++ text)) h
-            ∙ ap (λ (held : List ℕ). written ++ (whole_pieces (g ++ text) ++ held)) took.held
-            ∙ ap (λ (t : List ℕ). written ++ t) (whole_pieces-append-rest (g ++ text))
-            ∙ sym (append_assoc written g text)
-            ∙ ap (λ (t : List ℕ). t ++ text) is in
+    append_assoc written (whole_pieces (g ++ text)) h
+    ∙ ap (λ (held : List ℕ). written ++ (whole_pieces (g ++ text) ++ held)) took.held
+    ∙ ap (λ (t : List ℕ). written ++ t) (whole_pieces-append-rest (g ++ text))
+    ∙ sym (append_assoc written g text)
+    ∙ ap (λ (t : List ℕ). t ++ text) is in
     (written ++ whole_pieces (g ++ text), Appends-append before a b written (whole_pieces (g ++ text)) appends took.written, all)
 
 pub CarriesOn-from_took : (a b : Option (List ℕ)) (g h text : List ℕ) → Took a b g h text → CarriesOn a b g h text
@@ -60,8 +60,8 @@ CarriesOn-from_took a b g h text took = record { on = carries_on a b g h text to
 breaks_off : (a b : Option (List ℕ)) (g text : List ℕ) → AppendsPart a b (g ++ text) → (before : Option (List ℕ)) (put : List ℕ) → Holds before a g put → AppendsPart before b (put ++ text)
 breaks_off a b g text (front, (back, splits), part) before put (written, appends, is) =
     let whole : put ++ text ≡ written ++ front ++ back =
-        ap (λ (t : List ℕ). t ++ text) (sym is) ∙ append_assoc written g text
-            ∙ ap (λ (t : List ℕ). written ++ t) splits ∙ sym (append_assoc written front back) in
+    ap (λ (t : List ℕ). t ++ text) (sym is) ∙ append_assoc written g text
+    ∙ ap (λ (t : List ℕ). written ++ t) splits ∙ sym (append_assoc written front back) in
     (written ++ front, (back, whole), Appends-append before a b written front appends part)
 
 pub BreaksOff-from_part : (a b : Option (List ℕ)) (g text : List ℕ) → AppendsPart a b (g ++ text) → BreaksOff a b g text
@@ -70,7 +70,7 @@ BreaksOff-from_part a b g text part = record { off = breaks_off a b g text part 
 goes_out : (a b : Option (List ℕ)) (g text : List ℕ) → Appends a b (g ++ text) → (before : Option (List ℕ)) (put : List ℕ) → Holds before a g put → Appends before b (put ++ text)
 goes_out a b g text out before put (written, appends, is) =
     let whole : written ++ (g ++ text) ≡ put ++ text =
-        sym (append_assoc written g text) ∙ ap (λ (t : List ℕ). t ++ text) is in
+    sym (append_assoc written g text) ∙ ap (λ (t : List ℕ). t ++ text) is in
     let P : List ℕ → Type 0 = λ t. Appends before b t in
     subst P whole (Appends-append before a b written (g ++ text) appends out)
 

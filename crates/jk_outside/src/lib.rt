@@ -15,4 +15,3 @@ pub use line_buffer::LineBuffer;
 pub use line_output::write_line;
 pub use parts::Part;
 pub use sinks::{Sink, SinkFailed};
-

@@ -1,4 +1,4 @@
-use Rattle.std.proofs.Common.{◌≡◌, ◌+◌, ◌<◌, ℕ, List, [], ◌∷◌, ◌++◌, length, take, refl, sym, ap, ◌∙◌, arith, rules}
+use Rattle.std.proofs.Common.{arith, rules}
 use Rattle.std.proofs.lemmas.Result.{on_ok_weaker, on_err_weaker}
 use Rattle.jk_outside.proofs.Buffered.{IsHeld, full_written, full_part, full_rest, short_written, short_rest}
 use Rattle.jk_outside.proofs.Sent.{NeverFalls-refl}

@@ -1,4 +1,4 @@
-use Rattle.std.proofs.Common.{◌≡◌, ◌+◌, ◌<◌, List, ℕ, length, take, drop, get_or, subst, arith, rules}
+use Rattle.std.proofs.Common.{◌≡◌, ◌+◌, ◌<◌, List, ℕ, length, take, drop, subst, arith, rules}
 use Rattle.std.proofs.lemmas.List.{take_more, take_all}
 use Rattle.jk_outside.specs.Lines.{CarriesOn}
 use Rattle.jk_outside.proofs.Buffered.{IsHeld, length_held}
@@ -19,7 +19,7 @@ pub loop-byte-preserved : goal.loop-byte-preserved
 loop-byte-preserved g c =
     let within : c.loop-byte.byte-index < length c.args.bytes.now = omega arith in
     rw (take_more c.args.bytes.now c.loop-byte.byte-index 0 within)
-        (SoFar-append _ _ _ _ _ _ _ _ _ _ _ c.loop-byte.invariant c.in_ok-put_byte.ensures.written c.in_ok-put_byte.ensures.held c.in_ok-put_byte.ensures.faults c.in_ok-put_byte.ensures.few)
+    (SoFar-append _ _ _ _ _ _ _ _ _ _ _ c.loop-byte.invariant c.in_ok-put_byte.ensures.written c.in_ok-put_byte.ensures.held c.in_ok-put_byte.ensures.faults c.in_ok-put_byte.ensures.few)
 
 pub returns-clause-carries : goal.returns-clause-carries
 returns-clause-carries g c =

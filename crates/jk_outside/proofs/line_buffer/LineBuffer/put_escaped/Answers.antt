@@ -1,4 +1,4 @@
-use Rattle.std.proofs.Common.{◌≡◌, ◌+◌, ◌<◌, List, ℕ, length, take, drop, get_or, ap, subst, arith, rules}
+use Rattle.std.proofs.Common.{◌≡◌, ◌+◌, ◌<◌, List, ℕ, length, take, drop, ap, subst, arith, rules}
 use Rattle.std.proofs.lemmas.List.{take_all}
 use Rattle.jk_model.specs.Text.{shown, shown_unit}
 use Rattle.jk_outside.specs.Lines.{CarriesOn}
@@ -20,7 +20,7 @@ pub loop-unit-preserved : goal.loop-unit-preserved
 loop-unit-preserved g c =
     let within : c.loop-unit.unit-index < length c.args.units.now = omega arith in
     rw (flat_map-more shown_unit c.args.units.now c.loop-unit.unit-index 0 within)
-        (SoFar-append _ _ _ _ _ _ _ _ _ _ _ c.loop-unit.invariant c.in_ok-put_unit.ensures.written c.in_ok-put_unit.ensures.held c.in_ok-put_unit.ensures.faults c.in_ok-put_unit.ensures.few)
+    (SoFar-append _ _ _ _ _ _ _ _ _ _ _ c.loop-unit.invariant c.in_ok-put_unit.ensures.written c.in_ok-put_unit.ensures.held c.in_ok-put_unit.ensures.faults c.in_ok-put_unit.ensures.few)
 
 pub returns-clause-carries : goal.returns-clause-carries
 returns-clause-carries g c =
