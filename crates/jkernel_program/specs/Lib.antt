@@ -1,4 +1,6 @@
 pub mod Calls
+pub mod Ends
+pub mod Events
 pub mod Folders
 pub mod Loading
 pub mod Messages

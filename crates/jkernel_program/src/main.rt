@@ -2,8 +2,10 @@
 #![tactic(auto)]
 
 mod calls;
+mod ends;
 mod entries;
 mod folders;
+mod lines;
 mod paths;
 mod status;
 mod stop;
