@@ -1,2 +1,3 @@
 pub mod FolderLemmas
+pub mod RunLemmas
 pub mod TextLemmas
