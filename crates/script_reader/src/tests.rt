@@ -1,0 +1,4 @@
+//! Scripts, with what they say.
+
+use super::*;
+use std::test::Fail;
