@@ -1,5 +1,5 @@
 -- What lines say is one list of events, and the first lines of a script are a script.
-use Rattle.std.proofs.Common.{◌≡◌, ℕ, ◌+◌, ◌*◌, ◌^◌, ◌<◌, ◌≤◌, ◌⊎◌, inl, inr, Bool, true, false, List, [], ◌∷◌, ◌++◌, length, take, drop, refl, sym, ◌∙◌, ap, subst, arith, cond, length-append, append-nil, append_assoc, take_all, take-append-drop, nat_eq, get_or, IsTrue, count_by, codes}
+use Rattle.std.proofs.Common.{◌≡◌, ℕ, ◌+◌, ◌*◌, ◌^◌, ◌<◌, ◌≤◌, ◌⊎◌, inl, inr, Bool, true, false, List, [], ◌∷◌, ◌++◌, length, take, drop, refl, sym, ◌∙◌, ap, subst, arith, cond, length-append, append-nil, append_assoc, take_all, take-append-drop, take-take, nat_eq, get_or, IsTrue, count_by, codes}
 use Rattle.std.specs.List.{list_all}
 use Rattle.std.proofs.lemmas.Fmt.{decimal_injective}
 use Rattle.std.specs.Fmt.{decimal}
@@ -120,8 +120,8 @@ count_append p xs ys = grind (arith, common_steps)
 pub lines_front : (xs ys : List (List ℕ)) (all : List Event) → AreLines (xs ++ ys) all → (events : List Event) × AreLines xs events
 lines_front xs ys all h =
     let half = say_split xs ys all h.say in
-    let domains : count_by is_domain all ≡ count_by is_domain half.front + count_by is_domain half.back = rw half.both (count_append is_domain half.front half.back) in
-    let starts : count_by is_start all ≡ count_by is_start half.front + count_by is_start half.back = rw half.both (count_append is_start half.front half.back) in
+    let domains : count_by is_domain all ≡ count_by is_domain half.front + count_by is_domain half.back = ap (count_by is_domain) half.both ∙ count_append is_domain half.front half.back in
+    let starts : count_by is_start all ≡ count_by is_start half.front + count_by is_start half.back = ap (count_by is_start) half.both ∙ count_append is_start half.front half.back in
     (half.front, record {
       few = omega (arith, length-append xs ys, h.few);
       say = half.front_say;
@@ -130,7 +130,7 @@ lines_front xs ys all h =
     })
 
 take_front : {X : Type 0} (m n : ℕ) (xs : List X) → m ≤ n → (rest : List X) × (take n xs ≡ take m xs ++ rest)
-take_front m n xs h = (drop m (take n xs), rw (← take-take-le m n xs h) (sym (take-append-drop m (take n xs))))
+take_front m n xs h = (drop m (take n xs), sym (take-append-drop m (take n xs)) ∙ ap (λ ys. ys ++ drop m (take n xs)) (take-take m n xs h))
 
 -- a script's first n lines are a script
 pub lines_take : (ls : List (List ℕ)) (m n : ℕ) (all : List Event) → m ≤ n → AreLines (take n ls) all → (events : List Event) × AreLines (take m ls) events
@@ -153,3 +153,9 @@ ends_nowhere ls n events h k =
     let whole : take (length ls) ls ≡ ls = take_all (length ls) ls (omega arith) in
     let early = lines_take ls (n + 1) (length ls) events (omega (arith, k.there)) (rw whole h) in
     k.not_with early.0 early.1
+
+-- no more events than lines
+pub say_few : (ls : List (List ℕ)) (events : List Event) → Say ls events → length events ≤ length ls
+say_few [] events h = rw h (omega arith)
+say_few (line ∷ ls) events (all, inl (e, more)) = omega (arith, say_few ls events more)
+say_few (line ∷ ls) events (all, inr (e, event, rest, means, more, is)) = rw is (omega (arith, say_few ls rest more))
