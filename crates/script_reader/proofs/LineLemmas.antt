@@ -1,11 +1,10 @@
 -- How the lines of a script come off its front, one after the other.
-use Rattle.std.proofs.Common.{◌≡◌, ℕ, ◌+◌, ◌<◌, ◌≤◌, Bool, true, false, List, [], ◌∷◌, length, take, drop, refl, sym, ◌∙◌, ap, arith, Some, None, length-drop, nat_eq}
+use Rattle.std.proofs.Common.{◌≡◌, ℕ, ◌+◌, ◌<◌, Bool, false, List, [], ◌∷◌, length, take, drop, ◌∙◌, ap, arith, Some, None, length-drop, nat_eq}
 use Rattle.std.specs.List.{slice_split, position_or_len, position, All}
 use Rattle.std.specs.Str.Lines.{lines, lines_of_parts, strip_carriage_return}
 use Rattle.std.proofs.lemmas.Bool.{ne_eqb}
 use Rattle.std.proofs.lemmas.List.Splits.{slice_split_first, slice_split_none}
 use Rattle.std.proofs.lemmas.List.Sums.{fails_before_first}
-use Rattle.std.proofs.Math.Seq.{drop-length}
 use Rattle.script_reader.proofs.WordLemmas.{place, no_place, front}
 
 abbrev pub is_line_feed : ℕ → Bool

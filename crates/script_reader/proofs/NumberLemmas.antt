@@ -1,7 +1,6 @@
 -- How digits come to the number that they write, and which digits write a number.
-use Rattle.std.proofs.Common.{◌≡◌, ℕ, ◌+◌, ◌-◌, ◌*◌, ◌^◌, ◌<◌, ◌≤◌, ◌≢◌, Bool, true, false, List, length, take, get_or, sym, inl, inr, ap, arith, zero, suc, lit<, length-take, Option, Some, None, Result, Ok, Err, MatchOption}
+use Rattle.std.proofs.Common.{◌≡◌, ℕ, ◌+◌, ◌-◌, ◌*◌, ◌^◌, ◌<◌, ◌≤◌, List, length, take, get_or, sym, inl, inr, ap, arith, zero, suc, lit<, length-take, Option, Result, Ok, Err, MatchOption}
 use Rattle.std.specs.Str.Parse.{AllDigits, digits_value}
-use Rattle.std.specs.Char.{digit_value}
 use Rattle.std.specs.Int.{IsInRange, IsOutOfRange}
 use Rattle.std.specs.Result.{OkIff, result_ok}
 use Rattle.jk_model.specs.Script.{IsNumber}

@@ -1,8 +1,7 @@
 -- What lines say is one list of events, and the first lines of a script are a script.
-use Rattle.std.proofs.Common.{◌≡◌, ℕ, ◌+◌, ◌*◌, ◌^◌, ◌<◌, ◌≤◌, ◌⊎◌, inl, inr, Bool, true, false, List, [], ◌∷◌, ◌++◌, length, take, drop, refl, sym, ◌∙◌, ap, subst, arith, cond, length-append, append-nil, append_assoc, take_all, take-append-drop, take-take, nat_eq, get_or, IsTrue, count_by, codes}
+use Rattle.std.proofs.Common.{◌≡◌, ℕ, ◌+◌, ◌^◌, ◌<◌, ◌≤◌, ◌⊎◌, inl, inr, Bool, true, false, List, [], ◌∷◌, ◌++◌, length, take, drop, refl, sym, ◌∙◌, ap, arith, length-append, take_all, take-append-drop, take-take, nat_eq, get_or, count_by, codes}
 use Rattle.std.specs.List.{list_all}
 use Rattle.std.proofs.lemmas.Fmt.{decimal_injective}
-use Rattle.std.specs.Fmt.{decimal}
 use Rattle.std.proofs.lemmas.Bool.{ne_eqb, cases_order}
 use Rattle.std.proofs.lemmas.Grind.{common_steps}
 use Rattle.jk_model.specs.declared.script.Event.{Event}
@@ -91,7 +90,6 @@ say_split (x ∷ xs) ys all (bytes, inr (e, event, rest, means, more, is)) =
     let half = say_split xs ys rest more in
     record { front = event ∷ half.front; back = half.back; front_say = (bytes, inr (e, event, half.front, means, half.front_say, refl)); back_say = half.back_say; both = is ∙ ap (λ es. event ∷ es) half.both }
 
-
 -- whether a line with words is a comment
 comment : (line word : List ℕ) (rest : List (List ℕ)) → words line ≡ word ∷ rest → 0 < length word → is_empty_line line ≡ nat_eq (get_or word 0 0) 35
 comment line [] rest e h = absurd (omega arith)
@@ -121,13 +119,15 @@ pub lines_front : (xs ys : List (List ℕ)) (all : List Event) → AreLines (xs 
 lines_front xs ys all h =
     let half = say_split xs ys all h.say in
     let domains : count_by is_domain all ≡ count_by is_domain half.front + count_by is_domain half.back = ap (count_by is_domain) half.both ∙ count_append is_domain half.front half.back in
-    let starts : count_by is_start all ≡ count_by is_start half.front + count_by is_start half.back = ap (count_by is_start) half.both ∙ count_append is_start half.front half.back in
-    (half.front, record {
-      few = omega (arith, length-append xs ys, h.few);
-      say = half.front_say;
-      one_domain = omega (arith, domains, h.one_domain);
-      one_start = omega (arith, starts, h.one_start);
-    })
+    let starts : count_by is_start all ≡ count_by is_start half.front + count_by is_start half.back = ap (count_by is_start) half.both ∙ count_append is_start half.front half.back in (
+      half.front,
+      record {
+        few = omega (arith, length-append xs ys, h.few);
+        say = half.front_say;
+        one_domain = omega (arith, domains, h.one_domain);
+        one_start = omega (arith, starts, h.one_start);
+      },
+    )
 
 take_front : {X : Type 0} (m n : ℕ) (xs : List X) → m ≤ n → (rest : List X) × (take n xs ≡ take m xs ++ rest)
 take_front m n xs h = (drop m (take n xs), sym (take-append-drop m (take n xs)) ∙ ap (λ ys. ys ++ drop m (take n xs)) (take-take m n xs h))
@@ -142,10 +142,10 @@ lines_take ls m n all le h =
 pub ends_one : (ls : List (List ℕ)) (m n : ℕ) → EndsAt ls m → EndsAt ls n → m ≡ n
 ends_one ls m n h k = ordered (cases_order m n)
   where
-  ordered : (m ≡ n) ⊎ ((m < n) ⊎ (n < m)) → m ≡ n
-  ordered (inl same) = same
-  ordered (inr (inl less)) = let early = lines_take ls (m + 1) n k.before.0 (omega arith) k.before.1 in absurd (h.not_with early.0 early.1)
-  ordered (inr (inr more)) = let early = lines_take ls (n + 1) m h.before.0 (omega arith) h.before.1 in absurd (k.not_with early.0 early.1)
+    ordered : (m ≡ n) ⊎ ((m < n) ⊎ (n < m)) → m ≡ n
+    ordered (inl same) = same
+    ordered (inr (inl less)) = let early = lines_take ls (m + 1) n k.before.0 (omega arith) k.before.1 in absurd (h.not_with early.0 early.1)
+    ordered (inr (inr more)) = let early = lines_take ls (n + 1) m h.before.0 (omega arith) h.before.1 in absurd (k.not_with early.0 early.1)
 
 -- a script has no line at fault
 pub ends_nowhere : (ls : List (List ℕ)) (n : ℕ) (events : List Event) → AreLines ls events → EndsAt ls n → ⊥

@@ -1,5 +1,5 @@
 -- How the events of a script come about line by line, and that a script or its fault is one.
-use Rattle.std.proofs.Common.{◌≡◌, ℕ, ◌+◌, ◌<◌, ◌≤◌, ◌⊎◌, inl, inr, Bool, true, false, List, [], ◌∷◌, ◌++◌, length, take, refl, sym, ◌∙◌, ap, subst, arith, cond, length-append, append-nil, append_assoc, count_by, Result, Ok, Err, MatchResult, IfOk, if◌then◌else◌}
+use Rattle.std.proofs.Common.{◌≡◌, ℕ, ◌+◌, ◌<◌, ◌≤◌, ◌⊎◌, inl, inr, Bool, true, false, List, [], ◌∷◌, ◌++◌, length, take, refl, sym, ◌∙◌, ap, arith, length-append, append-nil, append_assoc, Result, Ok, Err, MatchResult, IfOk, if◌then◌else◌}
 use Rattle.std.specs.Str.Lines.{lines}
 use Rattle.std.proofs.Math.Seq.{take-append_seam, take-append-add}
 use Rattle.jk_model.specs.declared.script.Event.{Event}
@@ -9,10 +9,10 @@ use Rattle.jk_model.specs.declared.script.FaultKind.TheVariants.{NotYet}
 use Rattle.script_reader.specs.declared.progress.Progress.{Progress}
 use Rattle.script_reader.specs.declared.script.ScriptError.{ScriptError}
 use Rattle.script_reader.specs.declared.script.ScriptError.TheVariants.{Fault, OutOfMemory}
-use Rattle.script_reader.specs.Events.{Say, AreLines, EndsAt, IsScript, IsAtFault, is_domain, is_start}
+use Rattle.script_reader.specs.Events.{Say, AreLines, EndsAt, IsScript, IsAtFault}
 use Rattle.script_reader.specs.Progress.{AreFew, IsCounted, Puts}
 use Rattle.script_reader.specs.Answer.{IsAnswer}
-use Rattle.script_reader.proofs.SayLemmas.{say_one, say_few, say_append, Halves, say_split, ends_one, ends_nowhere}
+use Rattle.script_reader.proofs.SayLemmas.{say_one, say_few, say_append, say_split, ends_one, ends_nowhere}
 
 -- what is known once some lines are read
 pub record IsSoFar (bytes rest : List ℕ) (count : ℕ) (p : Progress) : Type 0 where
@@ -69,13 +69,13 @@ ends_at ls done more line count events e many h never =
 pub at_fault : (bytes rest line after : List ℕ) (count : ℕ) (p : Progress) → IsSoFar bytes rest count p → lines rest ≡ line ∷ lines after → length bytes ≤ 1048576 → (count ≡ 65536) ⊎ ((more : List Event) → Say (line ∷ []) more → AreFew (p.events ++ more) → ⊥) → IsAtFault bytes (record { line = count + 1; kind = NotYet })
 at_fault bytes rest line after count p h next short why = (refl, inr (short, count, ends_at (lines bytes) h.done (lines after) line count p.events (h.all ∙ ap (λ ls. h.done ++ ls) next) h.many (are_lines bytes rest count p h) (never why), refl))
   where
-  never : (count ≡ 65536) ⊎ ((more : List Event) → Say (line ∷ []) more → AreFew (p.events ++ more) → ⊥) → (all : List Event) → AreLines (h.done ++ line ∷ []) all → ⊥
-  never (inl many) all lines = absurd (omega (arith, lines.few, length-append h.done (line ∷ []), h.many, many))
-  never (inr none) all lines =
-      let half = say_split h.done (line ∷ []) all lines.say in
-      let front : p.events ≡ half.front = say_one h.done p.events half.front h.say half.front_say in
-      let whole : all ≡ p.events ++ half.back = half.both ∙ ap (λ es. es ++ half.back) (sym front) in
-      none half.back half.back_say (record { one_domain = rw (← whole) lines.one_domain; one_start = rw (← whole) lines.one_start })
+    never : (count ≡ 65536) ⊎ ((more : List Event) → Say (line ∷ []) more → AreFew (p.events ++ more) → ⊥) → (all : List Event) → AreLines (h.done ++ line ∷ []) all → ⊥
+    never (inl many) all lines = absurd (omega (arith, lines.few, length-append h.done (line ∷ []), h.many, many))
+    never (inr none) all lines =
+        let half = say_split h.done (line ∷ []) all lines.say in
+        let front : p.events ≡ half.front = say_one h.done p.events half.front h.say half.front_say in
+        let whole : all ≡ p.events ++ half.back = half.both ∙ ap (λ es. es ++ half.back) (sym front) in
+        none half.back half.back_say (record { one_domain = rw (← whole) lines.one_domain; one_start = rw (← whole) lines.one_start })
 
 -- too many bytes are a fault of the script as a whole
 pub too_long : (bytes : List ℕ) → 1048576 < length bytes → IsAtFault bytes (record { line = 0; kind = NotYet })

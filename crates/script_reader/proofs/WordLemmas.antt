@@ -1,7 +1,6 @@
 -- How the words of a line come off its front, one after the other.
 use Rattle.std.proofs.Common.{◌≡◌, ℕ, ◌+◌, ◌<◌, ◌≤◌, Bool, true, false, not, List, [], ◌∷◌, length, take, drop, filter, refl, sym, ◌∙◌, ap, get_or, cond, nat_lt, arith, one-add, add-zero, get_or-drop, length-drop, Option, Some, None, unwrap_or, nat_eq}
-use Rattle.std.specs.List.{prefix_len, slice_split, onto_first, position_or_len, position}
-use Rattle.std.proofs.lemmas.Grind.{common_steps}
+use Rattle.std.specs.List.{prefix_len, slice_split, position_or_len, position}
 use Rattle.std.proofs.lemmas.List.Sums.{prefix_len-le-length, passes_at_first}
 use Rattle.std.proofs.lemmas.List.Folds.{length-prefix_len}
 use Rattle.std.proofs.lemmas.Bool.{ltb-true, ltb-false, ne_eqb}
@@ -25,9 +24,9 @@ words_behind : (p : ℕ → Bool) (xs : List ℕ) → words_by p (drop (position
 words_behind p [] = refl
 words_behind p (x ∷ xs) = behind p x xs (words_behind p xs) (p x) refl
   where
-  behind : (p : ℕ → Bool) (x : ℕ) (xs : List ℕ) → words_by p (drop (position_or_len (λ b. not (p b)) xs) xs) ≡ words_by p xs → (b : Bool) → p x ≡ b → words_by p (drop (position_or_len (λ b. not (p b)) (x ∷ xs)) (x ∷ xs)) ≡ words_by p (x ∷ xs)
-  behind p x xs h true e = rw e (behind_one p x xs (position_or_len (λ b. not (p b)) xs) e ∙ h)
-  behind p x xs h false e = rw (e, e)
+    behind : (p : ℕ → Bool) (x : ℕ) (xs : List ℕ) → words_by p (drop (position_or_len (λ b. not (p b)) xs) xs) ≡ words_by p xs → (b : Bool) → p x ≡ b → words_by p (drop (position_or_len (λ b. not (p b)) (x ∷ xs)) (x ∷ xs)) ≡ words_by p (x ∷ xs)
+    behind p x xs h true e = rw e (behind_one p x xs (position_or_len (λ b. not (p b)) xs) e ∙ h)
+    behind p x xs h false e = rw (e, e)
 
 -- up to the first byte that passes stands the first part, and behind it are the words of the rest
 pub record Front (p : ℕ → Bool) (xs : List ℕ) : Type 0 where
@@ -39,9 +38,9 @@ pub front : (p : ℕ → Bool) (xs : List ℕ) → Front p xs
 front p [] = record { tail = []; parts = refl; rest = refl }
 front p (x ∷ xs) = more p x xs (front p xs) (p x) refl
   where
-  more : (p : ℕ → Bool) (x : ℕ) (xs : List ℕ) → Front p xs → (b : Bool) → p x ≡ b → Front p (x ∷ xs)
-  more p x xs f true e = record { tail = slice_split p xs; parts = rw e; rest = rw (e, e) }
-  more p x xs f false e = record { tail = f.tail; parts = rw (e, f.parts, one-add); rest = rw (e, one-add) f.rest }
+    more : (p : ℕ → Bool) (x : ℕ) (xs : List ℕ) → Front p xs → (b : Bool) → p x ≡ b → Front p (x ∷ xs)
+    more p x xs f true e = record { tail = slice_split p xs; parts = rw e; rest = rw (e, e) }
+    more p x xs f false e = record { tail = f.tail; parts = rw (e, f.parts, one-add); rest = rw (e, one-add) f.rest }
 
 word_kept : (word : List ℕ) (tail rest : List (List ℕ)) → 0 < length word → filter is_word tail ≡ rest → filter is_word (word ∷ tail) ≡ word ∷ rest
 word_kept word tail rest h e =

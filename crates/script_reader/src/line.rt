@@ -138,11 +138,7 @@ fn turn_event(rest: &[u8]) -> Option<Event>
 
 /// The event that a line with words stands for, by its first word and what stands behind that.
 /// `None` where there is no such event.
-fn event_of(
-    alloc: Global,
-    command: &[u8],
-    rest: &[u8],
-) -> Result<Option<Event>, OutOfMemory>
+fn event_of(alloc: Global, command: &[u8], rest: &[u8]) -> Result<Option<Event>, OutOfMemory>
     ensures { IfOk result (Finds (command.now ∷ script.words rest.now)) }
 {
     match command {

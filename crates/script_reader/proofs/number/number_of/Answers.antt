@@ -10,5 +10,5 @@ returns-then-not-has_form c = without_form c.args.word.now c.if-not-has_form.ens
 
 pub returns : goal.returns
 returns c =
-  let read = c.in_ok-value.ensures in
-  converted c.args.word.now c.in_ok-value.value c.try_from.result c.ok.result c.try_from.ensures c.ok.ensures.value c.if-not-has_form.ensures read.0 read.1
+    let read = c.in_ok-value.ensures in
+    converted c.args.word.now c.in_ok-value.value c.try_from.result c.ok.result c.try_from.ensures c.ok.ensures.value c.if-not-has_form.ensures read.0 read.1

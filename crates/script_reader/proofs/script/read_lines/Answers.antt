@@ -10,8 +10,9 @@ returns-then-count-eq-MAX_LINES c =
     let next = c.in-Some.ensures in
     rw c.fault_at.ensures (at_fault c.args.bytes.now c.loop-line.rest.now c.in-Some.line.now c.in-Some.after.now c.loop-line.count c.loop-line.progress so_far next.0 c.requires
     (elim c.then-count-eq-MAX_LINES.branch [
-    then-count-eq-MAX_LINES-via-then-count-eq-MAX_LINES w ↦ inl w.if-count-eq-MAX_LINES.true
-    | then-count-eq-MAX_LINES-via-else-count-eq-MAX_LINES+in_ok-take_line+then-not-branch w ↦ inr (rw w.if-not-branch.true at w.in_ok-take_line.ensures) ]))
+      | then-count-eq-MAX_LINES-via-then-count-eq-MAX_LINES w ↦ inl w.if-count-eq-MAX_LINES.true
+      | then-count-eq-MAX_LINES-via-else-count-eq-MAX_LINES+in_ok-take_line+then-not-branch w ↦ inr (rw w.if-not-branch.true at w.in_ok-take_line.ensures)
+    ]))
 
 pub loop-line-preserved : goal.loop-line-preserved
 loop-line-preserved c =

@@ -1,5 +1,5 @@
 -- The first line stands before the first line feed.
-use Rattle.std.proofs.Common.{◌≡◌, ℕ, ◌-◌, ◌+◌, List, length, take, drop, Some, sym, ◌∙◌, take_all, arith, length-drop}
+use Rattle.std.proofs.Common.{◌≡◌, ◌-◌, ◌+◌, length, take, drop, sym, take_all, arith, length-drop}
 use Rattle.script_reader.proofs.LineLemmas.{first_line}
 use Rattle.script_reader.proofs.words.next_line.Goals as goal
 

@@ -1,5 +1,5 @@
 -- The first word stands from the first byte that is no blank to the next blank.
-use Rattle.std.proofs.Common.{◌≡◌, ℕ, ◌-◌, List, length, take, drop, Some, sym, ◌∙◌, take_all, arith, length-drop}
+use Rattle.std.proofs.Common.{◌≡◌, ◌-◌, length, take, drop, sym, take_all, arith, length-drop}
 use Rattle.script_reader.proofs.WordLemmas.{first_word}
 use Rattle.script_reader.proofs.words.next_word.Goals as goal
 
