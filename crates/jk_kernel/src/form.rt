@@ -129,3 +129,6 @@ fn code_of(alloc: Global, body: &[u8]) -> Result<Option<Code>, OutOfMemory>
         Err(CodeRefusal::Cut | CodeRefusal::Trailing(_) | CodeRefusal::CodeLength(_)) => Ok(None),
     }
 }
+
+#[cfg(test)]
+mod tests;
