@@ -1,4 +1,5 @@
 pub mod Form
+pub mod FormParts
 pub use Rattle.jk_model.specs.ClassFile
 pub use Rattle.jk_model.specs.Machine
 pub use Rattle.jk_model.specs.Outside

@@ -1,0 +1,3 @@
+pub mod Main
+pub mod Methods
+pub mod Printing
