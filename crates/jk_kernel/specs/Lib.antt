@@ -1,4 +1,6 @@
 pub mod Form
+pub mod State
+pub mod Steps
 pub use Rattle.jk_model.specs.ClassFile
 pub use Rattle.jk_model.specs.Machine
 pub use Rattle.jk_model.specs.Outside

@@ -2,7 +2,11 @@
 #![tactic(auto)]
 
 mod answers;
+mod domains;
 mod form;
+mod kernel;
+mod threads;
 
 pub use answers::EventAnswer;
 pub use form::{Program, form_of};
+pub use kernel::Kernel;

@@ -1,0 +1,176 @@
+-- What a step does to the machine that the records stand for.
+use Rattle.std.proofs.Common.{◌≡◌, ℕ, zero, suc, ◌+◌, ◌*◌, ◌<◌, ◌≤◌, Bool, true, false, cond, ltb, List, [], ◌∷◌, ◌++◌, length, get_or, set, slice_get, map, Option, Some, None, refl, sym, ap, subst, ◌∙◌, arith, add-zero, zero-add, add-one, one-add, length-set}
+use Rattle.std.specs.Option.{option_map, option_and_then}
+use Rattle.std.proofs.lemmas.Option.{slice_get-map, slice_get-get_or, same_Some}
+use Rattle.std.proofs.lemmas.Bool.{ltb-false, ltb-true}
+use Rattle.jk_model.specs.declared.output.Line.{Line}
+use Rattle.jk_model.specs.declared.output.Line.TheVariants.{Said, Ended}
+use Rattle.jk_model.specs.Machine.{Machine, Thread, Segment, Frame, Domain, Object, Text, Instruction, GetOut, GetText, PrintLine, Return, PrintStream, main_from, stepped, at_thread, at_class, executed, printed}
+use Rattle.jk_kernel.specs.declared.domains.DomainRecord.{DomainRecord}
+use Rattle.jk_kernel.specs.declared.threads.ThreadRecord.{ThreadRecord}
+use Rattle.jk_kernel.specs.declared.threads.FrameRecord.{FrameRecord}
+use Rattle.jk_kernel.specs.declared.threads.Stage.{Stage}
+use Rattle.jk_kernel.specs.declared.threads.Stage.TheVariants.{Bare, HasStream, HasText}
+use Rattle.jk_model.specs.declared.values.Value.{Value}
+use Rattle.jk_kernel.specs.Steps.{next_from, next_of, frame_at, lines_at, IsLiteralAt, IsFrameIn}
+use Rattle.jk_kernel.specs.State.{numbered, class_of, domain_of, done_at, stack_at, frame_of, segments_of, thread_of, machine_of, IsPlacedIn}
+use Rattle.jk_kernel.proofs.ListLemmas.{slice_get-numbered, numbered-set}
+
+-- ---- The code.
+
+abbrev pub instruction_at : Stage → ℕ → Instruction
+instruction_at Bare literal = GetOut
+instruction_at HasStream literal = GetText literal
+instruction_at HasText literal = PrintLine
+
+three_more : (l k : ℕ) → 3 * suc l + k ≡ suc (suc (suc (3 * l + k)))
+three_more l k = omega arith
+
+at_first : (n : ℕ) (text : List ℕ) (texts : List (List ℕ)) (k : ℕ) (s : Stage) → n + 0 ≡ k → slice_get (main_from n (text ∷ texts)) (3 * 0 + done_at s) ≡ Some (instruction_at s k)
+at_first n text texts k Bare e = refl
+at_first n text texts k HasStream e = ap (λ m. Some (GetText m)) (sym (add-zero n) ∙ e)
+at_first n text texts k HasText e = refl
+
+-- the instruction of a literal at a stage
+pub main_from-literal : (n : ℕ) (texts : List (List ℕ)) (l k : ℕ) (s : Stage) → n + l ≡ k → l < length texts → slice_get (main_from n texts) (3 * l + done_at s) ≡ Some (instruction_at s k)
+main_from-literal n [] l k s e h = absurd (omega arith)
+main_from-literal n (text ∷ texts) zero k s e h = at_first n text texts k s e
+main_from-literal n (text ∷ texts) (suc l) k s e h =
+    ap (slice_get (main_from n (text ∷ texts))) (three_more l (done_at s)) ∙ main_from-literal (suc n) texts l k s (omega arith) (omega arith)
+
+pub main_from-end : (n : ℕ) (texts : List (List ℕ)) → slice_get (main_from n texts) (3 * length texts + 0) ≡ Some Return
+main_from-end n [] = refl
+main_from-end n (text ∷ texts) =
+    ap (slice_get (main_from n (text ∷ texts))) (three_more (length texts) 0) ∙ main_from-end (suc n) texts
+
+-- ---- From the thread to its instruction.
+
+abbrev pub segment_of : ThreadRecord → FrameRecord → Segment
+segment_of t f = record { number = t.segment; domain = t.domain; frames = frame_of t.domain f ∷ [] }
+
+abbrev pub running : ℕ → ThreadRecord → FrameRecord → Thread
+running n t f = record { number = n; domain = t.domain; segments = segment_of t f ∷ [] }
+
+thread_of-running : (n : ℕ) (t : ThreadRecord) (f : FrameRecord) → t.frame ≡ Some f → thread_of n t ≡ running n t f
+thread_of-running n t f e =
+    ap (λ (o : Option FrameRecord). let thread : Thread = record { number = n; domain = t.domain; segments = segments_of t.segment t.domain o } in thread) e
+
+thread_at : (ts : List ThreadRecord) (i : ℕ) (t : ThreadRecord) → slice_get ts i ≡ Some t → slice_get (numbered thread_of 1 ts) i ≡ Some (thread_of (suc i) t)
+thread_at ts i t e = slice_get-numbered thread_of 1 ts i (suc i) (one-add i) ∙ ap (option_map (thread_of (suc i))) e
+
+domain_at : (ds : List DomainRecord) (k : ℕ) (d : DomainRecord) → slice_get ds k ≡ Some d → slice_get (numbered domain_of 0 ds) k ≡ Some (domain_of k d)
+domain_at ds k d e = slice_get-numbered domain_of 0 ds k k (zero-add k) ∙ ap (option_map (domain_of k)) e
+
+class_at : (ds : List DomainRecord) (k : ℕ) (d : DomainRecord) → slice_get ds k ≡ Some d → slice_get (numbered class_of 0 ds) k ≡ Some (class_of k d)
+class_at ds k d e = slice_get-numbered class_of 0 ds k k (zero-add k) ∙ ap (option_map (class_of k)) e
+
+module _ (ds : List DomainRecord) (ts : List ThreadRecord) (ns i : ℕ) (t : ThreadRecord) (d : DomainRecord) where
+  abbrev before : Machine
+  before = machine_of ds ts ns
+
+  pub stepped-executed : (f : FrameRecord) → slice_get ts i ≡ Some t → t.frame ≡ Some f → slice_get ds t.domain ≡ Some d → stepped before (suc i) ≡ executed before (running (suc i) t f) (segment_of t f) (frame_of t.domain f) (domain_of t.domain d) (slice_get (main_from 0 d.program.texts) (3 * f.literal + done_at f.stage))
+  stepped-executed f at frame home =
+      ap (at_thread before) (thread_at ts i t at ∙ ap Some (thread_of-running (suc i) t f frame))
+      ∙ ap (λ o. at_class before (running (suc i) t f) (segment_of t f) (frame_of t.domain f) o (slice_get (numbered class_of 0 ds) t.domain)) (domain_at ds t.domain d home)
+      ∙ ap (λ o. at_class before (running (suc i) t f) (segment_of t f) (frame_of t.domain f) (Some (domain_of t.domain d)) o) (class_at ds t.domain d home)
+
+  abbrev after : Option FrameRecord → Machine
+  after o = machine_of ds (set ts i (record t { frame = o })) ns
+
+  -- the machine with the thread's new record
+  written : (o : Option FrameRecord) → (record before { threads = set (numbered thread_of 1 ts) i (thread_of (suc i) (record t { frame = o })) }) ≡ after o
+  written o = rw (numbered-set thread_of 1 ts i (suc i) (record t { frame = o }) (one-add i), length-set ts i (record t { frame = o })) refl
+
+  -- the machine with the thread's frame at this place, with this stack
+  abbrev moved : ℕ → List Value → Machine
+  moved at stack = record before {
+    threads = set (numbered thread_of 1 ts) i (record {
+      number = suc i; domain = t.domain;
+      segments = record {
+        number = t.segment; domain = t.domain; frames = record { class = t.domain; at = at; stack = stack } ∷ []
+      } ∷ []
+    })
+  }
+
+  moved-after : (lines : List Line) (at : ℕ) (f : FrameRecord) → at ≡ 3 * f.literal + done_at f.stage → ◌≡◌ {A = List Line × Machine} (lines, moved at (stack_at f.stage f.literal)) (lines, after (Some f))
+  moved-after lines at f e =
+      ap (λ (x : ℕ). let r : List Line × Machine = (lines, moved x (stack_at f.stage f.literal)) in r) e
+      ∙ ap (λ (x : Machine). let r : List Line × Machine = (lines, x) in r) (written (Some f))
+
+  abbrev executed_at : FrameRecord → Option Instruction → List Line × Machine
+  executed_at f o = executed before (running (suc i) t f) (segment_of t f) (frame_of t.domain f) (domain_of t.domain d) o
+
+  abbrev instruction : FrameRecord → Option Instruction
+  instruction f = slice_get (main_from 0 d.program.texts) (3 * f.literal + done_at f.stage)
+
+  abbrev count : ℕ
+  count = length d.program.texts
+
+  literal_is : (l : ℕ) (s : Stage) → l < count → slice_get (main_from 0 d.program.texts) (3 * l + done_at s) ≡ Some (instruction_at s l)
+  literal_is l s h = main_from-literal 0 d.program.texts l l s (zero-add l) h
+
+  text_is : (l : ℕ) → l < count → slice_get (map Text d.program.texts) l ≡ Some (Text (get_or d.program.texts l []))
+  text_is l h = slice_get-map Text d.program.texts l ∙ ap (option_map Text) (slice_get-get_or d.program.texts l [] h)
+
+  prints : (l : ℕ) → l < count → executed_at (record { literal = l; stage = HasText }) (Some PrintLine) ≡ (Said d.name (get_or d.program.texts l []) ∷ [], moved (suc (3 * l + 2)) [])
+  prints l h =
+      ap (λ o. printed before (running (suc i) t (record { literal = l; stage = HasText })) (segment_of t (record { literal = l; stage = HasText })) (frame_of t.domain (record { literal = l; stage = HasText })) (domain_of t.domain d) [] (Some PrintStream) o) (text_is l h)
+
+  executed_is : (s : Stage) (l : ℕ) (more : Bool) → more ≡ ltb l count → IsLiteralAt s l count → executed_at (record { literal = l; stage = s }) (instruction (record { literal = l; stage = s })) ≡ (lines_at (suc i) d.name d.program.texts s l more, after (next_from s l more))
+  executed_is Bare l true e h =
+      ap (executed_at (record { literal = l; stage = Bare })) (literal_is l Bare (ltb-true l count (sym e)))
+      ∙ moved-after [] (suc (3 * l + 0)) (record { literal = l; stage = HasStream }) (omega arith)
+  executed_is Bare l false e h =
+      ap (executed_at (record { literal = l; stage = Bare })) (ap (λ k. slice_get (main_from 0 d.program.texts) (3 * k + 0)) (ended l e h) ∙ main_from-end 0 d.program.texts)
+      ∙ ap (λ (x : Machine). let r : List Line × Machine = (Ended (record { 0 = suc i }) ∷ [], x) in r) (written None)
+    where
+      ended : (l : ℕ) → false ≡ ltb l count → l ≤ count → l ≡ count
+      ended l e h = omega (arith, ltb-false l count (sym e))
+  executed_is HasStream l more e h =
+      ap (executed_at (record { literal = l; stage = HasStream })) (literal_is l HasStream h)
+      ∙ moved-after [] (suc (3 * l + 1)) (record { literal = l; stage = HasText }) (omega arith)
+  executed_is HasText l more e h =
+      ap (executed_at (record { literal = l; stage = HasText })) (literal_is l HasText h)
+      ∙ prints l h
+      ∙ moved-after (Said d.name (get_or d.program.texts l []) ∷ []) (suc (3 * l + 2)) (record { literal = l + 1; stage = Bare }) (omega arith)
+
+  pub stepped_is : (f : FrameRecord) (more : Bool) → slice_get ts i ≡ Some t → t.frame ≡ Some f → slice_get ds t.domain ≡ Some d → more ≡ ltb f.literal count → IsFrameIn f count → stepped before (suc i) ≡ (lines_at (suc i) d.name d.program.texts f.stage f.literal more, after (next_of f more))
+  stepped_is f more at frame home e h = stepped-executed f at frame home ∙ executed_is f.stage f.literal more e h
+
+-- a thread without a frame does nothing
+pub stepped_not : (ds : List DomainRecord) (ts : List ThreadRecord) (ns n : ℕ) → frame_at ts n ≡ None → stepped (machine_of ds ts ns) n ≡ ([], machine_of ds ts ns)
+stepped_not ds ts ns zero e = refl
+stepped_not ds ts ns (suc i) e =
+    ap (at_thread (machine_of ds ts ns)) (slice_get-numbered thread_of 1 ts i (suc i) (one-add i)) ∙ at_none (slice_get ts i) e
+  where
+    at_ended : (t : ThreadRecord) (o : Option FrameRecord) → o ≡ None → at_thread (machine_of ds ts ns) (Some (record { number = suc i; domain = t.domain; segments = segments_of t.segment t.domain o })) ≡ ([], machine_of ds ts ns)
+    at_ended t None e = refl
+    at_ended t (Some f) e = absurd (cc)
+
+    at_none : (o : Option ThreadRecord) → option_and_then (λ t. t.frame) o ≡ None → at_thread (machine_of ds ts ns) (option_map (thread_of (suc i)) o) ≡ ([], machine_of ds ts ns)
+    at_none None e = refl
+    at_none (Some t) e = at_ended t t.frame e
+
+-- where a thread with a frame stands
+pub frame_at-place : (ts : List ThreadRecord) (n : ℕ) (f : FrameRecord) → frame_at ts n ≡ Some f → (i : ℕ) × (t : ThreadRecord) × (n ≡ suc i) × (slice_get ts i ≡ Some t) × (t.frame ≡ Some f)
+frame_at-place ts zero f e = absurd (cc)
+frame_at-place ts (suc i) f e = at (slice_get ts i) refl e
+  where
+    at : (o : Option ThreadRecord) → slice_get ts i ≡ o → option_and_then (λ t. t.frame) o ≡ Some f → (j : ℕ) × (t : ThreadRecord) × (suc i ≡ suc j) × (slice_get ts j ≡ Some t) × (t.frame ≡ Some f)
+    at None s e = absurd (cc)
+    at (Some t) s e = (i, t, refl, s, e)
+
+-- a running thread's domain, and where its frame stands in its code
+pub IsPlacedIn-frame : (o : Option FrameRecord) (ds : List DomainRecord) (domain : ℕ) (f : FrameRecord) → o ≡ Some f → IsPlacedIn o ds domain → (d : DomainRecord) × (slice_get ds domain ≡ Some d) × IsFrameIn f (length d.program.texts)
+IsPlacedIn-frame None ds domain f e h = absurd (cc)
+IsPlacedIn-frame (Some g) ds domain f e h = subst (λ (x : FrameRecord). (d : DomainRecord) × (slice_get ds domain ≡ Some d) × IsFrameIn x (length d.program.texts)) (same_Some g f e) h
+
+-- the frame behind an instruction stands in the same code
+next_from-place : (s : Stage) (l : ℕ) (more : Bool) (ds : List DomainRecord) (domain : ℕ) (d : DomainRecord) → slice_get ds domain ≡ Some d → more ≡ ltb l (length d.program.texts) → IsLiteralAt s l (length d.program.texts) → IsPlacedIn (next_from s l more) ds domain
+next_from-place Bare l true ds domain d at e h = (d, at, ltb-true l _ (sym e))
+next_from-place Bare l false ds domain d at e h = tt
+next_from-place HasStream l more ds domain d at e h = (d, at, h)
+next_from-place HasText l more ds domain d at e h = (d, at, omega arith)
+
+pub next_of-place : (f : FrameRecord) (more : Bool) (ds : List DomainRecord) (domain : ℕ) (d : DomainRecord) → slice_get ds domain ≡ Some d → more ≡ ltb f.literal (length d.program.texts) → IsFrameIn f (length d.program.texts) → IsPlacedIn (next_of f more) ds domain
+next_of-place f more ds domain d at e h = next_from-place f.stage f.literal more ds domain d at e h
