@@ -1,7 +1,7 @@
 -- What a step does to the machine that the records stand for.
 use Rattle.std.proofs.Common.{◌≡◌, ℕ, zero, suc, ◌+◌, ◌*◌, ◌<◌, ◌≤◌, Bool, true, false, cond, ltb, List, [], ◌∷◌, ◌++◌, length, get_or, set, slice_get, map, Option, Some, None, refl, sym, ap, subst, ◌∙◌, arith, add-zero, zero-add, add-one, one-add, length-set}
 use Rattle.std.specs.Option.{option_map, option_and_then}
-use Rattle.std.proofs.lemmas.Option.{slice_get-map, slice_get-get_or, same_Some}
+use Rattle.std.proofs.lemmas.Option.{slice_get-map, slice_get-get_or, slice_get_past, same_Some}
 use Rattle.std.proofs.lemmas.Bool.{ltb-false, ltb-true}
 use Rattle.jk_model.specs.declared.output.Line.{Line}
 use Rattle.jk_model.specs.declared.output.Line.TheVariants.{Said, Ended}
@@ -12,7 +12,7 @@ use Rattle.jk_kernel.specs.declared.threads.FrameRecord.{FrameRecord}
 use Rattle.jk_kernel.specs.declared.threads.Stage.{Stage}
 use Rattle.jk_kernel.specs.declared.threads.Stage.TheVariants.{Bare, HasStream, HasText}
 use Rattle.jk_model.specs.declared.values.Value.{Value}
-use Rattle.jk_kernel.specs.Steps.{next_from, next_of, frame_at, lines_at, IsLiteralAt, IsFrameIn}
+use Rattle.jk_kernel.specs.Steps.{next_from, next_of, frame_at, step_lines, IsLiteralAt, IsFrameIn}
 use Rattle.jk_kernel.specs.State.{numbered, class_of, domain_of, done_at, stack_at, frame_of, segments_of, thread_of, machine_of, IsPlacedIn}
 use Rattle.jk_kernel.proofs.ListLemmas.{slice_get-numbered, numbered-set}
 
@@ -116,16 +116,28 @@ module _ (ds : List DomainRecord) (ts : List ThreadRecord) (ns i : ℕ) (t : Thr
   prints l h =
       ap (λ o. printed before (running (suc i) t (record { literal = l; stage = HasText })) (segment_of t (record { literal = l; stage = HasText })) (frame_of t.domain (record { literal = l; stage = HasText })) (domain_of t.domain d) [] (Some PrintStream) o) (text_is l h)
 
-  executed_is : (s : Stage) (l : ℕ) (more : Bool) → more ≡ ltb l count → IsLiteralAt s l count → executed_at (record { literal = l; stage = s }) (instruction (record { literal = l; stage = s })) ≡ (lines_at (suc i) d.name d.program.texts s l more, after (next_from s l more))
+  text_at : (l : ℕ) → l < count → Some (get_or d.program.texts l []) ≡ slice_get d.program.texts l
+  text_at l h = sym (slice_get-get_or d.program.texts l [] h)
+
+  said : (s : Stage) (o p : Option (List ℕ)) (m : Machine) → o ≡ p → ◌≡◌ {A = List Line × Machine} (step_lines (suc i) d.name s o, m) (step_lines (suc i) d.name s p, m)
+  said s o p m e = ap (λ (x : Option (List ℕ)). let r : List Line × Machine = (step_lines (suc i) d.name s x, m) in r) e
+
+  abbrev Executed : Stage → ℕ → Bool → Type 0
+  Executed s l more =
+      executed_at (record { literal = l; stage = s }) (instruction (record { literal = l; stage = s }))
+      ≡ (step_lines (suc i) d.name s (slice_get d.program.texts l), after (next_from s l more))
+
+  executed_is : (s : Stage) (l : ℕ) (more : Bool) → more ≡ ltb l count → IsLiteralAt s l count → Executed s l more
   executed_is Bare l true e h =
       ap (executed_at (record { literal = l; stage = Bare })) (literal_is l Bare (ltb-true l count (sym e)))
       ∙ moved-after [] (suc (3 * l + 0)) (record { literal = l; stage = HasStream }) (omega arith)
+      ∙ said Bare _ _ _ (text_at l (ltb-true l count (sym e)))
   executed_is Bare l false e h =
-      ap (executed_at (record { literal = l; stage = Bare })) (ap (λ k. slice_get (main_from 0 d.program.texts) (3 * k + 0)) (ended l e h) ∙ main_from-end 0 d.program.texts)
+      let past : count ≤ l = ltb-false l count (sym e) in
+      let same : l ≡ count = omega arith in
+      ap (executed_at (record { literal = l; stage = Bare })) (ap (λ k. slice_get (main_from 0 d.program.texts) (3 * k + 0)) same ∙ main_from-end 0 d.program.texts)
       ∙ ap (λ (x : Machine). let r : List Line × Machine = (Ended (record { 0 = suc i }) ∷ [], x) in r) (written None)
-    where
-      ended : (l : ℕ) → false ≡ ltb l count → l ≤ count → l ≡ count
-      ended l e h = omega (arith, ltb-false l count (sym e))
+      ∙ said Bare _ _ _ (sym (slice_get_past d.program.texts l past))
   executed_is HasStream l more e h =
       ap (executed_at (record { literal = l; stage = HasStream })) (literal_is l HasStream h)
       ∙ moved-after [] (suc (3 * l + 1)) (record { literal = l; stage = HasText }) (omega arith)
@@ -133,9 +145,10 @@ module _ (ds : List DomainRecord) (ts : List ThreadRecord) (ns i : ℕ) (t : Thr
       ap (executed_at (record { literal = l; stage = HasText })) (literal_is l HasText h)
       ∙ prints l h
       ∙ moved-after (Said d.name (get_or d.program.texts l []) ∷ []) (suc (3 * l + 2)) (record { literal = l + 1; stage = Bare }) (omega arith)
+      ∙ said HasText _ _ _ (text_at l h)
 
-  pub stepped_is : (f : FrameRecord) (more : Bool) → slice_get ts i ≡ Some t → t.frame ≡ Some f → slice_get ds t.domain ≡ Some d → more ≡ ltb f.literal count → IsFrameIn f count → stepped before (suc i) ≡ (lines_at (suc i) d.name d.program.texts f.stage f.literal more, after (next_of f more))
-  stepped_is f more at frame home e h = stepped-executed f at frame home ∙ executed_is f.stage f.literal more e h
+  pub stepped_is : (f : FrameRecord) → slice_get ts i ≡ Some t → t.frame ≡ Some f → slice_get ds t.domain ≡ Some d → IsFrameIn f count → stepped before (suc i) ≡ (step_lines (suc i) d.name f.stage (slice_get d.program.texts f.literal), after (next_of f (ltb f.literal count)))
+  stepped_is f at frame home h = stepped-executed f at frame home ∙ executed_is f.stage f.literal (ltb f.literal count) refl h
 
 -- a thread without a frame does nothing
 pub stepped_not : (ds : List DomainRecord) (ts : List ThreadRecord) (ns n : ℕ) → frame_at ts n ≡ None → stepped (machine_of ds ts ns) n ≡ ([], machine_of ds ts ns)

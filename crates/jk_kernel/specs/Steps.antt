@@ -1,5 +1,5 @@
 -- How a frame moves on, and where it may stand.
-use Rattle.std.specs.Prelude.{ℕ, zero, suc, ◌+◌, ◌<◌, ◌≤◌, Bool, true, false, Option, Some, None, List, [], ◌∷◌, slice_get, slice_index_or}
+use Rattle.std.specs.Prelude.{ℕ, zero, suc, ◌+◌, ◌<◌, ◌≤◌, Bool, true, false, Option, Some, None, List, [], ◌∷◌, slice_get}
 use Rattle.std.specs.Option.{option_and_then}
 use Rattle.jk_model.specs.declared.output.Line.{Line}
 use Rattle.jk_model.specs.declared.output.Line.TheVariants.{Said, Started, StartRefused, Ended}
@@ -36,12 +36,14 @@ abbrev pub frame_at : List ThreadRecord → ℕ → Option FrameRecord
 frame_at threads zero = None
 frame_at threads (suc i) = option_and_then (λ t. t.frame) (slice_get threads i)
 
--- what a thread's step prints, in a domain of this name, at a stage of this one of these literals
-abbrev pub lines_at : ℕ → List ℕ → List (List ℕ) → Stage → ℕ → Bool → List Line
-lines_at number name texts Bare literal true = []
-lines_at number name texts Bare literal false = Ended (record { 0 = number }) ∷ []
-lines_at number name texts HasStream literal more = []
-lines_at number name texts HasText literal more = Said name (slice_index_or texts literal []) ∷ []
+-- what a thread's step prints, in a domain of this name, at a stage of a literal, where its text is
+-- there or not
+abbrev pub step_lines : ℕ → List ℕ → Stage → Option (List ℕ) → List Line
+step_lines number name Bare None = Ended (record { 0 = number }) ∷ []
+step_lines number name Bare (Some text) = []
+step_lines number name HasStream text = []
+step_lines number name HasText None = []
+step_lines number name HasText (Some text) = Said name text ∷ []
 
 -- what a start prints, by what came of it
 abbrev pub beginning_line : List ℕ → Beginning → Line

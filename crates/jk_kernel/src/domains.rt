@@ -28,9 +28,13 @@ pub fn place_of(domains: &[DomainRecord], name: &[u8]) -> Option<usize>
 pub fn is_class_name(units: &[u16], word: &[u8]) -> bool
     ensures { result ≡ bytes_eq units.now word.now }
 {
-    units.len() == word.len()
-        && units
-            .iter()
-            .zip(word.iter())
-            .all(|(unit, byte)| *unit == u16::from(*byte))
+    if units.len() != word.len() {
+        return false;
+    }
+    for (i, unit) in units.iter().enumerate() {
+        if *unit != u16::from(word[i]) {
+            return false;
+        }
+    }
+    true
 }

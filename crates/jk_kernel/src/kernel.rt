@@ -1,14 +1,20 @@
 //! The kernel's state, and the calls that make the machine's events happen.
 
-ghost use Rattle.std.specs.Prelude.{◌≡◌, ℕ, ◌+◌, ◌<◌, ◌≤◌, ◌^◌, List, length, is_some, None, IfOk, OnErr, IfSome, IfNone, true, false};
-ghost use Rattle.jk_model.specs.Machine.{Machine, no_domains, opened, live_domain, is_live};
+ghost use Rattle.std.specs.Prelude.{◌≡◌, ℕ, ◌+◌, ◌<◌, ◌≤◌, ◌^◌, ◌-◌, List, length, is_some, None, IfOk, OnOk, OnErr, IfSome, IfNone, Err, true, false, [], ◌∷◌};
+ghost use Rattle.jk_model.specs.Machine.{Machine, no_domains, opened, live_domain, is_live, started, stepped};
 ghost use Rattle.jk_model.specs.Script.{default_quotas};
+ghost use Rattle.jk_model.specs.Outside.{Appends, AppendsPart, HasRisen};
+ghost use Rattle.jk_model.specs.Output.{text_of};
 ghost use Rattle.jk_kernel.specs.Form.{HasForm};
+ghost use Rattle.jk_kernel.specs.Steps.{beginning_line};
 
-use crate::domains::{DomainRecord, place_of};
+use crate::answers::EventAnswer;
+use crate::domains::{DomainRecord, is_class_name, place_of};
 use crate::form::form_of;
-use crate::threads::{ThreadRecord, live_frame};
+use crate::lines::{print_beginning, print_step};
+use crate::threads::{Beginning, FrameRecord, Stage, ThreadRecord, live_frame, next_frame};
 use jk_model::{Bytes, ClassFile, DomainId, OutOfMemory};
+use jk_outside::{Sink, SinkFailed};
 use std::alloc::Global;
 use std::marker::Model;
 
@@ -74,6 +80,92 @@ impl Kernel {
             program,
         })?;
         Ok(DomainId(number))
+    }
+
+    /// The start of a thread in the domain of this name, at the `main` of the class of this name. Its
+    /// line is printed, also where it is refused. Where the sink fails, the start has happened; where
+    /// no memory is left, it hasn't, and the sink was not touched.
+    pub fn start<S: Sink>(&mut self, name: &[u8], class: &[u8], words: &[Bytes], out: &mut S) -> Result<(), EventAnswer>
+        requires no_words { words.now ≡ [] }
+        requires thread { self.old.next_thread < 2 ^ 31 }
+        requires segment { self.old.next_segment < 2 ^ 64 - 1 }
+        ensures event { OnOk result (self.new ≡ (started self.old name.now class.now).1) }
+        ensures ok { OnOk result (Appends (S.bytes out.old) (S.bytes out.new)
+            (text_of (started self.old name.now class.now).0)) }
+        ensures failed { result ≡ Err EventAnswer.SinkFailed → self.new ≡ (started self.old name.now class.now).1 }
+        ensures part { result ≡ Err EventAnswer.SinkFailed → AppendsPart (S.bytes out.old) (S.bytes out.new)
+            (text_of (started self.old name.now class.now).0) }
+        ensures cause { result ≡ Err EventAnswer.SinkFailed → HasRisen (S.faults out.old) (S.faults out.new) }
+        ensures memory { result ≡ Err EventAnswer.OutOfMemory → (self.new ≡ self.old) × (out.new ≡ out.old) }
+        ensures later { S.faults out.old ≤ S.faults out.new }
+        ensures fits { S.faults out.old < 2 ^ 64 → S.faults out.new < 2 ^ 64 }
+        ensures bounds { (self.new.domains ≡ self.old.domains)
+            × (self.new.next_thread ≤ self.old.next_thread + 1) × (self.new.next_segment ≤ self.old.next_segment + 1) }
+    {
+        let beginning = match self.begin(name, class) {
+            Ok(beginning) => beginning,
+            Err(OutOfMemory) => return Err(EventAnswer::OutOfMemory),
+        };
+        match print_beginning(out, name, beginning) {
+            Ok(()) => Ok(()),
+            Err(SinkFailed) => Err(EventAnswer::SinkFailed),
+        }
+    }
+
+    /// A start without its line.
+    fn begin(&mut self, name: &[u8], class: &[u8]) -> Result<Beginning, OutOfMemory>
+        requires thread { self.old.next_thread < 2 ^ 31 }
+        requires segment { self.old.next_segment < 2 ^ 64 - 1 }
+        ensures ok { IfOk result (λ beginning.
+            started self.old name.now class.now ≡ (beginning_line name.now beginning ∷ [], self.new)) }
+        ensures err { OnErr result (self.new ≡ self.old) }
+        ensures bounds { (self.new.domains ≡ self.old.domains)
+            × (self.new.next_thread ≤ self.old.next_thread + 1) × (self.new.next_segment ≤ self.old.next_segment + 1) }
+    {
+        let Some(domain) = place_of(self.domains.as_slice(), name) else {
+            return Ok(Beginning::NoDomain);
+        };
+        if !is_class_name(self.domains[domain].program.name.as_slice(), class) {
+            return Ok(Beginning::NoClass);
+        }
+        let number = self.threads.len() as u32 + 1;
+        self.threads.push(ThreadRecord {
+            segment: self.next_segment,
+            domain,
+            frame: Some(FrameRecord {
+                literal: 0,
+                stage: Stage::Bare,
+            }),
+        })?;
+        self.next_segment += 1;
+        Ok(Beginning::Begun(number))
+    }
+
+    /// One step of a thread, with what it prints. A thread that isn't live does nothing. Where the
+    /// sink fails, the step has happened.
+    pub fn turn<S: Sink>(&mut self, thread: u32, out: &mut S) -> Result<(), SinkFailed>
+        ensures event { self.new ≡ (stepped self.old thread).1 }
+        ensures ok { OnOk result (Appends (S.bytes out.old) (S.bytes out.new) (text_of (stepped self.old thread).0)) }
+        ensures part { OnErr result (AppendsPart (S.bytes out.old) (S.bytes out.new)
+            (text_of (stepped self.old thread).0)) }
+        ensures cause { OnErr result (HasRisen (S.faults out.old) (S.faults out.new)) }
+        ensures later { S.faults out.old ≤ S.faults out.new }
+        ensures fits { S.faults out.old < 2 ^ 64 → S.faults out.new < 2 ^ 64 }
+        ensures bounds { (self.new.domains ≡ self.old.domains)
+            × (self.new.next_thread ≡ self.old.next_thread) × (self.new.next_segment ≡ self.old.next_segment) }
+    {
+        let Some(frame) = live_frame(self.threads.as_slice(), thread) else {
+            return Ok(());
+        };
+        let place = thread as usize - 1;
+        let record = self.threads[place];
+        let domain = &self.domains[record.domain];
+        self.threads[place] = ThreadRecord {
+            segment: record.segment,
+            domain: record.domain,
+            frame: next_frame(frame, domain.program.texts.len()),
+        };
+        print_step(out, thread, domain, frame)
     }
 
     /// Whether a thread is live.

@@ -5,6 +5,7 @@ mod answers;
 mod domains;
 mod form;
 mod kernel;
+mod lines;
 mod threads;
 
 pub use answers::EventAnswer;

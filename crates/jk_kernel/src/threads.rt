@@ -1,7 +1,7 @@
 //! The threads that the kernel has, and how a frame moves on.
 
-ghost use Rattle.std.specs.Prelude.{◌≡◌, ◌<◌};
-ghost use Rattle.jk_kernel.specs.Steps.{next_of, frame_at};
+ghost use Rattle.std.specs.Prelude.{◌≡◌, nat_lt};
+ghost use Rattle.jk_kernel.specs.Steps.{next_of, frame_at, IsFrameIn};
 
 /// How far a frame has come with its literal, by what stands on its operand stack.
 #[derive(Clone, Copy, Debug, PartialEq, Eq)]
@@ -44,18 +44,17 @@ pub enum Beginning {
     Begun(u32),
 }
 
-/// The frame behind its instruction, where `more` says whether its literal is there; None behind a
-/// return.
-pub fn next_frame(frame: FrameRecord, more: bool) -> Option<FrameRecord>
-    requires { frame.stage ≡ Stage.HasText → frame.literal < usize.MAX }
-    ensures { result ≡ next_of frame more }
+/// The frame behind its instruction, in a code of so many literals; None behind the return.
+pub fn next_frame(frame: FrameRecord, count: usize) -> Option<FrameRecord>
+    requires { IsFrameIn frame count }
+    ensures { result ≡ next_of frame (nat_lt frame.literal count) }
 {
     match frame.stage {
-        Stage::Bare if !more => None,
-        Stage::Bare => Some(FrameRecord {
+        Stage::Bare if frame.literal < count => Some(FrameRecord {
             literal: frame.literal,
             stage: Stage::HasStream,
         }),
+        Stage::Bare => None,
         Stage::HasStream => Some(FrameRecord {
             literal: frame.literal,
             stage: Stage::HasText,
