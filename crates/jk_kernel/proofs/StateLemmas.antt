@@ -4,8 +4,11 @@ use Rattle.std.specs.Prelude.{MatchOption, bytes_eq, find, ◌&&◌, is_some, Is
 use Rattle.std.specs.List.{position_from}
 use Rattle.std.specs.Option.{option_map, option_and_then}
 use Rattle.std.proofs.lemmas.List.{length_push}
-use Rattle.std.proofs.lemmas.Option.{slice_get_past}
-use Rattle.jk_model.specs.Machine.{Machine, Domain, opened, with_new_thread, live_domain, is_live, is_live_thread}
+use Rattle.std.proofs.lemmas.Option.{slice_get_past, slice_get_within, same_Some, MatchOption-at_none, MatchOption-at_some}
+use Rattle.std.proofs.lemmas.Slice.Eq.{bytes_eq-Decides}
+use Rattle.jk_model.specs.Machine.{Machine, Domain, opened, with_new_thread, live_domain, is_live, is_live_thread, started, started_by, started_in}
+use Rattle.jk_model.specs.declared.output.Line.{Line}
+use Rattle.jk_model.specs.declared.output.Line.TheVariants.{Started, StartRefused}
 use Rattle.jk_model.specs.Script.{default_quotas}
 use Rattle.jk_model.specs.declared.script.Quotas.{Quotas}
 use Rattle.jk_kernel.specs.declared.domains.DomainRecord.{DomainRecord}
@@ -18,20 +21,21 @@ use Rattle.jk_kernel.proofs.ListLemmas.{slice_get-numbered, numbered-set, number
 
 -- ---- The look-up of a name.
 
--- o is the domain at place k, where the first of these has number n
-pub record FoundIn (ds : List DomainRecord) (n : ℕ) (o : Option Domain) (k : ℕ) : Type 0 where
+-- o is the domain of this name at place k, where the first of these has number n
+pub record FoundIn (name : List ℕ) (ds : List DomainRecord) (n : ℕ) (o : Option Domain) (k : ℕ) : Type 0 where
   pub place : ℕ
   pub domain : DomainRecord
   pub at : slice_get ds place ≡ Some domain
   pub number : n + place ≡ k
+  pub named : bytes_eq domain.name name ≡ true
   pub found : o ≡ Some (domain_of k domain)
 
-abbrev pub Found : List DomainRecord → ℕ → Option ℕ → Option Domain → Type 0
-Found ds n place o = MatchOption place (o ≡ None) (λ k. FoundIn ds n o k)
+abbrev pub Found : List ℕ → List DomainRecord → ℕ → Option ℕ → Option Domain → Type 0
+Found name ds n place o = MatchOption place (o ≡ None) (λ k. FoundIn name ds n o k)
 
-found_later : (x : DomainRecord) (ds : List DomainRecord) (n : ℕ) (place : Option ℕ) (o : Option Domain) → Found ds (suc n) place o → Found (x ∷ ds) n place o
-found_later x ds n None o h = h
-found_later x ds n (Some k) o h = record { place = suc h.place; domain = h.domain; at = h.at; number = omega (arith, h.number); found = h.found }
+found_later : (name : List ℕ) (x : DomainRecord) (ds : List DomainRecord) (n : ℕ) (place : Option ℕ) (o : Option Domain) → Found name ds (suc n) place o → Found name (x ∷ ds) n place o
+found_later name x ds n None o h = h
+found_later name x ds n (Some k) o h = record { place = suc h.place; domain = h.domain; at = h.at; number = omega (arith, h.number); named = h.named; found = h.found }
 
 abbrev pub is_named : List ℕ → DomainRecord → Bool
 is_named name d = bytes_eq d.name name
@@ -39,20 +43,62 @@ is_named name d = bytes_eq d.name name
 abbrev pub is_live_named : List ℕ → Domain → Bool
 is_live_named name d = d.live && bytes_eq d.name name
 
-pub found_from : (name : List ℕ) (n : ℕ) (ds : List DomainRecord) → Found ds n (position_from (is_named name) n ds) (find (is_live_named name) (numbered domain_of n ds))
+pub found_from : (name : List ℕ) (n : ℕ) (ds : List DomainRecord) → Found name ds n (position_from (is_named name) n ds) (find (is_live_named name) (numbered domain_of n ds))
 found_from name n [] = refl
-found_from name n (x ∷ ds) =
-    elim (bytes_eq x.name name) as (λ b. Found (x ∷ ds) n (cond b (Some n) (position_from (is_named name) (n + 1) ds)) (cond b (Some (domain_of n x)) (find (is_live_named name) (numbered domain_of (suc n) ds)))) [
-      | true ↦ record { place = 0; domain = x; at = refl; number = add-zero n; found = refl }
-      | false ↦ rw add-one (found_later x ds n _ _ (found_from name (suc n) ds))
-    ]
+found_from name n (x ∷ ds) = by_test (bytes_eq x.name name) refl
+  where
+    by_test : (b : Bool) → bytes_eq x.name name ≡ b → Found name (x ∷ ds) n (cond b (Some n) (position_from (is_named name) (n + 1) ds)) (cond b (Some (domain_of n x)) (find (is_live_named name) (numbered domain_of (suc n) ds)))
+    by_test true e = record { place = 0; domain = x; at = refl; number = add-zero n; named = e; found = refl }
+    by_test false e = rw add-one (found_later name x ds n _ _ (found_from name (suc n) ds))
 
-pub live_domain-found : (name : List ℕ) (ds : List DomainRecord) (ts : List ThreadRecord) (ns : ℕ) → Found ds 0 (position_from (is_named name) 0 ds) (live_domain (machine_of ds ts ns) name)
+pub live_domain-found : (name : List ℕ) (ds : List DomainRecord) (ts : List ThreadRecord) (ns : ℕ) → Found name ds 0 (position_from (is_named name) 0 ds) (live_domain (machine_of ds ts ns) name)
 live_domain-found name ds ts ns = found_from name 0 ds
 
-pub is_some-found : (ds : List DomainRecord) (n : ℕ) (place : Option ℕ) (o : Option Domain) → Found ds n place o → is_some place ≡ is_some o
-is_some-found ds n None o h = sym (ap is_some h)
-is_some-found ds n (Some k) o h = sym (ap is_some h.found)
+pub is_some-found : (name : List ℕ) (ds : List DomainRecord) (n : ℕ) (place : Option ℕ) (o : Option Domain) → Found name ds n place o → is_some place ≡ is_some o
+is_some-found name ds n None o h = sym (ap is_some h)
+is_some-found name ds n (Some k) o h = sym (ap is_some h.found)
+
+place_is : (name : List ℕ) (ds : List DomainRecord) (o : Option Domain) (k : ℕ) (d : DomainRecord) → FoundIn name ds 0 o k → slice_get ds k ≡ Some d → (d.name ≡ name) × (o ≡ Some (domain_of k d))
+place_is name ds o k d h at =
+    let place : k ≡ h.place = omega (arith, h.number) in
+    let there : slice_get ds k ≡ Some h.domain = ap (slice_get ds) place ∙ h.at in
+    let same : h.domain ≡ d = same_Some h.domain d (sym there ∙ at) in
+    (ap (λ (x : DomainRecord). x.name) (sym same) ∙ (bytes_eq-Decides h.domain.name name).0 h.named, h.found ∙ ap (λ (x : DomainRecord). Some (domain_of k x)) same)
+
+-- ---- A start.
+
+pub started_without : (ds : List DomainRecord) (ts : List ThreadRecord) (ns : ℕ) (m : Machine) (name class : List ℕ) → machine_of ds ts ns ≡ m → position_from (is_named name) 0 ds ≡ None → started m name class ≡ (StartRefused name 1 ∷ [], m)
+started_without ds ts ns m name class view none =
+    let absent : live_domain (machine_of ds ts ns) name ≡ None = MatchOption-at_none _ (λ k. FoundIn name ds 0 (live_domain (machine_of ds ts ns) name) k) none (live_domain-found name ds ts ns) in
+    subst (λ (x : Machine). started x name class ≡ (StartRefused name 1 ∷ [], x)) view (ap (started_by (machine_of ds ts ns) name class) absent)
+
+-- the thread that a start makes
+abbrev pub new_thread : ℕ → ℕ → ThreadRecord
+new_thread segment domain = record { segment = segment; domain = domain; frame = Some (record { literal = 0; stage = Bare }) }
+
+begun_is : (ds : List DomainRecord) (ts : List ThreadRecord) (ns k : ℕ) (d : DomainRecord) → with_new_thread (machine_of ds ts ns) (domain_of k d) k ≡ machine_of ds (ts ++ new_thread ns k ∷ []) (ns + 1)
+begun_is ds ts ns k d = rw (numbered-push thread_of 1 ts (suc (length ts)) (new_thread ns k) (one-add (length ts)), length_push ts (new_thread ns k), add-one (length ts), add-one ns) refl
+
+module _ (ds : List DomainRecord) (ts : List ThreadRecord) (ns : ℕ) (m : Machine) (name class : List ℕ) (k : ℕ) (d : DomainRecord) (view : machine_of ds ts ns ≡ m) (place : position_from (is_named name) 0 ds ≡ Some k) (at : slice_get ds k ≡ Some d) where
+  started_there : (name ≡ d.name) × (started (machine_of ds ts ns) name class ≡ started_in (machine_of ds ts ns) (domain_of k d) (cond (bytes_eq d.program.name class) (Some (d.program.name, k)) None))
+  started_there =
+      let found = MatchOption-at_some (live_domain (machine_of ds ts ns) name ≡ None) (λ k. FoundIn name ds 0 (live_domain (machine_of ds ts ns) name) k) k place (live_domain-found name ds ts ns) in
+      let is = place_is name ds (live_domain (machine_of ds ts ns) name) k d found at in
+      (sym is.0, ap (started_by (machine_of ds ts ns) name class) is.1)
+
+  pub started_refused : bytes_eq d.program.name class ≡ false → started m name class ≡ (StartRefused name 2 ∷ [], m)
+  started_refused other =
+      subst (λ (x : Machine). started x name class ≡ (StartRefused name 2 ∷ [], x)) view
+      (started_there.1 ∙ ap (λ b. started_in (machine_of ds ts ns) (domain_of k d) (cond b (Some (d.program.name, k)) None)) other
+      ∙ ap (λ x. let r : List Line × Machine = (StartRefused x 2 ∷ [], machine_of ds ts ns) in r) (sym started_there.0))
+
+  pub started_begun : (number : ℕ) (new : List ThreadRecord) → bytes_eq d.program.name class ≡ true → number ≡ suc (length ts) → new ≡ ts ++ new_thread ns k ∷ [] → started m name class ≡ (Started (record { 0 = number }) name ∷ [], machine_of ds new (ns + 1))
+  started_begun number new same numbered_so pushed =
+      ap (λ x. started x name class) (sym view)
+      ∙ started_there.1 ∙ ap (λ b. started_in (machine_of ds ts ns) (domain_of k d) (cond b (Some (d.program.name, k)) None)) same
+      ∙ ap (λ x. let r : List Line × Machine = (Started (record { 0 = suc (length ts) }) x ∷ [], with_new_thread (machine_of ds ts ns) (domain_of k d) k) in r) (sym started_there.0)
+      ∙ ap (λ x. let r : List Line × Machine = (Started (record { 0 = x }) name ∷ [], with_new_thread (machine_of ds ts ns) (domain_of k d) k) in r) (sym numbered_so)
+      ∙ ap (λ x. let r : List Line × Machine = (Started (record { 0 = number }) name ∷ [], x) in r) (begun_is ds ts ns k d ∙ ap (λ x. machine_of ds x (ns + 1)) (sym pushed))
 
 -- ---- Live threads.
 
@@ -134,3 +180,13 @@ is_live-here ds ts ns m i t e at = rw (← e, add-one) (is_live-at ds ts ns i t 
 pub is_live-beyond : (ds : List DomainRecord) (ts : List ThreadRecord) (ns : ℕ) (m : Machine) (n : ℕ) → machine_of ds ts ns ≡ m → length ts < n → is_live m n ≡ false
 is_live-beyond ds ts ns m zero e h = absurd (omega arith)
 is_live-beyond ds ts ns m (suc i) e h = rw (← e) (is_live-past ds ts ns i (slice_get_past ts i (omega arith)))
+
+pub length-threads : (ds : List DomainRecord) (ts : List ThreadRecord) (ns : ℕ) (m : Machine) → machine_of ds ts ns ≡ m → suc (length ts) ≡ m.next_thread
+length-threads ds ts ns m e = ap (λ (x : Machine). x.next_thread) e
+
+pub position_within : (name : List ℕ) (ds : List DomainRecord) (k : ℕ) → position_from (is_named name) 0 ds ≡ Some k → k < length ds
+position_within name ds k e =
+    let o : Option Domain = find (is_live_named name) (numbered domain_of 0 ds) in
+    let h = MatchOption-at_some (o ≡ None) (λ k. FoundIn name ds 0 o k) k e (found_from name 0 ds) in
+    let within : h.place < length ds = slice_get_within ds h.place h.domain h.at in
+    omega (arith, h.number)

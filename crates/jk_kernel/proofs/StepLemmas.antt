@@ -1,7 +1,7 @@
 -- What a step does to the machine that the records stand for.
-use Rattle.std.proofs.Common.{◌≡◌, ℕ, zero, suc, ◌+◌, ◌*◌, ◌<◌, ◌≤◌, Bool, true, false, cond, ltb, List, [], ◌∷◌, ◌++◌, length, get_or, set, slice_get, map, Option, Some, None, refl, sym, ap, subst, ◌∙◌, arith, add-zero, zero-add, add-one, one-add, length-set}
+use Rattle.std.proofs.Common.{◌≡◌, ℕ, zero, suc, ◌+◌, ◌-◌, ◌*◌, ◌<◌, ◌≤◌, Bool, true, false, cond, ltb, List, [], ◌∷◌, ◌++◌, length, get_or, set, slice_get, map, Option, Some, None, refl, sym, ap, subst, ◌∙◌, arith, add-zero, zero-add, add-one, one-add, length-set}
 use Rattle.std.specs.Option.{option_map, option_and_then}
-use Rattle.std.proofs.lemmas.Option.{slice_get-map, slice_get-get_or, slice_get_past, same_Some}
+use Rattle.std.proofs.lemmas.Option.{slice_get-map, slice_get-get_or, slice_get_past, slice_get_within, same_Some}
 use Rattle.std.proofs.lemmas.Bool.{ltb-false, ltb-true}
 use Rattle.jk_model.specs.declared.output.Line.{Line}
 use Rattle.jk_model.specs.declared.output.Line.TheVariants.{Said, Ended}
@@ -13,8 +13,9 @@ use Rattle.jk_kernel.specs.declared.threads.Stage.{Stage}
 use Rattle.jk_kernel.specs.declared.threads.Stage.TheVariants.{Bare, HasStream, HasText}
 use Rattle.jk_model.specs.declared.values.Value.{Value}
 use Rattle.jk_kernel.specs.Steps.{next_from, next_of, frame_at, step_lines, IsLiteralAt, IsFrameIn}
-use Rattle.jk_kernel.specs.State.{numbered, class_of, domain_of, done_at, stack_at, frame_of, segments_of, thread_of, machine_of, IsPlacedIn}
+use Rattle.jk_kernel.specs.State.{numbered, class_of, domain_of, done_at, stack_at, frame_of, segments_of, thread_of, machine_of, IsPlacedIn, IsSound}
 use Rattle.jk_kernel.proofs.ListLemmas.{slice_get-numbered, numbered-set}
+use Rattle.jk_kernel.proofs.StateLemmas.{IsSound-set}
 
 -- ---- The code.
 
@@ -187,3 +188,49 @@ next_from-place HasText l more ds domain d at e h = (d, at, omega arith)
 
 pub next_of-place : (f : FrameRecord) (more : Bool) (ds : List DomainRecord) (domain : ℕ) (d : DomainRecord) → slice_get ds domain ≡ Some d → more ≡ ltb f.literal (length d.program.texts) → IsFrameIn f (length d.program.texts) → IsPlacedIn (next_of f more) ds domain
 next_of-place f more ds domain d at e h = next_from-place f.stage f.literal more ds domain d at e h
+
+-- ---- A step by the thread's number.
+
+pub frame_at-within : (ts : List ThreadRecord) (n : ℕ) (f : FrameRecord) → frame_at ts n ≡ Some f → n - 1 < length ts
+frame_at-within ts n f e =
+    let p = frame_at-place ts n f e in
+    let within : p.0 < length ts = slice_get_within ts p.0 p.1 p.3 in
+    omega (arith, p.2)
+
+-- what is known of a thread with a frame
+pub record Running (ds : List DomainRecord) (ts : List ThreadRecord) (n : ℕ) (f : FrameRecord) (t : ThreadRecord) : Type 0 where
+  pub number : n ≡ suc (n - 1)
+  pub frame : t.frame ≡ Some f
+  pub domain : DomainRecord
+  pub home : slice_get ds t.domain ≡ Some domain
+  pub place : IsFrameIn f (length domain.program.texts)
+
+pub Running-from : (ds : List DomainRecord) (ts : List ThreadRecord) (n : ℕ) (f : FrameRecord) (t : ThreadRecord) → frame_at ts n ≡ Some f → slice_get ts (n - 1) ≡ Some t → IsSound ds ts → Running ds ts n f t
+Running-from ds ts n f t e at sound =
+    let p = frame_at-place ts n f e in
+    let place : n - 1 ≡ p.0 = omega (arith, p.2) in
+    let there : slice_get ts (n - 1) ≡ Some p.1 = ap (slice_get ts) place ∙ p.3 in
+    let same : p.1 ≡ t = same_Some p.1 t (sym there ∙ at) in
+    let framed : t.frame ≡ Some f = ap (λ (x : ThreadRecord). x.frame) (sym same) ∙ p.4 in
+    let home = IsPlacedIn-frame t.frame ds t.domain f framed (sound.placed (n - 1) t at) in
+    record { number = omega (arith, p.2); frame = framed; domain = home.0; home = home.1; place = home.2 }
+
+module _ (ds : List DomainRecord) (ts : List ThreadRecord) (n : ℕ) (f : FrameRecord) (t : ThreadRecord) (d : DomainRecord) (e : frame_at ts n ≡ Some f) (at : slice_get ts (n - 1) ≡ Some t) (home : slice_get ds t.domain ≡ Some d) (sound : IsSound ds ts) where
+  running_now : Running ds ts n f t
+  running_now = Running-from ds ts n f t e at sound
+
+  pub place_now : IsFrameIn f (length d.program.texts)
+  place_now = subst (λ (x : DomainRecord). IsFrameIn f (length x.program.texts)) (same_Some running_now.domain d (sym running_now.home ∙ home)) running_now.place
+
+  abbrev pub next_thread : ThreadRecord
+  next_thread = record t { frame = next_of f (ltb f.literal (length d.program.texts)) }
+
+  pub sound_then : IsSound ds (set ts (n - 1) next_thread)
+  sound_then = IsSound-set ds ts (n - 1) next_thread (next_of-place f (ltb f.literal (length d.program.texts)) ds t.domain d home refl place_now) sound
+
+  pub turned : (ns : ℕ) (m : Machine) (new : List ThreadRecord) → machine_of ds ts ns ≡ m → new ≡ set ts (n - 1) next_thread → stepped m n ≡ (step_lines n d.name f.stage (slice_get d.program.texts f.literal), machine_of ds new ns)
+  turned ns m new view written_so =
+      ap (λ x. stepped x n) (sym view) ∙ ap (stepped (machine_of ds ts ns)) running_now.number
+      ∙ stepped_is ds ts ns (n - 1) t d f at running_now.frame home place_now
+      ∙ ap (λ x. let r : List Line × Machine = (step_lines x d.name f.stage (slice_get d.program.texts f.literal), machine_of ds (set ts (n - 1) next_thread) ns) in r) (sym running_now.number)
+      ∙ ap (λ x. let r : List Line × Machine = (step_lines n d.name f.stage (slice_get d.program.texts f.literal), machine_of ds x ns) in r) (sym written_so)
