@@ -43,13 +43,13 @@ is_named name d = bytes_eq d.name name
 abbrev pub is_live_named : List ℕ → Domain → Bool
 is_live_named name d = d.live && bytes_eq d.name name
 
+found_cons : (name : List ℕ) (n : ℕ) (x : DomainRecord) (ds : List DomainRecord) → Found name ds (suc n) (position_from (is_named name) (suc n) ds) (find (is_live_named name) (numbered domain_of (suc n) ds)) → (b : Bool) → bytes_eq x.name name ≡ b → Found name (x ∷ ds) n (cond b (Some n) (position_from (is_named name) (n + 1) ds)) (cond b (Some (domain_of n x)) (find (is_live_named name) (numbered domain_of (suc n) ds)))
+found_cons name n x ds rest true e = record { place = 0; domain = x; at = refl; number = add-zero n; named = e; found = refl }
+found_cons name n x ds rest false e = rw add-one (found_later name x ds n _ _ rest)
+
 pub found_from : (name : List ℕ) (n : ℕ) (ds : List DomainRecord) → Found name ds n (position_from (is_named name) n ds) (find (is_live_named name) (numbered domain_of n ds))
 found_from name n [] = refl
-found_from name n (x ∷ ds) = by_test (bytes_eq x.name name) refl
-  where
-    by_test : (b : Bool) → bytes_eq x.name name ≡ b → Found name (x ∷ ds) n (cond b (Some n) (position_from (is_named name) (n + 1) ds)) (cond b (Some (domain_of n x)) (find (is_live_named name) (numbered domain_of (suc n) ds)))
-    by_test true e = record { place = 0; domain = x; at = refl; number = add-zero n; named = e; found = refl }
-    by_test false e = rw add-one (found_later name x ds n _ _ (found_from name (suc n) ds))
+found_from name n (x ∷ ds) = found_cons name n x ds (found_from name (suc n) ds) (bytes_eq x.name name) refl
 
 pub live_domain-found : (name : List ℕ) (ds : List DomainRecord) (ts : List ThreadRecord) (ns : ℕ) → Found name ds 0 (position_from (is_named name) 0 ds) (live_domain (machine_of ds ts ns) name)
 live_domain-found name ds ts ns = found_from name 0 ds

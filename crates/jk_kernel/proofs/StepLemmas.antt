@@ -1,7 +1,9 @@
 -- What a step does to the machine that the records stand for.
 use Rattle.std.proofs.Common.{◌≡◌, ℕ, zero, suc, ◌+◌, ◌-◌, ◌*◌, ◌<◌, ◌≤◌, Bool, true, false, cond, ltb, List, [], ◌∷◌, ◌++◌, length, get_or, set, slice_get, map, Option, Some, None, refl, sym, ap, subst, ◌∙◌, arith, add-zero, zero-add, add-one, one-add, length-set}
 use Rattle.std.specs.Option.{option_map, option_and_then}
-use Rattle.std.proofs.lemmas.Option.{slice_get-map, slice_get-get_or, slice_get_past, slice_get_within, same_Some}
+use Rattle.std.proofs.lemmas.Option.{slice_get-map, slice_get-get_or, slice_get_past, slice_get_within, slice_get_read, same_Some}
+use Rattle.std.proofs.lemmas.List.{append-nil}
+use Rattle.jk_model.specs.Outside.{Appends}
 use Rattle.std.proofs.lemmas.Bool.{ltb-false, ltb-true}
 use Rattle.jk_model.specs.declared.output.Line.{Line}
 use Rattle.jk_model.specs.declared.output.Line.TheVariants.{Said, Ended}
@@ -205,7 +207,7 @@ pub record Running (ds : List DomainRecord) (ts : List ThreadRecord) (n : ℕ) (
   pub home : slice_get ds t.domain ≡ Some domain
   pub place : IsFrameIn f (length domain.program.texts)
 
-pub Running-from : (ds : List DomainRecord) (ts : List ThreadRecord) (n : ℕ) (f : FrameRecord) (t : ThreadRecord) → frame_at ts n ≡ Some f → slice_get ts (n - 1) ≡ Some t → IsSound ds ts → Running ds ts n f t
+Running-from : (ds : List DomainRecord) (ts : List ThreadRecord) (n : ℕ) (f : FrameRecord) (t : ThreadRecord) → frame_at ts n ≡ Some f → slice_get ts (n - 1) ≡ Some t → IsSound ds ts → Running ds ts n f t
 Running-from ds ts n f t e at sound =
     let p = frame_at-place ts n f e in
     let place : n - 1 ≡ p.0 = omega (arith, p.2) in
@@ -215,22 +217,48 @@ Running-from ds ts n f t e at sound =
     let home = IsPlacedIn-frame t.frame ds t.domain f framed (sound.placed (n - 1) t at) in
     record { number = omega (arith, p.2); frame = framed; domain = home.0; home = home.1; place = home.2 }
 
-module _ (ds : List DomainRecord) (ts : List ThreadRecord) (n : ℕ) (f : FrameRecord) (t : ThreadRecord) (d : DomainRecord) (e : frame_at ts n ≡ Some f) (at : slice_get ts (n - 1) ≡ Some t) (home : slice_get ds t.domain ≡ Some d) (sound : IsSound ds ts) where
-  running_now : Running ds ts n f t
-  running_now = Running-from ds ts n f t e at sound
+-- the list that a call returned is the list of the threads, and f is what it found there
+module _ (ts : List ThreadRecord) (n : ℕ) (f : FrameRecord) (items : List ThreadRecord) (value : items ≡ ts) (live : Some f ≡ frame_at items n) where
+  live_now : frame_at ts n ≡ Some f
+  live_now = sym (live ∙ ap (λ x. frame_at x n) value)
 
-  pub place_now : IsFrameIn f (length d.program.texts)
-  place_now = subst (λ (x : DomainRecord). IsFrameIn f (length x.program.texts)) (same_Some running_now.domain d (sym running_now.home ∙ home)) running_now.place
+  pub index_within : n - 1 < length ts
+  index_within = frame_at-within ts n f live_now
 
-  abbrev pub next_thread : ThreadRecord
-  next_thread = record t { frame = next_of f (ltb f.literal (length d.program.texts)) }
+  pub running_now : (ds : List DomainRecord) (t : ThreadRecord) → t ≡ get_or ts (n - 1) t → IsSound ds ts → Running ds ts n f t
+  running_now ds t read sound = Running-from ds ts n f t live_now (slice_get_read ts (length ts) (n - 1) t refl index_within read) sound
 
-  pub sound_then : IsSound ds (set ts (n - 1) next_thread)
-  sound_then = IsSound-set ds ts (n - 1) next_thread (next_of-place f (ltb f.literal (length d.program.texts)) ds t.domain d home refl place_now) sound
+  pub domain_within : (ds : List DomainRecord) (t : ThreadRecord) → t ≡ get_or ts (n - 1) t → IsSound ds ts → t.domain < length ds
+  domain_within ds t read sound =
+      let running = running_now ds t read sound in slice_get_within ds t.domain running.domain running.home
 
-  pub turned : (ns : ℕ) (m : Machine) (new : List ThreadRecord) → machine_of ds ts ns ≡ m → new ≡ set ts (n - 1) next_thread → stepped m n ≡ (step_lines n d.name f.stage (slice_get d.program.texts f.literal), machine_of ds new ns)
-  turned ns m new view written_so =
-      ap (λ x. stepped x n) (sym view) ∙ ap (stepped (machine_of ds ts ns)) running_now.number
-      ∙ stepped_is ds ts ns (n - 1) t d f at running_now.frame home place_now
-      ∙ ap (λ x. let r : List Line × Machine = (step_lines x d.name f.stage (slice_get d.program.texts f.literal), machine_of ds (set ts (n - 1) next_thread) ns) in r) (sym running_now.number)
-      ∙ ap (λ x. let r : List Line × Machine = (step_lines n d.name f.stage (slice_get d.program.texts f.literal), machine_of ds x ns) in r) (sym written_so)
+module _ (ts : List ThreadRecord) (n : ℕ) (f : FrameRecord) (items : List ThreadRecord) (value : items ≡ ts) (live : Some f ≡ frame_at items n) (ds : List DomainRecord) (t : ThreadRecord) (read : t ≡ get_or ts (n - 1) t) (sound : IsSound ds ts) (d : DomainRecord) (read_home : d ≡ get_or ds t.domain d) where
+  running_here : Running ds ts n f t
+  running_here = running_now ts n f items value live ds t read sound
+
+  home_here : slice_get ds t.domain ≡ Some d
+  home_here = slice_get_read ds (length ds) t.domain d refl (domain_within ts n f items value live ds t read sound) read_home
+
+  pub place_here : IsFrameIn f (length d.program.texts)
+  place_here = subst (λ (x : DomainRecord). IsFrameIn f (length x.program.texts)) (same_Some running_here.domain d (sym running_here.home ∙ home_here)) running_here.place
+
+  abbrev pub after_step : Option FrameRecord → List ThreadRecord
+  after_step o = set ts (n - 1) (record t { frame = o })
+
+  pub sound_then : (o : Option FrameRecord) → o ≡ next_of f (ltb f.literal (length d.program.texts)) → IsSound ds (after_step o)
+  sound_then o e =
+      subst (λ (x : Option FrameRecord). IsSound ds (after_step x)) (sym e)
+      (IsSound-set ds ts (n - 1) (record t { frame = next_of f (ltb f.literal (length d.program.texts)) }) (next_of-place f (ltb f.literal (length d.program.texts)) ds t.domain d home_here refl place_here) sound)
+
+  pub turned : (ns : ℕ) (m : Machine) (o : Option FrameRecord) → machine_of ds ts ns ≡ m → o ≡ next_of f (ltb f.literal (length d.program.texts)) → stepped m n ≡ (step_lines n d.name f.stage (slice_get d.program.texts f.literal), machine_of ds (after_step o) ns)
+  turned ns m o view e =
+      ap (λ x. stepped x n) (sym view) ∙ ap (stepped (machine_of ds ts ns)) running_here.number
+      ∙ stepped_is ds ts ns (n - 1) t d f (slice_get_read ts (length ts) (n - 1) t refl (index_within ts n f items value live) read) running_here.frame home_here place_here
+      ∙ ap (λ x. let r : List Line × Machine = (step_lines x d.name f.stage (slice_get d.program.texts f.literal), machine_of ds (after_step (next_of f (ltb f.literal (length d.program.texts)))) ns) in r) (sym running_here.number)
+      ∙ ap (λ x. let r : List Line × Machine = (step_lines n d.name f.stage (slice_get d.program.texts f.literal), machine_of ds (after_step x) ns) in r) (sym e)
+
+-- ---- What goes out where nothing is printed.
+
+pub Appends-nothing : (o : Option (List ℕ)) → Appends o o []
+Appends-nothing None = refl
+Appends-nothing (Some bytes) = ap Some (sym (append-nil bytes))

@@ -1,6 +1,6 @@
 //! The lines that threads print.
 
-ghost use Rattle.std.specs.Prelude.{◌≡◌, ◌<◌, ◌≤◌, ◌^◌, [], ◌∷◌, OnOk, OnErr, slice_get};
+ghost use Rattle.std.specs.Prelude.{◌≡◌, ◌<◌, ◌≤◌, ◌^◌, [], ◌∷◌, ◌++◌, OnOk, OnErr, slice_get, codes};
 ghost use Rattle.jk_model.specs.declared.output.Line.TheVariants.{Said, Ended};
 ghost use Rattle.jk_model.specs.Outside.{Appends, AppendsPart, HasRisen, NeverFalls};
 ghost use Rattle.jk_model.specs.Output.{text_of};
@@ -8,7 +8,7 @@ ghost use Rattle.jk_kernel.specs.Steps.{beginning_line, step_lines};
 
 use crate::domains::DomainRecord;
 use crate::threads::{Beginning, FrameRecord, Stage};
-use jk_outside::{Sink, SinkFailed};
+use jk_outside::{Part, Sink, SinkFailed, write_line};
 
 /// What a program prints in a domain of this name.
 pub fn print_said<S: Sink>(out: &mut S, domain: &[u8], text: &[u16]) -> Result<(), SinkFailed>
@@ -19,7 +19,7 @@ pub fn print_said<S: Sink>(out: &mut S, domain: &[u8], text: &[u16]) -> Result<(
     ensures cause { OnErr result (HasRisen (S.faults out.old) (S.faults out.new)) }
     ensures faults { NeverFalls (S.faults out.old) (S.faults out.new) }
 {
-    out.write(domain)
+    write_line(out, &[Part::Bytes(domain), Part::Bytes(b": "), Part::Escaped(text)])
 }
 
 /// The end of a thread.
@@ -31,7 +31,14 @@ pub fn print_ended<S: Sink>(out: &mut S, thread: u32) -> Result<(), SinkFailed>
     ensures cause { OnErr result (HasRisen (S.faults out.old) (S.faults out.new)) }
     ensures faults { NeverFalls (S.faults out.old) (S.faults out.new) }
 {
-    out.write(b" ended")
+    write_line(
+        out,
+        &[
+            Part::Bytes(b"* thread "),
+            Part::Number(i64::from(thread)),
+            Part::Bytes(b" ended"),
+        ],
+    )
 }
 
 /// What a thread's step prints, by where its frame stood in its domain before.
@@ -61,5 +68,36 @@ pub fn print_beginning<S: Sink>(out: &mut S, domain: &[u8], beginning: Beginning
     ensures cause { OnErr result (HasRisen (S.faults out.old) (S.faults out.new)) }
     ensures faults { NeverFalls (S.faults out.old) (S.faults out.new) }
 {
-    out.write(domain)
+    match beginning {
+        Beginning::NoDomain => print_refusal(out, domain, b" refused S1"),
+        Beginning::NoClass => print_refusal(out, domain, b" refused S2"),
+        Beginning::Begun(thread) => write_line(
+            out,
+            &[
+                Part::Bytes(b"* thread "),
+                Part::Number(i64::from(thread)),
+                Part::Bytes(b" started in "),
+                Part::Bytes(domain),
+            ],
+        ),
+    }
+}
+
+/// A refused start, with the bytes behind the domain's name.
+fn print_refusal<S: Sink>(out: &mut S, domain: &[u8], reason: &[u8]) -> Result<(), SinkFailed>
+    ensures ok { OnOk result (Appends (S.bytes out.old) (S.bytes out.new)
+        (codes "* start " ++ domain.now ++ reason.now ++ 10 ∷ [])) }
+    ensures part { OnErr result (AppendsPart (S.bytes out.old) (S.bytes out.new)
+        (codes "* start " ++ domain.now ++ reason.now ++ 10 ∷ [])) }
+    ensures cause { OnErr result (HasRisen (S.faults out.old) (S.faults out.new)) }
+    ensures faults { NeverFalls (S.faults out.old) (S.faults out.new) }
+{
+    write_line(
+        out,
+        &[
+            Part::Bytes(b"* start "),
+            Part::Bytes(domain),
+            Part::Bytes(reason),
+        ],
+    )
 }
