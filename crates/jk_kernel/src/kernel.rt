@@ -3,7 +3,7 @@
 ghost use Rattle.std.specs.Prelude.{◌≡◌, ℕ, ◌+◌, ◌<◌, ◌≤◌, ◌^◌, ◌-◌, List, length, is_some, None, IfOk, OnOk, OnErr, IfSome, IfNone, Err, true, false, [], ◌∷◌};
 ghost use Rattle.jk_model.specs.Machine.{Machine, no_domains, opened, live_domain, is_live, started, stepped};
 ghost use Rattle.jk_model.specs.Script.{default_quotas};
-ghost use Rattle.jk_model.specs.Outside.{Appends, AppendsPart, HasRisen};
+ghost use Rattle.jk_model.specs.Outside.{Appends, AppendsPart, HasRisen, NeverFalls};
 ghost use Rattle.jk_model.specs.Output.{text_of};
 ghost use Rattle.jk_kernel.specs.Form.{HasForm};
 ghost use Rattle.jk_kernel.specs.Steps.{beginning_line};
@@ -97,8 +97,7 @@ impl Kernel {
             (text_of (started self.old name.now class.now).0) }
         ensures cause { result ≡ Err EventAnswer.SinkFailed → HasRisen (S.faults out.old) (S.faults out.new) }
         ensures memory { result ≡ Err EventAnswer.OutOfMemory → (self.new ≡ self.old) × (out.new ≡ out.old) }
-        ensures later { S.faults out.old ≤ S.faults out.new }
-        ensures fits { S.faults out.old < 2 ^ 64 → S.faults out.new < 2 ^ 64 }
+        ensures faults { NeverFalls (S.faults out.old) (S.faults out.new) }
         ensures bounds { (self.new.domains ≡ self.old.domains)
             × (self.new.next_thread ≤ self.old.next_thread + 1) × (self.new.next_segment ≤ self.old.next_segment + 1) }
     {
@@ -149,8 +148,7 @@ impl Kernel {
         ensures part { OnErr result (AppendsPart (S.bytes out.old) (S.bytes out.new)
             (text_of (stepped self.old thread).0)) }
         ensures cause { OnErr result (HasRisen (S.faults out.old) (S.faults out.new)) }
-        ensures later { S.faults out.old ≤ S.faults out.new }
-        ensures fits { S.faults out.old < 2 ^ 64 → S.faults out.new < 2 ^ 64 }
+        ensures faults { NeverFalls (S.faults out.old) (S.faults out.new) }
         ensures bounds { (self.new.domains ≡ self.old.domains)
             × (self.new.next_thread ≡ self.old.next_thread) × (self.new.next_segment ≡ self.old.next_segment) }
     {

@@ -48,9 +48,7 @@ pub fn print_step<S: Sink>(out: &mut S, thread: u32, domain: &DomainRecord, fram
     ensures part { OnErr result (AppendsPart (S.bytes out.old) (S.bytes out.new) (text_of
         (step_lines thread domain.now.name frame.stage (slice_get domain.now.program.texts frame.literal)))) }
     ensures cause { OnErr result (HasRisen (S.faults out.old) (S.faults out.new)) }
-    // Where it prints nothing, the sink is not touched.
-    ensures later { S.faults out.old ≤ S.faults out.new }
-    ensures fits { S.faults out.old < 2 ^ 64 → S.faults out.new < 2 ^ 64 }
+    ensures faults { NeverFalls (S.faults out.old) (S.faults out.new) }
 {
     match (frame.stage, domain.program.texts.get(frame.literal)) {
         (Stage::HasText, Some(text)) => print_said(out, domain.name.as_slice(), text.as_slice()),

@@ -1,6 +1,6 @@
 //! Files, as something that lists folders and reads files.
 
-ghost use Rattle.std.specs.Prelude.{◌≡◌, ℕ, ◌≤◌, List, length, Option, IfOk, Err, IsUtf8};
+ghost use Rattle.std.specs.Prelude.{◌≡◌, ℕ, ◌<◌, ◌^◌, ◌≤◌, List, length, Option, IfOk, Err, IsUtf8};
 ghost use Rattle.std.specs.List.{AllByRecursion};
 ghost use Rattle.jk_model.specs.Outside.{Tree, AreThere, FolderIs, FileIs, FolderIsAbsent, FileIsAbsent, FolderIsLong, FileIsLong, HasRisen, NeverFalls};
 
@@ -62,4 +62,9 @@ pub trait Files {
         ensures stays { tree self.new ≡ tree self.old }
         ensures faults { NeverFalls (faults self.old) (faults self.new) }
         ensures taken { NeverFalls (taken self.old) (taken self.new) };
+
+    /// Counts of 64 bits.
+    ghost faults_fit: { (s : Self) → faults s < 2 ^ 64 };
+
+    ghost taken_fits: { (s : Self) → taken s < 2 ^ 64 };
 }
