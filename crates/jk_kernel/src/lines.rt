@@ -1,7 +1,7 @@
 //! The lines that threads print.
 
-ghost use Rattle.std.specs.Prelude.{◌≡◌, ◌<◌, ◌≤◌, ◌^◌, [], ◌∷◌, ◌++◌, OnOk, OnErr, slice_get, codes};
-ghost use Rattle.jk_model.specs.declared.output.Line.TheVariants.{Said, Ended};
+ghost use Rattle.std.specs.Prelude.{◌≡◌, ◌<◌, ◌≤◌, ◌^◌, [], ◌∷◌, OnOk, OnErr, slice_get};
+ghost use Rattle.jk_model.specs.declared.output.Line.TheVariants.{Said, Started, StartRefused, Ended};
 ghost use Rattle.jk_model.specs.Outside.{Appends, AppendsPart, HasRisen, NeverFalls};
 ghost use Rattle.jk_model.specs.Output.{text_of};
 ghost use Rattle.jk_kernel.specs.Steps.{beginning_line, step_lines};
@@ -11,7 +11,7 @@ use crate::threads::{Beginning, FrameRecord, Stage};
 use jk_outside::{Part, Sink, SinkFailed, write_line};
 
 /// What a program prints in a domain of this name.
-pub fn print_said<S: Sink>(out: &mut S, domain: &[u8], text: &[u16]) -> Result<(), SinkFailed>
+pub fn print_said<'a, S: Sink>(out: &mut S, domain: &'a [u8], text: &'a [u16]) -> Result<(), SinkFailed>
     ensures ok { OnOk result (Appends (S.bytes out.old) (S.bytes out.new)
         (text_of (Said domain.now text.now ∷ []))) }
     ensures part { OnErr result (AppendsPart (S.bytes out.old) (S.bytes out.new)
@@ -67,26 +67,38 @@ pub fn print_beginning<S: Sink>(out: &mut S, domain: &[u8], beginning: Beginning
     ensures faults { NeverFalls (S.faults out.old) (S.faults out.new) }
 {
     match beginning {
-        Beginning::NoDomain => print_refusal(out, domain, b" refused S1"),
-        Beginning::NoClass => print_refusal(out, domain, b" refused S2"),
-        Beginning::Begun(thread) => write_line(
-            out,
-            &[
-                Part::Bytes(b"* thread "),
-                Part::Number(i64::from(thread)),
-                Part::Bytes(b" started in "),
-                Part::Bytes(domain),
-            ],
-        ),
+        Beginning::NoDomain => print_refusal(out, domain, 1),
+        Beginning::NoClass => print_refusal(out, domain, 2),
+        Beginning::Begun(thread) => print_started(out, thread, domain),
     }
 }
 
-/// A refused start, with the bytes behind the domain's name.
-fn print_refusal<S: Sink>(out: &mut S, domain: &[u8], reason: &[u8]) -> Result<(), SinkFailed>
+/// The beginning of a thread.
+fn print_started<S: Sink>(out: &mut S, thread: u32, domain: &[u8]) -> Result<(), SinkFailed>
     ensures ok { OnOk result (Appends (S.bytes out.old) (S.bytes out.new)
-        (codes "* start " ++ domain.now ++ reason.now ++ 10 ∷ [])) }
+        (text_of (Started (record { 0 = thread }) domain.now ∷ []))) }
     ensures part { OnErr result (AppendsPart (S.bytes out.old) (S.bytes out.new)
-        (codes "* start " ++ domain.now ++ reason.now ++ 10 ∷ [])) }
+        (text_of (Started (record { 0 = thread }) domain.now ∷ []))) }
+    ensures cause { OnErr result (HasRisen (S.faults out.old) (S.faults out.new)) }
+    ensures faults { NeverFalls (S.faults out.old) (S.faults out.new) }
+{
+    write_line(
+        out,
+        &[
+            Part::Bytes(b"* thread "),
+            Part::Number(i64::from(thread)),
+            Part::Bytes(b" started in "),
+            Part::Bytes(domain),
+        ],
+    )
+}
+
+/// A refused start, with the number of its rule.
+fn print_refusal<S: Sink>(out: &mut S, domain: &[u8], number: u8) -> Result<(), SinkFailed>
+    ensures ok { OnOk result (Appends (S.bytes out.old) (S.bytes out.new)
+        (text_of (StartRefused domain.now number ∷ []))) }
+    ensures part { OnErr result (AppendsPart (S.bytes out.old) (S.bytes out.new)
+        (text_of (StartRefused domain.now number ∷ []))) }
     ensures cause { OnErr result (HasRisen (S.faults out.old) (S.faults out.new)) }
     ensures faults { NeverFalls (S.faults out.old) (S.faults out.new) }
 {
@@ -95,7 +107,8 @@ fn print_refusal<S: Sink>(out: &mut S, domain: &[u8], reason: &[u8]) -> Result<(
         &[
             Part::Bytes(b"* start "),
             Part::Bytes(domain),
-            Part::Bytes(reason),
+            Part::Bytes(b" refused S"),
+            Part::Number(i64::from(number)),
         ],
     )
 }
