@@ -6,6 +6,7 @@
 mod files;
 mod line_buffer;
 mod line_output;
+mod memory_sink;
 mod parts;
 mod sinks;
 
@@ -13,5 +14,6 @@ pub use files::{Files, FilesError};
 pub use jk_model::Entry;
 pub use line_buffer::LineBuffer;
 pub use line_output::write_line;
+pub use memory_sink::MemorySink;
 pub use parts::Part;
 pub use sinks::{Sink, SinkFailed};
