@@ -27,6 +27,12 @@ IsDomainEvent (Turn thread steps) = ⊥
 IsDomainEvent (Round rounds steps) = ⊥
 IsDomainEvent (Kill name) = ⊥
 
+-- Lines are printed: their text went out, or a front of it where the output failed.
+abbrev pub Prints : List Line → Option (List ℕ) → Option (List ℕ) → ℕ → ℕ → Result (Unit {0}) Stop → Type 0
+Prints lines old out faults faults' (Ok _) = Appends old out (text_of lines)
+Prints lines old out faults faults' (Err WriteFault) = AppendsPart old out (text_of lines) × HasRisen faults faults'
+Prints lines old out faults faults' (Err _) = ⊥
+
 -- One event, from machine m. Where it went well, it happened and its text went out; where the output
 -- failed, a front of its text did; else nothing did. The counts are those of the files and the output.
 abbrev pub EventEnds : DomainEvent → Event → Machine → Machine → Option (List ℕ) → Option (List ℕ) → ℕ → ℕ → ℕ → ℕ → Result (Unit {0}) Stop → Type 0

@@ -1,7 +1,11 @@
 -- What the program finds out of a folder.
-use Rattle.std.specs.Prelude.{◌≡◌, ℕ, ◌⊎◌, ⊤, IsSome, List, Option, Some, None}
+use Rattle.std.specs.Prelude.{◌≡◌, ℕ, ◌⊎◌, ⊤, IsSome, List, Option, Some, None, Result, Err, [], ◌∷◌}
 use Rattle.jk_model.specs.declared.class_file.ClassFile.{ClassFile}
+use Rattle.jk_model.specs.declared.output.Line.TheVariants.{Loaded}
 use Rattle.jk_model.specs.ClassFile.{IsClass}
+use Rattle.jk_model.specs.Machine.{Machine, opened}
+use Rattle.jk_model.specs.Script.{default_quotas}
+use Rattle.jkernel_program.specs.Events.{Prints}
 use Rattle.jk_model.specs.Outside.{Tree, HasRisen}
 use Rattle.class_reader.specs.Stage.{HasReadPool}
 use Rattle.jk_kernel.specs.Form.{HasForm}
@@ -39,6 +43,13 @@ Finds (Some tree) folder Absent = tree.folder folder ≡ None
 Finds (Some tree) folder NotYet =
     IsSome (tree.folder folder) × ((name : List ℕ) (texts : List (List ℕ)) → IsLoadable tree folder name texts → ⊥)
 Finds (Some tree) folder (Class c) = HasClass tree folder c
+
+-- A class is added to the machine as a domain of this name, and a line says so.
+abbrev pub AddsClass : Machine → Machine → List ℕ → ClassFile → Option (List ℕ) → Option (List ℕ) → ℕ → ℕ → Result (Unit {0}) Stop → Type 0
+AddsClass m new name c old out faults faults' (Err OutOfMemory) = (new ≡ m) × (out ≡ old)
+AddsClass m new name c old out faults faults' r =
+    ((class : List ℕ) (texts : List (List ℕ)) → HasForm c class texts → new ≡ opened m name default_quotas class texts)
+    × Prints (Loaded name ∷ []) old out faults faults' r
 
 -- reading stops only for a fault that was counted, or for memory
 abbrev pub StopsReading : Stop → ℕ → ℕ → Type 0

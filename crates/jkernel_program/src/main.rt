@@ -2,6 +2,7 @@
 #![tactic(auto)]
 
 mod calls;
+mod domains;
 mod ends;
 mod entries;
 mod folders;

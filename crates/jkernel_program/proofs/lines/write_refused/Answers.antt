@@ -3,7 +3,7 @@ use Rattle.std.proofs.Common.{subst, List, ℕ}
 use Rattle.std.specs.Prelude.{OnErr}
 use Rattle.jk_model.specs.Outside.{AppendsPart}
 use Rattle.jkernel_program.proofs.TextLemmas.{refused_parts}
-use Rattle.jkernel_program.proofs.lines.say_refused.Goals as goal
+use Rattle.jkernel_program.proofs.lines.write_refused.Goals as goal
 
 pub returns-clause-part : goal.returns-clause-part
 returns-clause-part g c =
