@@ -7,9 +7,10 @@ use Rattle.std.proofs.lemmas.List.Concat.{flat_map-append}
 use Rattle.jk_model.specs.declared.output.Line.{Line}
 use Rattle.jk_model.specs.declared.script.Event.{Event}
 use Rattle.jk_model.specs.Machine.{Machine, Thread, Segment, stepped, Steps, thread_numbered, is_live, is_live_thread, at_thread, top_of}
-use Rattle.jk_model.specs.Outside.{Appends, AppendsPart, IsPrefix}
+use Rattle.jk_model.specs.Outside.{Appends, AppendsPart, IsPrefix, HasRisen, NeverFalls}
 use Rattle.jk_model.specs.Output.{line_text, text_of}
 use Rattle.jk_model.specs.Run.{DomainEvent, Turns, Happens, IsRun}
+use Rattle.jkernel_program.proofs.FolderLemmas.{risen_later}
 
 -- ---- what goes out
 
@@ -100,3 +101,37 @@ run_more opens m mid last [] event first rest p h =
 run_more opens m mid last (e ∷ events) event first rest p h =
     let more = run_more opens p.0 mid last events event p.2 rest p.4 h in
     (p.0, p.1, p.2 ++ rest, p.3, more, ap (λ (ls : List Line). ls ++ rest) p.5 ∙ append_assoc p.1 p.2 rest)
+
+-- ---- a turn whose output fails
+
+pub turn_fails : (i n : ℕ) (m mid : Machine) (t : ℕ) (first : List Line) (old now new : Option (List ℕ)) (a b c : ℕ)
+    → i < n → Turns i m t first mid → Appends old now (text_of first) → AppendsPart now new (text_of (stepped mid t).0) → NeverFalls a b → HasRisen b c
+    → (lines : List Line) × (last : Machine) × Turns n m t lines last × AppendsPart old new (text_of lines) × HasRisen a c
+turn_fails i n m mid t first old now new a b c lt p went part stays risen =
+    let s = stepped mid t in
+    let more = turns_more i m mid t first p in
+    let rest = turns_total (n - (i + 1)) s.1 t in
+    let all = turns_join (i + 1) (n - (i + 1)) m s.1 rest.1 t (first ++ s.0) rest.0 more rest.2 in
+    let count : (i + 1) + (n - (i + 1)) ≡ n = omega arith in
+    let text : (text_of first ++ text_of s.0) ++ text_of rest.0 ≡ text_of ((first ++ s.0) ++ rest.0) =
+    ap (λ (x : List ℕ). x ++ text_of rest.0) (sym (text_of-append first s.0)) ∙ sym (text_of-append (first ++ s.0) rest.0) in
+    let went_on = part_longer old new (text_of first ++ text_of s.0) (text_of rest.0) (part_then old now new (text_of first) (text_of s.0) went part) in (
+      (first ++ s.0) ++ rest.0,
+      rest.1,
+      subst (λ (k : ℕ). Turns k m t ((first ++ s.0) ++ rest.0) rest.1) count all,
+      subst (λ (x : List ℕ). AppendsPart old new x) text went_on,
+      risen_later a b c stays risen,
+    )
+
+-- one more step, and its text
+pub turn_goes_on : (i : ℕ) (m mid next : Machine) (t : ℕ) (first : List Line) (old now new : Option (List ℕ)) → Turns i m t first mid → Appends old now (text_of first)
+    → next ≡ (stepped mid t).1 → Appends now new (text_of (stepped mid t).0)
+    → (lines : List Line) × Turns (i + 1) m t lines next × Appends old new (text_of lines)
+turn_goes_on i m mid next t first old now new p went is more = (
+  first ++ (stepped mid t).0,
+  subst (λ (x : Machine). Turns (i + 1) m t (first ++ (stepped mid t).0) x) (sym is) (turns_more i m mid t first p),
+  subst (λ (x : List ℕ). Appends old new x) (sym (text_of-append first (stepped mid t).0)) (appends_then old now new (text_of first) (text_of (stepped mid t).0) went more),
+)
+
+pub never_falls_then : (a b c : ℕ) → NeverFalls a b → NeverFalls b c → NeverFalls a c
+never_falls_then a b c p q = let x = p.later in let y = q.later in record { later = omega arith; fits = q.fits }

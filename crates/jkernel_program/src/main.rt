@@ -5,6 +5,7 @@ mod calls;
 mod domains;
 mod ends;
 mod entries;
+mod events;
 mod folders;
 mod lines;
 mod paths;
