@@ -6,7 +6,9 @@
 mod files;
 mod line_buffer;
 mod line_output;
+mod memory_files;
 mod memory_sink;
+mod numbers;
 mod parts;
 mod sinks;
 
@@ -14,6 +16,7 @@ pub use files::{Files, FilesError};
 pub use jk_model::Entry;
 pub use line_buffer::LineBuffer;
 pub use line_output::write_line;
+pub use memory_files::{MemoryFile, MemoryFiles};
 pub use memory_sink::MemorySink;
 pub use parts::Part;
 pub use sinks::{Sink, SinkFailed};
