@@ -1,4 +1,5 @@
 pub mod Counts
+pub mod DiskStates
 pub mod Lines
 pub mod MemorySinks
 pub mod MemoryTrees
