@@ -105,7 +105,7 @@ below_splits folder path h =
     let n = length (folder ++ 47 ∷ []) in
     let front : take n path ≡ folder ++ 47 ∷ [] = (bytes_eq-Decides (take n path) (folder ++ 47 ∷ [])).0 h in
     sym (take-append-drop n path) ∙ ap (λ (t : List ℕ). t ++ drop n path) front ∙ append_assoc folder (47 ∷ []) (drop n path)
-        ∙ ap (λ (k : ℕ). folder ++ 47 ∷ drop k path) (length_push folder 47)
+    ∙ ap (λ (k : ℕ). folder ++ 47 ∷ drop k path) (length_push folder 47)
 
 -- ---- names are texts
 
@@ -137,9 +137,9 @@ pub names_are_utf8 : (folder : List ℕ) (files : List MemoryFile) → all_utf8 
 unfolding all_utf8
 names_are_utf8 folder files u =
     good_entries (λ (e : Entry). IsUtf8 e.name) folder files
-        (all_weaker (λ (f : MemoryFile). is_utf8 f.path ≡ true) (λ (f : MemoryFile). is_below folder f.path ≡ true → IsUtf8 (entry_of (behind folder f.path)).name) files
-            (λ f t below. name_is_utf8 (behind folder f.path) (behind_is_utf8 folder f.path below t))
-            (all_from_test (λ (f : MemoryFile). is_utf8 f.path) files u))
+    (all_weaker (λ (f : MemoryFile). is_utf8 f.path ≡ true) (λ (f : MemoryFile). is_below folder f.path ≡ true → IsUtf8 (entry_of (behind folder f.path)).name) files
+    (λ f t below. name_is_utf8 (behind folder f.path) (behind_is_utf8 folder f.path below t))
+    (all_from_test (λ (f : MemoryFile). is_utf8 f.path) files u))
 
 -- ---- listed files are there
 
@@ -154,10 +154,11 @@ found_later false f o h = h
 found_all : (files : List MemoryFile) → AllByRecursion (λ (f : MemoryFile). IsSome (file_of files f.path)) files
 unfolding file_of
 found_all [] = tt
-found_all (f ∷ fs) =
-    (found_here (bytes_eq f.path f.path) f (find (λ (h : MemoryFile). bytes_eq h.path f.path) fs) ((bytes_eq-Decides f.path f.path).1 refl),
-        all_weaker (λ (g : MemoryFile). IsSome (file_of fs g.path)) (λ (g : MemoryFile). IsSome (file_of (f ∷ fs) g.path)) fs
-            (λ g there. found_later (bytes_eq f.path g.path) f (find (λ (h : MemoryFile). bytes_eq h.path g.path) fs) there) (found_all fs))
+found_all (f ∷ fs) = (
+  found_here (bytes_eq f.path f.path) f (find (λ (h : MemoryFile). bytes_eq h.path f.path) fs) ((bytes_eq-Decides f.path f.path).1 refl),
+  all_weaker (λ (g : MemoryFile). IsSome (file_of fs g.path)) (λ (g : MemoryFile). IsSome (file_of (f ∷ fs) g.path)) fs
+      (λ g there. found_later (bytes_eq f.path g.path) f (find (λ (h : MemoryFile). bytes_eq h.path g.path) fs) there) (found_all fs),
+)
 
 whole_at : (o : Option ℕ) (rest : List ℕ) → (entry_at o rest).folder ≡ false → (entry_at o rest).name ≡ rest
 whole_at None rest h = refl
@@ -171,6 +172,6 @@ pub files_are_there : (folder : List ℕ) (files : List MemoryFile) → AllByRec
 files_are_there folder files =
     let There : List ℕ → Type 0 = λ path. IsSome (file_of files path) in
     good_entries (λ (e : Entry). e.folder ≡ false → IsSome (file_of files (folder /- e.name))) folder files
-        (all_weaker (λ (f : MemoryFile). IsSome (file_of files f.path)) (λ (f : MemoryFile). is_below folder f.path ≡ true → (entry_of (behind folder f.path)).folder ≡ false → IsSome (file_of files (folder /- (entry_of (behind folder f.path)).name))) files
-            (λ f there below file. subst There (below_splits folder f.path below ∙ ap (λ (name : List ℕ). folder /- name) (sym (whole_name (behind folder f.path) file))) there)
-            (found_all files))
+    (all_weaker (λ (f : MemoryFile). IsSome (file_of files f.path)) (λ (f : MemoryFile). is_below folder f.path ≡ true → (entry_of (behind folder f.path)).folder ≡ false → IsSome (file_of files (folder /- (entry_of (behind folder f.path)).name))) files
+    (λ f there below file. subst There (below_splits folder f.path below ∙ ap (λ (name : List ℕ). folder /- name) (sym (whole_name (behind folder f.path) file))) there)
+    (found_all files))

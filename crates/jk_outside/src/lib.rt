@@ -24,3 +24,6 @@ pub use memory_sink::MemorySink;
 pub use parts::Part;
 pub use sinks::{Sink, SinkFailed};
 pub use stream_sink::StreamSink;
+
+#[cfg(test)]
+mod tests;

@@ -99,8 +99,8 @@ impl MemoryFiles {
     fn count_call(&mut self) -> bool
         ensures fails { result ≡ is_named self.old.fails (next_number self.old.calls) }
         ensures after { self.new ≡ record self.old {
-            calls = next_number self.old.calls;
-            faults = faults_after (is_named self.old.fails (next_number self.old.calls)) self.old.faults
+          calls = next_number self.old.calls;
+          faults = faults_after (is_named self.old.fails (next_number self.old.calls)) self.old.faults;
         } }
     {
         self.calls = self.calls.saturating_add(1);
@@ -144,8 +144,8 @@ impl Files for MemoryFiles {
         ensures missing { is_named self.old.fails (next_number self.old.calls) ≡ false
             → folder_of self.old.files folder.now ≡ None → result ≡ Err FilesError.Absent }
         ensures after { self.new ≡ record self.old {
-            calls = next_number self.old.calls;
-            faults = faults_after (is_named self.old.fails (next_number self.old.calls)) self.old.faults
+          calls = next_number self.old.calls;
+          faults = faults_after (is_named self.old.fails (next_number self.old.calls)) self.old.faults;
         } }
     {
         if self.count_call() {
@@ -173,8 +173,8 @@ impl Files for MemoryFiles {
         ensures missing { is_named self.old.fails (next_number self.old.calls) ≡ false
             → file_of self.old.files path.now ≡ None → result ≡ Err FilesError.Absent }
         ensures after { self.new ≡ record self.old {
-            calls = next_number self.old.calls;
-            faults = faults_after (is_named self.old.fails (next_number self.old.calls)) self.old.faults
+          calls = next_number self.old.calls;
+          faults = faults_after (is_named self.old.fails (next_number self.old.calls)) self.old.faults;
         } }
     {
         if self.count_call() {
@@ -186,7 +186,12 @@ impl Files for MemoryFiles {
 
 /// What stands in a folder, if there are at most `limit` entries.
 #[tactic(auto, unfolding(crate::specs::MemoryTrees::folder_of))]
-fn list_of(alloc: Global, files: &[MemoryFile], folder: &[u8], limit: u32) -> Result<List<Entry>, FilesError>
+fn list_of(
+    alloc: Global,
+    files: &[MemoryFile],
+    folder: &[u8],
+    limit: u32,
+) -> Result<List<Entry>, FilesError>
     requires { all_utf8 files.now ≡ true }
     ensures found { IfOk result (λ entries. folder_of files.now folder.now ≡ Some entries) }
     ensures names { IfOk result (λ entries. AllByRecursion (λ entry. IsUtf8 entry.name) entries) }
@@ -230,7 +235,10 @@ fn bytes_of(files: &[MemoryFile], path: &[u8], limit: u32) -> Result<Bytes, File
 fn found_bytes<'a>(files: &'a [MemoryFile], path: &[u8]) -> Option<&'a Bytes>
     ensures { option_copied result ≡ file_of files.now path.now }
 {
-    files.iter().find(|file| file.path.as_slice() == path).map(|file| &file.bytes)
+    files
+        .iter()
+        .find(|file| file.path.as_slice() == path)
+        .map(|file| &file.bytes)
 }
 
 /// Whether a file is below a folder.
@@ -238,11 +246,17 @@ fn found_bytes<'a>(files: &'a [MemoryFile], path: &[u8]) -> Option<&'a Bytes>
 fn has_folder(files: &[MemoryFile], folder: &[u8]) -> bool
     ensures { result ≡ has_folder files.now folder.now }
 {
-    files.iter().any(|file| is_below(folder, file.path.as_slice()))
+    files
+        .iter()
+        .any(|file| is_below(folder, file.path.as_slice()))
 }
 
 /// What stands in a folder, each name once.
-fn entries_in(alloc: Global, files: &[MemoryFile], folder: &[u8]) -> Result<List<Entry>, OutOfMemory>
+fn entries_in(
+    alloc: Global,
+    files: &[MemoryFile],
+    folder: &[u8],
+) -> Result<List<Entry>, OutOfMemory>
     ensures { IfOk result (λ entries. entries ≡ entries_of folder.now files.now) }
 {
     let mut entries = List::new(alloc);
@@ -337,7 +351,9 @@ fn may_stand(files: &[MemoryFile], path: &[u8]) -> bool
 fn all_apart(files: &[MemoryFile], path: &[u8]) -> bool
     ensures { result ≡ all_apart files.now path.now }
 {
-    files.iter().all(|file| stand_apart(path, file.path.as_slice()))
+    files
+        .iter()
+        .all(|file| stand_apart(path, file.path.as_slice()))
 }
 
 /// Whether neither of two paths runs through the other.

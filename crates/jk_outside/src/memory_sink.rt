@@ -31,11 +31,11 @@ impl Model for MemorySink {
     ghost Value = { SinkState };
 
     ghost view = { λ s. record {
-        room = s.room;
-        fails = s.fails.items;
-        bytes = s.bytes.items;
-        writes = s.writes;
-        faults = s.faults
+      room = s.room;
+      fails = s.fails.items;
+      bytes = s.bytes.items;
+      writes = s.writes;
+      faults = s.faults;
     } };
 
     ghost invariant = { λ s. (vec_len s.bytes ≤ s.room) × (s.room ≤ vec_capacity s.bytes) };

@@ -16,6 +16,6 @@ loop-file-preserved c =
     let i = c.loop-file.file-index in
     let within : i < length files = omega arith in
     c.in_ok-add_file.ensures
-        ∙ ap (λ (seen : List Entry). add_file folder seen c.file-item.result) c.loop-file.invariant
-        ∙ ap (λ (f : MemoryFile). add_file folder (entries_of folder (take i files)) f) c.file-item.is
-        ∙ sym (entries_of-more folder files i c.file-item.result within)
+    ∙ ap (λ (seen : List Entry). add_file folder seen c.file-item.result) c.loop-file.invariant
+    ∙ ap (λ (f : MemoryFile). add_file folder (entries_of folder (take i files)) f) c.file-item.is
+    ∙ sym (entries_of-more folder files i c.file-item.result within)
