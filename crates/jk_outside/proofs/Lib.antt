@@ -1,3 +1,4 @@
+pub mod Below
 pub mod Buffered
 pub mod PartTexts
 pub mod Pieces

@@ -4,7 +4,7 @@ ghost use Rattle.std.specs.Prelude.{◌≡◌, ℕ, ◌<◌, ◌^◌, ◌≤◌,
 ghost use Rattle.std.specs.List.{AllByRecursion};
 ghost use Rattle.jk_model.specs.Outside.{Tree, AreThere, FolderIs, FileIs, FolderIsAbsent, FileIsAbsent, FolderIsLong, FileIsLong, HasRisen, NeverFalls};
 
-use jk_model::{Bytes, Entry, List};
+use jk_model::{Bytes, Entry, List, OutOfMemory};
 use thiserror::Error;
 
 /// Why a folder was not listed, or a file not read.
@@ -21,6 +21,17 @@ pub enum FilesError {
     TooLong,
     #[error("out of memory")]
     OutOfMemory,
+}
+
+impl From<OutOfMemory> for FilesError {
+    ghost use Rattle.std.specs.Prelude.{◌≡◌};
+    ghost use Rattle.jk_outside.specs.declared.files.FilesError.TheVariants.{OutOfMemory as Lacks};
+
+    ghost from_gives = { λ _ e. e ≡ Lacks };
+
+    fn from(_e: OutOfMemory) -> FilesError {
+        FilesError::OutOfMemory
+    }
 }
 
 /// Folders that can be listed and files that can be read. A path is made of names joined by `/`.

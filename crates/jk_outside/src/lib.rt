@@ -3,17 +3,27 @@
 //! than the good one has its cause.
 #![tactic(auto)]
 
+mod disk_files;
 mod files;
 mod line_buffer;
 mod line_output;
+mod memory_files;
 mod memory_sink;
+mod numbers;
 mod parts;
 mod sinks;
+mod stream_sink;
 
+pub use disk_files::DiskFiles;
 pub use files::{Files, FilesError};
 pub use jk_model::Entry;
 pub use line_buffer::LineBuffer;
 pub use line_output::write_line;
+pub use memory_files::{MemoryFile, MemoryFiles};
 pub use memory_sink::MemorySink;
 pub use parts::Part;
 pub use sinks::{Sink, SinkFailed};
+pub use stream_sink::StreamSink;
+
+#[cfg(test)]
+mod tests;

@@ -2,10 +2,11 @@
 
 ghost use Rattle.std.specs.Prelude.{◌≡◌, ◌↔◌, ◌^◌, ◌+◌, ◌-◌, ◌≤◌, ◌++◌, [], min, take, vec_len, if◌then◌else◌, IfOk, OnOk, OnErr, IsErr, IsTrue, Some};
 ghost use Rattle.jk_model.specs.Outside.{Appends, AppendsPart, HasRisen, NeverFalls};
-ghost use Rattle.jk_outside.specs.MemorySinks.{is_named, will_fail, after_write};
+ghost use Rattle.jk_outside.specs.MemorySinks.{will_fail, after_write};
 ghost use Rattle.std.specs.Vec.{vec_capacity};
 ghost use Rattle.jk_outside.specs.Counts.{min_fits};
 
+use crate::numbers::is_named;
 use crate::sinks::{Sink, SinkFailed};
 use jk_model::OutOfMemory;
 use std::alloc::Global;
@@ -30,11 +31,11 @@ impl Model for MemorySink {
     ghost Value = { SinkState };
 
     ghost view = { λ s. record {
-        room = s.room;
-        fails = s.fails.items;
-        bytes = s.bytes.items;
-        writes = s.writes;
-        faults = s.faults
+      room = s.room;
+      fails = s.fails.items;
+      bytes = s.bytes.items;
+      writes = s.writes;
+      faults = s.faults;
     } };
 
     ghost invariant = { λ s. (vec_len s.bytes ≤ s.room) × (s.room ≤ vec_capacity s.bytes) };
@@ -98,13 +99,6 @@ impl Sink for MemorySink {
         }
         Ok(())
     }
-}
-
-/// Whether a call with this number fails.
-pub(crate) fn is_named(fails: &[u32], number: u32) -> bool
-    ensures { result ≡ is_named fails.now number }
-{
-    fails.contains(&number)
 }
 
 /// How many more bytes a sink takes.

@@ -1,0 +1,93 @@
+-- Files in memory, and the tree of folders and files that they tell.
+use Rattle.std.specs.Prelude.{ℕ, ◌+◌, ◌==◌, ◌&&◌, Bool, true, false, not, List, [], ◌∷◌, ◌++◌, Option, Some, None, length, take, drop, fold, find, position, slice_set, if◌then◌else◌}
+use Rattle.std.specs.List.{list_any, list_all}
+use Rattle.std.specs.Option.{option_map}
+use Rattle.std.specs.Str.{bytes_eq, is_utf8}
+use Rattle.jk_model.specs.Outside.{Tree, ◌/-◌}
+use Rattle.jk_model.specs.declared.entries.Entry.{Entry}
+use Rattle.jk_outside.specs.declared.memory_files.MemoryFile.{MemoryFile}
+
+-- the files in order, the numbers of the calls that fail, and how many calls and faults there were
+pub record FilesState : Type 0 where
+  pub files : List MemoryFile
+  pub fails : List ℕ
+  pub calls : ℕ
+  pub faults : ℕ
+
+-- whether each path is a text
+unfoldable pub all_utf8 : List MemoryFile → Bool
+all_utf8 files = list_all (λ (f : MemoryFile). is_utf8 f.path) files
+
+-- whether a path begins with a folder and a slash, and what stands behind those
+unfoldable pub is_below : List ℕ → List ℕ → Bool
+is_below folder path = bytes_eq (take (length (folder /- [])) path) (folder /- [])
+
+abbrev pub behind : List ℕ → List ℕ → List ℕ
+behind folder path = drop (length folder + 1) path
+
+-- the first name of a path, and whether more names follow it
+abbrev pub entry_at : Option ℕ → List ℕ → Entry
+entry_at None path = record { name = path; folder = false }
+entry_at (Some slash) path = record { name = take slash path; folder = true }
+
+unfoldable pub slash_of : List ℕ → Option ℕ
+slash_of path = position (λ c. c == 47) path
+
+unfoldable pub entry_of : List ℕ → Entry
+entry_of path = entry_at (slash_of path) path
+
+unfoldable pub has_name : List Entry → List ℕ → Bool
+has_name entries name = list_any (λ (e : Entry). bytes_eq e.name name) entries
+
+-- what a file puts into a folder's list: a name behind the folder that isn't there yet
+abbrev pub add_entry : List Entry → Entry → List Entry
+add_entry seen entry = if has_name seen entry.name then seen else seen ++ entry ∷ []
+
+unfoldable pub add_file : List ℕ → List Entry → MemoryFile → List Entry
+add_file folder seen file =
+    if is_below folder file.path then add_entry seen (entry_of (behind folder file.path)) else seen
+
+-- what stands in a folder, each name once, in the order in which the files give it
+unfoldable pub entries_of : List ℕ → List MemoryFile → List Entry
+entries_of folder files = fold (add_file folder) [] files
+
+-- a folder is there where a file is below it
+unfoldable pub has_folder : List MemoryFile → List ℕ → Bool
+has_folder files folder = list_any (λ (f : MemoryFile). is_below folder f.path) files
+
+unfoldable pub folder_of : List MemoryFile → List ℕ → Option (List Entry)
+folder_of files folder = if has_folder files folder then Some (entries_of folder files) else None
+
+unfoldable pub file_of : List MemoryFile → List ℕ → Option (List ℕ)
+file_of files path = option_map (λ (f : MemoryFile). f.bytes) (find (λ (f : MemoryFile). bytes_eq f.path path) files)
+
+abbrev pub tree_of : List MemoryFile → Tree
+tree_of files = record { file = file_of files; folder = folder_of files }
+
+-- whether no name of a path is empty, where one has begun or not
+abbrev pub has_full_names : Bool → List ℕ → Bool
+has_full_names begun [] = begun
+has_full_names begun (c ∷ cs) = if c == 47 then begun && has_full_names false cs else has_full_names true cs
+
+-- whether neither of two paths runs through the other
+unfoldable pub stand_apart : List ℕ → List ℕ → Bool
+stand_apart path other = not (is_below path other) && not (is_below other path)
+
+unfoldable pub all_apart : List MemoryFile → List ℕ → Bool
+all_apart files path = list_all (λ (f : MemoryFile). stand_apart path f.path) files
+
+-- whether a file may stand at a path: it is made of names, is no folder, and runs through no file
+unfoldable pub is_addable : List MemoryFile → List ℕ → Bool
+is_addable files path =
+    has_full_names false path && all_apart files path
+
+-- the files with one more, or with other bytes for one that is there
+unfoldable pub placed : Option ℕ → List MemoryFile → MemoryFile → List MemoryFile
+placed None files file = files ++ file ∷ []
+placed (Some i) files file = slice_set files i file
+
+unfoldable pub place_of : List MemoryFile → List ℕ → Option ℕ
+place_of files path = position (λ (f : MemoryFile). bytes_eq f.path path) files
+
+abbrev pub with_file : List MemoryFile → List ℕ → List ℕ → List MemoryFile
+with_file files path bytes = placed (place_of files path) files (record { path = path; bytes = bytes })
