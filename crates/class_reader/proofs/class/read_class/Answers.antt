@@ -1,0 +1,5 @@
+use Rattle.class_reader.proofs.Parts.{handlers_reader}
+use Rattle.class_reader.proofs.class.read_class.Goals as goal
+
+pub returns-clause-found : goal.returns-clause-found
+returns-clause-found c = ?
