@@ -1,3 +1,4 @@
 pub mod Readers
 pub mod Loop
 pub mod Parts
+pub mod Entries

@@ -1,4 +1,4 @@
-use Rattle.class_reader.proofs.Parts.{handlers_reader}
+use Rattle.class_reader.proofs.Entries.{entries_good}
 use Rattle.class_reader.proofs.class.read_class.Goals as goal
 
 pub returns-clause-found : goal.returns-clause-found
