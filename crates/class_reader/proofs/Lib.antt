@@ -2,3 +2,4 @@ pub mod Readers
 pub mod Loop
 pub mod Parts
 pub mod Entries
+pub mod Whole

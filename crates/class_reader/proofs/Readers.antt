@@ -79,26 +79,26 @@ pub then_reader : {A B : Type 0} (r : List ℕ → Result (A × List ℕ) Fault)
     → IsReader r s F → ((a : A) → IsReader (k a) (t a) (G a)) → IsReader (then_at r k) (λ p. s p.0 ++ t p.0 p.1) (λ p. F p.0 × G p.0 p.1)
 then_reader {A = A} {B = B} r k s t F G p q = record {
   takes = λ bytes x fits e.
-    let a = bind_ok (r bytes) (λ x. k x.0 x.1 >>= λ y. Ok ((x.0, y.0), y.1)) x e in
-    let b = bind_ok (k a.0.0 a.0.1) (λ y. Ok ((a.0.0, y.0), y.1)) x a.2 in
-    let first = p.takes bytes a.0 fits a.1 in
-    let second = (q a.0.0).takes a.0.1 b.0 first.0.rest_fits b.1 in
-    let both = Takes-then bytes (s a.0.0) a.0.1 (t a.0.0 b.0.0) b.0.1 first.0 second.0 in
-    let made : (A × B) × List ℕ = ((a.0.0, b.0.0), b.0.1) in
-    subst (λ (y : (A × B) × List ℕ). Takes bytes (s y.0.0 ++ t y.0.0 y.0.1) y.1 × (F y.0.0 × G y.0.0 y.0.1)) (ok_is made x b.2) (both, (first.1, second.1));
+      let a = bind_ok (r bytes) (λ x. k x.0 x.1 >>= λ y. Ok ((x.0, y.0), y.1)) x e in
+      let b = bind_ok (k a.0.0 a.0.1) (λ y. Ok ((a.0.0, y.0), y.1)) x a.2 in
+      let first = p.takes bytes a.0 fits a.1 in
+      let second = (q a.0.0).takes a.0.1 b.0 first.0.rest_fits b.1 in
+      let both = Takes-then bytes (s a.0.0) a.0.1 (t a.0.0 b.0.0) b.0.1 first.0 second.0 in
+      let made : (A × B) × List ℕ = ((a.0.0, b.0.0), b.0.1) in
+      subst (λ (y : (A × B) × List ℕ). Takes bytes (s y.0.0 ++ t y.0.0 y.0.1) y.1 × (F y.0.0 × G y.0.0 y.0.1)) (ok_is made x b.2) (both, (first.1, second.1));
   again = λ a rest fits.
-    ap (then_at r k) (append_assoc (s a.0) (t a.0 a.1) rest) ∙ rw (p.again a.0 (t a.0 a.1 ++ rest) fits.0, (q a.0).again a.1 rest fits.1) refl;
+      ap (then_at r k) (append_assoc (s a.0) (t a.0 a.1) rest) ∙ rw (p.again a.0 (t a.0 a.1 ++ rest) fits.0, (q a.0).again a.1 rest fits.1) refl;
 }
 
 pub mapped_reader : {A B : Type 0} (f : A → B) (g : B → A) (r : List ℕ → Result (A × List ℕ) Fault) (s : A → List ℕ) (F : A → Type 0) → ((b : B) → f (g b) ≡ b) → ((a : A) → F a → g (f a) ≡ a)
     → IsReader r s F → IsReader (mapped_at f r) (λ b. s (g b)) (λ b. F (g b))
 mapped_reader {A = A} {B = B} f g r s F fg gf p = record {
   takes = λ bytes x fits e.
-    let a = bind_ok (r bytes) (λ x. Ok (f x.0, x.1)) x e in
-    let h = p.takes bytes a.0 fits a.1 in
-    let made : B × List ℕ = (f a.0.0, a.0.1) in
-    let back = sym (gf a.0.0 h.1) in
-    subst (λ (y : B × List ℕ). Takes bytes (s (g y.0)) y.1 × F (g y.0)) (ok_is made x a.2) (subst (λ (v : A). Takes bytes (s v) a.0.1 × F v) back h);
+      let a = bind_ok (r bytes) (λ x. Ok (f x.0, x.1)) x e in
+      let h = p.takes bytes a.0 fits a.1 in
+      let made : B × List ℕ = (f a.0.0, a.0.1) in
+      let back = sym (gf a.0.0 h.1) in
+      subst (λ (y : B × List ℕ). Takes bytes (s (g y.0)) y.1 × F (g y.0)) (ok_is made x a.2) (subst (λ (v : A). Takes bytes (s v) a.0.1 × F v) back h);
   again = λ b rest fits. rw (p.again (g b) rest fits) (ap (λ (v : B). Ok (v, rest)) (fg b));
 }
 
@@ -106,10 +106,10 @@ pub tested_reader : {A : Type 0} (good : A → Bool) (fault : A → Fault) (r : 
     → IsReader r s F → IsReader (tested_at good fault r) s (λ a. F a × (good a ≡ true))
 tested_reader {A = A} good fault r s F p = record {
   takes = λ bytes x fits e.
-    let a = bind_ok (r bytes) (λ x. cond (good x.0) (Ok x) (Err (fault x.0))) x e in
-    let g = test_ok (good a.0.0) (fault a.0.0) a.0 x a.2 in
-    let h = p.takes bytes a.0 fits a.1 in
-    subst (λ (y : A × List ℕ). Takes bytes (s y.0) y.1 × (F y.0 × (good y.0 ≡ true))) g.1 (h.0, (h.1, g.0));
+      let a = bind_ok (r bytes) (λ x. cond (good x.0) (Ok x) (Err (fault x.0))) x e in
+      let g = test_ok (good a.0.0) (fault a.0.0) a.0 x a.2 in
+      let h = p.takes bytes a.0 fits a.1 in
+      subst (λ (y : A × List ℕ). Takes bytes (s y.0) y.1 × (F y.0 × (good y.0 ≡ true))) g.1 (h.0, (h.1, g.0));
   again = λ a rest fits. rw (p.again a rest fits.0, fits.1) refl;
 }
 
@@ -166,19 +166,19 @@ wide32 = record {
 pub number_reader : (w : Width) (limit : ℕ) → IsWide w limit → IsReader (number_at w) (to_be_bytes w) (λ n. n < limit)
 number_reader w limit wide = record {
   takes = λ bytes x fits e.
-    let front = take (byte_len w) bytes in
-    let front_fits = IsBytes-take (byte_len w) bytes fits in
-    let made : ℕ × List ℕ = (from_be_bytes w front, drop (byte_len w) bytes) in
-    let g = guard_ok (ltb (length bytes) (byte_len w)) Short made x e in
-    let long : byte_len w ≤ length bytes = ltb-false _ _ g.0 in
-    let len : length front ≡ byte_len w = omega (arith, length-take (byte_len w) bytes) in
-    let parts : bytes ≡ to_be_bytes w (from_be_bytes w front) ++ drop (byte_len w) bytes =
-        sym (take-append-drop (byte_len w) bytes) ∙ ap (λ (t : List ℕ). t ++ drop (byte_len w) bytes) (sym (wide.back front len front_fits)) in
-    subst (λ (y : ℕ × List ℕ). Takes bytes (to_be_bytes w y.0) y.1 × (y.0 < limit)) g.1 (record { parts = parts; rest_fits = IsBytes-drop (byte_len w) bytes fits }, wide.below front front_fits);
+      let front = take (byte_len w) bytes in
+      let front_fits = IsBytes-take (byte_len w) bytes fits in
+      let made : ℕ × List ℕ = (from_be_bytes w front, drop (byte_len w) bytes) in
+      let g = guard_ok (ltb (length bytes) (byte_len w)) Short made x e in
+      let long : byte_len w ≤ length bytes = ltb-false _ _ g.0 in
+      let len : length front ≡ byte_len w = omega (arith, length-take (byte_len w) bytes) in
+      let parts : bytes ≡ to_be_bytes w (from_be_bytes w front) ++ drop (byte_len w) bytes =
+      sym (take-append-drop (byte_len w) bytes) ∙ ap (λ (t : List ℕ). t ++ drop (byte_len w) bytes) (sym (wide.back front len front_fits)) in
+      subst (λ (y : ℕ × List ℕ). Takes bytes (to_be_bytes w y.0) y.1 × (y.0 < limit)) g.1 (record { parts = parts; rest_fits = IsBytes-drop (byte_len w) bytes fits }, wide.below front front_fits);
   again = λ n rest lt.
-    let len = wide.len n in
-    let long : ltb (length (to_be_bytes w n ++ rest)) (byte_len w) ≡ false = le-ltb _ _ (omega (arith, length-append (to_be_bytes w n) rest)) in
-    rw (long, take_at (to_be_bytes w n) rest (byte_len w) len, drop_at (to_be_bytes w n) rest (byte_len w) len, wide.again n lt) refl;
+      let len = wide.len n in
+      let long : ltb (length (to_be_bytes w n ++ rest)) (byte_len w) ≡ false = le-ltb _ _ (omega (arith, length-append (to_be_bytes w n) rest)) in
+      rw (long, take_at (to_be_bytes w n) rest (byte_len w) len, drop_at (to_be_bytes w n) rest (byte_len w) len, wide.again n lt) refl;
 }
 
 pub u2_reader : IsReader (number_at w16) (to_be_bytes w16) (λ n. n < 2 ^ 16)
@@ -193,16 +193,16 @@ itself bytes = bytes
 pub bytes_reader : (n : ℕ) → IsReader (bytes_at n) itself (λ t. (length t ≡ n) × AllByRecursion (λ b. b < 256) t)
 bytes_reader n = record {
   takes = λ bytes x fits e.
-    let made : List ℕ × List ℕ = (take n bytes, drop n bytes) in
-    let g = guard_ok (ltb (length bytes) n) Short made x e in
-    let long : n ≤ length bytes = ltb-false _ _ g.0 in
-    let len : length (take n bytes) ≡ n = omega (arith, length-take n bytes) in
-    subst (λ (y : List ℕ × List ℕ). Takes bytes y.0 y.1 × ((length y.0 ≡ n) × AllByRecursion (λ b. b < 256) y.0)) g.1
-    (record { parts = sym (take-append-drop n bytes); rest_fits = IsBytes-drop n bytes fits }, (len, are_bytes (take n bytes) (IsBytes-take n bytes fits)));
+      let made : List ℕ × List ℕ = (take n bytes, drop n bytes) in
+      let g = guard_ok (ltb (length bytes) n) Short made x e in
+      let long : n ≤ length bytes = ltb-false _ _ g.0 in
+      let len : length (take n bytes) ≡ n = omega (arith, length-take n bytes) in
+      subst (λ (y : List ℕ × List ℕ). Takes bytes y.0 y.1 × ((length y.0 ≡ n) × AllByRecursion (λ b. b < 256) y.0)) g.1
+      (record { parts = sym (take-append-drop n bytes); rest_fits = IsBytes-drop n bytes fits }, (len, are_bytes (take n bytes) (IsBytes-take n bytes fits)));
   again = λ t rest fits.
-    let len = fits.0 in
-    let long : ltb (length (t ++ rest)) n ≡ false = le-ltb _ _ (omega (arith, length-append t rest)) in
-    rw (long, take_at t rest n len, drop_at t rest n len) refl;
+      let len = fits.0 in
+      let long : ltb (length (t ++ rest)) n ≡ false = le-ltb _ _ (omega (arith, length-append t rest)) in
+      rw (long, take_at t rest n len, drop_at t rest n len) refl;
 }
 
 -- ---- Behind their length, or their count.

@@ -1,9 +1,10 @@
 //! The whole of a class file.
 
-ghost use Rattle.std.specs.Prelude.{◌≡◌, ◌↔◌, ◌<◌, ◌^◌, length, IsTrue, IfOk, MatchResult};
+ghost use Rattle.std.specs.Prelude.{◌≡◌, ◌↔◌, ◌<◌, ◌^◌, [], length, IsTrue, IfOk, MatchResult};
+ghost use Rattle.std.specs.List.{list_all};
 ghost use Rattle.jk_model.specs.ClassFile.{IsClass, IsVersion};
 ghost use Rattle.class_reader.specs.Stage.{HasReadPool};
-ghost use Rattle.class_reader.specs.Reading.{Gives, magic_at, header_at, parts_at, class_at};
+ghost use Rattle.class_reader.specs.Reading.{Gives, magic_at, header_at, parts_at, class_at, entry_holds};
 ghost use Rattle.class_reader.specs.Refusals.{class_refusal};
 
 use crate::fault::{Fault, ReadError};
@@ -117,6 +118,13 @@ fn is_version(major: u16, minor: u16) -> bool
     (45 < major || major == 45 && 3 <= minor) && (major < 50 || major == 50 && minor == 0)
 }
 
+/// Whether nothing follows the class, its version is accepted, and its entries name what they need.
+fn is_accepted(class: &ClassFile, rest: &[u8]) -> bool
+    ensures { IsTrue result ↔ ((rest.now ≡ []) × IsVersion class.now.major class.now.minor × IsTrue (list_all (entry_holds class.now.pool) class.now.pool)) }
+{
+    rest.is_empty() && is_version(class.major, class.minor) && pool_holds(class.pool.as_slice())
+}
+
 /// The class file that the bytes are.
 pub fn read_class(alloc: Global, bytes: &[u8]) -> Result<ClassFile, ReadRefusal>
     requires { length bytes.now < 2 ^ 31 }
@@ -127,10 +135,7 @@ pub fn read_class(alloc: Global, bytes: &[u8]) -> Result<ClassFile, ReadRefusal>
         → MatchResult result (λ d. d ≡ c) (λ e. e ≡ ReadRefusal.OutOfMemory) }
 {
     let (class, rest) = class_of(alloc, bytes)?;
-    let accepted = rest.is_empty()
-        && is_version(class.major, class.minor)
-        && pool_holds(class.pool.as_slice());
-    if !accepted {
+    if !is_accepted(&class, rest) {
         return Err(ReadRefusal::NotYet);
     }
     Ok(class)
