@@ -3,3 +3,5 @@ pub mod Loop
 pub mod Parts
 pub mod Entries
 pub mod Whole
+pub mod Cuts
+pub mod Body
