@@ -1,6 +1,6 @@
 -- The laws of the body of a Code attribute.
 use Rattle.std.proofs.Common.{◌≡◌, ◌≢◌, ℕ, zero, suc, ◌+◌, ◌-◌, ◌*◌, ◌/◌, ◌%◌, ◌^◌, ◌<◌, ◌≤◌, ◌⊎◌, Bool, true, false, cond, eqb, ltb, ◌&&◌, List, [], ◌∷◌, ◌++◌, length, get_or, take, drop, replicate, Result, Ok, Err, refl, sym, ap, subst, ◌∙◌, append_assoc, arith, inl, inr}
-use Rattle.std.specs.Prelude.{MatchResult}
+use Rattle.std.specs.Prelude.{MatchResult, IfOk}
 use Rattle.std.specs.List.{AllByRecursion}
 use Rattle.std.specs.Int.{Width, w16, w32, byte_len, from_be_bytes, to_be_bytes}
 use Rattle.std.proofs.lemmas.Bool.{cases_lt, ltb-true, ltb-false, lt-ltb, eqb-true, eq-eqb}
@@ -14,7 +14,7 @@ use Rattle.class_reader.specs.declared.fault.Fault.TheVariants.{Short, Unread, C
 use Rattle.class_reader.specs.declared.code.CodeRefusal.{CodeRefusal}
 use Rattle.class_reader.specs.declared.code.CodeRefusal.TheVariants as refusals
 use Rattle.class_reader.specs.Reading.{◌>>=◌, then_at, mapped_at, tested_at, number_at, bytes_at, counted_at, attributes_at, handler_at, is_code_length, front_at, behind_at, code_at}
-use Rattle.class_reader.specs.Refusals.{answer_of, body_answer, code_fault, EndsEarly, HasCutLength}
+use Rattle.class_reader.specs.Refusals.{answer_of, body_answer, code_fault}
 use Rattle.class_reader.proofs.Readers.{IsBytes, IsReader, Takes, bind_ok, guard_ok, ok_is, then_reader, mapped_reader, tested_reader, u2_reader, u4_reader, bytes_reader, itself}
 use Rattle.class_reader.proofs.Parts.{attributes_reader, handlers_reader}
 use Rattle.class_reader.proofs.Cuts.{IsCut, Completes, bind_err, guard_err, not_empty_either, ok_not_err, then_cut, bytes_cut, attributes_cut, handlers_cut}
@@ -227,35 +227,35 @@ record IsFixed {A : Type 0} (read : List ℕ → Result (A × List ℕ) Fault) (
 number_fixed : (w : Width) → IsFixed (number_at w) (byte_len w)
 number_fixed w = record {
   err = λ body f e.
-    let made : ℕ × List ℕ = (from_be_bytes w (take (byte_len w) body), drop (byte_len w) body) in
-    let g = guard_err (ltb (length body) (byte_len w)) Short f made e in
-    (g.1, ltb-true _ _ g.0);
+      let made : ℕ × List ℕ = (from_be_bytes w (take (byte_len w) body), drop (byte_len w) body) in
+      let g = guard_err (ltb (length body) (byte_len w)) Short f made e in
+      (g.1, ltb-true _ _ g.0);
   ok = λ body x e.
-    let made : ℕ × List ℕ = (from_be_bytes w (take (byte_len w) body), drop (byte_len w) body) in
-    let g = guard_ok (ltb (length body) (byte_len w)) Short made x e in
-    let long : byte_len w ≤ length body = ltb-false _ _ g.0 in
-    let rest : drop (byte_len w) body ≡ x.1 = ap (λ (p : ℕ × List ℕ). p.1) g.1 in
-    let len : length (drop (byte_len w) body) ≡ length x.1 = ap (λ (t : List ℕ). length t) rest in
-    omega (arith, length-drop (byte_len w) body, len);
+      let made : ℕ × List ℕ = (from_be_bytes w (take (byte_len w) body), drop (byte_len w) body) in
+      let g = guard_ok (ltb (length body) (byte_len w)) Short made x e in
+      let long : byte_len w ≤ length body = ltb-false _ _ g.0 in
+      let rest : drop (byte_len w) body ≡ x.1 = ap (λ (p : ℕ × List ℕ). p.1) g.1 in
+      let len : length (drop (byte_len w) body) ≡ length x.1 = ap (λ (t : List ℕ). length t) rest in
+      omega (arith, length-drop (byte_len w) body, len);
 }
 
 then_fixed : {A B : Type 0} (r : List ℕ → Result (A × List ℕ) Fault) (k : A → List ℕ → Result (B × List ℕ) Fault) (m n : ℕ) → IsFixed r m → ((a : A) → IsFixed (k a) n) → IsFixed (then_at r k) (m + n)
 then_fixed {A = A} {B = B} r k m n p q = record {
   err = λ body f e.
-    elim (bind_err (r body) (λ x. k x.0 x.1 >>= λ y. Ok ((x.0, y.0), y.1)) f e) [
-      | inl e1 ↦ let h = p.err body f e1 in (h.0, omega (arith, h.1))
-      | inr w ↦ elim (bind_err (k w.0.0 w.0.1) (λ y. Ok ((w.0.0, y.0), y.1)) f w.2) [
-        | inl e2 ↦ let h = (q w.0.0).err w.0.1 f e2 in let len = p.ok body w.0 w.1 in (h.0, omega (arith, h.1, len))
-        | inr v ↦ absurd (ok_not_err ((w.0.0, v.0.0), v.0.1) f v.2)
-      ]
-    ];
+      elim (bind_err (r body) (λ x. k x.0 x.1 >>= λ y. Ok ((x.0, y.0), y.1)) f e) [
+        | inl e1 ↦ let h = p.err body f e1 in (h.0, omega (arith, h.1))
+        | inr w ↦ elim (bind_err (k w.0.0 w.0.1) (λ y. Ok ((w.0.0, y.0), y.1)) f w.2) [
+          | inl e2 ↦ let h = (q w.0.0).err w.0.1 f e2 in let len = p.ok body w.0 w.1 in (h.0, omega (arith, h.1, len))
+          | inr v ↦ absurd (ok_not_err ((w.0.0, v.0.0), v.0.1) f v.2)
+        ]
+      ];
   ok = λ body x e.
-    let a = bind_ok (r body) (λ x. k x.0 x.1 >>= λ y. Ok ((x.0, y.0), y.1)) x e in
-    let b = bind_ok (k a.0.0 a.0.1) (λ y. Ok ((a.0.0, y.0), y.1)) x a.2 in
-    let made : (A × B) × List ℕ = ((a.0.0, b.0.0), b.0.1) in
-    let same : b.0.1 ≡ x.1 = ap (λ (y : (A × B) × List ℕ). y.1) (ok_is made x b.2) in
-    let len : length b.0.1 ≡ length x.1 = ap (λ (t : List ℕ). length t) same in
-    omega (arith, p.ok body a.0 a.1, (q a.0.0).ok a.0.1 b.0 b.1, len);
+      let a = bind_ok (r body) (λ x. k x.0 x.1 >>= λ y. Ok ((x.0, y.0), y.1)) x e in
+      let b = bind_ok (k a.0.0 a.0.1) (λ y. Ok ((a.0.0, y.0), y.1)) x a.2 in
+      let made : (A × B) × List ℕ = ((a.0.0, b.0.0), b.0.1) in
+      let same : b.0.1 ≡ x.1 = ap (λ (y : (A × B) × List ℕ). y.1) (ok_is made x b.2) in
+      let len : length b.0.1 ≡ length x.1 = ap (λ (t : List ℕ). length t) same in
+      omega (arith, p.ok body a.0 a.1, (q a.0.0).ok a.0.1 b.0 b.1, len);
 }
 
 front_fixed : IsFixed front_at 8
@@ -268,14 +268,17 @@ test_err : {A : Type 0} (b : Bool) (x : A) (d f : Fault) → cond b (Ok x) (Err 
 test_err true x d f e = absurd (ok_not_err x f e)
 test_err false x d f e = (refl, cc)
 
+abbrev GoesOn : List ℕ → Type 0
+GoesOn body = (c : Code) × (more : List ℕ) × (more ≢ []) × CodeLayout (body ++ more) c
+
 -- the body goes on behind its front
-goes_on : (body : List ℕ) (p : Front) (rest : List ℕ) → body ≡ front_bytes p ++ rest → IsGoodFront p → Completes behind_bytes (IsBehind p.1.1) rest → IsCutCode body
+goes_on : (body : List ℕ) (p : Front) (rest : List ℕ) → body ≡ front_bytes p ++ rest → IsGoodFront p → Completes behind_bytes (IsBehind p.1.1) rest → GoesOn body
 goes_on body p rest parts good w =
     let s : Sections = (p, w.value) in
     let len : p.1.1 ≡ length w.value.0 = sym w.fits.0.0 in
     let same : s ≡ sections_of (code_of s) = ap (λ (n : ℕ). let made : Sections = ((p.0, (p.1.0, n)), w.value) in made) len in
     let whole : body ++ w.more ≡ section_bytes s =
-        ap (λ (v : List ℕ). v ++ w.more) parts ∙ append_assoc (front_bytes p) rest w.more ∙ ap (λ (v : List ℕ). front_bytes p ++ v) w.spelled in
+    ap (λ (v : List ℕ). v ++ w.more) parts ∙ append_assoc (front_bytes p) rest w.more ∙ ap (λ (v : List ℕ). front_bytes p ++ v) w.spelled in
     let fits : AreSections s = (good, w.fits) in
     (code_of s, w.more, w.some, layout_of (body ++ w.more) (code_of s) (whole ∙ ap (λ (x : Sections). section_bytes x) same) (subst (λ (x : Sections). AreSections x) same fits))
 
@@ -288,7 +291,7 @@ record BadFront (body : List ℕ) (f : Fault) : Type 0 where
   bad : is_good front ≡ false
   fault : f ≡ CodeLength front.1.1
 
-faults : (body : List ℕ) (f : Fault) → IsBytes body → code_at body ≡ Err f → ((f ≡ Short) × EndsEarly body) ⊎ BadFront body f
+faults : (body : List ℕ) (f : Fault) → IsBytes body → code_at body ≡ Err f → ((f ≡ Short) × IsCutCode body) ⊎ BadFront body f
 unfolding code_at
 faults body f fits e =
     elim (bind_err (then_at good_front_at behind_of body) (λ x. Ok (code_of x.0, x.1)) f e) [
@@ -297,18 +300,18 @@ faults body f fits e =
         | inl e2 ↦ elim (bind_err (front_at body) (λ x. cond (is_good x.0) (Ok x) (Err (bad_fault x.0))) f e2) [
           | inl e3 ↦ let h = front_fixed.err body f e3 in inl (h.0, inl h.1)
           | inr w ↦
-            let h = front_reader.takes body w.0 fits w.1 in
-            let g = test_err (is_good w.0.0) w.0 (bad_fault w.0.0) f w.2 in
-            inr (record { front = w.0.0; rest = w.0.1; fits = h.1; parts = h.0.parts; bad = g.0; fault = g.1 })
+              let h = front_reader.takes body w.0 fits w.1 in
+              let g = test_err (is_good w.0.0) w.0 (bad_fault w.0.0) f w.2 in
+              inr (record { front = w.0.0; rest = w.0.1; fits = h.1; parts = h.0.parts; bad = g.0; fault = g.1 })
         ]
         | inr w ↦
-          let first = good_front_reader.takes body w.0 fits w.1 in
-          elim (bind_err (behind_of w.0.0 w.0.1) (λ y. Ok ((w.0.0, y.0), y.1)) f w.2) [
-            | inl e4 ↦
-              let h = (behind_cut w.0.0.1.1).cut w.0.1 f first.0.rest_fits e4 in
-              inl (h.0, inr (goes_on body w.0.0 w.0.1 first.0.parts first.1 h.1))
-            | inr v ↦ absurd (ok_not_err ((w.0.0, v.0.0), v.0.1) f v.2)
-          ]
+            let first = good_front_reader.takes body w.0 fits w.1 in
+            elim (bind_err (behind_of w.0.0 w.0.1) (λ y. Ok ((w.0.0, y.0), y.1)) f w.2) [
+              | inl e4 ↦
+                  let h = (behind_cut w.0.0.1.1).cut w.0.1 f first.0.rest_fits e4 in
+                  inl (h.0, inr (goes_on body w.0.0 w.0.1 first.0.parts first.1 h.1))
+              | inr v ↦ absurd (ok_not_err ((w.0.0, v.0.0), v.0.1) f v.2)
+            ]
       ]
     ]
 
@@ -331,7 +334,7 @@ same_fault : {A : Type 0} (r : Result A Fault) (f g : Fault) → r ≡ Err f →
 same_fault r f g p q = cc
 
 -- what ends early is read as short
-cut_again : (body : List ℕ) → IsBytes body → EndsEarly body → code_at body ≡ Err Short
+cut_again : (body : List ℕ) → IsBytes body → IsCutCode body → code_at body ≡ Err Short
 cut_again body fits (inl lt) =
     elim (cases_of (front_at body)) [
       | inl w ↦ absurd (omega (arith, lt, front_fixed.ok body w.0 w.1))
@@ -341,19 +344,19 @@ cut_again body fits (inr cut) =
     let whole : code_at (body ++ cut.1) ≡ Ok (cut.0, []) = ap code_at (sym (append-nil (body ++ cut.1))) ∙ layout_again (body ++ cut.1) cut.0 [] cut.3 in
     elim (cases_of (code_at body)) [
       | inl w ↦
-        let b = begins body w.0.0 w.0.1 fits w.1 in
-        let again : code_at (body ++ cut.1) ≡ Ok (w.0.0, w.0.1 ++ cut.1) =
-            ap (λ (v : List ℕ). code_at (v ++ cut.1)) b.parts ∙ ap code_at (append_assoc b.front w.0.1 cut.1) ∙ layout_again b.front w.0.0 (w.0.1 ++ cut.1) b.layout in
-        let made : Code × List ℕ = (w.0.0, w.0.1 ++ cut.1) in
-        let given : Code × List ℕ = (cut.0, []) in
-        let same : made ≡ given = ok_is made given (sym again ∙ whole) in
-        absurd (not_empty_either w.0.1 cut.1 cut.2 (ap (λ (y : Code × List ℕ). y.1) same))
+          let b = begins body w.0.0 w.0.1 fits w.1 in
+          let again : code_at (body ++ cut.1) ≡ Ok (w.0.0, w.0.1 ++ cut.1) =
+          ap (λ (v : List ℕ). code_at (v ++ cut.1)) b.parts ∙ ap code_at (append_assoc b.front w.0.1 cut.1) ∙ layout_again b.front w.0.0 (w.0.1 ++ cut.1) b.layout in
+          let made : Code × List ℕ = (w.0.0, w.0.1 ++ cut.1) in
+          let given : Code × List ℕ = (cut.0, []) in
+          let same : made ≡ given = ok_is made given (sym again ∙ whole) in
+          absurd (not_empty_either w.0.1 cut.1 cut.2 (ap (λ (y : Code × List ℕ). y.1) same))
       | inr w ↦ elim (faults body w.0 fits w.1) [
         | inl h ↦ same_fault (code_at body) w.0 Short w.1 h.0
         | inr bad ↦
-          let again : code_at (body ++ cut.1) ≡ Err (CodeLength bad.front.1.1) =
-              ap (λ (v : List ℕ). code_at (v ++ cut.1)) bad.parts ∙ ap code_at (append_assoc (front_bytes bad.front) bad.rest cut.1) ∙ bad_again bad.front (bad.rest ++ cut.1) bad.fits bad.bad in
-          absurd (not_both (code_at (body ++ cut.1)) (CodeLength bad.front.1.1) (cut.0, []) again whole)
+            let again : code_at (body ++ cut.1) ≡ Err (CodeLength bad.front.1.1) =
+            ap (λ (v : List ℕ). code_at (v ++ cut.1)) bad.parts ∙ ap code_at (append_assoc (front_bytes bad.front) bad.rest cut.1) ∙ bad_again bad.front (bad.rest ++ cut.1) bad.fits bad.bad in
+            absurd (not_both (code_at (body ++ cut.1)) (CodeLength bad.front.1.1) (cut.0, []) again whole)
       ]
     ]
 
@@ -401,11 +404,11 @@ pub answer_found : (body : List ℕ) (c : Code) → IsBytes body → body_answer
 answer_found body c fits e =
     elim (cases_of (code_at body)) [
       | inl w ↦
-        let g = is_ok (eqb (length w.0.1) 0) w.0.0 c (trailing_of body w.0.1) (sym (answer_at body (Ok w.0) w.1) ∙ e) in
-        let nothing : w.0.1 ≡ [] = nil_from_length w.0.1 (eqb-true _ _ g.0) in
-        let b = begins body w.0.0 w.0.1 fits w.1 in
-        let whole : b.front ≡ body = sym (b.parts ∙ ap (λ (r : List ℕ). b.front ++ r) nothing ∙ append-nil b.front) in
-        subst (λ (d : Code). CodeLayout body d) g.1 (subst (λ (t : List ℕ). CodeLayout t w.0.0) whole b.layout)
+          let g = is_ok (eqb (length w.0.1) 0) w.0.0 c (trailing_of body w.0.1) (sym (answer_at body (Ok w.0) w.1) ∙ e) in
+          let nothing : w.0.1 ≡ [] = nil_from_length w.0.1 (eqb-true _ _ g.0) in
+          let b = begins body w.0.0 w.0.1 fits w.1 in
+          let whole : b.front ≡ body = sym (b.parts ∙ ap (λ (r : List ℕ). b.front ++ r) nothing ∙ append-nil b.front) in
+          subst (λ (d : Code). CodeLayout body d) g.1 (subst (λ (t : List ℕ). CodeLayout t w.0.0) whole b.layout)
       | inr w ↦ absurd (refusal_not_ok (code_fault w.0) c (sym (answer_at body (Err w.0) w.1) ∙ e))
     ]
 
@@ -428,34 +431,34 @@ same_trailing n m e = cc
 same_length : (n m : ℕ) → refusals.CodeLength n ≡ refusals.CodeLength m → n ≡ m
 same_length n m e = cc
 
-pub answer_cut : (body : List ℕ) → IsBytes body → body_answer body ≡ Err refusals.Cut → EndsEarly body
+pub answer_cut : (body : List ℕ) → IsBytes body → body_answer body ≡ Err refusals.Cut → IsCutCode body
 answer_cut body fits e =
     elim (cases_of (code_at body)) [
       | inl w ↦
-        let g = is_err (eqb (length w.0.1) 0) w.0.0 (trailing_of body w.0.1) refusals.Cut (sym (answer_at body (Ok w.0) w.1) ∙ e) in
-        absurd (trailing_not_cut (length body - length w.0.1) g.1)
+          let g = is_err (eqb (length w.0.1) 0) w.0.0 (trailing_of body w.0.1) refusals.Cut (sym (answer_at body (Ok w.0) w.1) ∙ e) in
+          absurd (trailing_not_cut (length body - length w.0.1) g.1)
       | inr w ↦ elim (faults body w.0 fits w.1) [
         | inl h ↦ h.1
         | inr bad ↦
-          let is : code_fault w.0 ≡ refusals.Cut = refusal_is (code_fault w.0) refusals.Cut (sym (answer_at body (Err w.0) w.1) ∙ e) in
-          absurd (cut_not_length bad.front.1.1 (sym (ap code_fault bad.fault) ∙ is))
+            let is : code_fault w.0 ≡ refusals.Cut = refusal_is (code_fault w.0) refusals.Cut (sym (answer_at body (Err w.0) w.1) ∙ e) in
+            absurd (cut_not_length bad.front.1.1 (sym (ap code_fault bad.fault) ∙ is))
       ]
     ]
 
-pub cut_answer : (body : List ℕ) → IsBytes body → EndsEarly body → body_answer body ≡ Err refusals.Cut
+pub cut_answer : (body : List ℕ) → IsBytes body → IsCutCode body → body_answer body ≡ Err refusals.Cut
 cut_answer body fits h = answer_at body (Err Short) (cut_again body fits h)
 
 pub answer_trailing : (body : List ℕ) (n : ℕ) → IsBytes body → body_answer body ≡ Err (refusals.Trailing n) → TrailsCode body n
 answer_trailing body n fits e =
     elim (cases_of (code_at body)) [
       | inl w ↦
-        let g = is_err (eqb (length w.0.1) 0) w.0.0 (trailing_of body w.0.1) (refusals.Trailing n) (sym (answer_at body (Ok w.0) w.1) ∙ e) in
-        let b = begins body w.0.0 w.0.1 fits w.1 in
-        let place : length body - length w.0.1 ≡ n = same_trailing _ n g.1 in
-        let long : n ≡ length b.front = omega (arith, place, b.len) in
-        let some : 0 < length w.0.1 = positive (length w.0.1) g.0 in
-        let front : b.front ≡ take n body = sym (ap (take n) b.parts ∙ take_at b.front w.0.1 n (sym long)) in
-        (w.0.0, omega (arith, long, b.len, some), subst (λ (t : List ℕ). CodeLayout t w.0.0) front b.layout)
+          let g = is_err (eqb (length w.0.1) 0) w.0.0 (trailing_of body w.0.1) (refusals.Trailing n) (sym (answer_at body (Ok w.0) w.1) ∙ e) in
+          let b = begins body w.0.0 w.0.1 fits w.1 in
+          let place : length body - length w.0.1 ≡ n = same_trailing _ n g.1 in
+          let long : n ≡ length b.front = omega (arith, place, b.len) in
+          let some : 0 < length w.0.1 = positive (length w.0.1) g.0 in
+          let front : b.front ≡ take n body = sym (ap (take n) b.parts ∙ take_at b.front w.0.1 n (sym long)) in
+          (w.0.0, omega (arith, long, b.len, some), subst (λ (t : List ℕ). CodeLayout t w.0.0) front b.layout)
       | inr w ↦ absurd (no_trailing w.0 n (refusal_is (code_fault w.0) (refusals.Trailing n) (sym (answer_at body (Err w.0) w.1) ∙ e)))
     ]
 
@@ -472,42 +475,42 @@ pub answer_length : (body : List ℕ) (n : ℕ) → IsBytes body → body_answer
 answer_length body n fits e =
     elim (cases_of (code_at body)) [
       | inl w ↦
-        let g = is_err (eqb (length w.0.1) 0) w.0.0 (trailing_of body w.0.1) (refusals.CodeLength n) (sym (answer_at body (Ok w.0) w.1) ∙ e) in
-        absurd (trailing_not_length (length body - length w.0.1) n g.1)
+          let g = is_err (eqb (length w.0.1) 0) w.0.0 (trailing_of body w.0.1) (refusals.CodeLength n) (sym (answer_at body (Ok w.0) w.1) ∙ e) in
+          absurd (trailing_not_length (length body - length w.0.1) n g.1)
       | inr w ↦
-        let is : code_fault w.0 ≡ refusals.CodeLength n = refusal_is (code_fault w.0) (refusals.CodeLength n) (sym (answer_at body (Err w.0) w.1) ∙ e) in
-        elim (faults body w.0 fits w.1) [
-          | inl h ↦ absurd (cut_not_length n (sym (sym (ap code_fault h.0) ∙ is)))
-          | inr bad ↦
-            let p = bad.front in
-            let m : p.1.1 ≡ n = same_length p.1.1 n (sym (ap code_fault bad.fault) ∙ is) in
-            let front = u2 p.0 ++ u2 p.1.0 in
-            let parts : body ≡ front ++ u4 p.1.1 ++ bad.rest = bad.parts ∙ simp append_assoc in
-            (front, bad.rest, refl, subst IsLong m bad.fits.1.1, subst (λ (k : ℕ). body ≡ front ++ u4 k ++ bad.rest) m parts, bad_length n (subst (λ (k : ℕ). is_code_length k ≡ false) m bad.bad))
-        ]
+          let is : code_fault w.0 ≡ refusals.CodeLength n = refusal_is (code_fault w.0) (refusals.CodeLength n) (sym (answer_at body (Err w.0) w.1) ∙ e) in
+          elim (faults body w.0 fits w.1) [
+            | inl h ↦ absurd (cut_not_length n (sym (sym (ap code_fault h.0) ∙ is)))
+            | inr bad ↦
+                let p = bad.front in
+                let m : p.1.1 ≡ n = same_length p.1.1 n (sym (ap code_fault bad.fault) ∙ is) in
+                let front = u2 p.0 ++ u2 p.1.0 in
+                let parts : body ≡ front ++ u4 p.1.1 ++ bad.rest = bad.parts ∙ simp append_assoc in
+                (front, bad.rest, refl, subst IsLong m bad.fits.1.1, subst (λ (k : ℕ). body ≡ front ++ u4 k ++ bad.rest) m parts, bad_length n (subst (λ (k : ℕ). is_code_length k ≡ false) m bad.bad))
+          ]
     ]
 
 pub length_answer : (body : List ℕ) (n : ℕ) → IsBytes body → HasBadCodeLength body n → body_answer body ≡ Err (refusals.CodeLength n)
 length_answer body n fits h =
     let given : body ≡ h.0 ++ (u4 n ++ h.1) = h.4 ∙ append_assoc h.0 (u4 n) h.1 in
-    let len : length body ≡ 4 + (4 + length h.1) = ap (λ (t : List ℕ). length t) given ∙ length-append h.0 (u4 n ++ h.1) ∙ ap (λ (k : ℕ). k + (4 + length h.1)) h.2 in
+    let len : length body ≡ 4 + length (u4 n ++ h.1) = ap (λ (t : List ℕ). length t) given ∙ length-append h.0 (u4 n ++ h.1) ∙ ap (λ (k : ℕ). k + length (u4 n ++ h.1)) h.2 in
     elim (cases_of (front_at body)) [
-      | inr w ↦ absurd (omega (arith, len, (front_fixed.err body w.0 w.1).1))
+      | inr w ↦ absurd (omega (arith, len, length-append (u4 n) h.1, (front_fixed.err body w.0 w.1).1))
       | inl w ↦
-        let t = front_reader.takes body w.0 fits w.1 in
-        let p = w.0.0 in
-        let front = u2 p.0 ++ u2 p.1.0 in
-        let parts : body ≡ front ++ (u4 p.1.1 ++ w.0.1) = t.0.parts ∙ simp append_assoc in
-        let here : drop 4 body ≡ u4 p.1.1 ++ w.0.1 = ap (drop 4) parts ∙ drop_at front (u4 p.1.1 ++ w.0.1) 4 refl in
-        let there : drop 4 body ≡ u4 n ++ h.1 = ap (drop 4) given ∙ drop_at h.0 (u4 n ++ h.1) 4 h.2 in
-        let one : number_at w32 (drop 4 body) ≡ Ok (p.1.1, w.0.1) = ap (number_at w32) here ∙ u4_reader.again p.1.1 w.0.1 t.1.1.1 in
-        let two : number_at w32 (drop 4 body) ≡ Ok (n, h.1) = ap (number_at w32) there ∙ u4_reader.again n h.1 h.3 in
-        let made : ℕ × List ℕ = (p.1.1, w.0.1) in
-        let wanted : ℕ × List ℕ = (n, h.1) in
-        let same : p.1.1 ≡ n = ap (λ (y : ℕ × List ℕ). y.0) (ok_is made wanted (sym one ∙ two)) in
-        let bad : is_good p ≡ false = subst (λ (k : ℕ). is_code_length k ≡ false) (sym same) (length_bad n h.5) in
-        let again : code_at body ≡ Err (CodeLength p.1.1) = ap code_at t.0.parts ∙ bad_again p w.0.1 t.1 bad in
-        answer_at body (Err (CodeLength p.1.1)) again ∙ ap (λ (k : ℕ). let r : Answer = Err (refusals.CodeLength k) in r) same
+          let t = front_reader.takes body w.0 fits w.1 in
+          let p = w.0.0 in
+          let front = u2 p.0 ++ u2 p.1.0 in
+          let parts : body ≡ front ++ (u4 p.1.1 ++ w.0.1) = t.0.parts ∙ simp append_assoc in
+          let here : drop 4 body ≡ u4 p.1.1 ++ w.0.1 = ap (drop 4) parts ∙ drop_at front (u4 p.1.1 ++ w.0.1) 4 refl in
+          let there : drop 4 body ≡ u4 n ++ h.1 = ap (drop 4) given ∙ drop_at h.0 (u4 n ++ h.1) 4 h.2 in
+          let one : number_at w32 (drop 4 body) ≡ Ok (p.1.1, w.0.1) = ap (number_at w32) here ∙ u4_reader.again p.1.1 w.0.1 t.1.1.1 in
+          let two : number_at w32 (drop 4 body) ≡ Ok (n, h.1) = ap (number_at w32) there ∙ u4_reader.again n h.1 h.3 in
+          let made : ℕ × List ℕ = (p.1.1, w.0.1) in
+          let wanted : ℕ × List ℕ = (n, h.1) in
+          let same : p.1.1 ≡ n = ap (λ (y : ℕ × List ℕ). y.0) (ok_is made wanted (sym one ∙ two)) in
+          let bad : is_good p ≡ false = subst (λ (k : ℕ). is_code_length k ≡ false) (sym same) (length_bad n h.5) in
+          let again : code_at body ≡ Err (CodeLength p.1.1) = ap code_at t.0.parts ∙ bad_again p w.0.1 t.1 bad in
+          answer_at body (Err (CodeLength p.1.1)) again ∙ ap (λ (k : ℕ). let r : Answer = Err (refusals.CodeLength k) in r) same
     ]
 
 -- ---- What a function answered.
@@ -528,3 +531,30 @@ answered_is body (Ok d) e a q other = absurd (refusal_not_ok e d (sym q))
 answered_is body (Err d) e a q other =
     let same : d ≡ e = refusal_is d e q in
     elim a [ inl o ↦ absurd (other (sym same ∙ o)) | inr g ↦ g ∙ ap (λ (k : CodeRefusal). let r : Answer = Err k in r) same ]
+
+-- ---- The clauses, of what a function answered.
+
+pub found : (body : List ℕ) (r : Answer) → IsBytes body → Answered body r → IfOk r (λ c. CodeLayout body c)
+found body (Ok c) fits a = answer_found body c fits a
+found body (Err e) fits a = tt
+
+pub only : (body : List ℕ) (r : Answer) (c : Code) → Answered body r → CodeLayout body c → MatchResult r (λ d. d ≡ c) (λ e. e ≡ refusals.OutOfMemory)
+only body r c a l = answered_ok body r c a (layout_answer body c l)
+
+pub cut : (body : List ℕ) (r : Answer) → IsBytes body → Answered body r → r ≡ Err refusals.Cut → IsCutCode body
+cut body r fits a e = answer_cut body fits (answered_is body r refusals.Cut a e (λ q. absurd cc))
+
+pub only_cut : (body : List ℕ) (r : Answer) → IsBytes body → Answered body r → IsCutCode body → MatchResult r (λ _. ⊥) (λ d. (d ≡ refusals.Cut) ⊎ (d ≡ refusals.OutOfMemory))
+only_cut body r fits a h = answered_err body r refusals.Cut a (cut_answer body fits h)
+
+pub trailing : (body : List ℕ) (r : Answer) (n : ℕ) → IsBytes body → Answered body r → r ≡ Err (refusals.Trailing n) → TrailsCode body n
+trailing body r n fits a e = answer_trailing body n fits (answered_is body r (refusals.Trailing n) a e (λ q. absurd cc))
+
+pub only_trailing : (body : List ℕ) (r : Answer) (n : ℕ) → Answered body r → TrailsCode body n → MatchResult r (λ _. ⊥) (λ d. (d ≡ refusals.Trailing n) ⊎ (d ≡ refusals.OutOfMemory))
+only_trailing body r n a h = answered_err body r (refusals.Trailing n) a (trailing_answer body n h)
+
+pub code_length : (body : List ℕ) (r : Answer) (n : ℕ) → IsBytes body → Answered body r → r ≡ Err (refusals.CodeLength n) → HasBadCodeLength body n
+code_length body r n fits a e = answer_length body n fits (answered_is body r (refusals.CodeLength n) a e (λ q. absurd cc))
+
+pub only_code_length : (body : List ℕ) (r : Answer) (n : ℕ) → IsBytes body → Answered body r → HasBadCodeLength body n → MatchResult r (λ _. ⊥) (λ d. (d ≡ refusals.CodeLength n) ⊎ (d ≡ refusals.OutOfMemory))
+only_code_length body r n fits a h = answered_err body r (refusals.CodeLength n) a (length_answer body n fits h)

@@ -1,7 +1,6 @@
 -- What a caller is told of a fault.
-use Rattle.std.specs.Prelude.{◌≡◌, ◌≢◌, ℕ, ◌-◌, ◌<◌, ◌==◌, ◌⊎◌, List, length, slice_index, Result, Ok, Err, if◌then◌else◌}
+use Rattle.std.specs.Prelude.{ℕ, ◌-◌, ◌==◌, List, length, Result, Ok, Err, if◌then◌else◌}
 use Rattle.jk_model.specs.declared.class_file.Code.{Code}
-use Rattle.jk_model.specs.ClassFile.{IsCutCode}
 use Rattle.class_reader.specs.Reading.{code_at}
 use Rattle.class_reader.specs.declared.fault.Fault.{Fault}
 use Rattle.class_reader.specs.declared.fault.Fault.TheVariants.{Short, Unread, CodeLength}
@@ -32,12 +31,3 @@ answer_of len (Err f) = Err (code_fault f)
 
 abbrev pub body_answer : List ℕ → Result Code CodeRefusal
 body_answer body = answer_of (length body) (code_at body)
-
--- The body ends before the code does: within the two limits or the length of the code, or so that it
--- goes on as the body of a Code attribute.
-abbrev pub EndsEarly : List ℕ → Type 0
-EndsEarly body = (length body < 8) ⊎ IsCutCode body
-
--- The body ends within the length of the code, which is above 65,535 by the bytes that stand there.
-abbrev pub HasCutLength : List ℕ → Type 0
-HasCutLength body = (length body < 8) × ((slice_index body 4 ≢ 0) ⊎ (slice_index body 5 ≢ 0))

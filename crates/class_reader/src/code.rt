@@ -1,9 +1,9 @@
 //! The body of a Code attribute.
 
-ghost use Rattle.std.specs.Prelude.{◌≡◌, ◌≢◌, ◌↔◌, ℕ, ◌<◌, ◌^◌, ◌⊎◌, length, IsTrue, IfOk, MatchResult, Ok, Err};
+ghost use Rattle.std.specs.Prelude.{◌≡◌, ℕ, ◌<◌, ◌^◌, ◌⊎◌, length, IfOk, MatchResult, Ok, Err};
 ghost use Rattle.jk_model.specs.ClassFile.{CodeLayout, IsCutCode, TrailsCode, HasBadCodeLength};
 ghost use Rattle.class_reader.specs.Reading.{Gives, front_at, behind_at, code_at};
-ghost use Rattle.class_reader.specs.Refusals.{code_refusal, body_answer, EndsEarly, HasCutLength};
+ghost use Rattle.class_reader.specs.Refusals.{code_refusal, body_answer};
 
 use crate::fault::{Fault, ReadError};
 use crate::fields::{bytes_of, u2_of, u4_of};
@@ -24,9 +24,6 @@ pub enum CodeRefusal {
     /// The code is empty, or longer than 65,535 bytes: this is its length.
     #[error("the code has {0} bytes")]
     CodeLength(u32),
-    /// The body ends within the length of the code, which is above 65,535 by what stands there.
-    #[error("the body ends in a length of the code that is too high")]
-    CutLength,
     #[error("out of memory")]
     OutOfMemory,
 }
@@ -110,36 +107,6 @@ fn answered(alloc: Global, body: &[u8]) -> Result<Code, CodeRefusal>
     Ok(code)
 }
 
-/// What the body says, or that it ends early, goes on, or has a code of a wrong length.
-fn whole_of(alloc: Global, body: &[u8]) -> Result<Code, CodeRefusal>
-    requires { length body.now < 2 ^ 31 }
-    ensures found { IfOk result (λ c. CodeLayout body.now c) }
-    ensures only { (c : Code) → CodeLayout body.now c
-        → MatchResult result (λ d. d ≡ c) (λ e. e ≡ CodeRefusal.OutOfMemory) }
-
-    ensures cut { result ≡ Err CodeRefusal.Cut → EndsEarly body.now }
-    ensures only_cut { EndsEarly body.now
-        → MatchResult result (λ _. ⊥) (λ e. (e ≡ CodeRefusal.Cut) ⊎ (e ≡ CodeRefusal.OutOfMemory)) }
-
-    ensures trailing { (n : ℕ) → result ≡ Err (CodeRefusal.Trailing n) → TrailsCode body.now n }
-    ensures only_trailing { (n : ℕ) → TrailsCode body.now n
-        → MatchResult result (λ _. ⊥) (λ e. (e ≡ CodeRefusal.Trailing n) ⊎ (e ≡ CodeRefusal.OutOfMemory)) }
-
-    ensures code_length { (n : ℕ) → result ≡ Err (CodeRefusal.CodeLength n) → HasBadCodeLength body.now n }
-    ensures only_code_length { (n : ℕ) → HasBadCodeLength body.now n
-        → MatchResult result (λ _. ⊥) (λ e. (e ≡ CodeRefusal.CodeLength n) ⊎ (e ≡ CodeRefusal.OutOfMemory)) }
-    ensures no_cut_length { result ≢ Err CodeRefusal.CutLength }
-{
-    answered(alloc, body)
-}
-
-/// Whether the body ends within the length of the code, in which a byte stands that is too high.
-fn has_cut_length(body: &[u8]) -> bool
-    ensures { IsTrue result ↔ HasCutLength body.now }
-{
-    body.len() < 8 && (body.len() > 4 && body[4] != 0 || body.len() > 5 && body[5] != 0)
-}
-
 /// What the body of a Code attribute says. The length of the code is tested as it is read.
 pub fn read_code(alloc: Global, body: &[u8]) -> Result<Code, CodeRefusal>
     requires { length body.now < 2 ^ 31 }
@@ -158,13 +125,6 @@ pub fn read_code(alloc: Global, body: &[u8]) -> Result<Code, CodeRefusal>
     ensures code_length { (n : ℕ) → result ≡ Err (CodeRefusal.CodeLength n) → HasBadCodeLength body.now n }
     ensures only_code_length { (n : ℕ) → HasBadCodeLength body.now n
         → MatchResult result (λ _. ⊥) (λ e. (e ≡ CodeRefusal.CodeLength n) ⊎ (e ≡ CodeRefusal.OutOfMemory)) }
-
-    ensures cut_length { result ≡ Err CodeRefusal.CutLength → HasCutLength body.now }
-    ensures only_cut_length { HasCutLength body.now
-        → MatchResult result (λ _. ⊥) (λ e. (e ≡ CodeRefusal.CutLength) ⊎ (e ≡ CodeRefusal.OutOfMemory)) }
 {
-    if has_cut_length(body) {
-        return Err(CodeRefusal::CutLength);
-    }
-    whole_of(alloc, body)
+    answered(alloc, body)
 }
