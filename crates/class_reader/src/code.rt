@@ -95,7 +95,7 @@ fn code_of(alloc: Global, body: &[u8]) -> Result<(Code, &[u8]), ReadError>
     Ok((code, rest))
 }
 
-/// What a body begins with, as long as nothing follows it.
+/// What `read_code` answers, as one value of the definitions.
 fn answered(alloc: Global, body: &[u8]) -> Result<Code, CodeRefusal>
     requires { length body.now < 2 ^ 31 }
     ensures { MatchResult result (λ c. body_answer body.now ≡ Ok c) (λ e. (e ≡ CodeRefusal.OutOfMemory) ⊎ (body_answer body.now ≡ Err e)) }

@@ -112,6 +112,9 @@ fn code_bodies(rt: HostRuntime) -> Result<(), Fail> {
             assert!(rt; matches!(read, Err(CodeRefusal::CodeLength(n)) if n == len));
         }
     }
+    // The length has begun with a byte that is too high, and ends early.
+    let read = read_code(rt.alloc(), &[0, 2, 0, 1, 1]);
+    assert!(rt; matches!(read, Err(CodeRefusal::Cut)));
     let just_over = [0, 2, 0, 1, 0, 1, 0, 0];
     let read = read_code(rt.alloc(), &just_over);
     assert!(rt; matches!(read, Err(CodeRefusal::CodeLength(65_536))));
