@@ -47,7 +47,7 @@ fn other_classes(rt: HostRuntime) {
     let mut longer = [0; 54];
     longer[..53].copy_from_slice(&CLASS);
     assert!(rt; matches!(read_class(rt.alloc(), &longer), Err(ReadRefusal::NotYet)));
-    // Two bytes of the version, or one byte at a place, and whether it is still read.
+    // A place, the byte that is put there, and whether the class is still read.
     for (place, byte, reads) in [
         (5, 2, false),
         (5, 4, true),
@@ -67,7 +67,9 @@ fn other_classes(rt: HostRuntime) {
         (46, 1, false),
     ] {
         let mut changed = CLASS;
-        changed[place] = byte;
+        if let Some(old) = changed.get_mut(place) {
+            *old = byte;
+        }
         let read = read_class(rt.alloc(), &changed);
         assert_eq!(rt; read.is_ok(), reads, "with {byte} at {place}");
     }
