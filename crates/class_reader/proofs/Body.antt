@@ -1,10 +1,10 @@
 -- The laws of the body of a Code attribute.
-use Rattle.std.proofs.Common.{◌≡◌, ◌≢◌, ℕ, zero, suc, ◌+◌, ◌-◌, ◌*◌, ◌/◌, ◌%◌, ◌^◌, ◌<◌, ◌≤◌, ◌⊎◌, Bool, true, false, cond, eqb, ltb, ◌&&◌, List, [], ◌∷◌, ◌++◌, length, get_or, take, drop, replicate, Result, Ok, Err, refl, sym, ap, subst, ◌∙◌, append_assoc, arith, inl, inr}
+use Rattle.std.proofs.Common.{◌≡◌, ◌≢◌, ℕ, zero, suc, ◌+◌, ◌-◌, ◌^◌, ◌<◌, ◌≤◌, ◌⊎◌, Bool, true, false, cond, eqb, ltb, ◌&&◌, List, [], ◌++◌, length, take, drop, Result, Ok, Err, refl, sym, ap, subst, ◌∙◌, append_assoc, arith, inl, inr}
 use Rattle.std.specs.Prelude.{MatchResult, IfOk}
 use Rattle.std.specs.List.{AllByRecursion}
 use Rattle.std.specs.Int.{Width, w16, w32, byte_len, from_be_bytes, to_be_bytes}
-use Rattle.std.proofs.lemmas.Bool.{cases_lt, ltb-true, ltb-false, lt-ltb, eqb-true, eq-eqb}
-use Rattle.std.proofs.lemmas.List.{append-nil, length-append, length-take, length-drop, take-append-drop, take_at, drop_at, nil_from_length}
+use Rattle.std.proofs.lemmas.Bool.{cases_lt, ltb-true, ltb-false, lt-ltb, eqb-true}
+use Rattle.std.proofs.lemmas.List.{append-nil, length-append, length-drop, take-append-drop, take_at, drop_at, nil_from_length}
 use Rattle.jk_model.specs.declared.class_file.Attribute.{Attribute}
 use Rattle.jk_model.specs.declared.class_file.Handler.{Handler}
 use Rattle.jk_model.specs.declared.class_file.Code.{Code}
@@ -13,9 +13,9 @@ use Rattle.class_reader.specs.declared.fault.Fault.{Fault}
 use Rattle.class_reader.specs.declared.fault.Fault.TheVariants.{Short, Unread, CodeLength}
 use Rattle.class_reader.specs.declared.code.CodeRefusal.{CodeRefusal}
 use Rattle.class_reader.specs.declared.code.CodeRefusal.TheVariants as refusals
-use Rattle.class_reader.specs.Reading.{◌>>=◌, then_at, mapped_at, tested_at, number_at, bytes_at, counted_at, attributes_at, handler_at, is_code_length, front_at, behind_at, code_at}
+use Rattle.class_reader.specs.Reading.{◌>>=◌, then_at, tested_at, number_at, bytes_at, counted_at, attributes_at, handler_at, is_code_length, front_at, behind_at, code_at}
 use Rattle.class_reader.specs.Refusals.{answer_of, body_answer, code_fault}
-use Rattle.class_reader.proofs.Readers.{IsBytes, IsReader, Takes, bind_ok, guard_ok, ok_is, then_reader, mapped_reader, tested_reader, u2_reader, u4_reader, bytes_reader, itself}
+use Rattle.class_reader.proofs.Readers.{IsBytes, IsReader, bind_ok, guard_ok, ok_is, then_reader, mapped_reader, tested_reader, u2_reader, u4_reader, bytes_reader, itself}
 use Rattle.class_reader.proofs.Parts.{attributes_reader, handlers_reader}
 use Rattle.class_reader.proofs.Cuts.{IsCut, Completes, bind_err, guard_err, not_empty_either, ok_not_err, then_cut, bytes_cut, attributes_cut, handlers_cut}
 

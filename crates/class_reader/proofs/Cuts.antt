@@ -1,17 +1,17 @@
 -- Bytes in which a reader of a section ends early go on as that section.
-use Rattle.std.proofs.Common.{◌≡◌, ◌≢◌, ℕ, zero, suc, ◌+◌, ◌-◌, ◌^◌, ◌<◌, ◌≤◌, ◌⊎◌, Bool, true, false, cond, ltb, List, [], ◌∷◌, ◌++◌, length, get_or, take, drop, replicate, Result, Ok, Err, refl, sym, ap, subst, ◌∙◌, append_assoc, arith, inl, inr}
+use Rattle.std.proofs.Common.{◌≡◌, ◌≢◌, ℕ, zero, suc, ◌-◌, ◌^◌, ◌<◌, ◌⊎◌, Bool, true, false, cond, ltb, List, [], ◌∷◌, ◌++◌, length, get_or, take, drop, replicate, Result, Ok, Err, refl, sym, ap, subst, ◌∙◌, append_assoc, arith, inl, inr}
 use Rattle.std.specs.List.{flat_map, AllByRecursion}
 use Rattle.std.specs.Int.{Width, w16, w32, byte_len, from_be_bytes, to_be_bytes}
 use Rattle.std.proofs.lemmas.Bool.{cases_lt, ltb-true}
-use Rattle.std.proofs.lemmas.List.{append-nil, length-append, length-replicate, get_or_append_left, get_or-append_right, get_or-replicate, get_or_past}
+use Rattle.std.proofs.lemmas.List.{length-append, length-replicate, get_or_append_left, get_or-append_right, get_or-replicate, get_or_past}
 use Rattle.jk_model.specs.declared.class_file.Attribute.{Attribute}
 use Rattle.jk_model.specs.declared.class_file.Handler.{Handler}
 use Rattle.jk_model.specs.ClassFile.{attribute_bytes, IsAttribute, attributes_bytes, AreAttributes, handler_bytes, IsHandler, handlers_bytes}
 use Rattle.class_reader.specs.declared.fault.Fault.{Fault}
 use Rattle.class_reader.specs.declared.fault.Fault.TheVariants.{Short}
 use Rattle.class_reader.specs.Reading.{◌>>=◌, then_at, mapped_at, many_at, number_at, bytes_at, block_at, counted_at, attribute_at, attributes_at, handler_at}
-use Rattle.class_reader.proofs.Readers.{IsBytes, IsReader, Takes, IsWide, wide16, wide32, number_reader, u2_reader, u4_reader, bytes_reader, itself, are_bytes, then_reader, block_reader, counted_reader, many_reader, second, with_length}
-use Rattle.class_reader.proofs.Parts.{attribute_reader, attributes_reader, handler_reader}
+use Rattle.class_reader.proofs.Readers.{IsBytes, IsReader, IsWide, wide16, wide32, number_reader, u2_reader, itself, are_bytes, second, with_length}
+use Rattle.class_reader.proofs.Parts.{attribute_reader, handler_reader}
 
 -- a step failed, or the one after it
 pub bind_err : {A B : Type 0} (r : Result A Fault) (f : A → Result B Fault) (d : Fault) → (r >>= f) ≡ Err d → (r ≡ Err d) ⊎ ((x : A) × (r ≡ Ok x) × (f x ≡ Err d))

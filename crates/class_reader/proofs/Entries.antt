@@ -1,5 +1,5 @@
 -- The laws of the constant pool: its entries by their tags, and what they name.
-use Rattle.std.proofs.Common.{◌≡◌, ◌≢◌, ℕ, zero, suc, ◌^◌, ◌<◌, ◌≤◌, ◌⊎◌, Bool, true, false, cond, eqb, leb, ◌&&◌, List, [], ◌∷◌, ◌++◌, length, Option, Some, None, Result, Ok, Err, refl, sym, ap, subst, ◌∙◌, append_assoc, arith, inl, inr}
+use Rattle.std.proofs.Common.{◌≡◌, ℕ, zero, suc, ◌^◌, ◌<◌, ◌⊎◌, Bool, true, false, cond, eqb, leb, ◌&&◌, List, [], ◌∷◌, ◌++◌, length, Option, Some, None, Result, Ok, Err, refl, sym, ap, subst, ◌∙◌, inl, inr}
 use Rattle.std.specs.Prelude.{slice_get}
 use Rattle.std.specs.List.{flat_map, AllByRecursion, list_all}
 use Rattle.std.specs.Int.{w16, to_be_bytes}
@@ -7,12 +7,12 @@ use Rattle.std.proofs.lemmas.Bool.{eqb-true, leb-true, le-leb}
 use Rattle.jk_model.specs.declared.class_file.PoolEntry.{PoolEntry}
 use Rattle.jk_model.specs.declared.class_file.PoolEntry.TheVariants.{Unusable, Utf8, Integer, Float, Long, Double, Class, Str, FieldRef, MethodRef, InterfaceMethodRef, NameAndType}
 use Rattle.jk_model.specs.ClassFile.{entry_bytes, IsEntry, AreSlots, BeginsUnusable, IsPool, pool_bytes, IsUtf8Entry, IsClassEntry, IsPairEntry, NamesEntry, IsGoodEntry}
-use Rattle.jk_model.specs.Text.{Spells, IsModifiedUtf8}
+use Rattle.jk_model.specs.Text.{Spells}
 use Rattle.class_reader.specs.Stage.{IsPlainText, IsReadEntry}
 use Rattle.class_reader.specs.declared.fault.Fault.{Fault}
-use Rattle.class_reader.specs.declared.fault.Fault.TheVariants.{Short, Unread}
-use Rattle.class_reader.specs.Reading.{◌>>=◌, then_at, mapped_at, many_at, number_at, block_at, is_plain_byte, is_plain, text_at, pair_at, tagged_at, entry_at, entries_at, pool_at, is_utf8, is_class, is_pair, names, is_some_of, entry_holds}
-use Rattle.class_reader.proofs.Readers.{IsBytes, IsReader, Takes, Takes-then, bind_ok, ok_is, refitted, then_reader, mapped_reader, tested_reader, many_reader, u2_reader, wide16, block_reader}
+use Rattle.class_reader.specs.declared.fault.Fault.TheVariants.{Unread}
+use Rattle.class_reader.specs.Reading.{then_at, mapped_at, many_at, number_at, block_at, is_plain_byte, is_plain, text_at, pair_at, tagged_at, entry_at, entries_at, pool_at, is_utf8, is_class, is_pair, names, is_some_of, entry_holds}
+use Rattle.class_reader.proofs.Readers.{IsBytes, IsReader, Takes, bind_ok, ok_is, refitted, then_reader, mapped_reader, tested_reader, many_reader, u2_reader, wide16, block_reader}
 use Rattle.class_reader.proofs.Parts.{pair_reader}
 
 abbrev IsShort : ℕ → Type 0

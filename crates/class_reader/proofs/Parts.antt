@@ -1,13 +1,13 @@
 -- The laws of the readers of attributes, members, handlers and pool entries.
-use Rattle.std.proofs.Common.{◌≡◌, ℕ, zero, suc, ◌^◌, ◌<◌, ◌≤◌, Bool, true, false, List, [], ◌∷◌, ◌++◌, length, Result, Ok, Err, refl, sym, ap, ◌∙◌, append_assoc, arith}
-use Rattle.std.specs.List.{flat_map, AllByRecursion}
+use Rattle.std.proofs.Common.{ℕ, ◌^◌, ◌<◌, List, ◌++◌, length, refl, append_assoc}
+use Rattle.std.specs.List.{AllByRecursion}
 use Rattle.std.specs.Int.{w16, w32, to_be_bytes}
 use Rattle.jk_model.specs.declared.class_file.MemberInfo.{MemberInfo}
 use Rattle.jk_model.specs.declared.class_file.Attribute.{Attribute}
 use Rattle.jk_model.specs.declared.class_file.Handler.{Handler}
 use Rattle.jk_model.specs.ClassFile.{attribute_bytes, IsAttribute, attributes_bytes, AreAttributes, member_bytes, IsMember, members_bytes, AreMembers, interfaces_bytes, AreInterfaces, handler_bytes, IsHandler, handlers_bytes}
-use Rattle.class_reader.specs.Reading.{then_at, mapped_at, number_at, block_at, counted_at, attribute_at, attributes_at, member_at, handler_at, pair_at}
-use Rattle.class_reader.proofs.Readers.{IsReader, refitted, then_reader, mapped_reader, number_reader, u2_reader, u4_reader, wide16, wide32, block_reader, counted_reader}
+use Rattle.class_reader.specs.Reading.{then_at, number_at, block_at, counted_at, attribute_at, attributes_at, member_at, handler_at, pair_at}
+use Rattle.class_reader.proofs.Readers.{IsReader, refitted, then_reader, mapped_reader, u2_reader, wide32, block_reader, counted_reader}
 
 abbrev IsShort : ℕ → Type 0
 IsShort n = n < 2 ^ 16

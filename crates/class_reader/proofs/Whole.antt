@@ -1,7 +1,7 @@
 -- The laws of the whole class file.
-use Rattle.std.proofs.Common.{◌≡◌, ℕ, ◌^◌, ◌<◌, ◌≤◌, Bool, true, false, eqb, List, [], ◌∷◌, ◌++◌, length, Result, Ok, Err, refl, sym, ap, subst, ◌∙◌, append_assoc, arith}
+use Rattle.std.proofs.Common.{◌≡◌, ℕ, ◌^◌, ◌<◌, Bool, true, eqb, List, [], ◌++◌, length, Result, Ok, Err, refl, sym, ap, subst, ◌∙◌, append_assoc, arith}
 use Rattle.std.specs.Prelude.{IsTrue}
-use Rattle.std.specs.List.{list_all, AllByRecursion}
+use Rattle.std.specs.List.{list_all}
 use Rattle.std.specs.Int.{w16, w32, to_be_bytes}
 use Rattle.std.proofs.lemmas.Bool.{eqb-true}
 use Rattle.std.proofs.lemmas.List.{append-nil}
@@ -9,7 +9,7 @@ use Rattle.jk_model.specs.declared.class_file.ClassFile.{ClassFile}
 use Rattle.jk_model.specs.declared.class_file.PoolEntry.{PoolEntry}
 use Rattle.jk_model.specs.declared.class_file.MemberInfo.{MemberInfo}
 use Rattle.jk_model.specs.declared.class_file.Attribute.{Attribute}
-use Rattle.jk_model.specs.ClassFile.{pool_bytes, attributes_bytes, AreAttributes, members_bytes, AreMembers, interfaces_bytes, AreInterfaces, class_bytes, Layout, IsVersion, IsClass}
+use Rattle.jk_model.specs.ClassFile.{pool_bytes, attributes_bytes, AreAttributes, members_bytes, AreMembers, interfaces_bytes, AreInterfaces, class_bytes, IsVersion, IsClass}
 use Rattle.class_reader.specs.Stage.{HasReadPool}
 use Rattle.class_reader.specs.Refusals.{class_refusal}
 use Rattle.class_reader.specs.declared.class.ReadRefusal.TheVariants as class
@@ -17,8 +17,8 @@ use Rattle.class_reader.specs.declared.fault.ReadError.{ReadError}
 use Rattle.class_reader.specs.declared.fault.ReadError.TheVariants as errors
 use Rattle.class_reader.specs.declared.fault.Fault.{Fault}
 use Rattle.class_reader.specs.declared.fault.Fault.TheVariants.{Unread}
-use Rattle.class_reader.specs.Reading.{Fails, then_at, mapped_at, number_at, counted_at, attributes_at, member_at, pair_at, pool_at, magic_at, header_at, parts_at, class_at, entry_holds}
-use Rattle.class_reader.proofs.Readers.{IsBytes, IsReader, Takes, ok_is, refitted, then_reader, mapped_reader, tested_reader, u2_reader, u4_reader}
+use Rattle.class_reader.specs.Reading.{Fails, then_at, number_at, counted_at, attributes_at, member_at, pair_at, pool_at, magic_at, header_at, parts_at, class_at, entry_holds}
+use Rattle.class_reader.proofs.Readers.{IsBytes, IsReader, ok_is, then_reader, mapped_reader, tested_reader, u2_reader, u4_reader}
 use Rattle.class_reader.proofs.Parts.{pair_reader, attributes_reader, members_reader, interfaces_reader}
 use Rattle.class_reader.proofs.Entries.{AreEntries, pool_reader, pool_is, is_pool, good_entries, entries_good}
 
