@@ -1,5 +1,5 @@
 -- The constant pools that are read so far.
-use Rattle.std.specs.Prelude.{◌<◌, ◌≤◌, ⊤, List, ℕ}
+use Rattle.std.specs.Prelude.{◌≤◌, ⊤, List, ℕ}
 use Rattle.std.specs.List.{AllByRecursion}
 use Rattle.jk_model.specs.declared.class_file.ClassFile.{ClassFile}
 use Rattle.jk_model.specs.declared.class_file.PoolEntry.{PoolEntry}

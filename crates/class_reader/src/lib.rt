@@ -3,6 +3,13 @@
 
 mod class;
 mod code;
+mod fault;
+mod fields;
+mod pool;
+mod sections;
 
 pub use class::{ReadRefusal, read_class};
 pub use code::{CodeRefusal, read_code};
+
+#[cfg(test)]
+mod tests;
