@@ -16,12 +16,14 @@ const MAX_BYTES: usize = 1_048_576;
 /// The most lines of a script.
 const MAX_LINES: u32 = 65_536;
 
-/// Why bytes were not read as a script.
+/// Why bytes were not read as a script. It says which line is at fault and not what it should be:
+/// each line that is not read has the kind `NotYet`.
 #[derive(Clone, Copy, Debug, PartialEq, Eq, Error)]
 pub enum ScriptError {
     /// The first line at fault.
     #[error("the script is at fault")]
     Fault(ScriptFault),
+    /// No memory was left. It says nothing of the bytes.
     #[error("out of memory")]
     OutOfMemory,
 }
@@ -73,7 +75,12 @@ fn read(alloc: Global, bytes: &[u8]) -> Result<List<Event>, ScriptError>
     read_lines(alloc, bytes)
 }
 
-/// The events of a script.
+/// The events of a script, in the order of its lines, in time linear in its bytes.
+///
+/// A script has at most 1,048,576 bytes and 65,536 lines. Each line is empty or a comment (`# ..`),
+/// `domain NAME` or `start NAME CLASS` (one of each at most), `turn T` (one step) or `turn T N`
+/// (N steps). The error names the first line that is none of these, counted from 1, or line 0 where
+/// there are too many bytes. `jk_model`'s `Script` and this crate's `Events` define all of it.
 pub fn read_script(alloc: Global, bytes: &[u8]) -> Result<List<Event>, ScriptError>
     ensures events { IfOk result (λ events. IsScript bytes.now events) }
     ensures few { IfOk result (λ events. length events ≤ 65536) }
