@@ -1,3 +1,3 @@
-pub mod Main
-pub mod Methods
-pub mod Printing
+pub mod MainMethod
+pub mod OneCode
+pub mod PrintCalls
