@@ -85,8 +85,8 @@ AreMethods pool methods texts =
     ⊎ ((main : MemberInfo) × (init : MemberInfo)
     × ((methods ≡ main ∷ init ∷ []) ⊎ (methods ≡ init ∷ main ∷ [])) × IsMain pool main texts × IsInit pool init)
 
--- ---- The class has this name, and its `main` prints these texts. As all texts of its pool are ASCII, the
--- bytes of a text are its UTF-16 units.
+-- ---- The class has this name, and its `main` prints these texts. The texts of a pool that is read are
+-- ASCII, so the bytes of a text are its UTF-16 units.
 pub record HasForm (c : ClassFile) (name : List ℕ) (texts : List (List ℕ)) : Type 0 where
   pub named : IsClassAt c.pool c.this_class name
   pub flags : (c.flags ≡ 0x0020) ⊎ (c.flags ≡ 0x0021)

@@ -6,6 +6,7 @@ mod printing;
 
 ghost use Rattle.std.specs.Prelude.{◌≡◌, ℕ, ◌↔◌, List, IfOk, IfSome, IfNone, IsTrue, MatchOption};
 ghost use Rattle.jk_model.specs.ClassFile.{CodeLayout};
+ghost use Rattle.class_reader.specs.Stage.{HasReadPool};
 ghost use Rattle.jk_kernel.specs.Form.{HasForm, IsMain};
 ghost use Rattle.jk_kernel.specs.FormParts.{HasHeader, HasRoom, IsCalledMain};
 
@@ -30,6 +31,7 @@ const READ_LIMIT: usize = 1 << 31;
 
 /// The program of a class, where it has the form of those that run so far; else `None`.
 pub fn form_of(alloc: Global, class: &ClassFile) -> Result<Option<Program>, OutOfMemory>
+    requires { HasReadPool class.now }
     ensures program { IfOk result (λ found. IfSome found (λ p. HasForm class.now p.name p.texts)) }
     ensures none { IfOk result (λ found. IfNone found
         ((name : List ℕ) (texts : List (List ℕ)) → HasForm class.now name texts → ⊥)) }

@@ -2,7 +2,12 @@
 #![tactic(auto)]
 
 mod answers;
+mod domains;
 mod form;
+mod kernel;
+mod lines;
+mod threads;
 
 pub use answers::EventAnswer;
 pub use form::{Program, form_of};
+pub use kernel::Kernel;

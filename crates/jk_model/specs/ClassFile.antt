@@ -112,12 +112,6 @@ BeginsUnusable P [] = ⊥
 BeginsUnusable P (Unusable ∷ rest) = P rest
 BeginsUnusable P (_ ∷ rest) = ⊥
 
--- how many indices an entry takes
-abbrev pub width_of : PoolEntry → ℕ
-width_of (Long n) = 2
-width_of (Double n) = 2
-width_of _ = 1
-
 -- The index behind a Long or Double is Unusable, and no other of these is.
 abbrev pub AreSlots : List PoolEntry → Type 0
 AreSlots [] = ⊤
@@ -221,9 +215,11 @@ pub record CodeLayout (bytes : List ℕ) (c : Code) : Type 0 where
   pub handlers : IsU2 (length c.handlers) × AllByRecursion IsHandler c.handlers
   pub attributes : AreAttributes c.attributes
 
--- The body ends early: it goes on as the body of a Code attribute.
+-- The body ends early: before the length of its code ends, or where more bytes would make it the body
+-- of a Code attribute.
 abbrev pub IsCutCode : List ℕ → Type 0
-IsCutCode bytes = (c : Code) × (more : List ℕ) × (more ≢ []) × CodeLayout (bytes ++ more) c
+IsCutCode bytes =
+    (length bytes < 8) ⊎ ((c : Code) × (more : List ℕ) × (more ≢ []) × CodeLayout (bytes ++ more) c)
 
 -- Bytes follow the body of a Code attribute, from place n on.
 abbrev pub TrailsCode : List ℕ → ℕ → Type 0

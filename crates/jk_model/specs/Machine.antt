@@ -1,7 +1,7 @@
 -- The machine: classes, domains with heaps of their own, and threads as stacks of segments. It has
 -- the parts that a program needs which prints literals. What a step or a start does is determined, so
 -- both are functions.
-use Rattle.std.specs.Prelude.{ℕ, zero, suc, Bool, true, false, not, ◌==◌, ◌&&◌, List, [], ◌∷◌, ◌++◌, length, Option, Some, None, slice_get, slice_set, find, map, bytes_eq}
+use Rattle.std.specs.Prelude.{◌≡◌, ℕ, zero, suc, Bool, true, false, not, ◌==◌, ◌&&◌, List, [], ◌∷◌, ◌++◌, length, Option, Some, None, slice_get, slice_set, find, map, bytes_eq}
 use Rattle.jk_model.specs.declared.output.Line.{Line}
 use Rattle.jk_model.specs.declared.output.Line.TheVariants.{Said, Started, StartRefused, Ended}
 use Rattle.jk_model.specs.declared.identifiers.ThreadNo.{ThreadNo}
@@ -41,7 +41,9 @@ pub record Domain : Type 0 where
   pub name : List ℕ
   pub live : Bool
   pub quotas : Quotas
-  -- each class that it knows: the class's name, and its place in the list of all classes
+  -- how many steps it may still take; none for any number
+  pub steps_left : Option ℕ
+  -- each class of its folder: the class's name, and its place in the list of all classes
   pub table : List (List ℕ × ℕ)
   pub heap : List Object
   -- the name of its PrintStream
@@ -110,7 +112,8 @@ with_thread thread zero threads = threads
 with_thread thread (suc i) threads = slice_set threads i thread
 
 -- ---- A domain is opened with one class, whose `main` prints these texts. Its heap has the
--- PrintStream and, behind it, the text of each literal.
+-- PrintStream and, behind it, a text for each literal of the code, at a name of its own. (No
+-- instruction tells two texts of equal units apart, or when a text was made.)
 
 abbrev pub main_from : ℕ → List (List ℕ) → List Instruction
 main_from n [] = Return ∷ []
@@ -120,7 +123,7 @@ abbrev pub opened : Machine → List ℕ → Quotas → List ℕ → List (List 
 opened m name quotas class texts = record m {
   classes = m.classes ++ record { name = class; home = length m.domains; main = main_from 0 texts } ∷ [];
   domains = m.domains ++ record {
-    number = length m.domains; name = name; live = true; quotas = quotas;
+    number = length m.domains; name = name; live = true; quotas = quotas; steps_left = quotas.steps;
     table = (class, length m.classes) ∷ []; heap = PrintStream ∷ map Text texts; out = 0
   } ∷ [];
 }
@@ -168,26 +171,38 @@ with_frame m thread s f =
 abbrev pub moved_on : Frame → List Value → Frame
 moved_on f stack = record f { at = suc f.at; stack = stack }
 
-abbrev pub printed : Machine → Thread → Segment → Frame → Domain → List Value → Option Object → List Line × Machine
-printed m thread s f d rest (Some (Text text)) =
+abbrev pub printed : Machine → Thread → Segment → Frame → Domain → List Value → Option Object → Option Object → List Line × Machine
+printed m thread s f d rest (Some PrintStream) (Some (Text text)) =
     (Said d.name text ∷ [], with_frame m thread s (moved_on f rest))
-printed m thread s f d rest _ = ([], m)
+printed m thread s f d rest _ _ = ([], m)
 
 abbrev pub print_line : Machine → Thread → Segment → Frame → Domain → List Value → List Line × Machine
-print_line m thread s f d (Obj text ∷ Obj out ∷ rest) = printed m thread s f d rest (slice_get d.heap text)
+print_line m thread s f d (Obj text ∷ Obj out ∷ rest) = printed m thread s f d rest (slice_get d.heap out) (slice_get d.heap text)
 print_line m thread s f d _ = ([], m)
 
 abbrev pub executed : Machine → Thread → Segment → Frame → Domain → Option Instruction → List Line × Machine
 executed m thread s f d (Some GetOut) = ([], with_frame m thread s (moved_on f (Obj d.out ∷ f.stack)))
 executed m thread s f d (Some (GetText n)) = ([], with_frame m thread s (moved_on f (Obj (suc n) ∷ f.stack)))
 executed m thread s f d (Some PrintLine) = print_line m thread s f d f.stack
+-- the frame is the only one of its thread, since no instruction calls
 executed m thread s f d (Some Return) =
     (Ended (record { 0 = thread.number }) ∷ [],
     record m { threads = with_thread (record thread { segments = [] }) thread.number m.threads })
 executed m thread s f d None = ([], m)
 
+-- the machine with this in the place of a domain
+abbrev pub with_domain : Machine → Domain → Machine
+with_domain m d = record m { domains = slice_set m.domains d.number d }
+
+-- A domain without steps left does nothing; one with a budget pays for its step.
+abbrev pub paid : Machine → Thread → Segment → Frame → Domain → Option ℕ → Option Instruction → List Line × Machine
+paid m thread s f d None i = executed m thread s f d i
+paid m thread s f d (Some zero) i = ([], m)
+paid m thread s f d (Some (suc n)) i =
+    executed (with_domain m (record d { steps_left = Some n })) thread s f d i
+
 abbrev pub at_class : Machine → Thread → Segment → Frame → Option Domain → Option LoadedClass → List Line × Machine
-at_class m thread s f (Some d) (Some c) = executed m thread s f d (slice_get c.main f.at)
+at_class m thread s f (Some d) (Some c) = paid m thread s f d d.steps_left (slice_get c.main f.at)
 at_class m thread s f _ _ = ([], m)
 
 abbrev pub at_frame : Machine → Thread → Segment → Option Frame → List Line × Machine
@@ -205,6 +220,10 @@ at_thread m (Some thread) = at_segment m thread (top_of thread.segments)
 
 abbrev pub stepped : Machine → ℕ → List Line × Machine
 stepped m t = at_thread m (thread_numbered m t)
+
+-- one step of thread t leads from a machine to another and prints these lines
+abbrev pub Steps : Machine → ℕ → List Line → Machine → Type 0
+Steps m t lines new = stepped m t ≡ (lines, new)
 
 -- whether a thread of that number has a segment
 abbrev pub is_live_thread : Option Thread → Bool

@@ -1,6 +1,7 @@
 -- What the world outside is to a contract: a tree of folders and files, the bytes that went out, and
 -- counts of faults.
-use Rattle.std.specs.Prelude.{◌≡◌, ℕ, ◌+◌, ◌-◌, ◌<◌, ◌≤◌, ◌^◌, ◌⊎◌, List, ◌∷◌, [], ◌++◌, Option, Some, None, length, ⊤}
+use Rattle.std.specs.Prelude.{◌≡◌, ℕ, ◌+◌, ◌-◌, ◌<◌, ◌≤◌, ◌^◌, ◌⊎◌, List, ◌∷◌, [], ◌++◌, Option, Some, None, length, ⊤, IsSome, false}
+use Rattle.std.specs.List.{AllByRecursion}
 use Rattle.jk_model.specs.declared.entries.Entry.{Entry}
 
 -- A tree of folders and files: what stands at a path, if that is a file, and if it is a folder.
@@ -46,6 +47,12 @@ AppendsPart old new bytes = (front : List ℕ) × IsPrefix front bytes × Append
 abbrev pub FolderIs : Option Tree → List ℕ → List Entry → Type 0
 FolderIs None folder entries = ⊤
 FolderIs (Some tree) folder entries = tree.folder folder ≡ Some entries
+
+-- each of these that is a file can be read
+abbrev pub AreThere : Option Tree → List ℕ → List Entry → Type 0
+AreThere None folder entries = ⊤
+AreThere (Some tree) folder entries =
+    AllByRecursion (λ e. e.folder ≡ false → IsSome (tree.file (folder /- e.name))) entries
 
 abbrev pub FileIs : Option Tree → List ℕ → List ℕ → Type 0
 FileIs None path bytes = ⊤

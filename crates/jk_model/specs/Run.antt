@@ -5,23 +5,23 @@ use Rattle.jk_model.specs.declared.output.Line.{Line}
 use Rattle.jk_model.specs.declared.script.Event.{Event}
 use Rattle.jk_model.specs.declared.script.Event.TheVariants.{Domain, Start, Turn, Round, Kill}
 use Rattle.jk_model.specs.declared.script.Quotas.{Quotas}
-use Rattle.jk_model.specs.Machine.{Machine, started, stepped}
+use Rattle.jk_model.specs.Machine.{Machine, started, Steps}
 
 -- From a machine, opening a domain of this name with these quotas may print these lines and lead to
 -- that machine.
-abbrev pub Opening : Type 1
-Opening = Machine → List ℕ → Quotas → List Line → Machine → Type 0
+abbrev pub DomainEvent : Type 1
+DomainEvent = Machine → List ℕ → Quotas → List Line → Machine → Type 0
 
 -- so many steps of one thread
 abbrev pub Turns : ℕ → Machine → ℕ → List Line → Machine → Type 0
 Turns zero m thread lines new = (lines ≡ []) × (new ≡ m)
 Turns (suc n) m thread lines new =
     (mid : Machine) × (first : List Line) × (rest : List Line)
-    × (stepped m thread ≡ (first, mid)) × Turns n mid thread rest new × (lines ≡ first ++ rest)
+    × Steps m thread first mid × Turns n mid thread rest new × (lines ≡ first ++ rest)
 
 -- An event leads from one machine to another and prints these lines. Rounds and kills are no events
 -- of any script yet.
-abbrev pub Happens : Opening → Machine → Event → List Line → Machine → Type 0
+abbrev pub Happens : DomainEvent → Machine → Event → List Line → Machine → Type 0
 Happens opens m (Domain name quotas) lines new = opens m name quotas lines new
 Happens opens m (Start name class words) lines new = started m name class ≡ (lines, new)
 Happens opens m (Turn thread steps) lines new = Turns steps m thread lines new
@@ -29,7 +29,7 @@ Happens opens m (Round rounds steps) lines new = ⊥
 Happens opens m (Kill name) lines new = ⊥
 
 -- The events lead from one machine to another, one behind the other, and print these lines.
-abbrev pub IsRun : Opening → Machine → List Event → List Line → Machine → Type 0
+abbrev pub IsRun : DomainEvent → Machine → List Event → List Line → Machine → Type 0
 IsRun opens m [] lines new = (lines ≡ []) × (new ≡ m)
 IsRun opens m (event ∷ events) lines new =
     (mid : Machine) × (first : List Line) × (rest : List Line)

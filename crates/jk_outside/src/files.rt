@@ -1,7 +1,8 @@
 //! Files, as something that lists folders and reads files.
 
-ghost use Rattle.std.specs.Prelude.{◌≡◌, ℕ, ◌≤◌, List, length, Option, IfOk, Err};
-ghost use Rattle.jk_model.specs.Outside.{Tree, FolderIs, FileIs, FolderIsAbsent, FileIsAbsent, FolderIsLong, FileIsLong, HasRisen, NeverFalls};
+ghost use Rattle.std.specs.Prelude.{◌≡◌, ℕ, ◌<◌, ◌^◌, ◌≤◌, List, length, Option, IfOk, Err, IsUtf8};
+ghost use Rattle.std.specs.List.{AllByRecursion};
+ghost use Rattle.jk_model.specs.Outside.{Tree, AreThere, FolderIs, FileIs, FolderIsAbsent, FileIsAbsent, FolderIsLong, FileIsLong, HasRisen, NeverFalls};
 
 use jk_model::{Bytes, Entry, List};
 use thiserror::Error;
@@ -33,10 +34,13 @@ pub trait Files {
     /// How many bytes and entries were taken, which counts where no tree is told.
     ghost taken: { Self → ℕ };
 
-    /// What stands in a folder, in any order, if there are at most `limit` entries.
+    /// What stands in a folder, if there are at most `limit` entries. Each name is UTF-8, and what is
+    /// listed as a file is there to be read.
     fn list(&mut self, folder: &str, limit: u32) -> Result<List<Entry>, FilesError>
         ensures found { IfOk result (λ entries. FolderIs (tree self.old) folder.now entries) }
         ensures within { IfOk result (λ entries. length entries ≤ limit) }
+        ensures names { IfOk result (λ entries. AllByRecursion (λ entry. IsUtf8 entry.name) entries) }
+        ensures there { IfOk result (λ entries. AreThere (tree self.old) folder.now entries) }
         ensures failed { result ≡ Err FilesError.Failed → HasRisen (faults self.old) (faults self.new) }
         ensures absent { result ≡ Err FilesError.Absent
             → FolderIsAbsent (tree self.old) folder.now (faults self.old) (faults self.new) }
@@ -58,4 +62,9 @@ pub trait Files {
         ensures stays { tree self.new ≡ tree self.old }
         ensures faults { NeverFalls (faults self.old) (faults self.new) }
         ensures taken { NeverFalls (taken self.old) (taken self.new) };
+
+    /// Counts of 64 bits.
+    ghost faults_fit: { (s : Self) → faults s < 2 ^ 64 };
+
+    ghost taken_fits: { (s : Self) → taken s < 2 ^ 64 };
 }

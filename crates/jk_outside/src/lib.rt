@@ -4,10 +4,16 @@
 #![tactic(auto)]
 
 mod files;
+mod line_buffer;
+mod line_output;
+mod memory_sink;
 mod parts;
 mod sinks;
 
 pub use files::{Files, FilesError};
 pub use jk_model::Entry;
+pub use line_buffer::LineBuffer;
+pub use line_output::write_line;
+pub use memory_sink::MemorySink;
 pub use parts::Part;
 pub use sinks::{Sink, SinkFailed};

@@ -1,6 +1,6 @@
 //! A sink, as something that takes bytes.
 
-ghost use Rattle.std.specs.Prelude.{◌≡◌, ℕ, List, Option, OnOk, OnErr};
+ghost use Rattle.std.specs.Prelude.{◌≡◌, ℕ, ◌<◌, ◌^◌, List, Option, OnOk, OnErr};
 ghost use Rattle.jk_model.specs.Outside.{Appends, AppendsPart, HasRisen, NeverFalls};
 
 use thiserror::Error;
@@ -24,4 +24,7 @@ pub trait Sink {
         ensures part { OnErr result (AppendsPart (bytes self.old) (bytes self.new) piece.now) }
         ensures cause { OnErr result (HasRisen (faults self.old) (faults self.new)) }
         ensures faults { NeverFalls (faults self.old) (faults self.new) };
+
+    /// A count of 64 bits.
+    ghost faults_fit: { (s : Self) → faults s < 2 ^ 64 };
 }

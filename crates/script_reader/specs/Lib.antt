@@ -1,2 +1,4 @@
+pub mod Answer
 pub mod Events
-pub use Rattle.jk_model.specs.Script
+pub mod Progress
+pub mod Reading

@@ -2,10 +2,19 @@
 
 ghost use Rattle.std.specs.Prelude.{◌≡◌, ◌≤◌, ◌⊎◌, List, length, IfOk, MatchResult, Err};
 ghost use Rattle.script_reader.specs.Events.{IsScript, IsAtFault};
+ghost use Rattle.script_reader.specs.Answer.{IsAnswer};
 
-use jk_model::{Event, List, ScriptFault};
+use crate::progress::Progress;
+use crate::words::next_line;
+use jk_model::{Event, FaultKind, List, OutOfMemory, ScriptFault};
 use std::alloc::Global;
 use thiserror::Error;
+
+/// The most bytes of a script.
+const MAX_BYTES: usize = 1_048_576;
+
+/// The most lines of a script.
+const MAX_LINES: u32 = 65_536;
 
 /// Why bytes were not read as a script.
 #[derive(Clone, Copy, Debug, PartialEq, Eq, Error)]
@@ -17,8 +26,55 @@ pub enum ScriptError {
     OutOfMemory,
 }
 
+impl From<OutOfMemory> for ScriptError {
+    ghost use Rattle.std.specs.Prelude.{◌≡◌};
+    ghost use Rattle.script_reader.specs.declared.script.ScriptError.TheVariants as Error;
+
+    ghost from_gives = { λ _ e. e ≡ Error.OutOfMemory };
+
+    fn from(_e: OutOfMemory) -> ScriptError {
+        ScriptError::OutOfMemory
+    }
+}
+
+/// The error for a line that is not built yet, or a script as a whole at line 0.
+fn fault_at(line: u32) -> ScriptError
+    ensures { result ≡ ScriptError.Fault (record { line = line; kind = FaultKind.NotYet }) }
+{
+    let kind = FaultKind::NotYet;
+    ScriptError::Fault(ScriptFault { line, kind })
+}
+
+/// The events of bytes of which there are few enough, or the first line at fault.
+fn read_lines(alloc: Global, bytes: &[u8]) -> Result<List<Event>, ScriptError>
+    requires { length bytes.now ≤ 1048576 }
+    ensures { IsAnswer bytes.now result }
+{
+    let mut progress = Progress::new(alloc);
+    let mut rest = bytes;
+    let mut count = 0;
+    while let Some((line, after)) = next_line(rest) {
+        if count == MAX_LINES || !progress.take_line(alloc, line)? {
+            return Err(fault_at(count + 1));
+        }
+        count += 1;
+        rest = after;
+    }
+    Ok(progress.events)
+}
+
+/// The events of bytes, or why they are no script.
+fn read(alloc: Global, bytes: &[u8]) -> Result<List<Event>, ScriptError>
+    ensures { IsAnswer bytes.now result }
+{
+    if bytes.len() > MAX_BYTES {
+        return Err(fault_at(0));
+    }
+    read_lines(alloc, bytes)
+}
+
 /// The events of a script.
-pub fn read_script(_alloc: Global, bytes: &[u8]) -> Result<List<Event>, ScriptError>
+pub fn read_script(alloc: Global, bytes: &[u8]) -> Result<List<Event>, ScriptError>
     ensures events { IfOk result (λ events. IsScript bytes.now events) }
     ensures few { IfOk result (λ events. length events ≤ 65536) }
     // What is a script is read, unless memory runs out, and it has no other events.
@@ -30,5 +86,5 @@ pub fn read_script(_alloc: Global, bytes: &[u8]) -> Result<List<Event>, ScriptEr
     ensures only_fault { (f : ScriptFault) → IsAtFault bytes.now f
         → MatchResult result (λ _. ⊥) (λ e. (e ≡ ScriptError.Fault f) ⊎ (e ≡ ScriptError.OutOfMemory)) }
 {
-    Err(ScriptError::OutOfMemory)
+    read(alloc, bytes)
 }

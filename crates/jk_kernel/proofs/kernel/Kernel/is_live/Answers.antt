@@ -1,0 +1,10 @@
+use Rattle.std.proofs.Common.{rules, ◌≡◌, ◌∙◌, ap, is_some}
+use Rattle.jk_model.specs.Machine.{Machine, is_live}
+use Rattle.jk_kernel.proofs.StateLemmas.{is_live-frame_at}
+use Rattle.jk_kernel.proofs.StepLemmas.{stepped_is}
+use Rattle.jk_kernel.proofs.kernel.Kernel.is_live.Goals as goal
+
+pub returns : goal.returns
+returns c =
+    let h = is_live-frame_at c.self.inside.domains.items c.self.inside.threads.items c.self.inside.next_segment c.args.thread in
+    rw (← c.self.view_is) (cc (c.is_some.ensures, c.live_frame.ensures, c.as_slice.ensures.value))

@@ -1,0 +1,8 @@
+use Rattle.std.proofs.Common.{rules, ◌≡◌, ◌<◌, ◌^◌, arith, List, ℕ, [], ◌∷◌, length, slice_get, Some, None, subst, OnOk, OnErr, refl, sym, ap, ◌∙◌}
+use Rattle.jk_model.specs.Outside.{Appends, AppendsPart}
+use Rattle.jk_kernel.proofs.LineLemmas.{said_text, ended_text, started_text, refused_text, number_is}
+use Rattle.jk_kernel.proofs.lines.print_said.Goals as goal
+
+pub returns-clause-part : goal.returns-clause-part
+returns-clause-part g c =
+    subst (λ (x : List ℕ). OnErr c.write_line.result (AppendsPart (g.S.Sink.bytes c.args.out.now) (g.S.Sink.bytes c.write_line.new.sink) x)) (said_text c.args.domain.now c.args.text.now) c.write_line.ensures.part

@@ -1,0 +1,191 @@
+//! The kernel's state, and the calls that make the machine's events happen.
+
+ghost use Rattle.std.specs.Prelude.{◌≡◌, ℕ, ◌+◌, ◌<◌, ◌≤◌, ◌^◌, ◌-◌, List, length, is_some, None, IfOk, OnOk, OnErr, IfSome, IfNone, Err, true, false, [], ◌∷◌};
+ghost use Rattle.jk_model.specs.Machine.{Machine, no_domains, opened, live_domain, is_live, started, stepped};
+ghost use Rattle.jk_model.specs.Script.{default_quotas};
+ghost use Rattle.jk_model.specs.Outside.{Appends, AppendsPart, HasRisen, NeverFalls};
+ghost use Rattle.jk_model.specs.Output.{text_of};
+ghost use Rattle.class_reader.specs.Stage.{HasReadPool};
+ghost use Rattle.jk_kernel.specs.Form.{HasForm};
+ghost use Rattle.jk_kernel.specs.Steps.{beginning_line};
+
+use crate::answers::EventAnswer;
+use crate::domains::{DomainRecord, is_class_name, place_of};
+use crate::form::form_of;
+use crate::lines::{print_beginning, print_step};
+use crate::threads::{Beginning, FrameRecord, Stage, ThreadRecord, live_frame, next_frame};
+use jk_model::{Bytes, ClassFile, DomainId, OutOfMemory};
+use jk_outside::{Sink, SinkFailed};
+use std::alloc::Global;
+use std::marker::Model;
+
+/// The machine: its domains and its threads.
+#[derive(Drop)]
+pub struct Kernel {
+    domains: Vec<DomainRecord>,
+    threads: Vec<ThreadRecord>,
+    next_segment: u64,
+}
+
+impl Model for Kernel {
+    ghost use Rattle.jk_model.specs.Machine.{Machine};
+    ghost use Rattle.jk_kernel.specs.State.{machine_of, IsSound};
+
+    ghost Value = { Machine };
+
+    ghost view = { λ k. machine_of k.domains.items k.threads.items k.next_segment };
+
+    ghost invariant = { λ k. IsSound k.domains.items k.threads.items };
+}
+
+impl Kernel {
+    /// The machine without domains.
+    pub fn new(alloc: Global) -> Result<Kernel, OutOfMemory>
+        ensures { IfOk result (λ kernel. kernel ≡ no_domains) }
+    {
+        Ok(Kernel {
+            domains: Vec::new(alloc),
+            threads: Vec::new(alloc),
+            next_segment: 1,
+        })
+    }
+
+    /// Whether a live domain has this name.
+    pub fn has_domain(&self, name: &[u8]) -> bool
+        ensures { result ≡ is_some (live_domain self.now name.now) }
+    {
+        place_of(self.domains.as_slice(), name).is_some()
+    }
+
+    /// Adds a domain of this name, with a class that has the form of those that run, and with
+    /// default quotas but for the threads. It prints nothing.
+    pub fn add_domain(&mut self, name: &[u8], threads: u32, class: ClassFile) -> Result<DomainId, OutOfMemory>
+        requires unused { live_domain self.old name.now ≡ None }
+        requires pool { HasReadPool class }
+        requires form { (n : List ℕ) × (texts : List (List ℕ)) × HasForm class n texts }
+        requires few { length self.old.domains < 2 ^ 31 }
+        ensures ok { IfOk result (λ id. (id.0 ≡ length self.old.domains)
+            × ((n : List ℕ) (texts : List (List ℕ)) → HasForm class n texts
+            → self.new ≡ opened self.old name.now (record default_quotas { threads = threads }) n texts)) }
+        ensures err { OnErr result (self.new ≡ self.old) }
+        // Nothing but an opening changes how many domains there are.
+        ensures bounds { (length self.new.domains ≤ length self.old.domains + 1)
+            × (self.new.next_thread ≡ self.old.next_thread) × (self.new.next_segment ≡ self.old.next_segment) }
+    {
+        let alloc = *self.domains.allocator();
+        let program = form_of(alloc, &class)?.unwrap();
+        let number = self.domains.len() as u32;
+        let name = Bytes::from_slice(alloc, name)?;
+        self.domains.push(DomainRecord {
+            name,
+            threads,
+            program,
+        })?;
+        Ok(DomainId(number))
+    }
+
+    /// The start of a thread in the domain of this name, at the `main` of the class of this name. Its
+    /// line is printed, also where it is refused. Where the sink fails, the start has happened; where
+    /// no memory is left, it hasn't, and the sink was not touched.
+    pub fn start<S: Sink>(&mut self, name: &[u8], class: &[u8], words: &[Bytes], out: &mut S) -> Result<(), EventAnswer>
+        requires no_words { words.now ≡ [] }
+        requires thread { self.old.next_thread < 2 ^ 31 }
+        requires segment { self.old.next_segment < 2 ^ 64 - 1 }
+        ensures event { OnOk result (self.new ≡ (started self.old name.now class.now).1) }
+        ensures ok { OnOk result (Appends (S.bytes out.old) (S.bytes out.new)
+            (text_of (started self.old name.now class.now).0)) }
+        ensures failed { result ≡ Err EventAnswer.SinkFailed → self.new ≡ (started self.old name.now class.now).1 }
+        ensures part { result ≡ Err EventAnswer.SinkFailed → AppendsPart (S.bytes out.old) (S.bytes out.new)
+            (text_of (started self.old name.now class.now).0) }
+        ensures cause { result ≡ Err EventAnswer.SinkFailed → HasRisen (S.faults out.old) (S.faults out.new) }
+        ensures memory { result ≡ Err EventAnswer.OutOfMemory → (self.new ≡ self.old) × (out.new ≡ out.old) }
+        ensures faults { NeverFalls (S.faults out.old) (S.faults out.new) }
+        ensures bounds { (self.new.domains ≡ self.old.domains)
+            × (self.new.next_thread ≤ self.old.next_thread + 1) × (self.new.next_segment ≤ self.old.next_segment + 1) }
+    {
+        let beginning = match self.begin(name, class) {
+            Ok(beginning) => beginning,
+            Err(OutOfMemory) => return Err(EventAnswer::OutOfMemory),
+        };
+        match print_beginning(out, name, beginning) {
+            Ok(()) => Ok(()),
+            Err(SinkFailed) => Err(EventAnswer::SinkFailed),
+        }
+    }
+
+    /// A start without its line.
+    fn begin(&mut self, name: &[u8], class: &[u8]) -> Result<Beginning, OutOfMemory>
+        requires thread { self.old.next_thread < 2 ^ 31 }
+        requires segment { self.old.next_segment < 2 ^ 64 - 1 }
+        ensures ok { IfOk result (λ beginning.
+            started self.old name.now class.now ≡ (beginning_line name.now beginning ∷ [], self.new)) }
+        ensures err { OnErr result (self.new ≡ self.old) }
+        ensures bounds { (self.new.domains ≡ self.old.domains)
+            × (self.new.next_thread ≤ self.old.next_thread + 1) × (self.new.next_segment ≤ self.old.next_segment + 1) }
+    {
+        let Some(domain) = place_of(self.domains.as_slice(), name) else {
+            return Ok(Beginning::NoDomain);
+        };
+        if !is_class_name(self.domains[domain].program.name.as_slice(), class) {
+            return Ok(Beginning::NoClass);
+        }
+        let number = self.threads.len() as u32 + 1;
+        self.threads.push(ThreadRecord {
+            segment: self.next_segment,
+            domain,
+            frame: Some(FrameRecord {
+                literal: 0,
+                stage: Stage::Bare,
+            }),
+        })?;
+        self.next_segment += 1;
+        Ok(Beginning::Begun(number))
+    }
+
+    /// One step of a thread, with what it prints. A thread that isn't live does nothing. Where the
+    /// sink fails, the step has happened.
+    pub fn turn<S: Sink>(&mut self, thread: u32, out: &mut S) -> Result<(), SinkFailed>
+        ensures event { self.new ≡ (stepped self.old thread).1 }
+        ensures ok { OnOk result (Appends (S.bytes out.old) (S.bytes out.new) (text_of (stepped self.old thread).0)) }
+        ensures part { OnErr result (AppendsPart (S.bytes out.old) (S.bytes out.new)
+            (text_of (stepped self.old thread).0)) }
+        ensures cause { OnErr result (HasRisen (S.faults out.old) (S.faults out.new)) }
+        ensures faults { NeverFalls (S.faults out.old) (S.faults out.new) }
+        ensures bounds { (self.new.domains ≡ self.old.domains)
+            × (self.new.next_thread ≡ self.old.next_thread) × (self.new.next_segment ≡ self.old.next_segment) }
+    {
+        let Some(frame) = live_frame(self.threads.as_slice(), thread) else {
+            return Ok(());
+        };
+        let place = thread as usize - 1;
+        let record = self.threads[place];
+        let domain = &self.domains[record.domain];
+        self.threads[place] = ThreadRecord {
+            segment: record.segment,
+            domain: record.domain,
+            frame: next_frame(frame, domain.program.texts.len()),
+        };
+        print_step(out, thread, domain, frame)
+    }
+
+    /// Whether a thread is live.
+    pub fn is_live(&self, thread: u32) -> bool
+        ensures { result ≡ is_live self.now thread }
+    {
+        live_frame(self.threads.as_slice(), thread).is_some()
+    }
+
+    /// The least number above this that a live thread has.
+    pub fn next_live(&self, above: u32) -> Option<u32>
+        ensures none { IfNone result ((n : ℕ) → above < n → is_live self.now n ≡ false) }
+        ensures some { IfSome result (λ n. (above < n) × (is_live self.now n ≡ true)
+            × ((k : ℕ) → above < k → k < n → is_live self.now k ≡ false)) }
+    {
+        for place in above as usize..self.threads.len() {
+            if self.threads[place].frame.is_some() {
+                return Some(place as u32 + 1);
+            }
+        }
+        None
+    }
+}

@@ -1,0 +1,5 @@
+pub mod Buffered
+pub mod PartTexts
+pub mod Pieces
+pub mod Sent
+pub mod Splits

@@ -1,0 +1,9 @@
+use Rattle.std.proofs.Common.{arith, rules}
+use Rattle.std.proofs.lemmas.Result.{on_err_weaker}
+use Rattle.jk_outside.proofs.Buffered.{IsHeld, line_part}
+use Rattle.jk_outside.proofs.line_buffer.LineBuffer.end_line.Goals as goal
+
+pub returns-clause-part : goal.returns-clause-part
+returns-clause-part g c =
+    let held : IsHeld c.self.inside.bytes c.args.self.now c.self.inside.len = record { size = search rules; within = omega arith; front = c.self.view_is } in
+    on_err_weaker c.write.result (line_part _ _ _ _ _ 10 held) c.write.ensures.part

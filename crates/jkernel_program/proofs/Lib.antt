@@ -1,0 +1,4 @@
+pub mod DomainLemmas
+pub mod FolderLemmas
+pub mod RunLemmas
+pub mod TextLemmas

@@ -1,0 +1,7 @@
+pub mod Calls
+pub mod Ends
+pub mod Events
+pub mod Folders
+pub mod Loading
+pub mod Messages
+pub mod Statuses

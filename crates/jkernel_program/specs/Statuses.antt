@@ -1,0 +1,76 @@
+-- What each status of the program says of its run. A tree is told or not, and so are the bytes of a sink.
+use Rattle.std.specs.Prelude.{◌≡◌, ℕ, ◌≤◌, ◌⊎◌, List, [], ◌∷◌, Option, Some, None, take, slice_get, length}
+use Rattle.jk_model.specs.declared.output.Line.{Line}
+use Rattle.jk_model.specs.declared.script.Event.{Event}
+use Rattle.jk_model.specs.declared.script.Event.TheVariants.{Domain}
+use Rattle.jk_model.specs.declared.script.Quotas.{Quotas}
+use Rattle.jk_model.specs.declared.script.ScriptFault.{ScriptFault}
+use Rattle.jk_model.specs.Machine.{Machine, no_domains}
+use Rattle.jk_model.specs.Outside.{Tree, FileIs, Appends, AppendsPart}
+use Rattle.jk_model.specs.Output.{text_of}
+use Rattle.jk_model.specs.Run.{IsRun}
+use Rattle.script_reader.specs.Events.{IsScript, IsAtFault}
+use Rattle.jkernel_program.specs.Calls.{IsCall}
+use Rattle.jkernel_program.specs.Loading.{Opens}
+
+-- The words name a root and a script, and these are the script's events. (A tree that isn't told
+-- doesn't say which script it was.)
+pub record HasEvents (tree : Option Tree) (words : List (List ℕ)) (root : List ℕ) (events : List Event) : Type 0 where
+  pub script : List ℕ
+  pub call : IsCall words root script
+  pub text : List ℕ
+  pub file : FileIs tree script text
+  pub is_script : IsScript text events
+
+-- The words name a script that is at fault.
+pub record HasFault (tree : Option Tree) (words : List (List ℕ)) (fault : ScriptFault) : Type 0 where
+  pub root : List ℕ
+  pub script : List ℕ
+  pub call : IsCall words root script
+  pub text : List ℕ
+  pub file : FileIs tree script text
+  pub at_fault : IsAtFault text fault
+
+-- The told tree has no file where the words name the script.
+abbrev pub LacksScript : Option Tree → List (List ℕ) → Type 0
+LacksScript None words = ⊥
+LacksScript (Some tree) words =
+    (root : List ℕ) × (script : List ℕ) × IsCall words root script × (tree.file script ≡ None)
+
+-- The first k events were run from the machine without domains, and printed these lines.
+pub record RunsTo (tree : Option Tree) (root : List ℕ) (events : List Event) (k : ℕ) (lines : List Line) : Type 0 where
+  pub within : k ≤ length events
+  pub last : Machine
+  pub run : IsRun (Opens tree root) no_domains (take k events) lines last
+
+-- Done: all events were run, and the text of their lines went out.
+pub record IsDone (tree : Option Tree) (words : List (List ℕ)) (old new : Option (List ℕ)) : Type 0 where
+  pub root : List ℕ
+  pub events : List Event
+  pub has : HasEvents tree words root events
+  pub lines : List Line
+  pub runs : RunsTo tree root events (length events) lines
+  pub text : Appends old new (text_of lines)
+
+-- Stopped in the middle: a front of the text of the first k events went out.
+pub record IsStopped (tree : Option Tree) (words : List (List ℕ)) (old new : Option (List ℕ)) : Type 0 where
+  pub root : List ℕ
+  pub events : List Event
+  pub has : HasEvents tree words root events
+  pub k : ℕ
+  pub lines : List Line
+  pub runs : RunsTo tree root events k lines
+  pub text : AppendsPart old new (text_of lines)
+
+-- Stopped before a `domain` event: the whole text of the events before it went out.
+pub record IsStoppedBefore (tree : Option Tree) (words : List (List ℕ)) (old new : Option (List ℕ)) : Type 0 where
+  pub root : List ℕ
+  pub events : List Event
+  pub has : HasEvents tree words root events
+  pub k : ℕ
+  pub name : List ℕ
+  pub quotas : Quotas
+  pub next : slice_get events k ≡ Some (Domain name quotas)
+  pub lines : List Line
+  pub runs : RunsTo tree root events k lines
+  pub text : Appends old new (text_of lines)

@@ -1,0 +1,31 @@
+//! How a run of the program ends.
+
+/// The status of a run, in the order of the exit statuses 0, 2, 3, 4, 5 and 6.
+#[derive(Clone, Copy, Debug, PartialEq, Eq)]
+pub enum Status {
+    /// All events were run, and their text went out.
+    Done,
+    /// The words are no call.
+    Usage,
+    /// The script is at fault. Nothing was run.
+    ScriptRefused,
+    /// The files failed, or there is no script.
+    ReadFault,
+    /// The output failed.
+    WriteFault,
+    OutOfMemory,
+}
+
+impl Status {
+    /// The exit status of the process.
+    pub fn code(self) -> u8 {
+        match self {
+            Status::Done => 0,
+            Status::Usage => 2,
+            Status::ScriptRefused => 3,
+            Status::ReadFault => 4,
+            Status::WriteFault => 5,
+            Status::OutOfMemory => 6,
+        }
+    }
+}

@@ -1,0 +1,5 @@
+mod WordLemmas
+mod LineLemmas
+mod SayLemmas
+mod ScriptLemmas
+mod NumberLemmas

@@ -1,0 +1,5 @@
+use Rattle.script_reader.proofs.NumberLemmas.{ReadsDigits}
+use Rattle.script_reader.proofs.number.value_of.Given as goal
+
+abbrev pub invariant-loop-digit : goal.invariant-loop-digit
+invariant-loop-digit l = ReadsDigits l.digits l.digit-index l.value

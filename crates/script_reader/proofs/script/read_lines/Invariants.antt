@@ -1,0 +1,9 @@
+use Rattle.std.proofs.Common.{length}
+use Rattle.script_reader.proofs.ScriptLemmas.{IsSoFar}
+use Rattle.script_reader.proofs.script.read_lines.Given as goal
+
+abbrev pub invariant-loop-line : goal.invariant-loop-line
+invariant-loop-line l = IsSoFar l.bytes l.rest l.count l.progress
+
+abbrev pub decreases-loop-line : goal.decreases-loop-line
+decreases-loop-line l = length l.rest
