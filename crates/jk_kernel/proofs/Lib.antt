@@ -1,7 +1,7 @@
-pub mod Main
-pub mod Methods
-pub mod Printing
 pub mod LineLemmas
 pub mod ListLemmas
+pub mod MainMethod
+pub mod OneCode
+pub mod PrintCalls
 pub mod StateLemmas
 pub mod StepLemmas

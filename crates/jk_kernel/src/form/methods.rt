@@ -1,6 +1,6 @@
 //! Which of a class's methods may be its `main`, and where that method's code stands.
 
-ghost use Rattle.std.specs.Prelude.{◌≡◌, ℕ, ◌↔◌, List, MatchOption, IsTrue, IfSome, option_copied, Some, codes};
+ghost use Rattle.std.specs.Prelude.{◌≡◌, ℕ, ◌↔◌, List, MatchOption, IsTrue, IfSome, IfNone, option_copied, Some, codes};
 ghost use Rattle.jk_kernel.specs.Form.{IsInit, IsTextAt, HasOneCode};
 ghost use Rattle.jk_kernel.specs.FormParts.{IsBesideInit, BeginsCode, HasNoCode};
 
@@ -20,6 +20,7 @@ pub fn beside_init<'a>(pool: &[PoolEntry], methods: &'a [MemberInfo]) -> Option<
     // A method called `main` is no constructor, so it is found wherever it stands.
     ensures only { (m : MemberInfo) → IsTextAt pool.now m.name (codes "main")
         → IsBesideInit pool.now methods.now m → option_copied result ≡ Some m }
+    ensures none { IfNone result ((m : MemberInfo) → IsBesideInit pool.now methods.now m → ⊥) }
 {
     match methods {
         [only] => Some(only),

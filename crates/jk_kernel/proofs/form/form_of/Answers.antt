@@ -1,6 +1,6 @@
 use Rattle.std.proofs.Common.{◌∙◌}
-use Rattle.jk_kernel.proofs.Main.{found_main}
-use Rattle.jk_kernel.proofs.Printing.{IsClassAt-unique}
+use Rattle.jk_kernel.proofs.MainMethod.{found_main}
+use Rattle.jk_kernel.proofs.PrintCalls.{IsClassAt-unique}
 use Rattle.jk_kernel.proofs.form.form_of.Goals as goal
 
 pub returns-in_default-clause-none : goal.returns-in_default-clause-none

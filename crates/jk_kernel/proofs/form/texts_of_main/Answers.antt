@@ -1,7 +1,7 @@
 use Rattle.std.proofs.Common.{refl}
 use Rattle.jk_kernel.specs.Form.{IsMain, Prints}
-use Rattle.jk_kernel.proofs.Main.{answer_for, only_answer, main_from, main_has_body, main_reads}
-use Rattle.jk_kernel.proofs.Printing.{Prints-unique}
+use Rattle.jk_kernel.proofs.MainMethod.{answer_for, only_answer, main_from, main_has_body, main_reads}
+use Rattle.jk_kernel.proofs.PrintCalls.{Prints-unique}
 use Rattle.jk_kernel.proofs.form.texts_of_main.Goals as goal
 
 pub returns-in_default-clause-main : goal.returns-in_default-clause-main

@@ -1,4 +1,4 @@
-use Rattle.jk_kernel.proofs.Methods.{none-none, two-none}
+use Rattle.jk_kernel.proofs.OneCode.{none-none, two-none}
 use Rattle.jk_kernel.proofs.form.methods.one_code.Goals as goal
 
 pub returns-in_default : goal.returns-in_default

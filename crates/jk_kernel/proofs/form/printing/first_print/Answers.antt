@@ -1,6 +1,6 @@
 use Rattle.std.proofs.Common.{inl, inr, sym, ℕ, subst}
 use Rattle.jk_kernel.specs.Form.{IsStringAt}
-use Rattle.jk_kernel.proofs.Printing.{PrintsFirst-at}
+use Rattle.jk_kernel.proofs.PrintCalls.{PrintsFirst-at}
 use Rattle.jk_kernel.proofs.form.printing.first_print.Goals as goal
 
 pub returns-then-not-goes_out : goal.returns-then-not-goes_out

@@ -1,5 +1,5 @@
 use Rattle.std.proofs.Common.{◌≡◌, ◌∷◌, [], ◌++◌}
-use Rattle.jk_kernel.proofs.Printing.{PrintsAfter-more, PrintsAfter-end, PrintsAfter-none}
+use Rattle.jk_kernel.proofs.PrintCalls.{PrintsAfter-more, PrintsAfter-end, PrintsAfter-none}
 use Rattle.jk_kernel.proofs.form.printing.texts_of.Goals as goal
 
 pub loop-text-preserved : goal.loop-text-preserved

@@ -5,8 +5,8 @@ use Rattle.jk_model.specs.declared.class_file.Attribute.{Attribute}
 use Rattle.jk_kernel.specs.Form.{IsCodeAttribute, HasOneCode}
 use Rattle.jk_kernel.specs.FormParts.{HasNoCode, BeginsCode}
 
--- Of two splits at a Code with none before it, both are the same.
-pub split-unique : (pool : List PoolEntry) (before before' : List Attribute) (a b : Attribute) (after after' : List Attribute)
+-- Two splits at a Code with none before it are the same.
+split-unique : (pool : List PoolEntry) (before before' : List Attribute) (a b : Attribute) (after after' : List Attribute)
     → before ++ a ∷ after ≡ before' ++ b ∷ after' → IsCodeAttribute pool a → IsCodeAttribute pool b → HasNoCode pool before → HasNoCode pool before'
     → (a ≡ b) × (after ≡ after')
 split-unique pool [] [] a b after after' e p q h k = (cc, cc)
@@ -18,7 +18,7 @@ split-unique pool (x ∷ xs) (y ∷ ys) a b after after' e p q h k =
     split-unique pool xs ys a b after after' (cc) p q h.1 k.1
 
 -- a list without a Code has none at its place
-pub HasNoCode-at : (pool : List PoolEntry) (before : List Attribute) (a : Attribute) (after : List Attribute) → HasNoCode pool (before ++ a ∷ after) → IsCodeAttribute pool a → ⊥
+HasNoCode-at : (pool : List PoolEntry) (before : List Attribute) (a : Attribute) (after : List Attribute) → HasNoCode pool (before ++ a ∷ after) → IsCodeAttribute pool a → ⊥
 HasNoCode-at pool [] a after h p = h.0 p
 HasNoCode-at pool (x ∷ xs) a after h p = HasNoCode-at pool xs a after h.1 p
 
@@ -36,7 +36,3 @@ pub two-none : (pool : List PoolEntry) (attributes behind behind2 : List Attribu
 two-none pool attributes behind behind2 x y z (before, a, e, p, body, h) second (before', b, after, e', p', body', h', k') =
     let same = split-unique pool before before' a b behind after (sym e ∙ e') p p' h h' in
     HasNoCode-at pool second.0 second.1 behind2 (subst (HasNoCode pool) (sym same.1 ∙ second.2) k') second.3
-
--- none behind the first, so it is the one
-pub one-one : (pool : List PoolEntry) (attributes behind : List Attribute) (x : List ℕ) → BeginsCode pool attributes x behind → HasNoCode pool behind → HasOneCode pool attributes x
-one-one pool attributes behind x (before, a, e, p, body, h) k = (before, a, behind, e, p, body, h, k)

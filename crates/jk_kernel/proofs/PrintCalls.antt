@@ -1,5 +1,5 @@
 -- What code prints, one call of `println` after the other.
-use Rattle.std.proofs.Common.{◌≡◌, ℕ, ◌<◌, List, [], ◌∷◌, ◌++◌, length, refl, sym, ap, subst, ◌∙◌, append_assoc, arith, length-append}
+use Rattle.std.proofs.Common.{◌≡◌, ℕ, List, [], ◌∷◌, ◌++◌, refl, sym, ap, subst, ◌∙◌, append_assoc, arith}
 use Rattle.std.specs.Prelude.{codes}
 use Rattle.std.specs.Int.{w16, from_be_bytes}
 use Rattle.std.proofs.lemmas.Nat.{from_be_bytes-to_be_bytes_2}
@@ -25,21 +25,22 @@ IsClassAt-unique pool i t u h k =
     let e : h.0 ≡ k.0 = cc (h.1, k.1) in
     IsTextAt-unique pool k.0 t u (subst (λ (n : ℕ). IsTextAt pool n t) e h.2) k.2
 
--- ---- A call has one pair of operands.
+-- ---- A call's bytes have its operands, and no others.
 
 u2-unique : (m n : ℕ) → IsU2 m → IsU2 n → u2 m ≡ u2 n → m ≡ n
 u2-unique m n h k e = sym (from_be_bytes-to_be_bytes_2 m h) ∙ ap (from_be_bytes w16) e ∙ from_be_bytes-to_be_bytes_2 n k
 
 -- the same operands
-pub record IsSame (p q : Print) : Type 0 where
-  pub out : p.out ≡ q.out
-  pub string : p.string ≡ q.string
-  pub print : p.print ≡ q.print
+record IsSame (p q : Print) : Type 0 where
+  out : p.out ≡ q.out
+  string : p.string ≡ q.string
+  print : p.print ≡ q.print
 
-pub Print-unique : (p q : Print) (r s : List ℕ) → IsPrint p → IsPrint q → print_bytes p ++ r ≡ print_bytes q ++ s → IsSame p q × (r ≡ s)
+Print-unique : (p q : Print) (r s : List ℕ) → IsPrint p → IsPrint q → print_bytes p ++ r ≡ print_bytes q ++ s → IsSame p q × (r ≡ s)
 Print-unique p q r s h k e =
     (record { out = u2-unique p.out q.out h.0 k.0 (cc e); string = cc e; print = u2-unique p.print q.print h.2 k.2 (cc e) }, cc e)
 
+-- a call is no return
 head_is : (x y : ℕ) (xs ys : List ℕ) → x ∷ xs ≡ y ∷ ys → x ≡ y
 head_is x y xs ys e = cc
 
@@ -63,9 +64,6 @@ PrintsFirst-at pool code p rest text behind fits e h =
       subst (λ (n : ℕ). IsMethodAt pool n (codes "java/io/PrintStream") (codes "println") (codes "(Ljava/lang/String;)V")) same.0.print h.method,
     )
 
-pub PrintsFirst-shorter : (pool : List PoolEntry) (code text rest : List ℕ) → PrintsFirst pool code text rest → length rest < length code
-PrintsFirst-shorter pool code text rest h = rw h.parts (omega (arith, length-append (print_bytes h.print) rest))
-
 -- ---- The texts of code with a call in front are the call's and those of the rest.
 
 Prints-cons : (pool : List PoolEntry) (code text rest : List ℕ) (texts : List (List ℕ)) → PrintsFirst pool code text rest → Prints pool rest texts → Prints pool code (text ∷ texts)
@@ -77,9 +75,6 @@ Prints-first pool code text texts (out, string, print, rest, out_fits, string_fi
     (rest, record { print = record { out = out; string = string; print = print }; fits = (out_fits, string_fits, print_fits); parts = parts; field = field; literal = literal; method = method }, k)
 
 -- ---- The walk.
-
-pub PrintsAfter-start : (pool : List PoolEntry) (code : List ℕ) → PrintsAfter pool code [] code
-PrintsAfter-start pool code = record { goes_on = λ more h. h; goes_back = λ all h. (all, refl, h) }
 
 back-more : (pool : List PoolEntry) (texts : List (List ℕ)) (rest text behind : List ℕ) (all more : List (List ℕ)) → PrintsFirst pool rest text behind
     → all ≡ texts ++ more → Prints pool rest more → (later : List (List ℕ)) × (all ≡ (texts ++ text ∷ []) ++ later) × Prints pool behind later

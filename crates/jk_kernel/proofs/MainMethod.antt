@@ -7,7 +7,7 @@ use Rattle.jk_model.specs.declared.class_file.Code.{Code}
 use Rattle.jk_model.specs.ClassFile.{CodeLayout}
 use Rattle.jk_kernel.specs.Form.{IsTextAt, HasOneCode, IsMain, AreMethods, Prints}
 use Rattle.jk_kernel.specs.FormParts.{HasRoom, IsBesideInit, IsCalledMain}
-use Rattle.jk_kernel.proofs.Methods.{HasOneCode-unique}
+use Rattle.jk_kernel.proofs.OneCode.{HasOneCode-unique}
 
 -- One answer for two properties that say the same.
 pub answer_for : {X E : Type 0} (r : Result (Option X) E) (P Q : X → Type 0) → ((x : X) → P x → Q x) → ((x : X) → Q x → P x)
@@ -51,10 +51,6 @@ main_reads pool m body code texts one only main =
     (subst HasRoom same (main.handlers, main.max_stack, main.max_locals), subst (λ (c : Code). Prints pool c.code texts) same main.prints)
 
 -- ---- The methods.
-
-pub AreMethods-from : (pool : List PoolEntry) (methods : List MemberInfo) (m : MemberInfo) (texts : List (List ℕ)) → IsBesideInit pool methods m → IsMain pool m texts → AreMethods pool methods texts
-AreMethods-from pool methods m texts (inl e) main = inl (m, e, main)
-AreMethods-from pool methods m texts (inr (init, e, i)) main = inr (m, init, e, main, i)
 
 pub AreMethods-main : (pool : List PoolEntry) (methods : List MemberInfo) (texts : List (List ℕ)) → AreMethods pool methods texts → (m : MemberInfo) × IsBesideInit pool methods m × IsMain pool m texts
 AreMethods-main pool methods texts (inl (m, e, main)) = (m, inl e, main)
