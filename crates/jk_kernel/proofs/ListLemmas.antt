@@ -1,5 +1,5 @@
 -- Lists whose items carry their numbers, and what an item of a changed list is.
-use Rattle.std.proofs.Common.{◌≡◌, ℕ, zero, suc, ◌+◌, ◌<◌, ◌≤◌, Bool, true, false, cond, List, [], ◌∷◌, ◌++◌, length, set, slice_get, Option, Some, None, refl, sym, ap, ◌∙◌, inl, inr, ◌⊎◌, arith, add-zero}
+use Rattle.std.proofs.Common.{◌≡◌, ℕ, zero, suc, ◌+◌, List, [], ◌∷◌, ◌++◌, length, set, slice_get, Some, refl, sym, ap, ◌∙◌, inl, inr, ◌⊎◌, arith, add-zero}
 use Rattle.std.specs.Option.{option_map}
 use Rattle.jk_kernel.specs.State.{numbered}
 

@@ -1,5 +1,5 @@
 -- What the calls learn and owe of the machine that the records stand for.
-use Rattle.std.proofs.Common.{◌≡◌, ℕ, zero, suc, ◌+◌, ◌<◌, ◌≤◌, ◌^◌, Bool, true, false, cond, List, [], ◌∷◌, ◌++◌, length, set, slice_get, Option, Some, None, refl, sym, ap, subst, ◌∙◌, inl, inr, ◌⊎◌, arith, add-zero, zero-add, add-one, one-add, length-append, length-set}
+use Rattle.std.proofs.Common.{◌≡◌, ℕ, zero, suc, ◌+◌, ◌<◌, ◌^◌, Bool, true, false, cond, List, [], ◌∷◌, ◌++◌, length, set, slice_get, Option, Some, None, refl, sym, ap, subst, ◌∙◌, inl, inr, arith, add-zero, zero-add, add-one, one-add, length-set}
 use Rattle.std.specs.Prelude.{MatchOption, bytes_eq, find, ◌&&◌, is_some, IsSome, IfNone}
 use Rattle.std.specs.List.{position_from}
 use Rattle.std.specs.Option.{option_map, option_and_then}
@@ -16,8 +16,8 @@ use Rattle.jk_kernel.specs.declared.threads.ThreadRecord.{ThreadRecord}
 use Rattle.jk_kernel.specs.declared.threads.FrameRecord.{FrameRecord}
 use Rattle.jk_kernel.specs.declared.threads.Stage.TheVariants.{Bare}
 use Rattle.jk_kernel.specs.Steps.{frame_at}
-use Rattle.jk_kernel.specs.State.{numbered, class_of, domain_of, segments_of, thread_of, machine_of, IsPlacedIn, ArePlaced, IsSound}
-use Rattle.jk_kernel.proofs.ListLemmas.{slice_get-numbered, numbered-set, numbered-push, length-numbered, slice_get-push, slice_get-set, slice_get-append}
+use Rattle.jk_kernel.specs.State.{numbered, class_of, domain_of, thread_of, machine_of, IsPlacedIn, IsSound}
+use Rattle.jk_kernel.proofs.ListLemmas.{slice_get-numbered, numbered-push, length-numbered, slice_get-push, slice_get-set, slice_get-append}
 
 -- ---- The look-up of a name.
 

@@ -1,5 +1,5 @@
 -- What a step does to the machine that the records stand for.
-use Rattle.std.proofs.Common.{◌≡◌, ℕ, zero, suc, ◌+◌, ◌-◌, ◌*◌, ◌<◌, ◌≤◌, Bool, true, false, cond, ltb, List, [], ◌∷◌, ◌++◌, length, get_or, set, slice_get, map, Option, Some, None, refl, sym, ap, subst, ◌∙◌, arith, add-zero, zero-add, add-one, one-add, length-set}
+use Rattle.std.proofs.Common.{◌≡◌, ℕ, zero, suc, ◌+◌, ◌-◌, ◌*◌, ◌<◌, ◌≤◌, Bool, true, false, ltb, List, [], ◌∷◌, length, get_or, set, slice_get, map, Option, Some, None, refl, sym, ap, subst, ◌∙◌, arith, add-zero, zero-add, one-add, length-set}
 use Rattle.std.specs.Option.{option_map, option_and_then}
 use Rattle.std.proofs.lemmas.Option.{slice_get-map, slice_get-get_or, slice_get_past, slice_get_within, slice_get_read, same_Some}
 use Rattle.std.proofs.lemmas.List.{append-nil}
@@ -7,7 +7,7 @@ use Rattle.jk_model.specs.Outside.{Appends}
 use Rattle.std.proofs.lemmas.Bool.{ltb-false, ltb-true}
 use Rattle.jk_model.specs.declared.output.Line.{Line}
 use Rattle.jk_model.specs.declared.output.Line.TheVariants.{Said, Ended}
-use Rattle.jk_model.specs.Machine.{Machine, Thread, Segment, Frame, Domain, Object, Text, Instruction, GetOut, GetText, PrintLine, Return, PrintStream, main_from, stepped, at_thread, at_class, executed, printed}
+use Rattle.jk_model.specs.Machine.{Machine, Thread, Segment, Text, Instruction, GetOut, GetText, PrintLine, Return, PrintStream, main_from, stepped, at_thread, at_class, executed, printed}
 use Rattle.jk_kernel.specs.declared.domains.DomainRecord.{DomainRecord}
 use Rattle.jk_kernel.specs.declared.threads.ThreadRecord.{ThreadRecord}
 use Rattle.jk_kernel.specs.declared.threads.FrameRecord.{FrameRecord}
@@ -88,11 +88,14 @@ module _ (ds : List DomainRecord) (ts : List ThreadRecord) (ns i : ℕ) (t : Thr
   abbrev moved : ℕ → List Value → Machine
   moved at stack = record before {
     threads = set (numbered thread_of 1 ts) i (record {
-      number = suc i; domain = t.domain;
+      number = suc i;
+      domain = t.domain;
       segments = record {
-        number = t.segment; domain = t.domain; frames = record { class = t.domain; at = at; stack = stack } ∷ []
-      } ∷ []
-    })
+        number = t.segment;
+        domain = t.domain;
+        frames = record { class = t.domain; at = at; stack = stack } ∷ [];
+      } ∷ [];
+    });
   }
 
   moved-after : (lines : List Line) (at : ℕ) (f : FrameRecord) → at ≡ 3 * f.literal + done_at f.stage → ◌≡◌ {A = List Line × Machine} (lines, moved at (stack_at f.stage f.literal)) (lines, after (Some f))

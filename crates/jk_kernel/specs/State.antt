@@ -1,6 +1,6 @@
 -- The machine that the kernel's records stand for.
-use Rattle.std.specs.Prelude.{◌≡◌, ℕ, zero, suc, ◌+◌, ◌*◌, ◌<◌, ◌≤◌, ◌^◌, Bool, true, List, [], ◌∷◌, length, map, Option, Some, None, slice_get, ⊤}
-use Rattle.jk_model.specs.Machine.{Machine, LoadedClass, Domain, Thread, Segment, Frame, Object, PrintStream, Text, main_from}
+use Rattle.std.specs.Prelude.{◌≡◌, ℕ, suc, ◌+◌, ◌*◌, ◌<◌, ◌≤◌, ◌^◌, true, List, [], ◌∷◌, length, map, Option, Some, None, slice_get, ⊤}
+use Rattle.jk_model.specs.Machine.{Machine, LoadedClass, Domain, Thread, Segment, Frame, PrintStream, Text, main_from}
 use Rattle.jk_model.specs.Script.{default_quotas}
 use Rattle.jk_model.specs.declared.values.Value.{Value}
 use Rattle.jk_model.specs.declared.values.Value.TheVariants.{Obj}
@@ -23,8 +23,14 @@ class_of n d = record { name = d.program.name; home = n; main = main_from 0 d.pr
 
 abbrev pub domain_of : ℕ → DomainRecord → Domain
 domain_of n d = record {
-  number = n; name = d.name; live = true; quotas = record default_quotas { threads = d.threads }; steps_left = None;
-  table = (d.program.name, n) ∷ []; heap = PrintStream ∷ map Text d.program.texts; out = 0
+  number = n;
+  name = d.name;
+  live = true;
+  quotas = record default_quotas { threads = d.threads };
+  steps_left = None;
+  table = (d.program.name, n) ∷ [];
+  heap = PrintStream ∷ map Text d.program.texts;
+  out = 0;
 }
 
 -- ---- Threads.

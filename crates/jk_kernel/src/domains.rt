@@ -8,7 +8,7 @@ use jk_model::Bytes;
 
 /// A domain with its one class. The numbers of both are its place among all domains.
 #[derive(Debug, Drop)]
-pub struct DomainRecord {
+pub(crate) struct DomainRecord {
     pub name: Bytes,
     /// How many threads may live in it.
     pub threads: u32,
@@ -16,7 +16,7 @@ pub struct DomainRecord {
 }
 
 /// The place of the first domain of this name.
-pub fn place_of(domains: &[DomainRecord], name: &[u8]) -> Option<usize>
+pub(crate) fn place_of(domains: &[DomainRecord], name: &[u8]) -> Option<usize>
     ensures { result ≡ position_from (λ d. bytes_eq d.name name.now) 0 domains.now }
 {
     domains
@@ -25,7 +25,7 @@ pub fn place_of(domains: &[DomainRecord], name: &[u8]) -> Option<usize>
 }
 
 /// Whether a class's name, in UTF-16, has these units, one a byte.
-pub fn is_class_name(units: &[u16], word: &[u8]) -> bool
+pub(crate) fn is_class_name(units: &[u16], word: &[u8]) -> bool
     ensures { result ≡ bytes_eq units.now word.now }
 {
     if units.len() != word.len() {

@@ -59,7 +59,12 @@ impl Kernel {
 
     /// Adds a domain of this name, with a class that has the form of those that run, and with
     /// default quotas but for the threads. It prints nothing.
-    pub fn add_domain(&mut self, name: &[u8], threads: u32, class: ClassFile) -> Result<DomainId, OutOfMemory>
+    pub fn add_domain(
+        &mut self,
+        name: &[u8],
+        threads: u32,
+        class: ClassFile,
+    ) -> Result<DomainId, OutOfMemory>
         requires unused { live_domain self.old name.now ≡ None }
         requires pool { HasReadPool class }
         requires form { (n : List ℕ) × (texts : List (List ℕ)) × HasForm class n texts }
@@ -87,7 +92,13 @@ impl Kernel {
     /// The start of a thread in the domain of this name, at the `main` of the class of this name. Its
     /// line is printed, also where it is refused. Where the sink fails, the start has happened; where
     /// no memory is left, it hasn't, and the sink was not touched.
-    pub fn start<S: Sink>(&mut self, name: &[u8], class: &[u8], words: &[Bytes], out: &mut S) -> Result<(), EventAnswer>
+    pub fn start<S: Sink>(
+        &mut self,
+        name: &[u8],
+        class: &[u8],
+        words: &[Bytes],
+        out: &mut S,
+    ) -> Result<(), EventAnswer>
         requires no_words { words.now ≡ [] }
         requires thread { self.old.next_thread < 2 ^ 31 }
         requires segment { self.old.next_segment < 2 ^ 64 - 1 }
@@ -187,5 +198,80 @@ impl Kernel {
             }
         }
         None
+    }
+}
+
+#[cfg(test)]
+mod tests {
+    use super::*;
+    use crate::form::Program;
+    use jk_model::{List, Units};
+    use jk_outside::MemorySink;
+    use std::test::Fail;
+
+    /// A kernel with one domain, whose class `M` prints one text.
+    fn one_domain(alloc: Global, name: &[u8], text: &[u16]) -> Result<Kernel, OutOfMemory>
+        ensures { IfOk result (λ kernel. (kernel.next_thread ≡ 1) × (kernel.next_segment ≡ 1)) }
+    {
+        let mut texts: List<Units> = List::new(alloc);
+        texts.push(Units::from_slice(alloc, text)?)?;
+        let mut domains = Vec::new(alloc);
+        domains.push(DomainRecord {
+            name: Bytes::from_slice(alloc, name)?,
+            threads: 16,
+            program: Program {
+                name: Units::from_slice(alloc, &[77])?,
+                texts,
+            },
+        })?;
+        Ok(Kernel {
+            domains,
+            threads: Vec::new(alloc),
+            next_segment: 1,
+        })
+    }
+
+    #[test]
+    fn without_domains(rt: HostRuntime) -> Result<(), Fail> {
+        let mut kernel = Kernel::new(rt.alloc())?;
+        let mut out = MemorySink::with_room(rt.alloc(), 100, &[])?;
+        assert!(rt; !kernel.has_domain(b"a"));
+        assert!(rt; !kernel.is_live(1));
+        assert_eq!(rt; kernel.next_live(0), None);
+        kernel.start(b"a", b"M", &[], &mut out)?;
+        kernel.turn(0, &mut out)?;
+        kernel.turn(1, &mut out)?;
+        assert_eq!(rt; out.bytes(), b"* start a refused S1\n".as_slice());
+        Ok(())
+    }
+
+    #[test]
+    fn prints_and_ends(rt: HostRuntime) -> Result<(), Fail> {
+        let mut kernel = one_domain(rt.alloc(), b"a", &[104, 105])?;
+        let mut out = MemorySink::with_room(rt.alloc(), 200, &[])?;
+        assert!(rt; kernel.has_domain(b"a"));
+        kernel.start(b"a", b"N", &[], &mut out)?;
+        kernel.start(b"a", b"M", &[], &mut out)?;
+        assert_eq!(rt; kernel.next_live(0), Some(1));
+        for _ in 0..5 {
+            kernel.turn(1, &mut out)?;
+        }
+        assert!(rt; !kernel.is_live(1));
+        let lines = b"* start a refused S2\n* thread 1 started in a\na: hi\n* thread 1 ended\n";
+        assert_eq!(rt; out.bytes(), lines.as_slice());
+        Ok(())
+    }
+
+    #[test]
+    fn sink_fails(rt: HostRuntime) -> Result<(), Fail> {
+        let mut kernel = one_domain(rt.alloc(), b"a", &[])?;
+        let mut out = MemorySink::with_room(rt.alloc(), 3, &[])?;
+        let started = kernel.start(b"a", b"M", &[], &mut out);
+        assert_eq!(rt; started, Err(EventAnswer::SinkFailed));
+        assert_eq!(rt; out.bytes(), b"* t".as_slice());
+        assert_eq!(rt; out.faults(), 1);
+        assert!(rt; kernel.is_live(1));
+        assert_eq!(rt; kernel.turn(1, &mut out), Ok(()));
+        Ok(())
     }
 }

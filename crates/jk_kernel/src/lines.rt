@@ -11,7 +11,11 @@ use crate::threads::{Beginning, FrameRecord, Stage};
 use jk_outside::{Part, Sink, SinkFailed, write_line};
 
 /// What a program prints in a domain of this name.
-pub fn print_said<'a, S: Sink>(out: &mut S, domain: &'a [u8], text: &'a [u16]) -> Result<(), SinkFailed>
+pub(crate) fn print_said<'a, S: Sink>(
+    out: &mut S,
+    domain: &'a [u8],
+    text: &'a [u16],
+) -> Result<(), SinkFailed>
     ensures ok { OnOk result (Appends (S.bytes out.old) (S.bytes out.new)
         (text_of (Said domain.now text.now ∷ []))) }
     ensures part { OnErr result (AppendsPart (S.bytes out.old) (S.bytes out.new)
@@ -19,11 +23,14 @@ pub fn print_said<'a, S: Sink>(out: &mut S, domain: &'a [u8], text: &'a [u16]) -
     ensures cause { OnErr result (HasRisen (S.faults out.old) (S.faults out.new)) }
     ensures faults { NeverFalls (S.faults out.old) (S.faults out.new) }
 {
-    write_line(out, &[Part::Bytes(domain), Part::Bytes(b": "), Part::Escaped(text)])
+    write_line(
+        out,
+        &[Part::Bytes(domain), Part::Bytes(b": "), Part::Escaped(text)],
+    )
 }
 
 /// The end of a thread.
-pub fn print_ended<S: Sink>(out: &mut S, thread: u32) -> Result<(), SinkFailed>
+pub(crate) fn print_ended<S: Sink>(out: &mut S, thread: u32) -> Result<(), SinkFailed>
     ensures ok { OnOk result (Appends (S.bytes out.old) (S.bytes out.new)
         (text_of (Ended (record { 0 = thread }) ∷ []))) }
     ensures part { OnErr result (AppendsPart (S.bytes out.old) (S.bytes out.new)
@@ -42,7 +49,12 @@ pub fn print_ended<S: Sink>(out: &mut S, thread: u32) -> Result<(), SinkFailed>
 }
 
 /// What a thread's step prints, by where its frame stood in its domain before.
-pub fn print_step<S: Sink>(out: &mut S, thread: u32, domain: &DomainRecord, frame: FrameRecord) -> Result<(), SinkFailed>
+pub(crate) fn print_step<S: Sink>(
+    out: &mut S,
+    thread: u32,
+    domain: &DomainRecord,
+    frame: FrameRecord,
+) -> Result<(), SinkFailed>
     ensures ok { OnOk result (Appends (S.bytes out.old) (S.bytes out.new) (text_of
         (step_lines thread domain.now.name frame.stage (slice_get domain.now.program.texts frame.literal)))) }
     ensures part { OnErr result (AppendsPart (S.bytes out.old) (S.bytes out.new) (text_of
@@ -58,7 +70,11 @@ pub fn print_step<S: Sink>(out: &mut S, thread: u32, domain: &DomainRecord, fram
 }
 
 /// What came of a start in a domain of this name.
-pub fn print_beginning<S: Sink>(out: &mut S, domain: &[u8], beginning: Beginning) -> Result<(), SinkFailed>
+pub(crate) fn print_beginning<S: Sink>(
+    out: &mut S,
+    domain: &[u8],
+    beginning: Beginning,
+) -> Result<(), SinkFailed>
     ensures ok { OnOk result (Appends (S.bytes out.old) (S.bytes out.new)
         (text_of (beginning_line domain.now beginning ∷ []))) }
     ensures part { OnErr result (AppendsPart (S.bytes out.old) (S.bytes out.new)

@@ -5,7 +5,7 @@ ghost use Rattle.jk_kernel.specs.Steps.{next_of, frame_at, IsFrameIn};
 
 /// How far a frame has come with its literal, by what stands on its operand stack.
 #[derive(Clone, Copy, Debug, PartialEq, Eq)]
-pub enum Stage {
+pub(crate) enum Stage {
     /// The stack is empty.
     Bare,
     /// The PrintStream stands on it.
@@ -16,7 +16,7 @@ pub enum Stage {
 
 /// The frame of a `main`. Its place in the code and its stack follow from the two fields.
 #[derive(Clone, Copy, Debug, PartialEq, Eq)]
-pub struct FrameRecord {
+pub(crate) struct FrameRecord {
     /// The literal to be printed, or how many there are at the return.
     pub literal: usize,
     pub stage: Stage,
@@ -24,7 +24,7 @@ pub struct FrameRecord {
 
 /// A thread, whose number is its place among all threads, counted from 1.
 #[derive(Clone, Copy, Debug, PartialEq, Eq)]
-pub struct ThreadRecord {
+pub(crate) struct ThreadRecord {
     /// The number of its segment.
     pub segment: u64,
     /// The place of its domain among all domains.
@@ -35,7 +35,7 @@ pub struct ThreadRecord {
 
 /// What came of a start.
 #[derive(Clone, Copy, Debug, PartialEq, Eq)]
-pub enum Beginning {
+pub(crate) enum Beginning {
     /// No live domain has the name.
     NoDomain,
     /// The domain has no class of the name.
@@ -45,7 +45,7 @@ pub enum Beginning {
 }
 
 /// The frame behind its instruction, in a code of so many literals; None behind the return.
-pub fn next_frame(frame: FrameRecord, count: usize) -> Option<FrameRecord>
+pub(crate) fn next_frame(frame: FrameRecord, count: usize) -> Option<FrameRecord>
     requires { IsFrameIn frame count }
     ensures { result ≡ next_of frame (nat_lt frame.literal count) }
 {
@@ -67,7 +67,7 @@ pub fn next_frame(frame: FrameRecord, count: usize) -> Option<FrameRecord>
 }
 
 /// The frame of the thread of this number; None where there is no such thread, or it has ended.
-pub fn live_frame(threads: &[ThreadRecord], number: u32) -> Option<FrameRecord>
+pub(crate) fn live_frame(threads: &[ThreadRecord], number: u32) -> Option<FrameRecord>
     ensures { result ≡ frame_at threads.now number }
 {
     if number == 0 {

@@ -1,4 +1,4 @@
-use Rattle.std.proofs.Common.{rules, ◌≡◌, ◌∙◌, bytes_eq, ℕ, ◌<◌, sym, subst, length, get_or, refl, arith, ext_get_or}
+use Rattle.std.proofs.Common.{sym, arith, ext_get_or}
 use Rattle.std.proofs.lemmas.Slice.Eq.{bytes_eq-Decides}
 use Rattle.jk_kernel.proofs.domains.is_class_name.Goals as goal
 

@@ -1,6 +1,3 @@
-use Rattle.std.proofs.Common.{rules, ◌≡◌, ◌<◌, ◌^◌, arith, List, ℕ, [], ◌∷◌, length, slice_get, Some, None, subst, OnOk, OnErr, refl, sym, ap, ◌∙◌}
-use Rattle.jk_model.specs.Outside.{Appends, AppendsPart}
-use Rattle.jk_kernel.proofs.LineLemmas.{said_text, ended_text, started_text, refused_text, number_is}
 use Rattle.jk_kernel.proofs.lines.print_beginning.Goals as goal
 
 pub returns-in-NoDomain-clause-ok : goal.returns-in-NoDomain-clause-ok

@@ -1,4 +1,4 @@
-use Rattle.std.proofs.Common.{rules, ◌≡◌, ◌<◌, ◌^◌, arith, List, ℕ, [], ◌∷◌, length, slice_get, Option, Some, None, subst, OnOk, OnErr, refl, sym, ap, ◌∙◌}
+use Rattle.std.proofs.Common.{◌≡◌, List, ℕ, [], ◌∷◌, length, slice_get, Option, subst, OnOk, OnErr, refl, sym, ap, ◌∙◌}
 use Rattle.jk_model.specs.Outside.{Appends, AppendsPart}
 use Rattle.std.proofs.lemmas.Option.{slice_get_read, slice_get_past}
 use Rattle.jk_model.specs.Output.{text_of}

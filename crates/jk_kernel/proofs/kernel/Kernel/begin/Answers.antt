@@ -1,5 +1,5 @@
-use Rattle.std.proofs.Common.{rules, ◌≡◌, ℕ, ◌+◌, ◌-◌, ◌<◌, ◌≤◌, ◌^◌, List, [], ◌∷◌, length, set, slice_get, get_or, Some, None, true, false, refl, sym, ap, ◌∙◌, subst, arith, add-one}
-use Rattle.std.proofs.lemmas.Option.{slice_get_read, slice_get_within}
+use Rattle.std.proofs.Common.{◌+◌, length, refl, sym, ap, ◌∙◌, arith}
+use Rattle.std.proofs.lemmas.Option.{slice_get_read}
 use Rattle.std.specs.List.{position_from}
 use Rattle.std.specs.Prelude.{bytes_eq}
 use Rattle.jk_kernel.proofs.StateLemmas.{started_without, started_refused, started_begun, IsSound-thread, length-threads, position_within, is_named, new_thread}

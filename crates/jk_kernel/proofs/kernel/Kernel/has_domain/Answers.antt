@@ -1,5 +1,3 @@
-use Rattle.std.proofs.Common.{rules, ◌≡◌, ◌∙◌, ap, is_some}
-use Rattle.jk_model.specs.Machine.{Machine, live_domain}
 use Rattle.jk_kernel.proofs.StateLemmas.{live_domain-found, is_some-found}
 use Rattle.jk_kernel.proofs.kernel.Kernel.has_domain.Goals as goal
 

@@ -1,7 +1,4 @@
-use Rattle.std.proofs.Common.{rules, ◌≡◌, ◌∙◌, ap, is_some}
-use Rattle.jk_model.specs.Machine.{Machine, is_live}
 use Rattle.jk_kernel.proofs.StateLemmas.{is_live-frame_at}
-use Rattle.jk_kernel.proofs.StepLemmas.{stepped_is}
 use Rattle.jk_kernel.proofs.kernel.Kernel.is_live.Goals as goal
 
 pub returns : goal.returns

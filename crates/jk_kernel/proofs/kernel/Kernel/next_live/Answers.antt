@@ -1,7 +1,7 @@
-use Rattle.std.proofs.Common.{rules, ◌≡◌, ◌∙◌, ℕ, ◌<◌, ◌≤◌, ◌+◌, ap, sym, is_some, true, false, arith, inl, inr, subst, refl, length}
+use Rattle.std.proofs.Common.{◌≡◌, ◌∙◌, ◌<◌, ◌+◌, sym, false, arith, inl, inr, subst, refl, length}
 use Rattle.std.proofs.lemmas.Bool.{cases_lt}
 use Rattle.std.proofs.lemmas.Option.{slice_get_read}
-use Rattle.jk_model.specs.Machine.{Machine, is_live}
+use Rattle.jk_model.specs.Machine.{is_live}
 use Rattle.jk_kernel.proofs.StateLemmas.{is_live-here, is_live-beyond}
 use Rattle.jk_kernel.proofs.kernel.Kernel.next_live.Goals as goal
 
@@ -19,8 +19,8 @@ loop-place-preserved c = λ n low high.
     let live = is_live-here c.self.inside.domains.items c.self.inside.threads.items c.self.inside.next_segment _ c.loop-place.place c.index.result.now c.self.view_is at in
     elim (cases_lt c.loop-place.place n) [
       | inl above ↦
-        let last : c.loop-place.place + 1 ≡ n = omega arith in
-        subst (λ k. is_live c.args.self.now k ≡ false) last (live ∙ sym c.if-is_some.ensures)
+          let last : c.loop-place.place + 1 ≡ n = omega arith in
+          subst (λ k. is_live c.args.self.now k ≡ false) last (live ∙ sym c.if-is_some.ensures)
       | inr below ↦ c.loop-place.invariant n low below
     ]
 

@@ -1,9 +1,6 @@
-use Rattle.std.proofs.Common.{rules, ◌≡◌, ℕ, ◌+◌, ◌-◌, ◌<◌, ◌≤◌, ◌^◌, List, [], ◌∷◌, length, set, slice_get, get_or, Some, None, true, false, refl, sym, ap, ◌∙◌, subst, arith, add-one}
-use Rattle.std.proofs.lemmas.Option.{slice_get_read, slice_get_within}
+use Rattle.std.proofs.Common.{◌≡◌, sym, ap, ◌∙◌, subst, arith}
 use Rattle.std.proofs.Common.{ltb}
 use Rattle.jk_model.specs.Machine.{Machine, stepped}
-use Rattle.jk_model.specs.Output.{text_of}
-use Rattle.jk_model.specs.Outside.{Appends, AppendsPart}
 use Rattle.jk_kernel.specs.Steps.{next_of, frame_at, IsFrameIn}
 use Rattle.jk_kernel.proofs.StepLemmas.{stepped_not, index_within, domain_within, place_here, sound_then, turned, Appends-nothing}
 use Rattle.jk_kernel.proofs.kernel.Kernel.turn.Goals as goal
