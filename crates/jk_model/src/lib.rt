@@ -5,6 +5,7 @@
 mod class_file;
 mod entries;
 mod identifiers;
+pub mod laws;
 mod lists;
 mod memory;
 mod output;
