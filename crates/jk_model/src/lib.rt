@@ -10,6 +10,8 @@ mod lists;
 mod memory;
 mod output;
 mod script;
+#[cfg(test)]
+mod tests;
 mod values;
 
 pub use class_file::{Attribute, ClassFile, Code, Handler, MemberInfo, PoolEntry};
