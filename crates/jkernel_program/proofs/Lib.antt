@@ -1,3 +1,4 @@
+pub mod EndLemmas
 pub mod EventLemmas
 pub mod DomainLemmas
 pub mod FolderLemmas

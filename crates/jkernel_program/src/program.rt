@@ -20,6 +20,7 @@ use std::alloc::Global;
 fn run<F: Files, S: Sink>(alloc: Global, words: &[String], files: &mut F, out: &mut S) -> End
     ensures ends { EndsSo (F.tree files.old) (map string_bytes words.now) (S.bytes out.old) (S.bytes out.new)
         (F.faults files.old) (F.faults files.new) (S.faults out.old) (S.faults out.new) result }
+    ensures no_call { IsNoCall (map string_bytes words.now) → result ≡ End.Usage }
     ensures script { (root script text : List ℕ) (events : List Event) → IsCall (map string_bytes words.now) root script
         → HasText (F.tree files.old) script text → IsScript text events
         → EndsWell (F.faults files.old) (F.faults files.new) (S.faults out.old) (S.faults out.new) result }
