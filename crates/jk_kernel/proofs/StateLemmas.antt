@@ -6,7 +6,7 @@ use Rattle.std.specs.Option.{option_map, option_and_then}
 use Rattle.std.proofs.lemmas.List.{length_push}
 use Rattle.std.proofs.lemmas.Option.{slice_get_past, slice_get_within, same_Some, MatchOption-at_none, MatchOption-at_some}
 use Rattle.std.proofs.lemmas.Slice.Eq.{bytes_eq-Decides}
-use Rattle.jk_model.specs.Machine.{Machine, Domain, opened, with_new_thread, live_domain, is_live, is_live_thread, started, started_by, started_in}
+use Rattle.jk_model.specs.Machine.{Machine, DomainState, opened, with_new_thread, live_domain, is_live, is_live_thread, started, started_by, started_in}
 use Rattle.jk_model.specs.declared.output.Line.{Line}
 use Rattle.jk_model.specs.declared.output.Line.TheVariants.{Started, StartRefused}
 use Rattle.jk_model.specs.Script.{default_quotas}
@@ -22,7 +22,7 @@ use Rattle.jk_kernel.proofs.ListLemmas.{slice_get-numbered, numbered-push, lengt
 -- ---- The look-up of a name.
 
 -- o is the domain of this name at place k, where the first of these has number n
-pub record FoundIn (name : List ℕ) (ds : List DomainRecord) (n : ℕ) (o : Option Domain) (k : ℕ) : Type 0 where
+pub record FoundIn (name : List ℕ) (ds : List DomainRecord) (n : ℕ) (o : Option DomainState) (k : ℕ) : Type 0 where
   pub place : ℕ
   pub domain : DomainRecord
   pub at : slice_get ds place ≡ Some domain
@@ -30,17 +30,17 @@ pub record FoundIn (name : List ℕ) (ds : List DomainRecord) (n : ℕ) (o : Opt
   pub named : bytes_eq domain.name name ≡ true
   pub found : o ≡ Some (domain_of k domain)
 
-abbrev pub Found : List ℕ → List DomainRecord → ℕ → Option ℕ → Option Domain → Type 0
+abbrev pub Found : List ℕ → List DomainRecord → ℕ → Option ℕ → Option DomainState → Type 0
 Found name ds n place o = MatchOption place (o ≡ None) (λ k. FoundIn name ds n o k)
 
-found_later : (name : List ℕ) (x : DomainRecord) (ds : List DomainRecord) (n : ℕ) (place : Option ℕ) (o : Option Domain) → Found name ds (suc n) place o → Found name (x ∷ ds) n place o
+found_later : (name : List ℕ) (x : DomainRecord) (ds : List DomainRecord) (n : ℕ) (place : Option ℕ) (o : Option DomainState) → Found name ds (suc n) place o → Found name (x ∷ ds) n place o
 found_later name x ds n None o h = h
 found_later name x ds n (Some k) o h = record { place = suc h.place; domain = h.domain; at = h.at; number = omega (arith, h.number); named = h.named; found = h.found }
 
 abbrev pub is_named : List ℕ → DomainRecord → Bool
 is_named name d = bytes_eq d.name name
 
-abbrev pub is_live_named : List ℕ → Domain → Bool
+abbrev pub is_live_named : List ℕ → DomainState → Bool
 is_live_named name d = d.live && bytes_eq d.name name
 
 found_cons : (name : List ℕ) (n : ℕ) (x : DomainRecord) (ds : List DomainRecord) → Found name ds (suc n) (position_from (is_named name) (suc n) ds) (find (is_live_named name) (numbered domain_of (suc n) ds)) → (b : Bool) → bytes_eq x.name name ≡ b → Found name (x ∷ ds) n (cond b (Some n) (position_from (is_named name) (n + 1) ds)) (cond b (Some (domain_of n x)) (find (is_live_named name) (numbered domain_of (suc n) ds)))
@@ -54,11 +54,11 @@ found_from name n (x ∷ ds) = found_cons name n x ds (found_from name (suc n) d
 pub live_domain-found : (name : List ℕ) (ds : List DomainRecord) (ts : List ThreadRecord) (ns : ℕ) → Found name ds 0 (position_from (is_named name) 0 ds) (live_domain (machine_of ds ts ns) name)
 live_domain-found name ds ts ns = found_from name 0 ds
 
-pub is_some-found : (name : List ℕ) (ds : List DomainRecord) (n : ℕ) (place : Option ℕ) (o : Option Domain) → Found name ds n place o → is_some place ≡ is_some o
+pub is_some-found : (name : List ℕ) (ds : List DomainRecord) (n : ℕ) (place : Option ℕ) (o : Option DomainState) → Found name ds n place o → is_some place ≡ is_some o
 is_some-found name ds n None o h = sym (ap is_some h)
 is_some-found name ds n (Some k) o h = sym (ap is_some h.found)
 
-place_is : (name : List ℕ) (ds : List DomainRecord) (o : Option Domain) (k : ℕ) (d : DomainRecord) → FoundIn name ds 0 o k → slice_get ds k ≡ Some d → (d.name ≡ name) × (o ≡ Some (domain_of k d))
+place_is : (name : List ℕ) (ds : List DomainRecord) (o : Option DomainState) (k : ℕ) (d : DomainRecord) → FoundIn name ds 0 o k → slice_get ds k ≡ Some d → (d.name ≡ name) × (o ≡ Some (domain_of k d))
 place_is name ds o k d h at =
     let place : k ≡ h.place = omega (arith, h.number) in
     let there : slice_get ds k ≡ Some h.domain = ap (slice_get ds) place ∙ h.at in
@@ -186,7 +186,7 @@ length-threads ds ts ns m e = ap (λ (x : Machine). x.next_thread) e
 
 pub position_within : (name : List ℕ) (ds : List DomainRecord) (k : ℕ) → position_from (is_named name) 0 ds ≡ Some k → k < length ds
 position_within name ds k e =
-    let o : Option Domain = find (is_live_named name) (numbered domain_of 0 ds) in
+    let o : Option DomainState = find (is_live_named name) (numbered domain_of 0 ds) in
     let h = MatchOption-at_some (o ≡ None) (λ k. FoundIn name ds 0 o k) k e (found_from name 0 ds) in
     let within : h.place < length ds = slice_get_within ds h.place h.domain h.at in
     omega (arith, h.number)

@@ -1,6 +1,6 @@
 -- The machine that the kernel's records stand for.
 use Rattle.std.specs.Prelude.{◌≡◌, ℕ, suc, ◌+◌, ◌*◌, ◌<◌, ◌≤◌, ◌^◌, true, List, [], ◌∷◌, length, map, Option, Some, None, slice_get, ⊤}
-use Rattle.jk_model.specs.Machine.{Machine, LoadedClass, Domain, Thread, Segment, Frame, PrintStream, Text, main_from}
+use Rattle.jk_model.specs.Machine.{Machine, LoadedClass, DomainState, Thread, Segment, Frame, PrintStream, Text, main_from}
 use Rattle.jk_model.specs.Script.{default_quotas}
 use Rattle.jk_model.specs.declared.values.Value.{Value}
 use Rattle.jk_model.specs.declared.values.Value.TheVariants.{Obj}
@@ -21,7 +21,7 @@ numbered f n (x ∷ xs) = f n x ∷ numbered f (suc n) xs
 abbrev pub class_of : ℕ → DomainRecord → LoadedClass
 class_of n d = record { name = d.program.name; home = n; main = main_from 0 d.program.texts }
 
-abbrev pub domain_of : ℕ → DomainRecord → Domain
+abbrev pub domain_of : ℕ → DomainRecord → DomainState
 domain_of n d = record {
   number = n;
   name = d.name;

@@ -2,7 +2,7 @@
 -- Specification, second edition, chapter 4 (4.1 the ClassFile structure, 4.4 the constant pool,
 -- 4.5 fields, 4.6 methods, 4.7 attributes, 4.7.3 the Code attribute). The bytes of a record are
 -- those of its sections, one behind the other.
-use Rattle.std.specs.Prelude.{◌≡◌, ℕ, suc, ◌+◌, ◌<◌, ◌≤◌, ◌^◌, ◌⊎◌, ◌≢◌, ⊤, List, [], ◌∷◌, ◌++◌, length, Option, Some, None, slice_get, flat_map, take}
+use Rattle.std.specs.Prelude.{◌≡◌, ℕ, ◌<◌, ◌≤◌, ◌^◌, ◌⊎◌, ◌≢◌, ⊤, List, [], ◌∷◌, ◌++◌, length, Some, slice_get, flat_map, take}
 use Rattle.std.specs.List.{AllByRecursion}
 use Rattle.std.specs.Int.{w16, w32, w64, to_be_bytes}
 use Rattle.jk_model.specs.declared.class_file.ClassFile.{ClassFile}

@@ -4,7 +4,6 @@
 use Rattle.std.specs.Prelude.{◌≡◌, ℕ, zero, suc, Bool, true, false, not, ◌==◌, ◌&&◌, List, [], ◌∷◌, ◌++◌, length, Option, Some, None, slice_get, slice_set, find, map, bytes_eq}
 use Rattle.jk_model.specs.declared.output.Line.{Line}
 use Rattle.jk_model.specs.declared.output.Line.TheVariants.{Said, Started, StartRefused, Ended}
-use Rattle.jk_model.specs.declared.identifiers.ThreadNo.{ThreadNo}
 use Rattle.jk_model.specs.declared.script.Quotas.{Quotas}
 use Rattle.jk_model.specs.declared.values.Value.{Value}
 use Rattle.jk_model.specs.declared.values.Value.TheVariants.{Obj}
@@ -36,7 +35,7 @@ pub data Object : Type 0 where
   -- a text, in UTF-16
   Text : List ℕ → Object
 
-pub record Domain : Type 0 where
+pub record DomainState : Type 0 where
   pub number : ℕ
   pub name : List ℕ
   pub live : Bool
@@ -76,7 +75,7 @@ pub record Machine : Type 0 where
   -- in the order of loading
   pub classes : List LoadedClass
   -- all that were ever added, in order, so that each stands at its number
-  pub domains : List Domain
+  pub domains : List DomainState
   -- all that were ever started, in order, those without a segment having ended; the first is number 1
   pub threads : List Thread
   pub next_thread : ℕ
@@ -87,7 +86,7 @@ abbrev pub no_domains : Machine
 no_domains = record { classes = []; domains = []; threads = []; next_thread = 1; next_segment = 1 }
 
 -- the live domain of a name
-abbrev pub live_domain : Machine → List ℕ → Option Domain
+abbrev pub live_domain : Machine → List ℕ → Option DomainState
 live_domain m name = find (λ d. d.live && bytes_eq d.name name) m.domains
 
 abbrev pub thread_numbered : Machine → ℕ → Option Thread
@@ -123,33 +122,41 @@ abbrev pub opened : Machine → List ℕ → Quotas → List ℕ → List (List 
 opened m name quotas class texts = record m {
   classes = m.classes ++ record { name = class; home = length m.domains; main = main_from 0 texts } ∷ [];
   domains = m.domains ++ record {
-    number = length m.domains; name = name; live = true; quotas = quotas; steps_left = quotas.steps;
-    table = (class, length m.classes) ∷ []; heap = PrintStream ∷ map Text texts; out = 0
+    number = length m.domains;
+    name = name;
+    live = true;
+    quotas = quotas;
+    steps_left = quotas.steps;
+    table = (class, length m.classes) ∷ [];
+    heap = PrintStream ∷ map Text texts;
+    out = 0;
   } ∷ [];
 }
 
 -- ---- A start: S1 without a live domain of the name, S2 without the class in its table; else a new
 -- thread stands at the first instruction of the class's `main`.
 
-abbrev pub with_new_thread : Machine → Domain → ℕ → Machine
+abbrev pub with_new_thread : Machine → DomainState → ℕ → Machine
 with_new_thread m d class = record m {
   threads = m.threads ++ record {
-    number = m.next_thread; domain = d.number;
+    number = m.next_thread;
+    domain = d.number;
     segments = record {
-      number = m.next_segment; domain = d.number;
-      frames = record { class = class; at = 0; stack = [] } ∷ []
-    } ∷ []
+      number = m.next_segment;
+      domain = d.number;
+      frames = record { class = class; at = 0; stack = [] } ∷ [];
+    } ∷ [];
   } ∷ [];
   next_thread = suc m.next_thread;
   next_segment = suc m.next_segment;
 }
 
-abbrev pub started_in : Machine → Domain → Option (List ℕ × ℕ) → List Line × Machine
+abbrev pub started_in : Machine → DomainState → Option (List ℕ × ℕ) → List Line × Machine
 started_in m d None = (StartRefused d.name 2 ∷ [], m)
 started_in m d (Some entry) =
     (Started (record { 0 = m.next_thread }) d.name ∷ [], with_new_thread m d entry.1)
 
-abbrev pub started_by : Machine → List ℕ → List ℕ → Option Domain → List Line × Machine
+abbrev pub started_by : Machine → List ℕ → List ℕ → Option DomainState → List Line × Machine
 started_by m name class None = (StartRefused name 1 ∷ [], m)
 started_by m name class (Some d) = started_in m d (find (λ entry. bytes_eq entry.0 class) d.table)
 
@@ -171,37 +178,38 @@ with_frame m thread s f =
 abbrev pub moved_on : Frame → List Value → Frame
 moved_on f stack = record f { at = suc f.at; stack = stack }
 
-abbrev pub printed : Machine → Thread → Segment → Frame → Domain → List Value → Option Object → Option Object → List Line × Machine
+abbrev pub printed : Machine → Thread → Segment → Frame → DomainState → List Value → Option Object → Option Object → List Line × Machine
 printed m thread s f d rest (Some PrintStream) (Some (Text text)) =
     (Said d.name text ∷ [], with_frame m thread s (moved_on f rest))
 printed m thread s f d rest _ _ = ([], m)
 
-abbrev pub print_line : Machine → Thread → Segment → Frame → Domain → List Value → List Line × Machine
+abbrev pub print_line : Machine → Thread → Segment → Frame → DomainState → List Value → List Line × Machine
 print_line m thread s f d (Obj text ∷ Obj out ∷ rest) = printed m thread s f d rest (slice_get d.heap out) (slice_get d.heap text)
 print_line m thread s f d _ = ([], m)
 
-abbrev pub executed : Machine → Thread → Segment → Frame → Domain → Option Instruction → List Line × Machine
+abbrev pub executed : Machine → Thread → Segment → Frame → DomainState → Option Instruction → List Line × Machine
 executed m thread s f d (Some GetOut) = ([], with_frame m thread s (moved_on f (Obj d.out ∷ f.stack)))
 executed m thread s f d (Some (GetText n)) = ([], with_frame m thread s (moved_on f (Obj (suc n) ∷ f.stack)))
 executed m thread s f d (Some PrintLine) = print_line m thread s f d f.stack
 -- the frame is the only one of its thread, since no instruction calls
-executed m thread s f d (Some Return) =
-    (Ended (record { 0 = thread.number }) ∷ [],
-    record m { threads = with_thread (record thread { segments = [] }) thread.number m.threads })
+executed m thread s f d (Some Return) = (
+  Ended (record { 0 = thread.number }) ∷ [],
+  record m { threads = with_thread (record thread { segments = [] }) thread.number m.threads },
+)
 executed m thread s f d None = ([], m)
 
 -- the machine with this in the place of a domain
-abbrev pub with_domain : Machine → Domain → Machine
+abbrev pub with_domain : Machine → DomainState → Machine
 with_domain m d = record m { domains = slice_set m.domains d.number d }
 
 -- A domain without steps left does nothing; one with a budget pays for its step.
-abbrev pub paid : Machine → Thread → Segment → Frame → Domain → Option ℕ → Option Instruction → List Line × Machine
+abbrev pub paid : Machine → Thread → Segment → Frame → DomainState → Option ℕ → Option Instruction → List Line × Machine
 paid m thread s f d None i = executed m thread s f d i
 paid m thread s f d (Some zero) i = ([], m)
 paid m thread s f d (Some (suc n)) i =
     executed (with_domain m (record d { steps_left = Some n })) thread s f d i
 
-abbrev pub at_class : Machine → Thread → Segment → Frame → Option Domain → Option LoadedClass → List Line × Machine
+abbrev pub at_class : Machine → Thread → Segment → Frame → Option DomainState → Option LoadedClass → List Line × Machine
 at_class m thread s f (Some d) (Some c) = paid m thread s f d d.steps_left (slice_get c.main f.at)
 at_class m thread s f _ _ = ([], m)
 

@@ -1,6 +1,6 @@
 -- What the world outside is to a contract: a tree of folders and files, the bytes that went out, and
 -- counts of faults.
-use Rattle.std.specs.Prelude.{◌≡◌, ℕ, ◌+◌, ◌-◌, ◌<◌, ◌≤◌, ◌^◌, ◌⊎◌, List, ◌∷◌, [], ◌++◌, Option, Some, None, length, ⊤, IsSome, false}
+use Rattle.std.specs.Prelude.{◌≡◌, ℕ, ◌+◌, ◌-◌, ◌<◌, ◌≤◌, ◌^◌, ◌⊎◌, List, ◌∷◌, ◌++◌, Option, Some, None, length, ⊤, IsSome, false}
 use Rattle.std.specs.List.{AllByRecursion}
 use Rattle.jk_model.specs.declared.entries.Entry.{Entry}
 

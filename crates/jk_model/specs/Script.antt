@@ -1,5 +1,5 @@
 -- The words of a script, and what its names and numbers are.
-use Rattle.std.specs.Prelude.{◌≡◌, ℕ, ◌<◌, ◌≤◌, ◌||◌, ◌&&◌, Bool, true, false, not, IsTrue, List, [], ◌∷◌, length, filter, ◌==◌, nat_le, ◌^◌, decimal, codes, Option, None, Some}
+use Rattle.std.specs.Prelude.{◌≡◌, ℕ, ◌≤◌, ◌||◌, ◌&&◌, Bool, false, not, IsTrue, List, [], ◌∷◌, length, filter, ◌==◌, nat_le, decimal, None}
 use Rattle.std.specs.List.{slice_split, list_all}
 use Rattle.std.specs.Str.Lines.{lines}
 use Rattle.jk_model.specs.declared.script.Quotas.{Quotas}

@@ -1,5 +1,5 @@
 -- Texts: modified UTF-8 (the Java Virtual Machine Specification, 4.4.7), and how output shows a text.
-use Rattle.std.specs.Prelude.{◌≡◌, ℕ, ◌+◌, ◌-◌, ◌*◌, ◌/◌, ◌%◌, ◌<◌, ◌≤◌, ◌&&◌, List, [], ◌∷◌, ◌++◌, nat_le, nat_lt, ◌==◌, if◌then◌else◌, flat_map, chars}
+use Rattle.std.specs.Prelude.{◌≡◌, ℕ, ◌+◌, ◌-◌, ◌*◌, ◌/◌, ◌%◌, ◌≤◌, ◌&&◌, List, [], ◌∷◌, ◌++◌, nat_le, nat_lt, ◌==◌, if◌then◌else◌, flat_map, chars}
 use Rattle.std.specs.Char.Escape.{encode_utf16}
 
 -- ---- Modified UTF-8. A unit has one, two or three bytes. Overlong forms count, and a surrogate is

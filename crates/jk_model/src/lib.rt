@@ -5,10 +5,13 @@
 mod class_file;
 mod entries;
 mod identifiers;
+pub mod laws;
 mod lists;
 mod memory;
 mod output;
 mod script;
+#[cfg(test)]
+mod tests;
 mod values;
 
 pub use class_file::{Attribute, ClassFile, Code, Handler, MemberInfo, PoolEntry};

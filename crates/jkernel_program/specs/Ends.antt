@@ -1,12 +1,16 @@
 -- How a run of the program ends, and what it says of it.
-use Rattle.std.specs.Prelude.{◌≡◌, ℕ, ◌⊎◌, List, [], Option}
+use Rattle.std.specs.Prelude.{◌≡◌, ℕ, ◌⊎◌, ⊤, List, [], Option, Some, None, Result, Ok, Err}
+use Rattle.jk_model.specs.declared.script.Event.{Event}
 use Rattle.jk_model.specs.declared.script.ScriptFault.{ScriptFault}
-use Rattle.jk_model.specs.Outside.{Tree, Appends, HasRisen}
+use Rattle.jk_model.specs.Outside.{Tree, FileIs, HasRisen}
+use Rattle.script_reader.specs.Events.{IsScript, IsAtFault}
 use Rattle.jkernel_program.specs.Calls.{IsCall}
 use Rattle.jkernel_program.specs.Messages.{usage_text, fault_text, read_text, write_text, memory_text}
 use Rattle.jkernel_program.specs.Statuses.{HasFault, LacksScript, IsDone, IsStopped, IsStoppedBefore}
 use Rattle.jkernel_program.specs.declared.ends.End.{End}
 use Rattle.jkernel_program.specs.declared.ends.End.TheVariants.{Done, Usage, Refused, Stopped}
+use Rattle.jkernel_program.specs.declared.status.Status.{Status}
+use Rattle.jkernel_program.specs.declared.status.Status.TheVariants as statuses
 use Rattle.jkernel_program.specs.declared.stop.Stop.{Stop}
 use Rattle.jkernel_program.specs.declared.stop.Stop.TheVariants.{ReadFault, WriteFault, OutOfMemory}
 
@@ -27,6 +31,15 @@ EndsSo tree words old out files files' faults faults' (Stopped WriteFault) =
 EndsSo tree words old out files files' faults faults' (Stopped OutOfMemory) =
     (out ≡ old) ⊎ IsStopped tree words old out
 
+-- the status of an end
+abbrev pub status_of : End → Status
+status_of Done = statuses.Done
+status_of Usage = statuses.Usage
+status_of (Refused fault) = statuses.ScriptRefused
+status_of (Stopped ReadFault) = statuses.ReadFault
+status_of (Stopped WriteFault) = statuses.WriteFault
+status_of (Stopped OutOfMemory) = statuses.OutOfMemory
+
 -- what is said of an end on the error sink
 abbrev pub message_of : End → List ℕ
 message_of Done = []
@@ -35,3 +48,52 @@ message_of (Refused fault) = fault_text fault
 message_of (Stopped ReadFault) = read_text
 message_of (Stopped WriteFault) = write_text
 message_of (Stopped OutOfMemory) = memory_text
+
+-- ---- The script that is read.
+
+-- a told tree has this text at a path
+abbrev pub HasText : Option Tree → List ℕ → List ℕ → Type 0
+HasText None path text = ⊥
+HasText (Some tree) path text = tree.file path ≡ Some text
+
+-- a told tree has no file at a path
+abbrev pub IsMissing : Option Tree → List ℕ → Type 0
+IsMissing None path = ⊥
+IsMissing (Some tree) path = tree.file path ≡ None
+
+-- What was found at a path: a script's events, or why there are none. The counts are those of the files.
+abbrev pub ScriptEnds : Option Tree → List ℕ → ℕ → ℕ → Result (List Event) End → Type 0
+ScriptEnds tree path files files' (Ok events) = (text : List ℕ) × FileIs tree path text × IsScript text events
+ScriptEnds tree path files files' (Err (Refused fault)) = (text : List ℕ) × FileIs tree path text × IsAtFault text fault
+ScriptEnds tree path files files' (Err (Stopped ReadFault)) = HasRisen files files' ⊎ IsMissing tree path
+ScriptEnds tree path files files' (Err (Stopped OutOfMemory)) = ⊤
+ScriptEnds tree path files files' (Err _) = ⊥
+
+-- an answer that a script without fault may get
+abbrev pub AnswersScript : ℕ → ℕ → Result (List Event) End → Type 0
+AnswersScript files files' (Ok events) = ⊤
+AnswersScript files files' (Err (Stopped ReadFault)) = HasRisen files files'
+AnswersScript files files' (Err (Stopped OutOfMemory)) = ⊤
+AnswersScript files files' (Err _) = ⊥
+
+-- an answer that a script with this fault may get
+abbrev pub AnswersFault : ScriptFault → ℕ → ℕ → Result (List Event) End → Type 0
+AnswersFault fault files files' (Err (Refused found)) = found ≡ fault
+AnswersFault fault files files' (Err (Stopped ReadFault)) = HasRisen files files'
+AnswersFault fault files files' (Err (Stopped OutOfMemory)) = ⊤
+AnswersFault fault files files' _ = ⊥
+
+-- an end of a run whose script has no fault
+abbrev pub EndsWell : ℕ → ℕ → ℕ → ℕ → End → Type 0
+EndsWell files files' faults faults' Done = ⊤
+EndsWell files files' faults faults' (Stopped ReadFault) = HasRisen files files'
+EndsWell files files' faults faults' (Stopped WriteFault) = HasRisen faults faults'
+EndsWell files files' faults faults' (Stopped OutOfMemory) = ⊤
+EndsWell files files' faults faults' _ = ⊥
+
+-- an end of a run whose script has this fault
+abbrev pub EndsRefused : ScriptFault → ℕ → ℕ → End → Type 0
+EndsRefused fault files files' (Refused found) = found ≡ fault
+EndsRefused fault files files' (Stopped ReadFault) = HasRisen files files'
+EndsRefused fault files files' (Stopped OutOfMemory) = ⊤
+EndsRefused fault files files' _ = ⊥

@@ -12,6 +12,9 @@ use Rattle.jk_model.specs.Run.{IsRun}
 use Rattle.script_reader.specs.Events.{IsScript, IsAtFault}
 use Rattle.jkernel_program.specs.Calls.{IsCall}
 use Rattle.jkernel_program.specs.Loading.{Opens}
+use Rattle.jkernel_program.specs.Messages.{usage_text, fault_text, read_text, write_text, memory_text}
+use Rattle.jkernel_program.specs.declared.status.Status.{Status}
+use Rattle.jkernel_program.specs.declared.status.Status.TheVariants.{Done, Usage, ScriptRefused, ReadFault, WriteFault, OutOfMemory}
 
 -- The words name a root and a script, and these are the script's events. (A tree that isn't told
 -- doesn't say which script it was.)
@@ -74,3 +77,12 @@ pub record IsStoppedBefore (tree : Option Tree) (words : List (List ℕ)) (old n
   pub lines : List Line
   pub runs : RunsTo tree root events k lines
   pub text : Appends old new (text_of lines)
+
+-- What was said on the error sink, by the status. At a script that is refused it is that script's fault.
+abbrev pub Says : Option Tree → List (List ℕ) → Option (List ℕ) → Option (List ℕ) → Status → Type 0
+Says tree words old new Done = Appends old new []
+Says tree words old new Usage = Appends old new usage_text
+Says tree words old new ScriptRefused = (fault : ScriptFault) × HasFault tree words fault × Appends old new (fault_text fault)
+Says tree words old new ReadFault = Appends old new read_text
+Says tree words old new WriteFault = Appends old new write_text
+Says tree words old new OutOfMemory = Appends old new memory_text

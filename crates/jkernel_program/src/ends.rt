@@ -2,7 +2,7 @@
 
 ghost use Rattle.std.specs.Prelude.{◌≡◌, ◌++◌, ◌∷◌, [], OnOk, OnErr};
 ghost use Rattle.jk_model.specs.Outside.{Appends, HasRisen};
-ghost use Rattle.jkernel_program.specs.Ends.{message_of};
+ghost use Rattle.jkernel_program.specs.Ends.{message_of, status_of};
 ghost use Rattle.jkernel_program.specs.Messages.{kind_text, fault_text};
 
 use crate::status::Status;
@@ -22,7 +22,9 @@ pub enum End {
 
 impl End {
     /// The status of a run that ends so.
-    pub fn status(self) -> Status {
+    pub fn status(self) -> Status
+        ensures { result ≡ status_of self }
+    {
         match self {
             End::Done => Status::Done,
             End::Usage => Status::Usage,

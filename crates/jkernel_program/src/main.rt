@@ -9,9 +9,12 @@ mod events;
 mod folders;
 mod lines;
 mod paths;
+mod program;
+mod scripts;
 mod status;
 mod stop;
 
+pub use program::jkernel;
 pub use status::Status;
 
 fn main() {}

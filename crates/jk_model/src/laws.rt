@@ -1,0 +1,48 @@
+//! What the definitions in `specs/` say of worked examples. The functions have no bodies: each stands
+//! for its clauses, and the examples are in `specs/Examples.antt`.
+
+ghost use Rattle.std.specs.Prelude.{◌≡◌, ◌∷◌, ◌++◌, [], List, codes, true, false};
+ghost use Rattle.jk_model.specs.declared.output.Line.{Line};
+ghost use Rattle.jk_model.specs.ClassFile.{IsClass};
+ghost use Rattle.jk_model.specs.Examples.{smallest_bytes, smallest, escaped_line, LoadsHello, hello_events, hello_lines, hello_started};
+ghost use Rattle.jk_model.specs.Machine.{Machine, no_domains, is_live};
+ghost use Rattle.jk_model.specs.Output.{text_of};
+ghost use Rattle.jk_model.specs.Run.{Turns, IsRun};
+ghost use Rattle.jk_model.specs.Script.{words};
+ghost use Rattle.jk_model.specs.Text.{Spells, IsModifiedUtf8};
+
+/// The 53 bytes of the smallest class are a class file, of this record.
+pub fn smallest_class()
+    ensures { IsClass smallest_bytes smallest }
+{}
+
+/// A line feed in a printed text is shown as `\u000a`, and a backslash as two.
+pub fn escaped_text()
+    ensures { text_of (escaped_line ∷ []) ≡ codes "a: x\\u000ab: y\\\\" ++ 10 ∷ [] }
+{}
+
+/// Units of two and three bytes, the overlong form of 0 and a lone surrogate among them, and three
+/// bytes that are no text.
+pub fn texts_of_units()
+    ensures overlong_zero { Spells (0xc0 ∷ 0x80 ∷ []) (0 ∷ []) }
+    ensures two_bytes { Spells (0xc3 ∷ 0xa9 ∷ []) (0xe9 ∷ []) }
+    ensures surrogate { Spells (0xed ∷ 0xa0 ∷ 0x80 ∷ []) (0xd800 ∷ []) }
+
+    ensures no_zero { ¬ IsModifiedUtf8 (0x00 ∷ []) }
+    ensures no_four_bytes { ¬ IsModifiedUtf8 (0xf0 ∷ []) }
+    ensures no_half { ¬ IsModifiedUtf8 (0xc3 ∷ []) }
+{}
+
+/// Words stand between blanks and tabs, however many.
+pub fn words_of_a_line()
+    ensures { words (codes " \tdomain  hello\t") ≡ codes "domain" ∷ codes "hello" ∷ [] }
+{}
+
+/// A domain is opened with a class that prints one text, and a thread of it runs. It prints that text
+/// in its third step, and ends with its fourth.
+pub fn first_run()
+    ensures run { (last : Machine) × IsRun LoadsHello no_domains hello_events hello_lines last }
+    ensures text { text_of hello_lines ≡ codes "* domain hello loaded\n* thread 1 started in hello\nhello: Hello\n* thread 1 ended\n" }
+    ensures three_steps { (lines : List Line) (m : Machine) → Turns 3 hello_started 1 lines m → is_live m 1 ≡ true }
+    ensures four_steps { (lines : List Line) (m : Machine) → Turns 4 hello_started 1 lines m → is_live m 1 ≡ false }
+{}
