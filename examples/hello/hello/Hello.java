@@ -1,0 +1,6 @@
+/** Prints one line. */
+public class Hello {
+    public static void main(String[] words) {
+        System.out.println("Hello");
+    }
+}
