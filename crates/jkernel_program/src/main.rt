@@ -1,4 +1,5 @@
-//! The program: words, files and two sinks in, a status out.
+//! `jkernel ROOT SCRIPT`: runs a script over a tree of folders, a domain each, on the files and the
+//! streams of the system.
 #![tactic(auto)]
 
 mod calls;
@@ -14,7 +15,28 @@ mod scripts;
 mod status;
 mod stop;
 
+use jk_outside::{DiskFiles, StreamSink};
 pub use program::jkernel;
 pub use status::Status;
+use std::process::ExitCode;
+use std::{env, io};
 
-fn main() {}
+/// The words behind the program's name.
+fn words(rt: &HostRuntime) -> io::Result<Vec<String>> {
+    let mut words = Vec::new(rt.alloc());
+    for word in env::args(rt)?.skip(1) {
+        words.push(word)?;
+    }
+    Ok(words)
+}
+
+fn main(rt: HostRuntime) -> ExitCode {
+    let mut files = DiskFiles::new(rt.alloc(), rt);
+    let mut out = StreamSink::new(rt.stdout());
+    let mut err = StreamSink::new(rt.stderr());
+    let status = match words(&rt) {
+        Ok(words) => jkernel(rt.alloc(), words.as_slice(), &mut files, &mut out, &mut err),
+        Err(_) => Status::OutOfMemory,
+    };
+    ExitCode::from(status.code())
+}
