@@ -120,7 +120,7 @@ fn empty_script_prints_nothing(rt: HostRuntime) -> Result<(), Fail> {
 
 #[test]
 fn a_text_is_one_line(rt: HostRuntime) -> Result<(), Fail> {
-    let end = outcome(
+    let end = run_script(
         &rt,
         rt.alloc(),
         "script",
