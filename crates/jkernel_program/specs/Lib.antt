@@ -1,4 +1,5 @@
 pub mod Calls
+pub mod Codes
 pub mod Ends
 pub mod Events
 pub mod Folders
