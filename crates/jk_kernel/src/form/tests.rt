@@ -1,7 +1,7 @@
 //! Classes put together by hand, and what their `main` prints.
 
 use super::*;
-use jk_model::{Attribute, Bytes};
+use class_reader::read_class;
 use std::test::Fail;
 
 /// A call of `println` with the literal "hi", as the pool below has it.
@@ -11,9 +11,24 @@ const PRINT_EMPTY: [u8; 8] = [0xb2, 0, 13, 0x12, 25, 0xb6, 0, 21];
 
 const RETURN: [u8; 1] = [0xb1];
 
-/// The body of a Code attribute: two entries of stack, one local, a print of "hi" and a return.
-const CODE_BODY: [u8; 21] = [
-    0, 2, 0, 1, 0, 0, 0, 9, 0xb2, 0, 13, 0x12, 15, 0xb6, 0, 21, 0xb1, 0, 0, 0, 0,
+/// The class `Hello` of this pool, but for the literal "" at its end: an empty method `<init>`
+/// and a `main` that prints "hi".
+const HELLO: [u8; 299] = [
+    0xca, 0xfe, 0xba, 0xbe, 0, 0, 0, 0x30, 0, 24, 1, 0, 5, 0x48, 0x65, 0x6c, 0x6c, 0x6f, 7, 0, 1, 1,
+    0, 16, 0x6a, 0x61, 0x76, 0x61, 0x2f, 0x6c, 0x61, 0x6e, 0x67, 0x2f, 0x4f, 0x62, 0x6a, 0x65, 0x63,
+    0x74, 7, 0, 3, 1, 0, 4, 0x6d, 0x61, 0x69, 0x6e, 1, 0, 22, 0x28, 0x5b, 0x4c, 0x6a, 0x61, 0x76,
+    0x61, 0x2f, 0x6c, 0x61, 0x6e, 0x67, 0x2f, 0x53, 0x74, 0x72, 0x69, 0x6e, 0x67, 0x3b, 0x29, 0x56,
+    1, 0, 4, 0x43, 0x6f, 0x64, 0x65, 1, 0, 16, 0x6a, 0x61, 0x76, 0x61, 0x2f, 0x6c, 0x61, 0x6e, 0x67,
+    0x2f, 0x53, 0x79, 0x73, 0x74, 0x65, 0x6d, 7, 0, 8, 1, 0, 3, 0x6f, 0x75, 0x74, 1, 0, 21, 0x4c,
+    0x6a, 0x61, 0x76, 0x61, 0x2f, 0x69, 0x6f, 0x2f, 0x50, 0x72, 0x69, 0x6e, 0x74, 0x53, 0x74, 0x72,
+    0x65, 0x61, 0x6d, 0x3b, 12, 0, 10, 0, 11, 9, 0, 9, 0, 12, 1, 0, 2, 0x68, 0x69, 8, 0, 14, 1, 0,
+    19, 0x6a, 0x61, 0x76, 0x61, 0x2f, 0x69, 0x6f, 0x2f, 0x50, 0x72, 0x69, 0x6e, 0x74, 0x53, 0x74,
+    0x72, 0x65, 0x61, 0x6d, 7, 0, 16, 1, 0, 7, 0x70, 0x72, 0x69, 0x6e, 0x74, 0x6c, 0x6e, 1, 0, 21,
+    0x28, 0x4c, 0x6a, 0x61, 0x76, 0x61, 0x2f, 0x6c, 0x61, 0x6e, 0x67, 0x2f, 0x53, 0x74, 0x72, 0x69,
+    0x6e, 0x67, 0x3b, 0x29, 0x56, 12, 0, 18, 0, 19, 10, 0, 17, 0, 20, 1, 0, 6, 0x3c, 0x69, 0x6e,
+    0x69, 0x74, 0x3e, 1, 0, 3, 0x28, 0x29, 0x56, 0, 0x21, 0, 2, 0, 4, 0, 0, 0, 0, 0, 2, 0, 1, 0, 22,
+    0, 23, 0, 1, 0, 7, 0, 0, 0, 0, 0, 9, 0, 5, 0, 6, 0, 1, 0, 7, 0, 0, 0, 21, 0, 2, 0, 1, 0, 0, 0,
+    9, 0xb2, 0, 13, 18, 15, 0xb6, 0, 21, 0xb1, 0, 0, 0, 0, 0, 0,
 ];
 
 fn text(alloc: Global, text: &[u8]) -> Result<PoolEntry, OutOfMemory> {
@@ -64,40 +79,6 @@ fn pool_of_hello(alloc: Global) -> Result<List<PoolEntry>, OutOfMemory> {
     put_stream(alloc, &mut pool)?;
     put_println(alloc, &mut pool)?;
     Ok(pool)
-}
-
-/// A method of the pool's names with one Code attribute of this body.
-fn method(
-    alloc: Global,
-    flags: u16,
-    name: u16,
-    descriptor: u16,
-    body: &[u8],
-) -> Result<MemberInfo, OutOfMemory> {
-    let body: Bytes = List::from_slice(alloc, body)?;
-    let mut attributes = List::new(alloc);
-    attributes.push(Attribute { name: 7, body })?;
-    Ok(MemberInfo {
-        flags,
-        name,
-        descriptor,
-        attributes,
-    })
-}
-
-fn class(alloc: Global, flags: u16, methods: List<MemberInfo>) -> Result<ClassFile, OutOfMemory> {
-    Ok(ClassFile {
-        minor: 0,
-        major: 48,
-        pool: pool_of_hello(alloc)?,
-        flags,
-        this_class: 2,
-        super_class: 4,
-        interfaces: List::new(alloc),
-        fields: List::new(alloc),
-        methods,
-        attributes: List::new(alloc),
-    })
 }
 
 /// Code, one part behind the other.
@@ -154,15 +135,9 @@ fn code_of_another_form(rt: HostRuntime) -> Result<(), Fail> {
 #[test]
 fn class_with_a_main(rt: HostRuntime) -> Result<(), Fail> {
     let alloc = rt.alloc();
-    let mut methods = List::new(alloc);
-    methods.push(method(alloc, 0x0001, 22, 23, b"any")?)?;
-    methods.push(method(alloc, 0x0009, 5, 6, &CODE_BODY)?)?;
-    let hello = class(alloc, 0x0021, methods)?;
+    let hello = read_class(alloc, &HELLO).ok().ok_or("it reads")?;
     let program = form_of(alloc, &hello)?.ok_or("it has the form")?;
-    assert_eq!(rt;
-        program.name.as_slice(),
-        [72, 101, 108, 108, 111].as_slice()
-    );
+    assert_eq!(rt; program.name.as_slice(), [72, 101, 108, 108, 111].as_slice());
     assert_eq!(rt; program.texts.len(), 1);
     let first = program.texts.get(0).ok_or("there is a first")?;
     assert_eq!(rt; first.as_slice(), [104, 105].as_slice());
@@ -172,20 +147,15 @@ fn class_with_a_main(rt: HostRuntime) -> Result<(), Fail> {
 #[test]
 fn class_of_another_form(rt: HostRuntime) -> Result<(), Fail> {
     let alloc = rt.alloc();
-    let mut methods = List::new(alloc);
-    methods.push(method(alloc, 0x0009, 5, 6, &CODE_BODY)?)?;
-    let final_one = class(alloc, 0x0031, methods)?;
-    assert!(rt; form_of(alloc, &final_one)?.is_none());
-
-    let mut methods = List::new(alloc);
-    methods.push(method(alloc, 0x0001, 5, 6, &CODE_BODY)?)?;
-    let without_static = class(alloc, 0x0021, methods)?;
-    assert!(rt; form_of(alloc, &without_static)?.is_none());
-
-    let mut methods = List::new(alloc);
-    methods.push(method(alloc, 0x0009, 5, 6, &CODE_BODY)?)?;
-    methods.push(method(alloc, 0x0009, 5, 6, &CODE_BODY)?)?;
-    let with_two = class(alloc, 0x0021, methods)?;
-    assert!(rt; form_of(alloc, &with_two)?.is_none());
+    // A final class, a second method `main`, a `main` that isn't static, one without
+    // parameters, and one that has `nop` for its return.
+    for (place, byte) in [(237, 0x31), (251, 5), (263, 1), (267, 23), (292, 0)] {
+        let mut changed = HELLO;
+        if let Some(old) = changed.get_mut(place) {
+            *old = byte;
+        }
+        let class = read_class(alloc, &changed).ok().ok_or("it reads")?;
+        assert!(rt; form_of(alloc, &class)?.is_none(), "with {byte} at {place}");
+    }
     Ok(())
 }
