@@ -1,0 +1,5 @@
+use Rattle.unit_text.proofs.Spelling.{one_at}
+use Rattle.unit_text.proofs.units.one_byte.Goals as goal
+
+pub returns-in-1-to-127 : goal.returns-in-1-to-127
+returns-in-1-to-127 c = one_at c.args.bytes.now c.from.result c.in-1-to-127.len_at_least (search) (search) c.from.ensures

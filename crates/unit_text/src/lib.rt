@@ -1,0 +1,9 @@
+//! Texts of class files: modified UTF-8 is read as UTF-16 code units.
+#![tactic(auto)]
+
+mod units;
+
+pub use units::{UnitsError, units_of};
+
+#[cfg(test)]
+mod tests;
