@@ -1,12 +1,17 @@
--- Worked examples: a class file, a line with escapes, and a first run. `src/laws.rt` states what the
+-- Worked examples: a class file, types, a loop, a line with escapes, and a first run. `src/laws.rt` states what the
 -- definitions say of them.
-use Rattle.std.specs.Prelude.{◌≡◌, ℕ, List, [], ◌∷◌, ◌++◌, codes}
+use Rattle.std.specs.Prelude.{◌≡◌, ℕ, pos, List, [], ◌∷◌, ◌++◌, None, codes}
 use Rattle.jk_model.specs.declared.class_file.ClassFile.{ClassFile}
 use Rattle.jk_model.specs.declared.class_file.PoolEntry.TheVariants.{Unusable, Utf8, Class}
+use Rattle.jk_model.specs.declared.descriptors.Base.TheVariants.{Long, Class as ClassBase}
+use Rattle.jk_model.specs.declared.descriptors.FieldType.{FieldType}
+use Rattle.jk_model.specs.declared.descriptors.MethodType.{MethodType}
+use Rattle.jk_model.specs.declared.instructions.Instr.{Instr}
 use Rattle.jk_model.specs.declared.output.Line.{Line}
 use Rattle.jk_model.specs.declared.output.Line.TheVariants.{Said, Loaded, Started, Ended}
 use Rattle.jk_model.specs.declared.script.Event.{Event}
 use Rattle.jk_model.specs.declared.script.Event.TheVariants.{Domain, Start, Turn}
+use Rattle.jk_model.specs.Instructions.{plain}
 use Rattle.jk_model.specs.Machine.{Machine, no_domains, opened, started}
 use Rattle.jk_model.specs.Run.{DomainEvent}
 use Rattle.jk_model.specs.Script.{default_quotas}
@@ -39,6 +44,25 @@ smallest = record {
   methods = [];
   attributes = [];
 }
+
+-- ---- An array of arrays of long, and a method that takes a long and a text and answers nothing.
+
+abbrev pub longs_in_arrays : FieldType
+longs_in_arrays = record { dims = 2; base = Long }
+
+abbrev pub takes_long_and_text : MethodType
+takes_long_and_text = record {
+  params = record { dims = 0; base = Long } ∷ record { dims = 0; base = ClassBase (codes "java/lang/String") } ∷ [];
+  result = None;
+}
+
+-- ---- A loop: iload_1, ifne back to it, return.
+
+abbrev pub loop_bytes : List ℕ
+loop_bytes = 0x1b ∷ 0x9a ∷ 0xff ∷ 0xff ∷ 0xb1 ∷ []
+
+abbrev pub loop_instrs : List Instr
+loop_instrs = plain 0 0x15 (pos 1) (pos 0) ∷ plain 1 0x9a (pos 0) (pos 0) ∷ plain 4 0xb1 (pos 0) (pos 0) ∷ []
 
 -- ---- A line with a line feed and a backslash in what was printed.
 

@@ -1,8 +1,14 @@
+pub mod Capabilities
 pub mod ClassFile
+pub mod ConstantPool
+pub mod Descriptors
 pub mod Examples
+pub mod Extents
+pub mod Instructions
 pub mod Machine
 pub mod Output
 pub mod Outside
 pub mod Run
 pub mod Script
+pub mod SystemTable
 pub mod Text

@@ -1,5 +1,5 @@
 -- Texts: modified UTF-8 (the Java Virtual Machine Specification, 4.4.7), and how output shows a text.
-use Rattle.std.specs.Prelude.{◌≡◌, ℕ, ◌+◌, ◌-◌, ◌*◌, ◌/◌, ◌%◌, ◌≤◌, ◌&&◌, List, [], ◌∷◌, ◌++◌, nat_le, nat_lt, ◌==◌, if◌then◌else◌, flat_map, chars}
+use Rattle.std.specs.Prelude.{◌≡◌, ℕ, ◌+◌, ◌-◌, ◌*◌, ◌/◌, ◌%◌, ◌≤◌, ◌&&◌, ◌≢◌, List, [], ◌∷◌, ◌++◌, nat_le, nat_lt, ◌==◌, if◌then◌else◌, length, flat_map, chars}
 use Rattle.std.specs.Char.Escape.{encode_utf16}
 
 -- ---- Modified UTF-8. A unit has one, two or three bytes. Overlong forms count, and a surrogate is
@@ -23,6 +23,17 @@ Spells bytes (u ∷ units) =
 
 abbrev pub IsModifiedUtf8 : List ℕ → Type 0
 IsModifiedUtf8 bytes = (units : List ℕ) × Spells bytes units
+
+-- a form of a unit stands in front
+abbrev pub BeginsWithUnit : List ℕ → Type 0
+BeginsWithUnit bytes = (form : List ℕ) × (u : ℕ) × (behind : List ℕ) × IsUnit form u × (bytes ≡ form ++ behind)
+
+-- Bytes stop to be modified UTF-8 at this place: those in front of it are forms, one behind the other,
+-- and there are bytes from there on, in front of which no form stands.
+abbrev pub IsBadForm : List ℕ → ℕ → Type 0
+IsBadForm bytes place =
+    (front : List ℕ) × (rest : List ℕ) × (units : List ℕ) × (bytes ≡ front ++ rest) × Spells front units
+    × (length front ≡ place) × (rest ≢ []) × (BeginsWithUnit rest → ⊥)
 
 -- ---- Output. A unit from 32 to 126 stands for itself, but a backslash is doubled; each other unit is
 -- `\u` and four hexadecimal digits.

@@ -1,14 +1,17 @@
 //! What the definitions in `specs/` say of worked examples. The functions have no bodies: each stands
 //! for its clauses, and the examples are in `specs/Examples.antt`.
 
-ghost use Rattle.std.specs.Prelude.{◌≡◌, ◌∷◌, ◌++◌, [], List, codes, true, false};
+ghost use Rattle.std.specs.Prelude.{◌≡◌, ◌∷◌, ◌++◌, [], List, Some, None, length, codes, true, false};
 ghost use Rattle.jk_model.specs.declared.output.Line.{Line};
 ghost use Rattle.jk_model.specs.ClassFile.{IsClass};
-ghost use Rattle.jk_model.specs.Examples.{smallest_bytes, smallest, escaped_line, LoadsHello, hello_events, hello_lines, hello_started};
+ghost use Rattle.jk_model.specs.Examples.{smallest_bytes, smallest, escaped_line, loop_bytes, loop_instrs, longs_in_arrays, takes_long_and_text, LoadsHello, hello_events, hello_lines, hello_started};
+ghost use Rattle.jk_model.specs.Descriptors.{field_text, method_text, method_slots};
+ghost use Rattle.jk_model.specs.Instructions.{Decodes};
 ghost use Rattle.jk_model.specs.Machine.{Machine, no_domains, is_live};
 ghost use Rattle.jk_model.specs.Output.{text_of};
 ghost use Rattle.jk_model.specs.Run.{Turns, IsRun};
 ghost use Rattle.jk_model.specs.Script.{words};
+ghost use Rattle.jk_model.specs.SystemTable.{system_classes, number_named, first_method_number};
 ghost use Rattle.jk_model.specs.Text.{Spells, IsModifiedUtf8};
 
 /// The 53 bytes of the smallest class are a class file, of this record.
@@ -31,6 +34,28 @@ pub fn texts_of_units()
     ensures no_zero { ¬ IsModifiedUtf8 (0x00 ∷ []) }
     ensures no_four_bytes { ¬ IsModifiedUtf8 (0xf0 ∷ []) }
     ensures no_half { ¬ IsModifiedUtf8 (0xc3 ∷ []) }
+{}
+
+/// What is written of an array of arrays of long, and of a method that takes a long and a text and
+/// answers nothing. With a receiver that method has four slots.
+pub fn texts_of_types()
+    ensures arrays { field_text longs_in_arrays ≡ codes "[[J" }
+    ensures method { method_text takes_long_and_text ≡ codes "(JLjava/lang/String;)V" }
+    ensures slots { method_slots takes_long_and_text true ≡ 4 }
+{}
+
+/// A code of five bytes is three instructions: a short form, a jump back to it, and a return.
+pub fn loop_code()
+    ensures { Decodes loop_bytes loop_instrs }
+{}
+
+/// There are 45 system classes, and 111 methods of them.
+pub fn system_table()
+    ensures classes { length system_classes ≡ 45 }
+    ensures methods { first_method_number 45 ≡ 111 }
+    ensures first { number_named (codes "java/lang/Object") ≡ Some 0 }
+    ensures last { number_named (codes "jk/NotCopiableException") ≡ Some 44 }
+    ensures no_other { number_named (codes "java/lang/Class") ≡ None }
 {}
 
 /// Words stand between blanks and tabs, however many.

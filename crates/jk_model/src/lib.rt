@@ -2,9 +2,13 @@
 //! that their contracts cite: class files, scripts, output, the machine and its runs.
 #![tactic(auto)]
 
+mod capabilities;
 mod class_file;
+mod descriptors;
 mod entries;
+mod extents;
 mod identifiers;
+mod instructions;
 pub mod laws;
 mod lists;
 mod memory;
@@ -14,9 +18,13 @@ mod script;
 mod tests;
 mod values;
 
+pub use capabilities::CapStatus;
 pub use class_file::{Attribute, ClassFile, Code, Handler, MemberInfo, PoolEntry};
+pub use descriptors::{Base, FieldType, MethodType};
 pub use entries::Entry;
+pub use extents::Extent;
 pub use identifiers::{CapId, ClassId, DomainId, MemberId, SegmentNo, ThreadNo};
+pub use instructions::{Instr, SwitchCase};
 pub use lists::{Bytes, List, Units};
 pub use memory::OutOfMemory;
 pub use output::{Line, Place, Rule};

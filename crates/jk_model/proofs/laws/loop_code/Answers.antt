@@ -1,0 +1,18 @@
+-- Each instruction, with the bytes behind it.
+use Rattle.std.proofs.Common.{[], ◌∷◌, refl}
+use Rattle.jk_model.proofs.laws.loop_code.Goals as goal
+
+pub returns : goal.returns
+returns c = (
+  0x1b ∷ [],
+  0x9a ∷ 0xff ∷ 0xff ∷ 0xb1 ∷ [],
+  refl,
+  refl,
+  (
+    0x9a ∷ 0xff ∷ 0xff ∷ [],
+    0xb1 ∷ [],
+    refl,
+    refl,
+    (0xb1 ∷ [], [], refl, refl, refl),
+  ),
+)

@@ -1,0 +1,420 @@
+-- Which bytes of a code are which instructions: the Java Virtual Machine Specification, chapter 6, without
+-- the instructions on float and double, on subroutines and on monitors. A short form is decoded as its
+-- long form. A jump counts from the place of its own opcode. All numbers have their highest byte first.
+use Rattle.std.specs.Prelude.{◌≡◌, ℕ, ◌+◌, ◌-◌, ◌%◌, ◌≤◌, ◌≢◌, ◌⊎◌, ⊤, ◌&&◌, ℤ, pos, negsuc, ◌+ℤ◌, ◌-ℤ◌, ◌≤ℤ◌, ◌<ℤ◌, int_le, List, [], ◌∷◌, ◌++◌, length, map, flat_map, find, nat_le, if◌then◌else◌, option_map, unwrap_or}
+use Rattle.std.specs.List.{AllByRecursion}
+use Rattle.std.specs.Int.{w8, w16, w32, cast_signed, from_be_bytes}
+use Rattle.jk_model.specs.declared.instructions.Instr.{Instr}
+use Rattle.jk_model.specs.declared.instructions.SwitchCase.{SwitchCase}
+use Rattle.jk_model.specs.ClassFile.{u4, IsU4}
+
+-- ---- Opcodes: what one means, and which operands stand behind it.
+
+pub data Form : Type 0 where
+  -- itself, without operands
+  AsIs : Form
+  -- this opcode, with its own opcode less this number as the constant or local
+  Short : ℕ → ℕ → Form
+  -- bipush and sipush: sipush, with a signed constant of one byte, or of two
+  ByteConstant : Form
+  ShortConstant : Form
+  -- itself, with a local of one byte
+  LocalIndex : Form
+  -- ldc: ldc_w, with a pool index of one byte
+  BytePoolIndex : Form
+  -- itself, with a pool index of two bytes
+  PoolIndex : Form
+  -- iinc: a local, and a signed step, of one byte each
+  Increment : Form
+  -- itself, with a signed offset of two bytes
+  Jump : Form
+  -- goto_w: goto, with a signed offset of four bytes
+  FarJump : Form
+  -- invokeinterface: a pool index of two bytes, a count above 0, and a byte 0
+  InterfaceCall : Form
+  -- newarray: the code of what the elements are
+  ArrayOfKind : Form
+  -- multianewarray: a pool index of two bytes, and a number of dimensions above 0
+  ManyDimensions : Form
+  TableSwitch : Form
+  LookupSwitch : Form
+  -- wide: another opcode, with operands of two bytes each
+  Wide : Form
+  -- what is left out
+  FloatForm : Form
+  SubroutineForm : Form
+  MonitorForm : Form
+  -- no opcode at all
+  NoOpcode : Form
+
+-- a row is for the opcodes from its first to its last
+pub record Row (F : Type 0) : Type 0 where
+  pub first : ℕ
+  pub last : ℕ
+  pub form : F
+
+abbrev pub row : {F : Type 0} → ℕ → ℕ → F → Row F
+row first last form = record { first = first; last = last; form = form }
+
+-- the form of the row that an opcode is in, or this one, where it is in none
+abbrev pub form_among : {F : Type 0} → F → List (Row F) → ℕ → F
+form_among other rows op = unwrap_or (option_map (λ r. r.form) (find (λ r. nat_le r.first op && nat_le op r.last) rows)) other
+
+abbrev pub rows : List (Row Form)
+rows =
+    -- nop, aconst_null
+    row 0x00 0x01 AsIs
+    -- iconst_m1 to iconst_5; lconst_0, lconst_1; fconst_0 to dconst_1
+    ∷ row 0x02 0x08 (Short 0x11 3)
+    ∷ row 0x09 0x0a (Short 0x09 9)
+    ∷ row 0x0b 0x0f FloatForm
+    -- bipush; sipush; ldc; ldc_w, ldc2_w
+    ∷ row 0x10 0x10 ByteConstant
+    ∷ row 0x11 0x11 ShortConstant
+    ∷ row 0x12 0x12 BytePoolIndex
+    ∷ row 0x13 0x14 PoolIndex
+    -- iload, lload; fload, dload; aload
+    ∷ row 0x15 0x16 LocalIndex
+    ∷ row 0x17 0x18 FloatForm
+    ∷ row 0x19 0x19 LocalIndex
+    -- iload_0 to iload_3; lload_0 to lload_3; fload_0 to dload_3; aload_0 to aload_3
+    ∷ row 0x1a 0x1d (Short 0x15 0x1a)
+    ∷ row 0x1e 0x21 (Short 0x16 0x1e)
+    ∷ row 0x22 0x29 FloatForm
+    ∷ row 0x2a 0x2d (Short 0x19 0x2a)
+    -- iaload, laload; faload, daload; aaload, baload, caload, saload
+    ∷ row 0x2e 0x2f AsIs
+    ∷ row 0x30 0x31 FloatForm
+    ∷ row 0x32 0x35 AsIs
+    -- istore, lstore; fstore, dstore; astore
+    ∷ row 0x36 0x37 LocalIndex
+    ∷ row 0x38 0x39 FloatForm
+    ∷ row 0x3a 0x3a LocalIndex
+    -- istore_0 to istore_3; lstore_0 to lstore_3; fstore_0 to dstore_3; astore_0 to astore_3
+    ∷ row 0x3b 0x3e (Short 0x36 0x3b)
+    ∷ row 0x3f 0x42 (Short 0x37 0x3f)
+    ∷ row 0x43 0x4a FloatForm
+    ∷ row 0x4b 0x4e (Short 0x3a 0x4b)
+    -- iastore, lastore; fastore, dastore; aastore, bastore, castore, sastore
+    ∷ row 0x4f 0x50 AsIs
+    ∷ row 0x51 0x52 FloatForm
+    ∷ row 0x53 0x56 AsIs
+    -- pop, pop2, dup, dup_x1, dup_x2, dup2, dup2_x1, dup2_x2, swap
+    ∷ row 0x57 0x5f AsIs
+    -- add, sub, mul, div, rem, neg: each of int, long, float, double in this order
+    ∷ row 0x60 0x61 AsIs
+    ∷ row 0x62 0x63 FloatForm
+    ∷ row 0x64 0x65 AsIs
+    ∷ row 0x66 0x67 FloatForm
+    ∷ row 0x68 0x69 AsIs
+    ∷ row 0x6a 0x6b FloatForm
+    ∷ row 0x6c 0x6d AsIs
+    ∷ row 0x6e 0x6f FloatForm
+    ∷ row 0x70 0x71 AsIs
+    ∷ row 0x72 0x73 FloatForm
+    ∷ row 0x74 0x75 AsIs
+    ∷ row 0x76 0x77 FloatForm
+    -- ishl, lshl, ishr, lshr, iushr, lushr, iand, land, ior, lor, ixor, lxor
+    ∷ row 0x78 0x83 AsIs
+    -- iinc
+    ∷ row 0x84 0x84 Increment
+    -- i2l; i2f, i2d; l2i; l2f to d2f; i2b, i2c, i2s
+    ∷ row 0x85 0x85 AsIs
+    ∷ row 0x86 0x87 FloatForm
+    ∷ row 0x88 0x88 AsIs
+    ∷ row 0x89 0x90 FloatForm
+    ∷ row 0x91 0x93 AsIs
+    -- lcmp; fcmpl to dcmpg
+    ∷ row 0x94 0x94 AsIs
+    ∷ row 0x95 0x98 FloatForm
+    -- ifeq, ifne, iflt, ifge, ifgt, ifle; if_icmp in the same order; if_acmpeq, if_acmpne; goto
+    ∷ row 0x99 0x9e Jump
+    ∷ row 0x9f 0xa4 Jump
+    ∷ row 0xa5 0xa6 Jump
+    ∷ row 0xa7 0xa7 Jump
+    -- jsr, ret
+    ∷ row 0xa8 0xa9 SubroutineForm
+    ∷ row 0xaa 0xaa TableSwitch
+    ∷ row 0xab 0xab LookupSwitch
+    -- ireturn, lreturn; freturn, dreturn; areturn, return
+    ∷ row 0xac 0xad AsIs
+    ∷ row 0xae 0xaf FloatForm
+    ∷ row 0xb0 0xb1 AsIs
+    -- getstatic, putstatic, getfield, putfield; invokevirtual, invokespecial, invokestatic
+    ∷ row 0xb2 0xb5 PoolIndex
+    ∷ row 0xb6 0xb8 PoolIndex
+    ∷ row 0xb9 0xb9 InterfaceCall
+    -- new; newarray; anewarray
+    ∷ row 0xbb 0xbb PoolIndex
+    ∷ row 0xbc 0xbc ArrayOfKind
+    ∷ row 0xbd 0xbd PoolIndex
+    -- arraylength, athrow
+    ∷ row 0xbe 0xbf AsIs
+    -- checkcast, instanceof
+    ∷ row 0xc0 0xc1 PoolIndex
+    -- monitorenter, monitorexit
+    ∷ row 0xc2 0xc3 MonitorForm
+    ∷ row 0xc4 0xc4 Wide
+    ∷ row 0xc5 0xc5 ManyDimensions
+    -- ifnull, ifnonnull
+    ∷ row 0xc6 0xc7 Jump
+    -- goto_w
+    ∷ row 0xc8 0xc8 FarJump
+    -- jsr_w
+    ∷ row 0xc9 0xc9 SubroutineForm
+    ∷ []
+
+abbrev pub form_of : ℕ → Form
+form_of op = form_among NoOpcode rows op
+
+-- the opcodes that may stand behind wide, and what they mean there
+pub data WideForm : Type 0 where
+  -- itself, with a local of two bytes
+  WideLocal : WideForm
+  -- iinc: a local, and a signed step, of two bytes each
+  WideIncrement : WideForm
+  -- what is left out
+  WideFloat : WideForm
+  WideSubroutine : WideForm
+  -- wide doesn't stand before it
+  NotWide : WideForm
+
+abbrev pub wide_rows : List (Row WideForm)
+wide_rows =
+    row 0x15 0x16 WideLocal
+    ∷ row 0x17 0x18 WideFloat
+    ∷ row 0x19 0x19 WideLocal
+    ∷ row 0x36 0x37 WideLocal
+    ∷ row 0x38 0x39 WideFloat
+    ∷ row 0x3a 0x3a WideLocal
+    ∷ row 0x84 0x84 WideIncrement
+    ∷ row 0xa9 0xa9 WideSubroutine
+    ∷ []
+
+abbrev pub wide_form_of : ℕ → WideForm
+wide_form_of op = form_among NotWide wide_rows op
+
+-- ---- Operands.
+
+abbrev pub short : ℕ → ℕ → ℕ
+short high low = from_be_bytes w16 (high ∷ low ∷ [])
+
+abbrev pub signed_short : ℕ → ℕ → ℤ
+signed_short high low = cast_signed w16 (short high low)
+
+abbrev pub signed_int : ℕ → ℤ
+signed_int n = cast_signed w32 n
+
+-- where an offset leads from a place: -1 where that is no place of a code
+abbrev pub target : ℕ → ℤ → ℤ
+target at offset =
+    if int_le (pos 0) (pos at +ℤ offset) && int_le (pos at +ℤ offset) (pos 65535) then pos at +ℤ offset else negsuc 0
+
+-- an instruction without cases: its place, its opcode, its two operands
+abbrev pub plain : ℕ → ℕ → ℤ → ℤ → Instr
+plain at op a b = record { at = at; op = op; a = a; b = b; cases = [] }
+
+-- what newarray makes: boolean, char, byte, short, int, long; and float, double
+abbrev pub IsKind : ℕ → Type 0
+IsKind kind = (kind ≡ 4) ⊎ (kind ≡ 5) ⊎ ((8 ≤ kind) × (kind ≤ 11))
+
+abbrev pub IsFloatKind : ℕ → Type 0
+IsFloatKind kind = (kind ≡ 6) ⊎ (kind ≡ 7)
+
+-- ---- Switches. The operands of one whose opcode stands at this place begin at a multiple of four from the
+-- code's start; any bytes may fill the gap.
+
+abbrev pub gap : ℕ → ℕ
+gap at = 3 - at % 4
+
+abbrev pub case_at : ℕ → ℤ → ℕ → SwitchCase
+case_at at key offset = record { key = key; target = target at (signed_int offset) }
+
+abbrev pub switch : ℕ → ℕ → ℕ → List SwitchCase → Instr
+switch at op default cases = record { at = at; op = op; a = target at (signed_int default); b = pos 0; cases = cases }
+
+-- offsets of keys that follow one another
+abbrev pub table_cases : ℕ → ℤ → List ℕ → List SwitchCase
+table_cases at key [] = []
+table_cases at key (offset ∷ offsets) = case_at at key offset ∷ table_cases at (key +ℤ pos 1) offsets
+
+-- the offset of the default, the lowest key, the highest key, and an offset for each key
+pub record IsTableSwitch (at op : ℕ) (bytes : List ℕ) (i : Instr) : Type 0 where
+  pub filling : List ℕ
+  pub default : ℕ
+  pub low : ℕ
+  pub high : ℕ
+  pub offsets : List ℕ
+  pub layout : bytes ≡ filling ++ u4 default ++ u4 low ++ u4 high ++ flat_map u4 offsets
+  pub filled : length filling ≡ gap at
+  pub numbers : IsU4 default × IsU4 low × IsU4 high × AllByRecursion IsU4 offsets
+  pub order : signed_int low ≤ℤ signed_int high
+  pub count : pos (length offsets) ≡ (signed_int high -ℤ signed_int low) +ℤ pos 1
+  pub says : i ≡ switch at op default (table_cases at (signed_int low) offsets)
+
+-- a key and an offset
+abbrev pub pair_bytes : ℕ × ℕ → List ℕ
+pair_bytes p = u4 p.0 ++ u4 p.1
+
+abbrev pub IsPair : ℕ × ℕ → Type 0
+IsPair p = IsU4 p.0 × IsU4 p.1
+
+abbrev pub keys : List (ℕ × ℕ) → List ℤ
+keys pairs = map (λ p. signed_int p.0) pairs
+
+-- each number is above the one before it
+abbrev pub Rises : List ℤ → Type 0
+Rises [] = ⊤
+Rises (k ∷ []) = ⊤
+Rises (k ∷ l ∷ more) = (k <ℤ l) × Rises (l ∷ more)
+
+-- the offset of the default, the number of pairs, and so many pairs, whose keys rise
+pub record IsLookupSwitch (at op : ℕ) (bytes : List ℕ) (i : Instr) : Type 0 where
+  pub filling : List ℕ
+  pub default : ℕ
+  pub pairs : List (ℕ × ℕ)
+  pub layout : bytes ≡ filling ++ u4 default ++ u4 (length pairs) ++ flat_map pair_bytes pairs
+  pub filled : length filling ≡ gap at
+  pub numbers : IsU4 default × IsU4 (length pairs) × AllByRecursion IsPair pairs
+  pub count : pos 0 ≤ℤ signed_int (length pairs)
+  pub rising : Rises (keys pairs)
+  pub says : i ≡ switch at op default (map (λ p. case_at at (signed_int p.0) p.1) pairs)
+
+-- ---- Instructions. The bytes behind an opcode, all of them, are its operands, and it is this instruction.
+
+abbrev pub WideMeans : WideForm → ℕ → ℕ → List ℕ → Instr → Type 0
+WideMeans WideLocal at op (m ∷ n ∷ []) i = i ≡ plain at op (pos (short m n)) (pos 0)
+WideMeans WideIncrement at op (k ∷ l ∷ m ∷ n ∷ []) i = i ≡ plain at op (pos (short k l)) (signed_short m n)
+WideMeans _ at op _ i = ⊥
+
+abbrev pub Means : Form → ℕ → ℕ → List ℕ → Instr → Type 0
+Means AsIs at op [] i = i ≡ plain at op (pos 0) (pos 0)
+Means (Short long first) at op [] i = i ≡ plain at long (pos op -ℤ pos first) (pos 0)
+Means ByteConstant at op (n ∷ []) i = i ≡ plain at 0x11 (cast_signed w8 n) (pos 0)
+Means ShortConstant at op (m ∷ n ∷ []) i = i ≡ plain at 0x11 (signed_short m n) (pos 0)
+Means LocalIndex at op (n ∷ []) i = i ≡ plain at op (pos n) (pos 0)
+Means BytePoolIndex at op (n ∷ []) i = i ≡ plain at 0x13 (pos n) (pos 0)
+Means PoolIndex at op (m ∷ n ∷ []) i = i ≡ plain at op (pos (short m n)) (pos 0)
+Means Increment at op (m ∷ n ∷ []) i = i ≡ plain at op (pos m) (cast_signed w8 n)
+Means Jump at op (m ∷ n ∷ []) i = i ≡ plain at op (target at (signed_short m n)) (pos 0)
+Means FarJump at op (k ∷ l ∷ m ∷ n ∷ []) i =
+    i ≡ plain at 0xa7 (target at (signed_int (from_be_bytes w32 (k ∷ l ∷ m ∷ n ∷ [])))) (pos 0)
+Means InterfaceCall at op (m ∷ n ∷ count ∷ last ∷ []) i =
+    (count ≢ 0) × (last ≡ 0) × (i ≡ plain at op (pos (short m n)) (pos 0))
+Means ArrayOfKind at op (kind ∷ []) i = IsKind kind × (i ≡ plain at op (pos kind) (pos 0))
+Means ManyDimensions at op (m ∷ n ∷ dims ∷ []) i = (dims ≢ 0) × (i ≡ plain at op (pos (short m n)) (pos dims))
+Means TableSwitch at op operands i = IsTableSwitch at op operands i
+Means LookupSwitch at op operands i = IsLookupSwitch at op operands i
+Means Wide at op (widened ∷ operands) i = WideMeans (wide_form_of widened) at widened operands i
+Means _ at op _ i = ⊥
+
+-- the bytes, whose first is at this place, are this instruction
+abbrev pub IsInstr : ℕ → List ℕ → Instr → Type 0
+IsInstr at [] i = ⊥
+IsInstr at (op ∷ operands) i = Means (form_of op) at op operands i
+
+-- the bytes are these instructions, one behind the other
+abbrev pub AreInstrs : ℕ → List ℕ → List Instr → Type 0
+AreInstrs at bytes [] = bytes ≡ []
+AreInstrs at bytes (i ∷ instrs) =
+    (front : List ℕ) × (rest : List ℕ) × IsInstr at front i × (bytes ≡ front ++ rest)
+    × AreInstrs (at + length front) rest instrs
+
+-- the code is these instructions
+abbrev pub Decodes : List ℕ → List Instr → Type 0
+Decodes code instrs = AreInstrs 0 code instrs
+
+-- ---- Faults. A fault shows where an opcode stands that is none or is left out, or an operand that may not
+-- be, whatever follows; so bytes that are missed behind it don't count.
+
+pub data Fault : Type 0 where
+  IllegalOpcode : Fault
+  BadSwitch : Fault
+  BadOperand : Fault
+  FloatOpcode : Fault
+  Subroutine : Fault
+  Monitor : Fault
+
+abbrev pub WideRefuses : WideForm → Fault → Type 0
+WideRefuses WideLocal f = ⊥
+WideRefuses WideIncrement f = ⊥
+WideRefuses WideFloat f = f ≡ FloatOpcode
+WideRefuses WideSubroutine f = f ≡ Subroutine
+WideRefuses NotWide f = f ≡ BadOperand
+
+-- the lowest key is above the highest
+pub record IsBadTable (at : ℕ) (behind : List ℕ) : Type 0 where
+  pub filling : List ℕ
+  pub default : ℕ
+  pub low : ℕ
+  pub high : ℕ
+  pub more : List ℕ
+  pub layout : behind ≡ filling ++ u4 default ++ u4 low ++ u4 high ++ more
+  pub filled : length filling ≡ gap at
+  pub numbers : IsU4 default × IsU4 low × IsU4 high
+  pub order : signed_int high <ℤ signed_int low
+
+-- the number of pairs is negative
+pub record IsBadCount (at : ℕ) (behind : List ℕ) : Type 0 where
+  pub filling : List ℕ
+  pub default : ℕ
+  pub count : ℕ
+  pub more : List ℕ
+  pub layout : behind ≡ filling ++ u4 default ++ u4 count ++ more
+  pub filled : length filling ≡ gap at
+  pub numbers : IsU4 default × IsU4 count
+  pub negative : signed_int count <ℤ pos 0
+
+-- a key isn't above the one before it
+pub record IsBadKey (at : ℕ) (behind : List ℕ) : Type 0 where
+  pub filling : List ℕ
+  pub default : ℕ
+  pub count : ℕ
+  pub pairs : List (ℕ × ℕ)
+  pub key : ℕ
+  pub more : List ℕ
+  pub layout : behind ≡ filling ++ u4 default ++ u4 count ++ flat_map pair_bytes pairs ++ u4 key ++ more
+  pub filled : length filling ≡ gap at
+  pub numbers : IsU4 default × IsU4 count × AllByRecursion IsPair pairs × IsU4 key
+  pub within : pos (length pairs) <ℤ signed_int count
+  pub falls : Rises (keys pairs ++ signed_int key ∷ []) → ⊥
+
+-- what stands behind an opcode of this form, or the opcode itself, shows this fault
+abbrev pub Refuses : Form → ℕ → List ℕ → Fault → Type 0
+Refuses NoOpcode at behind f = f ≡ IllegalOpcode
+Refuses FloatForm at behind f = f ≡ FloatOpcode
+Refuses SubroutineForm at behind f = f ≡ Subroutine
+Refuses MonitorForm at behind f = f ≡ Monitor
+Refuses InterfaceCall at (m ∷ n ∷ count ∷ []) f = (count ≡ 0) × (f ≡ BadOperand)
+Refuses InterfaceCall at (m ∷ n ∷ count ∷ last ∷ more) f = ((count ≡ 0) ⊎ (last ≢ 0)) × (f ≡ BadOperand)
+Refuses ArrayOfKind at (kind ∷ more) f =
+    (IsFloatKind kind × (f ≡ FloatOpcode)) ⊎ ((IsKind kind → ⊥) × (IsFloatKind kind → ⊥) × (f ≡ BadOperand))
+Refuses ManyDimensions at (m ∷ n ∷ dims ∷ more) f = (dims ≡ 0) × (f ≡ BadOperand)
+Refuses TableSwitch at behind f = IsBadTable at behind × (f ≡ BadSwitch)
+Refuses LookupSwitch at behind f = (IsBadCount at behind ⊎ IsBadKey at behind) × (f ≡ BadSwitch)
+Refuses Wide at (widened ∷ more) f = WideRefuses (wide_form_of widened) f
+Refuses _ at _ f = ⊥
+
+abbrev pub Shows : ℕ → List ℕ → Fault → Type 0
+Shows at [] f = ⊥
+Shows at (op ∷ behind) f = Refuses (form_of op) at behind f
+
+-- an instruction stands in front of these bytes
+abbrev pub BeginsWithInstr : ℕ → List ℕ → Type 0
+BeginsWithInstr at bytes = (front : List ℕ) × (rest : List ℕ) × (i : Instr) × IsInstr at front i × (bytes ≡ front ++ rest)
+
+-- instructions fill the code up to this place, and these bytes stand from there on
+abbrev pub GoesOn : List ℕ → ℕ → List ℕ → Type 0
+GoesOn code place rest =
+    (front : List ℕ) × (instrs : List Instr) × (code ≡ front ++ rest) × Decodes front instrs × (length front ≡ place)
+
+-- the first fault of a code, and the place of the opcode where it shows
+abbrev pub HasFault : List ℕ → Fault → ℕ → Type 0
+HasFault code f place = (rest : List ℕ) × GoesOn code place rest × Shows place rest f
+
+-- The code ends within the instruction that begins at this place: there are bytes, no fault shows, and
+-- they aren't enough for an instruction.
+abbrev pub IsCutAt : List ℕ → ℕ → Type 0
+IsCutAt code place =
+    (rest : List ℕ) × GoesOn code place rest × (rest ≢ []) × ((f : Fault) → Shows place rest f → ⊥)
+    × (BeginsWithInstr place rest → ⊥)
