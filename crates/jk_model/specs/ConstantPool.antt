@@ -1,5 +1,5 @@
--- The constant pool by itself, at the front of some bytes: which pool they hold, and where they stop to hold
--- one. It is judged in two passes: first each entry is read, then what the entries say is looked at.
+-- The constant pool by itself, at the front of some bytes (the Java Virtual Machine Specification, section
+-- 4.4): which pool they hold, and where they stop holding one. It is judged in two passes: first each entry is read, then what the entries say is looked at.
 use Rattle.std.specs.Prelude.{◌≡◌, ℕ, ◌+◌, ◌<◌, ◌≤◌, ◌≢◌, ◌⊎◌, List, [], ◌∷◌, ◌++◌, length, take, flat_map, Some, slice_get}
 use Rattle.std.specs.List.{AllByRecursion}
 use Rattle.jk_model.specs.declared.class_file.PoolEntry.{PoolEntry}
@@ -8,6 +8,10 @@ use Rattle.jk_model.specs.ClassFile.{u2, IsU2, entry_bytes, IsEntry, AreSlots, B
 -- the pool is laid out in front, and these bytes stand behind it
 abbrev pub BeginsWithPool : List ℕ → List PoolEntry → List ℕ → Type 0
 BeginsWithPool bytes pool rest = IsPool pool × (bytes ≡ pool_bytes pool ++ rest)
+
+-- the bytes hold this pool: it is laid out in front, and its entries are good
+abbrev pub HasPool : List ℕ → List PoolEntry → Type 0
+HasPool bytes pool = ((rest : List ℕ) × BeginsWithPool bytes pool rest) × AllByRecursion (IsGoodEntry pool) pool
 
 -- ---- While the entries are read.
 
@@ -38,7 +42,7 @@ HasBadTag bytes i =
 abbrev pub HasNoIndex : List ℕ → Type 0
 HasNoIndex bytes = (more : List ℕ) × (bytes ≡ u2 0 ++ more)
 
--- the entries stop at this index to be a pool
+-- at this index the entries stop being those of a pool
 abbrev pub StopsAtTag : List ℕ → ℕ → Type 0
 StopsAtTag bytes i = (HasNoIndex bytes × (i ≡ 0)) ⊎ HasBadTag bytes i
 

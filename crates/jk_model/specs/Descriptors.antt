@@ -1,5 +1,5 @@
 -- Descriptors: how the types of fields and methods are written (the Java Virtual Machine
--- Specification, section 4.3). Here stands what is written of a type, and where units stop to be what
+-- Specification, section 4.3). Here stands what is written of a type, and where units stop being what
 -- is written of any. Characters stand as their numbers: 40 and 41 are the parentheses, 46 is `.`, 47 is
 -- `/`, 59 is `;`, 91 is `[`.
 use Rattle.std.specs.Prelude.{◌≡◌, ℕ, ◌+◌, ◌<◌, ◌≤◌, ◌≢◌, ⊤, List, [], ◌∷◌, ◌++◌, length, take, replicate, flat_map, sum_by, Option, Some, None, Bool, true, false, if◌then◌else◌, ◌==◌}

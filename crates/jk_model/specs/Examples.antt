@@ -1,6 +1,6 @@
--- Worked examples: a class file, types, a loop, a line with escapes, and a first run. `src/laws.rt` states what the
+-- Worked examples: a class file, types, a loop, a switch, a line with escapes, and a first run. `src/laws.rt` states what the
 -- definitions say of them.
-use Rattle.std.specs.Prelude.{◌≡◌, ℕ, pos, List, [], ◌∷◌, ◌++◌, None, codes}
+use Rattle.std.specs.Prelude.{◌≡◌, ℕ, pos, negsuc, List, [], ◌∷◌, ◌++◌, None, codes}
 use Rattle.jk_model.specs.declared.class_file.ClassFile.{ClassFile}
 use Rattle.jk_model.specs.declared.class_file.PoolEntry.TheVariants.{Unusable, Utf8, Class}
 use Rattle.jk_model.specs.declared.descriptors.Base.TheVariants.{Long, Class as ClassBase}
@@ -11,7 +11,7 @@ use Rattle.jk_model.specs.declared.output.Line.{Line}
 use Rattle.jk_model.specs.declared.output.Line.TheVariants.{Said, Loaded, Started, Ended}
 use Rattle.jk_model.specs.declared.script.Event.{Event}
 use Rattle.jk_model.specs.declared.script.Event.TheVariants.{Domain, Start, Turn}
-use Rattle.jk_model.specs.Instructions.{plain}
+use Rattle.jk_model.specs.Instructions.{plain, switch}
 use Rattle.jk_model.specs.Machine.{Machine, no_domains, opened, started}
 use Rattle.jk_model.specs.Run.{DomainEvent}
 use Rattle.jk_model.specs.Script.{default_quotas}
@@ -63,6 +63,20 @@ loop_bytes = 0x1b ∷ 0x9a ∷ 0xff ∷ 0xff ∷ 0xb1 ∷ []
 
 abbrev pub loop_instrs : List Instr
 loop_instrs = plain 0 0x15 (pos 1) (pos 0) ∷ plain 1 0x9a (pos 0) (pos 0) ∷ plain 4 0xb1 (pos 0) (pos 0) ∷ []
+
+-- ---- A nop, and behind it a tableswitch with the keys 0 and 1, whose operands begin at place 4.
+
+abbrev pub switch_bytes : List ℕ
+switch_bytes =
+    0x00 ∷ 0xaa ∷ 0x00 ∷ 0x00
+    ∷ 0x00 ∷ 0x00 ∷ 0x00 ∷ 0x10 ∷ 0x00 ∷ 0x00 ∷ 0x00 ∷ 0x00 ∷ 0x00 ∷ 0x00 ∷ 0x00 ∷ 0x01
+    ∷ 0x00 ∷ 0x00 ∷ 0x00 ∷ 0x0a ∷ 0xff ∷ 0xff ∷ 0xff ∷ 0xfe ∷ []
+
+abbrev pub switch_instrs : List Instr
+switch_instrs =
+    plain 0 0x00 (pos 0) (pos 0)
+    ∷ switch 1 0xaa 0x10 (record { key = pos 0; target = pos 11 } ∷ record { key = pos 1; target = negsuc 0 } ∷ [])
+    ∷ []
 
 -- ---- A line with a line feed and a backslash in what was printed.
 

@@ -1,4 +1,4 @@
--- Pages that are handed out in runs. A page is free where no run that is out holds it.
+-- Pages, of 64 words each, that are handed out in runs. A page is free where no run that is out holds it.
 use Rattle.std.specs.Prelude.{ℕ, ◌+◌, ◌<◌, ◌≤◌, ◌⊎◌, List, AllPairs}
 use Rattle.std.specs.List.{AllByRecursion}
 use Rattle.jk_model.specs.declared.extents.Extent.{Extent}

@@ -1,6 +1,7 @@
 -- Which bytes of a code are which instructions: the Java Virtual Machine Specification, chapter 6, without
 -- the instructions on float and double, on subroutines and on monitors. A short form is decoded as its
--- long form. A jump counts from the place of its own opcode. All numbers have their highest byte first.
+-- long form, goto_w as goto, and wide as the opcode behind it, at the place of wide. A jump counts from the place
+-- of its own opcode. All numbers have their highest byte first.
 use Rattle.std.specs.Prelude.{◌≡◌, ℕ, ◌+◌, ◌-◌, ◌%◌, ◌≤◌, ◌≢◌, ◌⊎◌, ⊤, ◌&&◌, ℤ, pos, negsuc, ◌+ℤ◌, ◌-ℤ◌, ◌≤ℤ◌, ◌<ℤ◌, int_le, List, [], ◌∷◌, ◌++◌, length, map, flat_map, find, nat_le, if◌then◌else◌, option_map, unwrap_or}
 use Rattle.std.specs.List.{AllByRecursion}
 use Rattle.std.specs.Int.{w8, w16, w32, cast_signed, from_be_bytes}
@@ -13,7 +14,7 @@ use Rattle.jk_model.specs.ClassFile.{u4, IsU4}
 pub data Form : Type 0 where
   -- itself, without operands
   AsIs : Form
-  -- this opcode, with its own opcode less this number as the constant or local
+  -- this opcode; the constant or local is its own opcode less this number
   Short : ℕ → ℕ → Form
   -- bipush and sipush: sipush, with a signed constant of one byte, or of two
   ByteConstant : Form
@@ -214,10 +215,11 @@ target at offset =
 abbrev pub plain : ℕ → ℕ → ℤ → ℤ → Instr
 plain at op a b = record { at = at; op = op; a = a; b = b; cases = [] }
 
--- what newarray makes: boolean, char, byte, short, int, long; and float, double
+-- what newarray makes: boolean, char; byte, short, int, long
 abbrev pub IsKind : ℕ → Type 0
 IsKind kind = (kind ≡ 4) ⊎ (kind ≡ 5) ⊎ ((8 ≤ kind) × (kind ≤ 11))
 
+-- float and double, which are left out
 abbrev pub IsFloatKind : ℕ → Type 0
 IsFloatKind kind = (kind ≡ 6) ⊎ (kind ≡ 7)
 

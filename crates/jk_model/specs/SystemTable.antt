@@ -1,6 +1,6 @@
 -- The system classes: their order, members and flags. All are public; what else is said of a class or member
 -- stands beside it. A domain's own classes can't add to them.
-use Rattle.std.specs.Prelude.{ℕ, Bool, true, false, List, [], ◌∷◌, ◌++◌, length, map, take, sum_by, Option, Some, None, position, option_and_then, bytes_eq, codes}
+use Rattle.std.specs.Prelude.{ℕ, ◌+◌, Bool, true, false, List, [], ◌∷◌, ◌++◌, length, map, take, sum_by, Option, Some, None, position, option_and_then, bytes_eq, codes}
 
 pub record SystemField : Type 0 where
   pub name : List ℕ
@@ -239,13 +239,18 @@ system_classes =
 abbrev pub number_named : List ℕ → Option ℕ
 number_named name = position (λ c. bytes_eq c.name name) system_classes
 
+-- the number of its parent; none where it has no parent
 abbrev pub parent_number : SystemClass → Option ℕ
 parent_number c = option_and_then number_named c.parent
 
--- the number of the class of this name, which is one of the table
+-- the numbers of the interfaces that it lists, each of which is a class of the table
 abbrev pub interface_numbers : SystemClass → List (Option ℕ)
 interface_numbers c = map number_named c.interfaces
 
 -- the number of the first method of the class at a place
 abbrev pub first_method_number : ℕ → ℕ
 first_method_number n = sum_by (λ c. length c.methods) (take n system_classes)
+
+-- the number of the method at place i of the class at place n
+abbrev pub method_number : ℕ → ℕ → ℕ
+method_number n i = first_method_number n + i

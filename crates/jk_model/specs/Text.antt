@@ -28,7 +28,7 @@ IsModifiedUtf8 bytes = (units : List ℕ) × Spells bytes units
 abbrev pub BeginsWithUnit : List ℕ → Type 0
 BeginsWithUnit bytes = (form : List ℕ) × (u : ℕ) × (behind : List ℕ) × IsUnit form u × (bytes ≡ form ++ behind)
 
--- Bytes stop to be modified UTF-8 at this place: those in front of it are forms, one behind the other,
+-- Bytes stop being modified UTF-8 at this place: those in front of it are forms, one behind the other,
 -- and there are bytes from there on, in front of which no form stands.
 abbrev pub IsBadForm : List ℕ → ℕ → Type 0
 IsBadForm bytes place =

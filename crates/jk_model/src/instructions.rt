@@ -6,7 +6,8 @@ use crate::lists::List;
 #[derive(Debug, Drop)]
 pub struct Instr {
     pub at: u32,
-    /// The opcode, or that of the long form where the instruction has a short one.
+    /// The opcode, or that of the long form where the instruction has a short one. That of `goto` for
+    /// `goto_w`, and behind `wide` the opcode that it widens.
     pub op: u8,
     /// The constant, local, pool index, array code or target; 0 where there is none. A target is a
     /// place in the code, or -1 where it lies outside 0 to 65,535.

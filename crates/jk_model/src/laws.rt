@@ -4,9 +4,9 @@
 ghost use Rattle.std.specs.Prelude.{◌≡◌, ◌∷◌, ◌++◌, [], List, Some, None, length, codes, true, false};
 ghost use Rattle.jk_model.specs.declared.output.Line.{Line};
 ghost use Rattle.jk_model.specs.ClassFile.{IsClass};
-ghost use Rattle.jk_model.specs.Examples.{smallest_bytes, smallest, escaped_line, loop_bytes, loop_instrs, longs_in_arrays, takes_long_and_text, LoadsHello, hello_events, hello_lines, hello_started};
+ghost use Rattle.jk_model.specs.Examples.{smallest_bytes, smallest, escaped_line, loop_bytes, loop_instrs, switch_bytes, switch_instrs, longs_in_arrays, takes_long_and_text, LoadsHello, hello_events, hello_lines, hello_started};
 ghost use Rattle.jk_model.specs.Descriptors.{field_text, method_text, method_slots};
-ghost use Rattle.jk_model.specs.Instructions.{Decodes};
+ghost use Rattle.jk_model.specs.Instructions.{Decodes, HasFault, IllegalOpcode};
 ghost use Rattle.jk_model.specs.Machine.{Machine, no_domains, is_live};
 ghost use Rattle.jk_model.specs.Output.{text_of};
 ghost use Rattle.jk_model.specs.Run.{Turns, IsRun};
@@ -47,6 +47,17 @@ pub fn texts_of_types()
 /// A code of five bytes is three instructions: a short form, a jump back to it, and a return.
 pub fn loop_code()
     ensures { Decodes loop_bytes loop_instrs }
+{}
+
+/// A code whose second instruction is a switch: two bytes fill the gap, and an offset that leads out of
+/// the code gives -1.
+pub fn switch_code()
+    ensures { Decodes switch_bytes switch_instrs }
+{}
+
+/// No opcode stands at place 1.
+pub fn opcode_that_is_none()
+    ensures { HasFault (0x00 ∷ 0xba ∷ 0x00 ∷ []) IllegalOpcode 1 }
 {}
 
 /// There are 45 system classes, and 111 methods of them.
