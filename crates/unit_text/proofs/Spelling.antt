@@ -1,10 +1,10 @@
 -- Forms one behind the other: that there is one way to read them, and one place where they stop.
 use Rattle.std.proofs.Common.{◌≡◌, ℕ, ◌+◌, ◌-◌, ◌*◌, ◌<◌, ◌≤◌, ◌⊎◌, inl, inr, List, [], ◌∷◌, ◌++◌, length, refl, sym, ◌∙◌, ap, arith, length-append, take, drop, slice_index_or, append-nil, append_assoc, Result, Ok, Err, MatchResult}
 use Rattle.std.proofs.lemmas.List.{take_all}
-use Rattle.jk_model.specs.Text.{IsUnit, Spells}
+use Rattle.jk_model.specs.Text.{IsUnit, Spells, BeginsWithUnit, IsBadForm}
 use Rattle.unit_text.specs.declared.units.UnitsError.{UnitsError}
 use Rattle.unit_text.specs.declared.units.UnitsError.TheVariants.{BadForm, OutOfMemory}
-use Rattle.unit_text.specs.BadForm.{BeginsWith, BeginsNoUnit, IsBadForm}
+use Rattle.unit_text.specs.Forms.{BeginsWith, BeginsNoUnit}
 use Rattle.unit_text.specs.Answer.{IsAnswer}
 
 -- what is known once some forms are read
@@ -27,7 +27,7 @@ all_read bytes rest units (front, e, h) none =
 
 pub at_bad_form : (bytes rest units : List ℕ) → IsSoFar bytes rest units → (rest ≡ [] → ⊥) → BeginsNoUnit rest → IsBadForm bytes (length bytes - length rest)
 at_bad_form bytes rest units (front, e, h) some never =
-    (front, rest, units, e, h, rw e (omega (arith, length-append front rest)), some, never)
+    (front, rest, units, e, h, rw e (omega (arith, length-append front rest)), some, λ (form, u, behind, one, begins). never form u behind one begins)
 
 -- ---- There is one way to read forms.
 
@@ -102,13 +102,13 @@ one_reading bytes (u ∷ us) (v ∷ vs) (f, r, hf, ef, hr) (g, s, hg, eg, hs) =
     rw (same.unit, others) refl
 
 -- where a text stops, there is no reading
-no_reading : (front rest us bytes vs : List ℕ) → Spells front us → bytes ≡ front ++ rest → (rest ≡ [] → ⊥) → BeginsNoUnit rest → Spells bytes vs → ⊥
+no_reading : (front rest us bytes vs : List ℕ) → Spells front us → bytes ≡ front ++ rest → (rest ≡ [] → ⊥) → (BeginsWithUnit rest → ⊥) → Spells bytes vs → ⊥
 no_reading front rest [] bytes [] h e some never k =
     let none : rest ≡ [] = sym (ap (λ xs. xs ++ rest) h) ∙ sym e ∙ k in
     some none
 no_reading front rest [] bytes (v ∷ vs) h e some never (g, s, hg, eg, hs) =
     let whole : rest ≡ g ++ s = sym (ap (λ xs. xs ++ rest) h) ∙ sym e ∙ eg in
-    never g v s hg whole
+    never (g, v, s, hg, whole)
 no_reading front rest (u ∷ us) bytes [] (f, r, hf, ef, hr) e some never k =
     let whole : bytes ≡ f ++ (r ++ rest) = e ∙ rw ef (append_assoc f r rest) in
     some_bytes f (r ++ rest) u hf (sym whole ∙ k)
@@ -118,14 +118,14 @@ no_reading front rest (u ∷ us) bytes (v ∷ vs) (f, r, hf, ef, hr) e some neve
     no_reading r rest us s vs hr (sym same.behind) some never hs
 
 -- it stops at one place
-one_place : (front rest us : List ℕ) (front2 rest2 vs : List ℕ) → Spells front us → BeginsNoUnit rest → Spells front2 vs → BeginsNoUnit rest2 → front ++ rest ≡ front2 ++ rest2 → length front ≡ length front2
+one_place : (front rest us : List ℕ) (front2 rest2 vs : List ℕ) → Spells front us → (BeginsWithUnit rest → ⊥) → Spells front2 vs → (BeginsWithUnit rest2 → ⊥) → front ++ rest ≡ front2 ++ rest2 → length front ≡ length front2
 one_place front rest [] front2 rest2 [] h never h2 never2 e = ap length (h ∙ sym h2)
 one_place front rest [] front2 rest2 (v ∷ vs) h never (g, s, hg, eg, hs) never2 e =
     let whole : rest ≡ g ++ (s ++ rest2) = sym (ap (λ xs. xs ++ rest) h) ∙ e ∙ rw eg (append_assoc g s rest2) in
-    absurd (never g v (s ++ rest2) hg whole)
+    absurd (never (g, v, s ++ rest2, hg, whole))
 one_place front rest (u ∷ us) front2 rest2 [] (f, r, hf, ef, hr) never h2 never2 e =
     let whole : rest2 ≡ f ++ (r ++ rest) = sym (ap (λ xs. xs ++ rest2) h2) ∙ sym e ∙ rw ef (append_assoc f r rest) in
-    absurd (never2 f u (r ++ rest) hf whole)
+    absurd (never2 (f, u, r ++ rest, hf, whole))
 one_place front rest (u ∷ us) front2 rest2 (v ∷ vs) (f, r, hf, ef, hr) never (g, s, hg, eg, hs) never2 e =
     let left : front ++ rest ≡ f ++ (r ++ rest) = rw ef (append_assoc f r rest) in
     let right : front2 ++ rest2 ≡ g ++ (s ++ rest2) = rw eg (append_assoc g s rest2) in

@@ -1,9 +1,8 @@
 -- What is answered of bytes.
 use Rattle.std.specs.Prelude.{ℕ, List, Result, Ok, Err}
-use Rattle.jk_model.specs.Text.{Spells}
+use Rattle.jk_model.specs.Text.{Spells, IsBadForm}
 use Rattle.unit_text.specs.declared.units.UnitsError.{UnitsError}
 use Rattle.unit_text.specs.declared.units.UnitsError.TheVariants.{BadForm, OutOfMemory}
-use Rattle.unit_text.specs.BadForm.{IsBadForm}
 
 -- the bytes spell these units, or stop here to spell any
 abbrev pub IsAnswer : List ℕ → Result (List ℕ) UnitsError → Type 0

@@ -26,7 +26,7 @@ fn forms(rt: HostRuntime) {
     assert!(rt; reads(alloc, &[0xc1, 0x81, 0xe0, 0x81, 0x81], &[65, 65]));
 }
 
-/// Whether the bytes stop to be a text at this place.
+/// Whether the bytes stop being a text at this place.
 fn stops(alloc: Global, bytes: &[u8], place: u32) -> bool
     requires { length bytes.now < 2 ^ 32 }
 {

@@ -1,8 +1,8 @@
 //! Reads modified UTF-8.
 
 ghost use Rattle.std.specs.Prelude.{◌≡◌, ℕ, ◌<◌, ◌⊎◌, ◌^◌, List, length, MatchOption, MatchResult, IfOk, Err};
-ghost use Rattle.jk_model.specs.Text.{Spells};
-ghost use Rattle.unit_text.specs.BadForm.{BeginsWith, BeginsNoUnit, BeginsNoUnitOf, IsBadForm};
+ghost use Rattle.jk_model.specs.Text.{Spells, IsBadForm};
+ghost use Rattle.unit_text.specs.Forms.{BeginsWith, BeginsNoUnit, BeginsNoUnitOf};
 ghost use Rattle.unit_text.specs.Answer.{IsAnswer};
 
 use jk_model::{List, OutOfMemory, Units};
@@ -79,7 +79,7 @@ fn next_unit(bytes: &[u8]) -> Option<(u16, &[u8])>
     three_bytes(bytes)
 }
 
-/// The units of a text, or where it stops to be one.
+/// The units of a text, or where it stops being one.
 fn read(alloc: Global, bytes: &[u8]) -> Result<Units, UnitsError>
     requires { length bytes.now < 2 ^ 32 }
     ensures { IsAnswer bytes.now result }

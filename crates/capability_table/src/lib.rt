@@ -1,0 +1,13 @@
+//! The table of capabilities: which were given out, whose they are, what they lead to, and whether
+//! they are revoked.
+#![tactic(auto)]
+
+mod capability;
+mod number_range;
+mod table;
+
+pub use jk_model::CapStatus;
+pub use table::{CapabilityTable, CapsError};
+
+#[cfg(test)]
+mod tests;

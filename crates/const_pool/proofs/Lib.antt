@@ -1,0 +1,5 @@
+pub mod Readers
+pub mod Cuts
+pub mod Bodies
+pub mod Slots
+pub mod Whole

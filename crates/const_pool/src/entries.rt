@@ -1,0 +1,145 @@
+//! The first pass: entries are read by their tags, one behind the other.
+
+ghost use Rattle.std.specs.Prelude.{◌≡◌, ◌≢◌, ◌↔◌, ◌+◌, ◌<◌, ◌++◌, ◌∷◌, [], IsTrue, OnOk, if◌then◌else◌};
+ghost use Rattle.jk_model.specs.declared.class_file.PoolEntry.TheVariants.{Unusable};
+ghost use Rattle.jk_model.specs.ClassFile.{u2};
+ghost use Rattle.const_pool.specs.Reading.{Gives, seen, is_wide, body_at};
+ghost use Rattle.const_pool.specs.Answer.{behind, group, IsEntryAnswer, IsPoolAnswer};
+
+use crate::fields::{pair_of, text_of, u2_of, u4_of, u8_of};
+use crate::pool::PoolError;
+use crate::tags::{Tag, tag_of};
+use jk_model::{List, OutOfMemory, PoolEntry};
+use std::alloc::Global;
+
+/// What stands behind a tag.
+#[tactic(auto, unfolding(crate::specs::Reading::body_at))]
+fn body_of(alloc: Global, tag: Tag, bytes: &[u8]) -> Result<(PoolEntry, &[u8]), PoolError>
+    ensures { Gives (λ x. (x.0, x.1.now)) result (body_at tag bytes.now) }
+{
+    match tag {
+        Tag::Utf8 => {
+            let (text, rest) = text_of(alloc, bytes)?;
+            Ok((PoolEntry::Utf8(text), rest))
+        }
+        Tag::Integer => {
+            let (n, rest) = u4_of(bytes)?;
+            Ok((PoolEntry::Integer(n), rest))
+        }
+        Tag::Float => {
+            let (bits, rest) = u4_of(bytes)?;
+            Ok((PoolEntry::Float(bits), rest))
+        }
+        Tag::Long => {
+            let (n, rest) = u8_of(bytes)?;
+            Ok((PoolEntry::Long(n), rest))
+        }
+        Tag::Double => {
+            let (bits, rest) = u8_of(bytes)?;
+            Ok((PoolEntry::Double(bits), rest))
+        }
+        Tag::Class => {
+            let (name, rest) = u2_of(bytes)?;
+            Ok((PoolEntry::Class(name), rest))
+        }
+        Tag::Str => {
+            let (text, rest) = u2_of(bytes)?;
+            Ok((PoolEntry::Str(text), rest))
+        }
+        Tag::FieldRef => {
+            let (pair, rest) = pair_of(bytes)?;
+            Ok((PoolEntry::FieldRef(pair.0, pair.1), rest))
+        }
+        Tag::MethodRef => {
+            let (pair, rest) = pair_of(bytes)?;
+            Ok((PoolEntry::MethodRef(pair.0, pair.1), rest))
+        }
+        Tag::InterfaceMethodRef => {
+            let (pair, rest) = pair_of(bytes)?;
+            Ok((PoolEntry::InterfaceMethodRef(pair.0, pair.1), rest))
+        }
+        Tag::NameAndType => {
+            let (pair, rest) = pair_of(bytes)?;
+            Ok((PoolEntry::NameAndType(pair.0, pair.1), rest))
+        }
+    }
+}
+
+/// Whether an entry with this tag, and the unusable index behind it, end below the count.
+fn has_room(tag: Tag, index: u16, count: u16) -> bool
+    requires { index < count }
+    ensures { IsTrue result ↔ (IsTrue (is_wide tag) → index + 1 ≢ count) }
+{
+    !(tag.is_wide() && index + 1 == count)
+}
+
+/// The entry at an index of a pool of so many. There is no room for a wide one at the last index.
+fn entry_of(
+    alloc: Global,
+    index: u16,
+    count: u16,
+    bytes: &[u8],
+) -> Result<(PoolEntry, &[u8]), PoolError>
+    requires { index < count }
+    ensures { IsEntryAnswer index count bytes.now (seen (λ x. (x.0, x.1.now)) result) }
+{
+    let [byte, rest @ ..] = bytes else {
+        return Err(PoolError::Truncated);
+    };
+    let Some(tag) = tag_of(*byte) else {
+        return Err(PoolError::BadTag(index));
+    };
+    if !has_room(tag, index, count) {
+        return Err(PoolError::BadTag(index));
+    }
+    body_of(alloc, tag, rest)
+}
+
+fn is_wide_entry(entry: &PoolEntry) -> bool
+    ensures { behind entry.now ≡ (if result then Unusable ∷ [] else []) }
+{
+    matches!(entry, PoolEntry::Long(_) | PoolEntry::Double(_))
+}
+
+/// Puts an entry at the end, and the unusable index behind it where it has one.
+fn push_entry(entries: &mut List<PoolEntry>, entry: PoolEntry) -> Result<(), OutOfMemory>
+    ensures { OnOk result (entries.new ≡ entries.old ++ group entry) }
+{
+    let wide = is_wide_entry(&entry);
+    entries.push(entry)?;
+    if wide {
+        entries.push(PoolEntry::Unusable)?;
+    }
+    Ok(())
+}
+
+/// The entries at the indices below a count. Index 0 is unusable.
+fn entries_of(
+    alloc: Global,
+    count: u16,
+    bytes: &[u8],
+) -> Result<(List<PoolEntry>, &[u8]), PoolError>
+    requires { 0 < count }
+    ensures { IsPoolAnswer (u2 count ++ bytes.now) (seen (λ x. (x.0, x.1.now)) result) }
+{
+    let mut entries = List::new(alloc);
+    entries.push(PoolEntry::Unusable)?;
+    let mut rest = bytes;
+    while entries.len() < count as usize {
+        let (entry, after) = entry_of(alloc, entries.len() as u16, count, rest)?;
+        push_entry(&mut entries, entry)?;
+        rest = after;
+    }
+    Ok((entries, rest))
+}
+
+/// The pool that is laid out in front, and the bytes behind it.
+pub fn pool_of(alloc: Global, bytes: &[u8]) -> Result<(List<PoolEntry>, &[u8]), PoolError>
+    ensures { IsPoolAnswer bytes.now (seen (λ x. (x.0, x.1.now)) result) }
+{
+    let (count, rest) = u2_of(bytes)?;
+    if count == 0 {
+        return Err(PoolError::BadTag(0));
+    }
+    entries_of(alloc, count, rest)
+}

@@ -1,0 +1,13 @@
+//! The constant pool of a class file: its entries, or the first index at which it is none.
+#![tactic(auto)]
+
+mod entries;
+mod fields;
+mod judge;
+mod pool;
+mod tags;
+
+pub use pool::{Pool, PoolError, read_pool};
+
+#[cfg(test)]
+mod tests;

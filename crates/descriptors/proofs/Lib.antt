@@ -1,0 +1,4 @@
+mod Stuck
+mod Walk
+mod Texts
+mod Places

@@ -1,0 +1,5 @@
+use Rattle.descriptors.proofs.Texts.{one_field}
+use Rattle.descriptors.proofs.laws.one_field_type.Goals as goal
+
+pub returns : goal.returns
+returns c = one_field

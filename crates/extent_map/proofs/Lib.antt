@@ -1,0 +1,6 @@
+mod Parts
+mod Free
+mod Count
+mod Taken
+mod Back
+pub mod Out

@@ -1,0 +1,3 @@
+pub mod MapState
+pub mod Runs
+pub mod Steps

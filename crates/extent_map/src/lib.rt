@@ -1,0 +1,11 @@
+//! Hands out runs of pages by first fit, and takes them back.
+#![tactic(auto)]
+
+mod map;
+mod runs;
+
+pub use jk_model::Extent;
+pub use map::ExtentMap;
+
+#[cfg(test)]
+mod tests;

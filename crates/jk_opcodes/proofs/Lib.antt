@@ -1,0 +1,7 @@
+mod Bytes
+mod Cases
+mod Fixed
+mod Loops
+mod OneStep
+mod Tables
+mod Whole
