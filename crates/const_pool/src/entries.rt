@@ -18,50 +18,29 @@ fn body_of(alloc: Global, tag: Tag, bytes: &[u8]) -> Result<(PoolEntry, &[u8]), 
     ensures { Gives (λ x. (x.0, x.1.now)) result (body_at tag bytes.now) }
 {
     match tag {
-        Tag::Utf8 => {
-            let (text, rest) = text_of(alloc, bytes)?;
-            Ok((PoolEntry::Utf8(text), rest))
-        }
-        Tag::Integer => {
-            let (n, rest) = u4_of(bytes)?;
-            Ok((PoolEntry::Integer(n), rest))
-        }
-        Tag::Float => {
-            let (bits, rest) = u4_of(bytes)?;
-            Ok((PoolEntry::Float(bits), rest))
-        }
-        Tag::Long => {
-            let (n, rest) = u8_of(bytes)?;
-            Ok((PoolEntry::Long(n), rest))
-        }
-        Tag::Double => {
-            let (bits, rest) = u8_of(bytes)?;
-            Ok((PoolEntry::Double(bits), rest))
-        }
-        Tag::Class => {
-            let (name, rest) = u2_of(bytes)?;
-            Ok((PoolEntry::Class(name), rest))
-        }
-        Tag::Str => {
-            let (text, rest) = u2_of(bytes)?;
-            Ok((PoolEntry::Str(text), rest))
-        }
-        Tag::FieldRef => {
-            let (pair, rest) = pair_of(bytes)?;
-            Ok((PoolEntry::FieldRef(pair.0, pair.1), rest))
-        }
-        Tag::MethodRef => {
-            let (pair, rest) = pair_of(bytes)?;
-            Ok((PoolEntry::MethodRef(pair.0, pair.1), rest))
-        }
-        Tag::InterfaceMethodRef => {
-            let (pair, rest) = pair_of(bytes)?;
-            Ok((PoolEntry::InterfaceMethodRef(pair.0, pair.1), rest))
-        }
-        Tag::NameAndType => {
-            let (pair, rest) = pair_of(bytes)?;
-            Ok((PoolEntry::NameAndType(pair.0, pair.1), rest))
-        }
+        Tag::Utf8 => text_of(alloc, bytes).map(|(text, rest)| (PoolEntry::Utf8(text), rest)),
+        Tag::Integer => u4_of(bytes).map(|(n, rest)| (PoolEntry::Integer(n), rest)),
+        Tag::Float => u4_of(bytes).map(|(bits, rest)| (PoolEntry::Float(bits), rest)),
+        Tag::Long => u8_of(bytes).map(|(n, rest)| (PoolEntry::Long(n), rest)),
+        Tag::Double => u8_of(bytes).map(|(bits, rest)| (PoolEntry::Double(bits), rest)),
+        Tag::Class => u2_of(bytes).map(|(name, rest)| (PoolEntry::Class(name), rest)),
+        Tag::Str => u2_of(bytes).map(|(text, rest)| (PoolEntry::Str(text), rest)),
+        Tag::FieldRef => pair_of(bytes).map(|(pair, rest)| (
+            PoolEntry::FieldRef(pair.0, pair.1),
+            rest,
+        )),
+        Tag::MethodRef => pair_of(bytes).map(|(pair, rest)| (
+            PoolEntry::MethodRef(pair.0, pair.1),
+            rest,
+        )),
+        Tag::InterfaceMethodRef => pair_of(bytes).map(|(pair, rest)| (
+            PoolEntry::InterfaceMethodRef(pair.0, pair.1),
+            rest,
+        )),
+        Tag::NameAndType => pair_of(bytes).map(|(pair, rest)| (
+            PoolEntry::NameAndType(pair.0, pair.1),
+            rest,
+        )),
     }
 }
 

@@ -1,0 +1,4 @@
+mod Clearing
+pub mod Reading
+mod Sharing
+mod Words

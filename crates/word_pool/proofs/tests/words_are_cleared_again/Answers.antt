@@ -1,0 +1,5 @@
+use Rattle.std.proofs.Common.{rules}
+use Rattle.word_pool.proofs.tests.words_are_cleared_again.Goals as goal
+
+pub load-requires : goal.load-requires
+load-requires g c = (1, search rules)
