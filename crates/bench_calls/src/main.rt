@@ -1,5 +1,6 @@
 //! `bench_calls CALL SIZE`: calls of a leaf crate on an input that is made to a size, so that
-//! `bench/run` can count what they cost. With a third word the input is made, and nothing is called.
+//! `bench/run` can count what they cost. With a third word the input is made, and nothing is called
+//! (`words` has no input, and always makes its pool).
 #![tactic(auto)]
 
 mod inputs;

@@ -1,5 +1,5 @@
-//! Calls that read an input. Each answers the length of what is read, or that of the input where it is
-//! made alone.
+//! Calls that read an input. Each answers a number that is the same from run to run; where the input is
+//! made alone, mostly its length.
 
 use crate::inputs;
 use const_pool::read_pool;
@@ -9,7 +9,7 @@ use std::alloc::Global;
 use system_table::{class_named, count, system_class};
 use unit_text::units_of;
 
-/// No input is longer.
+/// A longer text, descriptor or pool is not read.
 const MOST: usize = 1 << 24;
 
 /// Modified UTF-8 of so many bytes.

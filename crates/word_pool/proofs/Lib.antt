@@ -1,3 +1,4 @@
+-- Lemmas on words. `Reading` is for callers too.
 mod Clearing
 pub mod Reading
 mod Sharing

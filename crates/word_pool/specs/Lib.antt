@@ -1,2 +1,3 @@
+-- What contracts say of words.
 pub mod Ownership
 pub mod Readable

@@ -6,7 +6,7 @@ ghost use Rattle.word_pool.specs.Ownership.{block_owned, block_lent};
 use std::alloc::{AllocError, Allocator, Global};
 use std::marker::Model;
 
-/// So many words of the heap from `start` on, and the right to free them.
+/// So many words of the heap from `start` on, each of four bytes, and the right to free them. `content` has `None` where a word was never written.
 pub struct Block {
     start: *mut u32,
     words: usize,
@@ -20,7 +20,7 @@ impl Model for Block {
 }
 
 impl Block {
-    /// Takes a block of so many words, of which none can be read yet.
+    /// Takes a block of so many words, none of which can be read yet. It asks the heap for four bytes a word.
     pub(crate) fn of(heap: &Global, words: usize) -> Result<Block, AllocError>
         requires { words * 4 < 2 ^ 63 }
         ensures { IfOk result (λ b. b.content ≡ replicate words None) }

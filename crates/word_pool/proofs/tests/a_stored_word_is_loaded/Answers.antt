@@ -1,3 +1,4 @@
+-- The words that the test stored.
 use Rattle.std.proofs.Common.{rules}
 use Rattle.word_pool.proofs.tests.a_stored_word_is_loaded.Goals as goal
 

@@ -1,3 +1,4 @@
+-- The words that the test stored in either pool.
 use Rattle.std.proofs.Common.{rules}
 use Rattle.word_pool.proofs.tests.two_pools.Goals as goal
 

@@ -1,3 +1,4 @@
+-- The word that the clearing left.
 use Rattle.std.proofs.Common.{rules}
 use Rattle.word_pool.proofs.tests.words_are_cleared_again.Goals as goal
 
