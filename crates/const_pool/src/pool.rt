@@ -70,8 +70,8 @@ fn read(alloc: Global, bytes: &[u8]) -> Result<(List<PoolEntry>, &[u8]), PoolErr
     Ok((entries, after))
 }
 
-/// The constant pool that stands in a class file from a place on, in time linear in its bytes (the
-/// Java Virtual Machine Specification, 4.4).
+/// The constant pool that stands in a class file from byte `from` on, counted from 0, in time linear in
+/// its bytes (the Java Virtual Machine Specification, 4.4). A place behind the end is `Truncated`.
 ///
 /// It is judged in two passes. The first reads the entries, and stops at a count of 0, a tag that is
 /// none, a Long or Double at the last index, and where the bytes end. The second looks at all entries

@@ -9,7 +9,7 @@ use Rattle.jk_model.specs.declared.descriptors.Base.TheVariants.{Byte, Char, Dou
 use Rattle.jk_model.specs.declared.descriptors.FieldType.{FieldType}
 use Rattle.jk_model.specs.declared.descriptors.MethodType.{MethodType}
 
--- ---- Names (4.2). A name is one unit or more, none of `.`, `;`, `[` and `/`. The name of a class is
+-- ---- Names (4.2, with the wider names of version 49). A name is one unit or more, none of `.`, `;`, `[` and `/`. The name of a class is
 -- one or more names with `/` between them.
 
 abbrev pub IsNameUnit : ℕ → Type 0

@@ -410,7 +410,7 @@ abbrev pub GoesOn : List ℕ → ℕ → List ℕ → Type 0
 GoesOn code place rest =
     (front : List ℕ) × (instrs : List Instr) × (code ≡ front ++ rest) × Decodes front instrs × (length front ≡ place)
 
--- the first fault of a code, and the place of the opcode where it shows
+-- the first fault of a code, and the place of the instruction in which it shows
 abbrev pub HasFault : List ℕ → Fault → ℕ → Type 0
 HasFault code f place = (rest : List ℕ) × GoesOn code place rest × Shows place rest f
 

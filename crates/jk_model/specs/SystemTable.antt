@@ -1,5 +1,5 @@
 -- The system classes: their order, members and flags. All are public; what else is said of a class or member
--- stands beside it. A domain's own classes can't add to them.
+-- stands beside it.
 use Rattle.std.specs.Prelude.{ℕ, ◌+◌, Bool, true, false, List, [], ◌∷◌, ◌++◌, length, map, take, sum_by, Option, Some, None, position, option_and_then, bytes_eq, codes}
 
 pub record SystemField : Type 0 where

@@ -10,7 +10,7 @@ pub struct Instr {
     /// `goto_w`, and behind `wide` the opcode that it widens.
     pub op: u8,
     /// The constant, local, pool index, array code or target; 0 where there is none. A target is a
-    /// place in the code, or -1 where it lies outside 0 to 65,535.
+    /// place from 0 to 65,535, which may lie behind the code's end, or -1 where it lies outside these.
     pub a: i32,
     /// The second operand: the step of `iinc`, the dimensions of `multianewarray`; else 0.
     pub b: i32,
@@ -22,5 +22,6 @@ pub struct Instr {
 #[derive(Clone, Copy, Debug, PartialEq, Eq)]
 pub struct SwitchCase {
     pub key: i32,
+    /// As the target of a jump: -1 where it lies outside 0 to 65,535.
     pub target: i32,
 }

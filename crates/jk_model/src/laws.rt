@@ -25,7 +25,7 @@ pub fn escaped_text()
 {}
 
 /// Units of two and three bytes, the overlong form of 0 and a lone surrogate among them, and three
-/// bytes that are no text.
+/// bytes each of which alone is no text.
 pub fn texts_of_units()
     ensures overlong_zero { Spells (0xc0 ∷ 0x80 ∷ []) (0 ∷ []) }
     ensures two_bytes { Spells (0xc3 ∷ 0xa9 ∷ []) (0xe9 ∷ []) }

@@ -1,5 +1,6 @@
 //! The plain types that every crate of the kernel speaks of, and, in `specs/`, the definitions
-//! that their contracts cite: class files, scripts, output, the machine and its runs.
+//! that their contracts cite: class files and what stands in them, system classes, extents,
+//! capabilities, scripts, output, the machine and its runs.
 #![tactic(auto)]
 
 mod capabilities;

@@ -12,7 +12,7 @@ use thiserror::Error;
 /// Why bytes were not read as a text.
 #[derive(Clone, Copy, Debug, PartialEq, Eq, Error)]
 pub enum UnitsError {
-    /// The bytes in front of this place are forms of units, and none begins there.
+    /// The bytes in front of this place, counted from 0, are forms of units, and none begins there.
     #[error("no form begins at byte {0}")]
     BadForm(u32),
     /// No memory was left. It says nothing of the bytes.
