@@ -1,7 +1,7 @@
 //! Calls of stores: extents, words and capabilities.
 
 ghost use Rattle.std.specs.Prelude.{◌≤◌, IfOk};
-ghost use Rattle.extent_map.specs.MapState.{IsOut};
+ghost use Rattle.extent_map.specs.MapState.{AreSame};
 
 use capability_table::CapabilityTable;
 use extent_map::{Extent, ExtentMap};
@@ -10,10 +10,9 @@ use std::alloc::Global;
 use word_pool::WordPool;
 
 /// Takes so many pages and gives them back, where there are as many.
-fn take_and_return(map: &mut ExtentMap, out: &[Extent], pages: u32) -> bool
-    requires some { 1 ≤ pages }
-    requires out { IsOut map.old out.now }
-    ensures { IsOut map.new out.now }
+fn take_and_return(map: &mut ExtentMap, pages: u32) -> bool
+    requires { 1 ≤ pages }
+    ensures { AreSame map.new.out map.old.out }
 {
     if map.spare() == 0 {
         return false;
@@ -27,8 +26,8 @@ fn take_and_return(map: &mut ExtentMap, out: &[Extent], pages: u32) -> bool
 
 /// Takes one page, and keeps the extent behind the others.
 fn take_one(map: &mut ExtentMap, out: &mut Vec<Extent>) -> bool
-    requires { IsOut map.old out.old.items }
-    ensures { IsOut map.new out.new.items }
+    requires { AreSame map.old.out out.old.items }
+    ensures { AreSame map.new.out out.new.items }
 {
     if map.spare() == 0 || out.len() == out.capacity() {
         return false;
@@ -42,8 +41,8 @@ fn take_one(map: &mut ExtentMap, out: &mut Vec<Extent>) -> bool
 
 /// Gives back the extent at a place among those that are out.
 fn return_at(map: &mut ExtentMap, out: &mut Vec<Extent>, place: usize) -> bool
-    requires { IsOut map.old out.old.items }
-    ensures { IsOut map.new out.new.items }
+    requires { AreSame map.old.out out.old.items }
+    ensures { AreSame map.new.out out.new.items }
 {
     if place >= out.len() {
         return false;
@@ -56,7 +55,7 @@ fn return_at(map: &mut ExtentMap, out: &mut Vec<Extent>, place: usize) -> bool
 /// A map with all pages free, and room to keep twice so many extents.
 fn empty_map(alloc: Global, runs: u32) -> Result<(ExtentMap, Vec<Extent>), OutOfMemory>
     requires { runs ≤ 65536 }
-    ensures { IfOk result (λ pair. IsOut pair.0 pair.1.items) }
+    ensures { IfOk result (λ pair. AreSame pair.0.out pair.1.items) }
 {
     let map = ExtentMap::make(alloc, 2 * runs + 64, 2 * runs + 1)?;
     let out = Vec::with_capacity(alloc, 2 * runs as usize)?;
@@ -66,8 +65,8 @@ fn empty_map(alloc: Global, runs: u32) -> Result<(ExtentMap, Vec<Extent>), OutOf
 /// Makes so many free runs of one page, with a page that is out between each two, and a longer run
 /// behind them.
 fn make_runs(map: &mut ExtentMap, out: &mut Vec<Extent>, runs: u32)
-    requires { IsOut map.old out.old.items }
-    ensures { IsOut map.new out.new.items }
+    requires { AreSame map.old.out out.old.items }
+    ensures { AreSame map.new.out out.new.items }
 {
     for _ in 0..runs {
         take_one(map, out);
@@ -79,13 +78,13 @@ fn make_runs(map: &mut ExtentMap, out: &mut Vec<Extent>, runs: u32)
 }
 
 /// A thousand takes and returns of so many pages.
-fn a_thousand(map: &mut ExtentMap, out: &[Extent], pages: u32) -> usize
-    requires some { 1 ≤ pages }
-    requires out { IsOut map.old out.now }
+fn a_thousand(map: &mut ExtentMap, pages: u32) -> usize
+    requires { 1 ≤ pages }
+    ensures { AreSame map.new.out map.old.out }
 {
     let mut taken = 0;
     for _ in 0..1000u32 {
-        if take_and_return(map, out, pages) {
+        if take_and_return(map, pages) {
             taken = pages as usize;
         }
     }
@@ -103,7 +102,7 @@ pub fn extents(alloc: Global, size: usize, pages: u32, calls: bool) -> Option<us
     if !calls {
         return Some(out.len());
     }
-    Some(a_thousand(&mut map, &out, pages))
+    Some(a_thousand(&mut map, pages))
 }
 
 /// A pool of so many words.

@@ -6,7 +6,7 @@ use Rattle.std.proofs.lemmas.List.{set_split, take-append-drop, drop_more, take_
 use Rattle.std.proofs.lemmas.List.Edits.{length-insert}
 use Rattle.jk_model.specs.declared.extents.Extent.{Extent}
 use Rattle.jk_model.specs.Extents.{HasPage, IsFreePage, LiesBelow, AreOut}
-use Rattle.extent_map.specs.MapState.{MapState, IsOut}
+use Rattle.extent_map.specs.RunState.{RunState, IsOut}
 use Rattle.extent_map.specs.Runs.{InRun, AreRuns, BeginBefore}
 use Rattle.extent_map.specs.Steps.{IsAt, IsJoined, IsPut, HasGapBelow, HasGapAbove}
 use Rattle.extent_map.proofs.Parts.{edge, EndBy, EndBefore, AddsPages, in_cases, in_left, in_right, high_runs, low_runs, join_runs, looser, tighter, edge_le, edge_last, below_limit}
@@ -311,7 +311,7 @@ free_back [] back e p free lacks = (lacks, free)
 free_back (d ∷ front) back e p free lacks = (free.0, free_back front back e p free.1 lacks)
 
 -- the pages that are free once the extent is back
-pub free_then : (map : MapState) (front back : List Extent) (e : Extent) (new : List Extent) → IsOut map (front ++ e ∷ back) → AddsPages map.free e new → (p : ℕ) → p < map.pages → InRun new p ↔ IsFreePage (front ++ back) p
+pub free_then : (map : RunState) (front back : List Extent) (e : Extent) (new : List Extent) → IsOut map (front ++ e ∷ back) → AddsPages map.free e new → (p : ℕ) → p < map.pages → InRun new p ↔ IsFreePage (front ++ back) p
 free_then map front back e new is adds p under = (
   λ i.
       elim ((adds p).0 i) [
@@ -325,7 +325,7 @@ free_then map front back e new is adds p under = (
       ],
 )
 
-pub back_out : (map new : MapState) (front back : List Extent) (e : Extent) → IsOut map (front ++ e ∷ back) → IsPutRight (map.pages + 1) map.free e new.free → new.pages ≡ map.pages → new.extents ≡ map.extents → new.spare ≡ map.spare + 1
+pub back_out : (map new : RunState) (front back : List Extent) (e : Extent) → IsOut map (front ++ e ∷ back) → IsPutRight (map.pages + 1) map.free e new.free → new.pages ≡ map.pages → new.extents ≡ map.extents → new.spare ≡ map.spare + 1
     → IsOut new (front ++ back)
 back_out map new front back e is right same same_extents spare =
     let Placed : ℕ → Type 0 = λ n. AreOut n (front ++ back) in
@@ -337,16 +337,16 @@ back_out map new front back e is right same same_extents spare =
       count = omega (arith, is.count, same_extents, spare, length-append front (e ∷ back), length-append front back);
     }
 
-pub lies : (map : MapState) (front back : List Extent) (e : Extent) → IsOut map (front ++ e ∷ back) → LiesBelow map.pages e
+pub lies : (map : RunState) (front back : List Extent) (e : Extent) → IsOut map (front ++ e ∷ back) → LiesBelow map.pages e
 lies map front back e is = all_at (LiesBelow map.pages) front back e is.placed.0
 
-pub apart_of_free : (map : MapState) (front back : List Extent) (e : Extent) → AreRuns (map.pages + 1) map.free → IsOut map (front ++ e ∷ back) → (p : ℕ) → HasPage e p → InRun map.free p → ⊥
+pub apart_of_free : (map : RunState) (front back : List Extent) (e : Extent) → AreRuns (map.pages + 1) map.free → IsOut map (front ++ e ∷ back) → (p : ℕ) → HasPage e p → InRun map.free p → ⊥
 apart_of_free map front back e h is p has i =
     let at = lies map front back e is in
     all_at (λ x. HasPage x p → ⊥) front back e ((is.free p (omega (arith, at.1, has.1))).0 i) has
 
 -- there is room for the runs of then
-pub room_then : (map : MapState) (front back : List Extent) (e : Extent) (new : List Extent) → IsOut map (front ++ e ∷ back) → IsPutRight (map.pages + 1) map.free e new → length new ≤ map.extents
+pub room_then : (map : RunState) (front back : List Extent) (e : Extent) (new : List Extent) → IsOut map (front ++ e ∷ back) → IsPutRight (map.pages + 1) map.free e new → length new ≤ map.extents
 room_then map front back e new is right =
     let free = free_then map front back e new is right.pages in
     let few = few_runs map.pages new (front ++ back) right.sound
@@ -360,13 +360,13 @@ room_then map front back e new is right =
 abbrev pub IsPlace : List Extent → ℕ → ℕ → Type 0
 IsPlace runs first at = (at ≤ length runs) × BeginBefore first (drop at runs) × (0 < at → HoldsAt (λ run. first ≤ run.first) runs (at - 1))
 
-pub between_out : (map : MapState) (front back : List Extent) (e : Extent) (at : ℕ) → AreRuns (map.pages + 1) map.free → IsOut map (front ++ e ∷ back) → IsPlace map.free e.first at
+pub between_out : (map : RunState) (front back : List Extent) (e : Extent) (at : ℕ) → AreRuns (map.pages + 1) map.free → IsOut map (front ++ e ∷ back) → IsPlace map.free e.first at
     → IsBetween (map.pages + 1) (take at map.free) (drop at map.free) e
 between_out map front back e at h is place =
     let low = lies map front back e is in
     between_at (map.pages + 1) at map.free e h place.0 low.0 (omega (arith, low.1)) (apart_of_free map front back e h is) place.1 place.2
 
-pub joined_out : (map : MapState) (front back : List Extent) (e : Extent) (at : ℕ) (runs1 : List Extent) (joined : Extent) → AreRuns (map.pages + 1) map.free → IsOut map (front ++ e ∷ back) → IsPlace map.free e.first at
+pub joined_out : (map : RunState) (front back : List Extent) (e : Extent) (at : ℕ) (runs1 : List Extent) (joined : Extent) → AreRuns (map.pages + 1) map.free → IsOut map (front ++ e ∷ back) → IsPlace map.free e.first at
     → IsJoined map.free at e runs1 joined → IsJoinedRight (map.pages + 1) at map.free e runs1 joined
 joined_out map front back e at runs1 joined h is place join =
     joined_right (map.pages + 1) at map.free e runs1 joined place.0 (between_out map front back e at h is place) join
@@ -376,13 +376,13 @@ joined_runs bound at runs e runs1 joined h =
     let Runs : List Extent → Type 0 = λ xs. AreRuns bound xs in
     subst Runs (take-append-drop at runs1) (join_runs bound (take at runs1) (drop at runs1) h.between.high_runs h.between.low_runs)
 
-pub put_out : (map : MapState) (front back : List Extent) (e : Extent) (at : ℕ) (runs1 : List Extent) (joined : Extent) (new : List Extent) → AreRuns (map.pages + 1) map.free → IsOut map (front ++ e ∷ back) → IsPlace map.free e.first at
+pub put_out : (map : RunState) (front back : List Extent) (e : Extent) (at : ℕ) (runs1 : List Extent) (joined : Extent) (new : List Extent) → AreRuns (map.pages + 1) map.free → IsOut map (front ++ e ∷ back) → IsPlace map.free e.first at
     → IsJoined map.free at e runs1 joined → IsPut runs1 at joined new → IsPutRight (map.pages + 1) map.free e new
 put_out map front back e at runs1 joined new h is place join put =
     back_right (map.pages + 1) at map.free e runs1 joined new place.0 (between_out map front back e at h is place) join put
 
 -- there is room where the extent is put between two runs
-pub room_out : (map : MapState) (front back : List Extent) (e : Extent) (at : ℕ) (runs1 : List Extent) (joined : Extent) → AreRuns (map.pages + 1) map.free → IsOut map (front ++ e ∷ back) → IsPlace map.free e.first at
+pub room_out : (map : RunState) (front back : List Extent) (e : Extent) (at : ℕ) (runs1 : List Extent) (joined : Extent) → AreRuns (map.pages + 1) map.free → IsOut map (front ++ e ∷ back) → IsPlace map.free e.first at
     → IsJoined map.free at e runs1 joined → HasGapAbove runs1 at joined → length runs1 < map.extents
 room_out map front back e at runs1 joined h is place join gap =
     let right = joined_out map front back e at runs1 joined h is place join in

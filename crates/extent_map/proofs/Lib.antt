@@ -3,4 +3,6 @@ mod Free
 mod Count
 mod Taken
 mod Back
-pub mod Out
+mod Out
+mod Starts
+pub mod Same

@@ -1,28 +1,14 @@
--- What a caller says of the extents that are out, in other words.
-use Rattle.std.proofs.Common.{◌≡◌, ℕ, ◌<◌, ◌⊎◌, inl, inr, List, ◌∷◌, ◌++◌, get_or, length, take, drop, suc, refl, sym, ◌∙◌, ap, subst, arith}
-use Rattle.std.specs.List.{AllByRecursion, AllPairs, Contains, swap}
+-- The order of the extents that are out does not matter to the free runs.
+use Rattle.std.proofs.Common.{◌≡◌, ℕ, ◌<◌, ◌⊎◌, inl, inr, List, get_or, length, refl, ◌∙◌, ap, arith}
+use Rattle.std.specs.List.{AllByRecursion, AllPairs, swap}
 use Rattle.std.specs.List.Sorted.{IsPermutation}
 use Rattle.std.proofs.lemmas.Bool.{cases_lt, cases_eq}
-use Rattle.std.proofs.lemmas.List.{get_or_default}
 use Rattle.std.proofs.lemmas.List.Edits.{swapped_from_swap, length-swap}
 use Rattle.std.proofs.lemmas.List.Elements.{All-from_recursion, recursion_from_All}
 use Rattle.std.proofs.lemmas.List.Sorted.{IsPermutation-keeps, IsPermutation-sym, All-permutation, length_permutation}
 use Rattle.jk_model.specs.declared.extents.Extent.{Extent}
 use Rattle.jk_model.specs.Extents.{HasPage, AreApart, LiesBelow}
-use Rattle.extent_map.specs.MapState.{MapState, IsOut, IsOneOut}
-use Rattle.extent_map.proofs.Taken.{split_run}
-
--- the extents in front of one that is out, and those behind it
-pub out_at : (map : MapState) (out : List Extent) (place : ℕ) (e : Extent) → IsOut map out → place < length out → e ≡ get_or out place e → IsOut map (take place out ++ e ∷ drop (suc place) out)
-out_at map out place e is under at =
-    let P : List Extent → Type 0 = λ xs. IsOut map xs in
-    subst P (split_run out place e (under, λ d. get_or_default out place d e under ∙ sym at)) is
-
--- an extent of those that are out is out
-pub one_out : (map : MapState) (out : List Extent) (e : Extent) → IsOut map out → Contains out e → IsOneOut map e
-one_out map out e is (place, under, at) = (take place out, drop (suc place) out, out_at map out place e is under (sym at))
-
--- ---- In another order.
+use Rattle.extent_map.specs.RunState.{RunState, IsOut}
 
 apart_back : (d e : Extent) → AreApart d e → AreApart e d
 apart_back d e h = elim h [ inl a ↦ inr a | inr b ↦ inl b ]
@@ -73,7 +59,7 @@ all_moved : (P : Extent → Type 0) (out other : List Extent) → IsPermutation 
 all_moved P out other moves h = recursion_from_All P other (All-permutation P out other moves (All-from_recursion P out h))
 
 -- the order of those that are out does not matter
-pub out_in_order : (map : MapState) (out other : List Extent) → IsPermutation out other → IsOut map out → IsOut map other
+pub out_in_order : (map : RunState) (out other : List Extent) → IsPermutation out other → IsOut map out → IsOut map other
 out_in_order map out other moves is =
     let each = IsPermutation-keeps out AreEachApart (each_apart out is.placed.1) (λ xs a b a_in b_in apart. exchanged xs a b a_in b_in apart) other moves in
     record {

@@ -5,7 +5,7 @@ use Rattle.std.proofs.lemmas.Bool.{cases_lt}
 use Rattle.std.proofs.lemmas.List.{set_split}
 use Rattle.jk_model.specs.declared.extents.Extent.{Extent}
 use Rattle.jk_model.specs.Extents.{HasPage, IsFreePage, LiesBelow, AreOut, IsFirstFit, HasNoFit}
-use Rattle.extent_map.specs.MapState.{MapState, IsOut}
+use Rattle.extent_map.specs.RunState.{RunState, IsOut}
 use Rattle.extent_map.specs.Runs.{InRun, AreRuns, AreShort}
 use Rattle.extent_map.specs.Steps.{IsAt, IsCut}
 use Rattle.extent_map.proofs.Parts.{edge, TakesPages, split_at, in_cases, in_left, in_right, high_runs, low_runs, join_runs, looser, edge_le, below, from_edge, no_room, ends_by}
@@ -128,7 +128,7 @@ fits_first limit high low out run n h free back some le short =
           (λ p from to before. in_low (limit + 1) high low run p h before (back p (omega (arith, fits.0)) (fits.1 p from to))),
     )
 
-pub first_fit : (map : MapState) (out : List Extent) (run : Extent) (at n : ℕ) → IsOut map out → AreRuns (map.pages + 1) map.free → IsAt map.free at run → 1 ≤ n → n ≤ run.pages
+pub first_fit : (map : RunState) (out : List Extent) (run : Extent) (at n : ℕ) → IsOut map out → AreRuns (map.pages + 1) map.free → IsAt map.free at run → 1 ≤ n → n ≤ run.pages
     → AreShort n (drop (suc at) map.free) → IsFirstFit map.pages out n run.first
 first_fit map out run at n is h here some le short =
     let Runs : List Extent → Type 0 = λ xs. AreRuns (map.pages + 1) xs in
@@ -138,7 +138,7 @@ first_fit map out run at n is h here some le short =
     fits_first map.pages (take at map.free) (drop (suc at) map.free) out run n (subst Runs e h)
     (subst To e (λ p under. (is.free p under).0)) (subst From e (λ p under. (is.free p under).1)) some le short
 
-pub no_fit : (map : MapState) (out : List Extent) (n : ℕ) → IsOut map out → AreRuns (map.pages + 1) map.free → 1 ≤ n → AreShort n map.free → HasNoFit map.pages out n
+pub no_fit : (map : RunState) (out : List Extent) (n : ℕ) → IsOut map out → AreRuns (map.pages + 1) map.free → 1 ≤ n → AreShort n map.free → HasNoFit map.pages out n
 no_fit map out n is h some short first fits =
     no_room (map.pages + 1) map.free n first h short some (omega (arith, fits.0))
     (λ p from to under. (is.free p (omega (arith, fits.0))).1 (fits.1 p from to))
@@ -152,7 +152,7 @@ all_less limit (r ∷ rs) h = (omega (arith, h.0), all_less limit rs h.1)
 pub below_pages : (limit : ℕ) (runs : List Extent) → AreRuns (limit + 1) runs → AllByRecursion (λ run. run.first + run.pages ≤ limit) runs
 below_pages limit runs h = all_less limit runs (ends_by (limit + 1) runs h)
 
-pub taken_out : (map new : MapState) (out : List Extent) (e : Extent) → IsOut map out → 0 < e.pages → e.first + e.pages ≤ map.pages → ((p : ℕ) → HasPage e p → InRun map.free p)
+pub taken_out : (map new : RunState) (out : List Extent) (e : Extent) → IsOut map out → 0 < e.pages → e.first + e.pages ≤ map.pages → ((p : ℕ) → HasPage e p → InRun map.free p)
     → AreRuns (map.pages + 1) new.free → TakesPages map.free e new.free → new.pages ≡ map.pages → new.extents ≡ map.extents → new.spare + 1 ≡ map.spare
     → IsOut new (out ++ e ∷ [])
 taken_out map new out e is some ends inside runs takes same same_extents spare =
@@ -192,7 +192,7 @@ short_behind runs n at h =
     let e : at + 1 ≡ suc at = omega arith in
     subst P e h
 
-pub cut_place : (map : MapState) (out : List Extent) (at n first : ℕ) (new : List Extent) → IsOut map out → AreRuns (map.pages + 1) map.free → 1 ≤ n → IsFitting map.free n at → IsCut map.free at n first new
+pub cut_place : (map : RunState) (out : List Extent) (at n first : ℕ) (new : List Extent) → IsOut map out → AreRuns (map.pages + 1) map.free → 1 ≤ n → IsFitting map.free n at → IsCut map.free at n first new
     → IsFirstFit map.pages out n first
 cut_place map out at n first new is h some found (run, here, e, cases) =
     let P : ℕ → Type 0 = λ x. IsFirstFit map.pages out n x in
@@ -203,7 +203,7 @@ in_cut runs n at p run is le from to =
     let P : List Extent → Type 0 = λ xs. InRun xs p in
     subst P (sym (split_run runs at run is)) (in_right (take at runs) (run ∷ drop (suc at) runs) p (inl (from, omega arith)))
 
-pub cut_out : (map new : MapState) (out : List Extent) (at n first : ℕ) → IsOut map out → AreRuns (map.pages + 1) map.free → 1 ≤ n → IsFitting map.free n at → IsCut map.free at n first new.free
+pub cut_out : (map new : RunState) (out : List Extent) (at n first : ℕ) → IsOut map out → AreRuns (map.pages + 1) map.free → 1 ≤ n → IsFitting map.free n at → IsCut map.free at n first new.free
     → new.pages ≡ map.pages → new.extents ≡ map.extents → new.spare + 1 ≡ map.spare → IsOut new (out ++ record { first = first; pages = n } ∷ [])
 cut_out map new out at n first is h some found cut same same_extents spare =
     let fit = cut_place map out at n first new.free is h some found cut in

@@ -1,26 +1,31 @@
--- What contracts see of a map of extents, and which extents are out.
-use Rattle.std.specs.Prelude.{◌≡◌, ℕ, ◌+◌, ◌<◌, ◌≤◌, ◌↔◌, List, ◌∷◌, ◌++◌, length}
-use Rattle.std.specs.List.{AllByRecursion}
+-- What contracts see of a map of extents.
+use Rattle.std.specs.Prelude.{◌≡◌, ℕ, ◌+◌, ◌<◌, List, ◌∷◌, ◌++◌, length}
+use Rattle.std.specs.List.{AllPairs, sum_by}
 use Rattle.jk_model.specs.declared.extents.Extent.{Extent}
-use Rattle.jk_model.specs.Extents.{IsFreePage, AreOut}
-use Rattle.extent_map.specs.Runs.{InRun}
+use Rattle.jk_model.specs.Extents.{AreOut}
 
--- How many pages there are, how many extents may be out at one time, the free runs from the last to the
--- first, and how many more extents may be taken.
+-- How many pages there are, how many extents may be out at one time, the extents that are out in
+-- ascending order, and how many more may be taken.
 pub record MapState : Type 0 where
   pub pages : ℕ
   pub extents : ℕ
-  pub free : List Extent
+  pub out : List Extent
   pub spare : ℕ
 
--- These extents are out: the pages that none of them holds are those of the free runs, and with those
--- that may still be taken they are as many as may be out.
-pub record IsOut (map : MapState) (out : List Extent) : Type 0 where
-  pub placed : AreOut map.pages out
-  pub free : (p : ℕ) → p < map.pages → InRun map.free p ↔ IsFreePage out p
-  pub below : AllByRecursion (λ run. run.first + run.pages ≤ map.pages) map.free
-  pub count : length out + map.spare ≡ map.extents
+-- each extent begins before those behind it
+abbrev pub IsAscending : List Extent → Type 0
+IsAscending out = AllPairs (λ d e. d.first < e.first) out
 
--- this extent is one of those that are out
-abbrev pub IsOneOut : MapState → Extent → Type 0
-IsOneOut map e = (front : List Extent) × (back : List Extent) × IsOut map (front ++ e ∷ back)
+-- What is so of each map: its extents lie apart within its pages, in ascending order, and with those that
+-- may still be taken they are as many as may be out.
+abbrev pub IsSound : MapState → Type 0
+IsSound map = AreOut map.pages map.out × IsAscending map.out × (length map.out + map.spare ≡ map.extents)
+
+-- the extents of the second list are those of the first, in that order, and this one among them
+abbrev pub IsAmong : List Extent → Extent → List Extent → Type 0
+IsAmong others e all =
+    (front : List Extent) × (back : List Extent) × (others ≡ front ++ back) × (all ≡ front ++ e ∷ back)
+
+-- The same extents, each as often, in whatever order: so they have the same sum, whatever each counts.
+abbrev pub AreSame : List Extent → List Extent → Type 0
+AreSame some others = (f : Extent → ℕ) → sum_by f some ≡ sum_by f others

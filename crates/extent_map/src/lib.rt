@@ -1,6 +1,7 @@
 //! Hands out runs of pages by first fit, and takes them back.
 #![tactic(auto)]
 
+mod free_runs;
 mod map;
 mod runs;
 

@@ -1,82 +1,77 @@
 //! The map of extents.
 
-ghost use Rattle.std.specs.Prelude.{◌≡◌, ◌+◌, ◌≤◌, List, [], ◌∷◌, ◌++◌, MatchOption, IfOk, IfSome, IfNone};
-ghost use Rattle.jk_model.specs.declared.extents.Extent.{Extent};
+ghost use Rattle.std.specs.Prelude.{◌≡◌, ◌+◌, ◌≤◌, [], MatchOption, IfOk, IfSome, IfNone};
+ghost use Rattle.std.specs.List.{Contains};
 ghost use Rattle.jk_model.specs.Extents.{IsFirstFit, HasNoFit};
-ghost use Rattle.extent_map.specs.MapState.{IsOut, IsOneOut};
+ghost use Rattle.extent_map.specs.MapState.{IsSound, IsAmong};
 
-use crate::runs::{cut, fitting, join_low, place_of, put};
+use crate::free_runs::FreeRuns;
 use jk_model::{Extent, OutOfMemory};
 use std::alloc::Global;
 use std::marker::Model;
 
-/// Which pages of a pool are free, and how many extents more may be taken.
+/// The extents of a pool that are out, of which so many more may be taken.
 ///
 /// An extent begins at the least page from which enough pages are free. A call goes over the free runs
 /// from the pool's start up to where it ends, and costs in proportion to those.
 #[derive(Debug, Drop)]
 pub struct ExtentMap {
-    pages: u32,
-    extents: u32,
-    // From the last to the first, with a page or more between each two.
-    free: Vec<Extent>,
-    spare: u32,
+    free: FreeRuns,
+    // For each page how many pages the extent has that begins there, or 0 where none does.
+    starts: Vec<u32>,
 }
 
 impl Model for ExtentMap {
-    ghost use Rattle.std.specs.Prelude.{◌+◌, ◌<◌, vec_capacity};
-    ghost use Rattle.extent_map.specs.MapState.{MapState};
-    ghost use Rattle.extent_map.specs.Runs.{AreRuns};
+    ghost use Rattle.std.specs.Prelude.{◌≡◌, length};
+    ghost use Rattle.extent_map.specs.MapState.{MapState, IsAscending};
+    ghost use Rattle.extent_map.specs.RunState.{IsOut};
+    ghost use Rattle.extent_map.specs.Starts.{extents_of};
 
     ghost Value = { MapState };
 
-    ghost view = { λ a. record { pages = a.pages; extents = a.extents; free = a.free.items; spare = a.spare } };
+    ghost view = { λ a. record { pages = a.free.pages; extents = a.free.extents; out = extents_of 0 a.starts.items; spare = a.free.spare } };
 
-    // There is room for a run more than extents may be out, and there are never more runs.
-    ghost invariant = { λ a. AreRuns (a.pages + 1) a.free.items × (a.extents < vec_capacity a.free) };
+    ghost invariant = { λ a. IsOut a.free (extents_of 0 a.starts.items) × IsAscending (extents_of 0 a.starts.items) × (length a.starts.items ≡ a.free.pages) };
 }
 
 impl ExtentMap {
     /// A map of so many pages, all free, of which at most so many extents may be out at one time.
     ///
-    /// It takes all its memory here, for a free run more than extents may be out.
+    /// It takes all its memory here: eight bytes for each extent that may be out and one more, and four
+    /// bytes for each page.
     pub fn make(alloc: Global, pages: u32, extents: u32) -> Result<ExtentMap, OutOfMemory>
-        ensures out { IfOk result (λ map. IsOut map []) }
+        ensures out { IfOk result (λ map. map.out ≡ []) }
         ensures pages { IfOk result (λ map. map.pages ≡ pages) }
         ensures extents { IfOk result (λ map. map.extents ≡ extents) }
         ensures spare { IfOk result (λ map. map.spare ≡ extents) }
     {
-        let mut free = Vec::with_capacity(alloc, extents as usize + 1)?;
-        if pages > 0 {
-            free.push_reserved(Extent { first: 0, pages });
-        }
-        Ok(ExtentMap {
-            pages,
-            extents,
-            free,
-            spare: extents,
-        })
+        let free = FreeRuns::make(alloc, pages, extents)?;
+        let starts = vec![in alloc; 0; pages as usize]?;
+        Ok(ExtentMap { free, starts })
     }
 
     /// How many pages there are.
     pub fn pages(&self) -> u32
-        ensures { result ≡ self.now.pages }
+        ensures pages { result ≡ self.now.pages }
+        ensures sound { IsSound self.now }
     {
-        self.pages
+        self.free.pages()
     }
 
     /// How many extents may be out at one time.
     pub fn extents(&self) -> u32
-        ensures { result ≡ self.now.extents }
+        ensures extents { result ≡ self.now.extents }
+        ensures sound { IsSound self.now }
     {
-        self.extents
+        self.free.extents()
     }
 
     /// How many extents more may be taken before one is given back.
     pub fn spare(&self) -> u32
-        ensures { result ≡ self.now.spare }
+        ensures spare { result ≡ self.now.spare }
+        ensures sound { IsSound self.now }
     {
-        self.spare
+        self.free.spare()
     }
 
     /// Takes the first free run of so many pages, or answers that there is none.
@@ -84,33 +79,32 @@ impl ExtentMap {
         requires at_least_one { 1 ≤ pages }
         requires spare { 1 ≤ self.old.spare }
         // The first place that has so many free pages is answered, or that there is none.
-        ensures place { (out : List Extent) → IsOut self.old out → MatchOption result (HasNoFit self.old.pages out pages) (λ e. IsFirstFit self.old.pages out pages e.first) }
+        ensures place { MatchOption result (HasNoFit self.old.pages self.old.out pages) (λ e. IsFirstFit self.old.pages self.old.out pages e.first) }
         ensures size { IfSome result (λ e. e.pages ≡ pages) }
-        // The extent is out then, behind those that are out already.
-        ensures out { (out : List Extent) → IsOut self.old out → IfSome result (λ e. IsOut self.new (out ++ e ∷ [])) }
+        // The extent is out then, among those that are out already.
+        ensures out { IfSome result (λ e. IsAmong self.old.out e self.new.out) }
         ensures spare { IfSome result (λ _. self.new.spare + 1 ≡ self.old.spare) }
         ensures pages { self.new.pages ≡ self.old.pages }
         ensures extents { self.new.extents ≡ self.old.extents }
         ensures none { IfNone result (self.new ≡ self.old) }
+        ensures sound { IsSound self.new }
     {
-        let at = fitting(&self.free, pages)?;
-        let first = cut(&mut self.free, at, pages);
-        self.spare -= 1;
-        Some(Extent { first, pages })
+        let e = self.free.take(pages)?;
+        self.starts[e.first as usize] = pages;
+        Some(e)
     }
 
     /// Takes back an extent that is out. Its pages are joined with the free runs beside them.
     pub fn give_back(&mut self, e: Extent)
-        requires { IsOneOut self.old e }
-        // Wherever it stands among those that are out, the others are out then.
-        ensures out { (front back : List Extent) → IsOut self.old (front ++ e ∷ back) → IsOut self.new (front ++ back) }
+        requires { Contains self.old.out e }
+        // The others are out then.
+        ensures out { IsAmong self.new.out e self.old.out }
         ensures spare { self.new.spare ≡ self.old.spare + 1 }
         ensures pages { self.new.pages ≡ self.old.pages }
         ensures extents { self.new.extents ≡ self.old.extents }
+        ensures sound { IsSound self.new }
     {
-        let at = place_of(&self.free, e.first);
-        let joined = join_low(&mut self.free, at, e);
-        put(&mut self.free, at, joined);
-        self.spare += 1;
+        self.free.give_back(e);
+        self.starts[e.first as usize] = 0;
     }
 }

@@ -1,7 +1,7 @@
 //! Known places, joins, and many calls compared with a plain list of pages.
 
-ghost use Rattle.std.specs.Prelude.{◌≤◌, IfOk};
-ghost use Rattle.extent_map.specs.MapState.{IsOut};
+ghost use Rattle.std.specs.Prelude.{◌<◌, ◌≤◌, IfOk};
+ghost use Rattle.extent_map.specs.MapState.{AreSame};
 
 use super::*;
 use jk_model::OutOfMemory;
@@ -11,8 +11,8 @@ use std::test::Fail;
 /// Takes so many pages, and says whether they are found at this place, or at none.
 fn takes(map: &mut ExtentMap, out: &mut Vec<Extent>, pages: u32, first: Option<u32>) -> bool
     requires some { 1 ≤ pages }
-    requires out { IsOut map.old out.old.items }
-    ensures { IsOut map.new out.new.items }
+    requires out { AreSame map.old.out out.old.items }
+    ensures { AreSame map.new.out out.new.items }
 {
     if map.spare() == 0 || out.len() == out.capacity() {
         return false;
@@ -26,8 +26,8 @@ fn takes(map: &mut ExtentMap, out: &mut Vec<Extent>, pages: u32, first: Option<u
 
 /// Gives back the extent at this place among those that are out.
 fn gives(map: &mut ExtentMap, out: &mut Vec<Extent>, place: usize) -> bool
-    requires { IsOut map.old out.old.items }
-    ensures { IsOut map.new out.new.items }
+    requires { AreSame map.old.out out.old.items }
+    ensures { AreSame map.new.out out.new.items }
 {
     if place >= out.len() {
         return false;
@@ -39,7 +39,7 @@ fn gives(map: &mut ExtentMap, out: &mut Vec<Extent>, place: usize) -> bool
 
 /// A map of so many pages, and room for the extents that are out.
 fn pool(alloc: Global, pages: u32, extents: u32) -> Result<(ExtentMap, Vec<Extent>), OutOfMemory>
-    ensures { IfOk result (λ pair. IsOut pair.0 pair.1.items) }
+    ensures { IfOk result (λ pair. AreSame pair.0.out pair.1.items) }
 {
     let map = ExtentMap::make(alloc, pages, extents)?;
     let out = Vec::with_capacity(alloc, extents as usize)?;
@@ -47,10 +47,8 @@ fn pool(alloc: Global, pages: u32, extents: u32) -> Result<(ExtentMap, Vec<Exten
 }
 
 #[test]
-fn first_fit(rt: HostRuntime) {
-    let Ok((mut map, mut out)) = pool(rt.alloc(), 10, 4) else {
-        return;
-    };
+fn first_fit(rt: HostRuntime) -> Result<(), OutOfMemory> {
+    let (mut map, mut out) = pool(rt.alloc(), 10, 4)?;
     assert!(rt; takes(&mut map, &mut out, 11, None));
     assert!(rt; takes(&mut map, &mut out, 3, Some(0)));
     assert!(rt; takes(&mut map, &mut out, 8, None));
@@ -61,16 +59,16 @@ fn first_fit(rt: HostRuntime) {
     assert!(rt; map.spare() == 3);
     assert!(rt; takes(&mut map, &mut out, 4, None));
     assert!(rt; takes(&mut map, &mut out, 3, Some(0)));
+    Ok(())
 }
 
 #[test]
-fn no_pages(rt: HostRuntime) {
-    let Ok((mut map, mut out)) = pool(rt.alloc(), 0, 1) else {
-        return;
-    };
+fn no_pages(rt: HostRuntime) -> Result<(), OutOfMemory> {
+    let (mut map, mut out) = pool(rt.alloc(), 0, 1)?;
     assert!(rt; map.pages() == 0);
     assert!(rt; map.extents() == 1);
     assert!(rt; takes(&mut map, &mut out, 1, None));
+    Ok(())
 }
 
 /// Three extents of two pages are out of a pool of six, and these two are given back.
@@ -79,7 +77,7 @@ fn three_out(
     first: usize,
     second: usize,
 ) -> Result<(ExtentMap, Vec<Extent>), OutOfMemory>
-    ensures { IfOk result (λ pair. IsOut pair.0 pair.1.items) }
+    ensures { IfOk result (λ pair. AreSame pair.0.out pair.1.items) }
 {
     let (mut map, mut out) = pool(alloc, 6, 3)?;
     let _ = takes(&mut map, &mut out, 2, Some(0));
@@ -91,34 +89,31 @@ fn three_out(
 }
 
 #[test]
-fn joined_below(rt: HostRuntime) {
+fn joined_below(rt: HostRuntime) -> Result<(), OutOfMemory> {
     // Pages 0 and 1 are given back, then 2 and 3, which begin where those end.
-    let Ok((mut map, mut out)) = three_out(rt.alloc(), 0, 0) else {
-        return;
-    };
+    let (mut map, mut out) = three_out(rt.alloc(), 0, 0)?;
     assert!(rt; takes(&mut map, &mut out, 4, Some(0)));
     assert!(rt; takes(&mut map, &mut out, 1, None));
+    Ok(())
 }
 
 #[test]
-fn joined_above(rt: HostRuntime) {
+fn joined_above(rt: HostRuntime) -> Result<(), OutOfMemory> {
     // Pages 4 and 5 are given back, then 2 and 3, which end where those begin.
-    let Ok((mut map, mut out)) = three_out(rt.alloc(), 2, 1) else {
-        return;
-    };
+    let (mut map, mut out) = three_out(rt.alloc(), 2, 1)?;
     assert!(rt; takes(&mut map, &mut out, 4, Some(2)));
     assert!(rt; takes(&mut map, &mut out, 1, None));
+    Ok(())
 }
 
 #[test]
-fn joined_on_both_sides(rt: HostRuntime) {
+fn joined_on_both_sides(rt: HostRuntime) -> Result<(), OutOfMemory> {
     // Pages 0 and 1, and 4 and 5 are given back: they are apart until 2 and 3 come back too.
-    let Ok((mut map, mut out)) = three_out(rt.alloc(), 0, 1) else {
-        return;
-    };
+    let (mut map, mut out) = three_out(rt.alloc(), 0, 1)?;
     assert!(rt; takes(&mut map, &mut out, 3, None));
     assert!(rt; gives(&mut map, &mut out, 0));
     assert!(rt; takes(&mut map, &mut out, 6, Some(0)));
+    Ok(())
 }
 
 /// The first place where so many pages are held by none.
@@ -149,8 +144,8 @@ fn takes_by_looking(
     pages: u32,
 ) -> bool
     requires some { 1 ≤ pages }
-    requires out { IsOut map.old out.old.items }
-    ensures { IsOut map.new out.new.items }
+    requires out { AreSame map.old.out out.old.items }
+    ensures { AreSame map.new.out out.new.items }
 {
     let wanted = by_looking(held, pages);
     if let Some(first) = wanted {
@@ -161,8 +156,8 @@ fn takes_by_looking(
 
 /// Gives back the extent at this place among those that are out, if there is one.
 fn gives_by_looking(map: &mut ExtentMap, out: &mut Vec<Extent>, held: &mut [bool], place: usize)
-    requires { IsOut map.old out.old.items }
-    ensures { IsOut map.new out.new.items }
+    requires { AreSame map.old.out out.old.items }
+    ensures { AreSame map.new.out out.new.items }
 {
     if place < out.len() {
         let e = out[place];
@@ -171,20 +166,26 @@ fn gives_by_looking(map: &mut ExtentMap, out: &mut Vec<Extent>, held: &mut [bool
     }
 }
 
-#[test]
-fn as_by_looking(rt: HostRuntime) {
-    let alloc = rt.alloc();
-    let Ok((mut map, mut out)) = pool(alloc, 60, 12) else {
-        return;
-    };
-    let Ok(mut held) = vec![in alloc; false; 60] else {
-        return;
-    };
-    for step in 0..400u32 {
-        if step % 5 < 2 || map.spare() == 0 {
-            gives_by_looking(&mut map, &mut out, &mut held, (step * 7 % 11) as usize);
-        } else {
-            assert!(rt; takes_by_looking(&mut map, &mut out, &mut held, step * 5 % 9 + 1));
-        }
+/// Takes or gives back an extent at this step, and says whether a take finds what looking finds.
+fn goes_by_looking(map: &mut ExtentMap, out: &mut Vec<Extent>, held: &mut [bool], step: u32) -> bool
+    requires out { AreSame map.old.out out.old.items }
+    requires step { step < 400 }
+    ensures { AreSame map.new.out out.new.items }
+{
+    if step % 5 < 2 || map.spare() == 0 {
+        gives_by_looking(map, out, held, (step * 7 % 11) as usize);
+        return true;
     }
+    takes_by_looking(map, out, held, step * 5 % 9 + 1)
+}
+
+#[test]
+fn as_by_looking(rt: HostRuntime) -> Result<(), OutOfMemory> {
+    let alloc = rt.alloc();
+    let (mut map, mut out) = pool(alloc, 60, 12)?;
+    let mut held = vec![in alloc; false; 60]?;
+    for step in 0..400u32 {
+        assert!(rt; goes_by_looking(&mut map, &mut out, &mut held, step));
+    }
+    Ok(())
 }
