@@ -30,13 +30,9 @@ pub fn method_descriptor(alloc: Global, size: usize) -> Result<Vec<u16>, AllocEr
     Ok(units)
 }
 
-/// A code of so many instructions of three bytes, each a jump to itself.
-pub fn jumps(alloc: Global, size: usize) -> Result<Vec<u8>, AllocError> {
-    let mut code = Vec::new(alloc);
-    for _ in 0..size {
-        code.extend_from_slice(&[0xa7, 0, 0])?;
-    }
-    Ok(code)
+/// A code of so many instructions of one byte: iload_0.
+pub fn loads(alloc: Global, size: usize) -> Result<Vec<u8>, AllocError> {
+    vec![in alloc; 0x1a; size]
 }
 
 /// A code of one lookupswitch with so many pairs.

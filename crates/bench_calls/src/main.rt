@@ -17,7 +17,7 @@ fn answer(alloc: Global, call: &str, size: usize, calls: bool) -> Option<usize> 
         "text" => readers::text(alloc, size, calls),
         "field" => readers::field(alloc, size, calls),
         "method" => readers::method(alloc, size, calls),
-        "jumps" => readers::jumps(alloc, size, calls),
+        "loads" => readers::loads(alloc, size, calls),
         "switch" => readers::switch(alloc, size, calls),
         "pool" => readers::pool(alloc, size, calls),
         "names" => readers::names(alloc, size, calls),

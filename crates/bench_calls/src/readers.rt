@@ -47,9 +47,9 @@ fn instructions(alloc: Global, code: &[u8]) -> Option<usize> {
     Some(decode(alloc, code).ok()?.len())
 }
 
-/// A code of so many jumps.
-pub fn jumps(alloc: Global, size: usize, calls: bool) -> Option<usize> {
-    let code = inputs::jumps(alloc, size).ok()?;
+/// A code of so many loads.
+pub fn loads(alloc: Global, size: usize, calls: bool) -> Option<usize> {
+    let code = inputs::loads(alloc, size).ok()?;
     if !calls {
         return Some(code.len());
     }
