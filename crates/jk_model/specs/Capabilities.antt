@@ -1,5 +1,5 @@
 -- Capabilities: each domain creates its own, with numbers of a range of its own. The first range begins
--- at 1, and each later one directly behind the one before it. No number is used twice.
+-- at 1, and each later one directly after the one before it. No number is used twice.
 use Rattle.std.specs.Prelude.{ℕ, ◌+◌, ◌-◌, Bool, true, false, ◌==◌, ◌&&◌, List, [], ◌∷◌, ◌++◌, length, map, sum_by, Option, Some, None, slice_get, find, option_map, option_and_then, nat_le, nat_lt, if◌then◌else◌}
 use Rattle.jk_model.specs.declared.capabilities.CapStatus.{CapStatus}
 use Rattle.jk_model.specs.declared.identifiers.DomainId.{DomainId}
@@ -55,7 +55,7 @@ next_number ranges owner = option_and_then next_in (range_of ranges owner)
 
 -- ---- What the calls make of the ranges.
 
--- a new range, behind all others
+-- a new range, after all others
 abbrev pub admitted : List Range → DomainId → ℕ → List Range
 admitted ranges owner count =
     ranges ++ record { owner = owner; first = 1 + numbers ranges; count = count; made = [] } ∷ []

@@ -1,7 +1,7 @@
 -- Which bytes are a class file, and which record they stand for: the Java Virtual Machine
 -- Specification, second edition, chapter 4 (4.1 the ClassFile structure, 4.4 the constant pool,
 -- 4.5 fields, 4.6 methods, 4.7 attributes, 4.7.3 the Code attribute). The bytes of a record are
--- those of its sections, one behind the other.
+-- those of its sections, one after the other.
 use Rattle.std.specs.Prelude.{◌≡◌, ℕ, ◌<◌, ◌≤◌, ◌^◌, ◌⊎◌, ◌≢◌, ⊤, List, [], ◌∷◌, ◌++◌, length, Some, slice_get, flat_map, take}
 use Rattle.std.specs.List.{AllByRecursion}
 use Rattle.std.specs.Int.{w16, w32, w64, to_be_bytes}
@@ -75,7 +75,7 @@ interfaces_bytes indices = u2 (length indices) ++ flat_map u2 indices
 abbrev pub AreInterfaces : List ℕ → Type 0
 AreInterfaces indices = IsU2 (length indices) × AllByRecursion IsU2 indices
 
--- ---- The constant pool (4.4): a tag, and what belongs to it. Index 0, and the index behind a Long
+-- ---- The constant pool (4.4): a tag, and what belongs to it. Index 0, and the index after a Long
 -- or Double, have no bytes.
 
 abbrev pub entry_bytes : PoolEntry → List ℕ
@@ -112,7 +112,7 @@ BeginsUnusable P [] = ⊥
 BeginsUnusable P (Unusable ∷ rest) = P rest
 BeginsUnusable P (_ ∷ rest) = ⊥
 
--- The index behind a Long or Double is Unusable, and no other of these is.
+-- The index after a Long or Double is Unusable, and no other of these is.
 abbrev pub AreSlots : List PoolEntry → Type 0
 AreSlots [] = ⊤
 AreSlots (Unusable ∷ rest) = ⊥

@@ -1,11 +1,12 @@
 -- The constant pool by itself, at the front of some bytes (the Java Virtual Machine Specification, section
--- 4.4): which pool they hold, and where they stop holding one. It is judged in two passes: first each entry is read, then what the entries say is looked at.
+-- 4.4): which pool they hold, and where they stop holding one. It is judged in two passes: first each entry
+-- is read, then what the entries say is looked at.
 use Rattle.std.specs.Prelude.{◌≡◌, ℕ, ◌+◌, ◌<◌, ◌≤◌, ◌≢◌, ◌⊎◌, List, [], ◌∷◌, ◌++◌, length, take, flat_map, Some, slice_get}
 use Rattle.std.specs.List.{AllByRecursion}
 use Rattle.jk_model.specs.declared.class_file.PoolEntry.{PoolEntry}
 use Rattle.jk_model.specs.ClassFile.{u2, IsU2, entry_bytes, IsEntry, AreSlots, BeginsUnusable, IsPool, pool_bytes, IsUtf8Entry, IsGoodEntry}
 
--- the pool is laid out in front, and these bytes stand behind it
+-- the pool is laid out in front, and these bytes follow it
 abbrev pub BeginsWithPool : List ℕ → List PoolEntry → List ℕ → Type 0
 BeginsWithPool bytes pool rest = IsPool pool × (bytes ≡ pool_bytes pool ++ rest)
 
@@ -23,7 +24,7 @@ IsCutPool bytes = (pool : List PoolEntry) × (more : List ℕ) × (more ≢ []) 
 abbrev pub IsTag : ℕ → Type 0
 IsTag tag = (tag ≡ 1) ⊎ ((3 ≤ tag) × (tag ≤ 12))
 
--- those of the entries behind which an index is unusable: Long and Double
+-- those of the entries after which an index is unusable: Long and Double
 abbrev pub IsWideTag : ℕ → Type 0
 IsWideTag tag = (tag ≡ 5) ⊎ (tag ≡ 6)
 
@@ -46,8 +47,9 @@ HasNoIndex bytes = (more : List ℕ) × (bytes ≡ u2 0 ++ more)
 abbrev pub StopsAtTag : List ℕ → ℕ → Type 0
 StopsAtTag bytes i = (HasNoIndex bytes × (i ≡ 0)) ⊎ HasBadTag bytes i
 
--- ---- Once all entries are read: the first one, by its index, that isn't good.
+-- ---- Once all entries are read.
 
+-- the first entry of a pool, by its index, that isn't good
 abbrev pub IsFirstBadEntry : List PoolEntry → ℕ → PoolEntry → Type 0
 IsFirstBadEntry pool i e =
     (slice_get pool i ≡ Some e) × AllByRecursion (IsGoodEntry pool) (take i pool) × (IsGoodEntry pool e → ⊥)

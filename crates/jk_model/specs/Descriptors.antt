@@ -51,6 +51,10 @@ field_text t = replicate t.dims 91 ++ base_text t.base
 abbrev pub IsFieldText : List ℕ → FieldType → Type 0
 IsFieldText units t = IsFieldType t × (units ≡ field_text t)
 
+-- the units are what is written of some type
+abbrev pub IsFieldDescriptor : List ℕ → Type 0
+IsFieldDescriptor units = (t : FieldType) × IsFieldText units t
+
 -- ---- Types of methods (4.3.3): the parameters between parentheses, and the result, or `V` for none.
 
 abbrev pub IsResult : Option FieldType → Type 0
@@ -69,6 +73,9 @@ method_text m = 40 ∷ flat_map field_text m.params ++ 41 ∷ result_text m.resu
 
 abbrev pub IsMethodText : List ℕ → MethodType → Type 0
 IsMethodText units m = IsMethodType m × (units ≡ method_text m)
+
+abbrev pub IsMethodDescriptor : List ℕ → Type 0
+IsMethodDescriptor units = (m : MethodType) × IsMethodText units m
 
 -- ---- Units that are no descriptor, and the length of the longest part of them, from the front on, that
 -- begins one.

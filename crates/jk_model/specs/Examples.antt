@@ -1,6 +1,6 @@
--- Worked examples: a class file, types, a loop, a switch, a line with escapes, and a first run. `src/laws.rt` states what the
--- definitions say of them.
-use Rattle.std.specs.Prelude.{◌≡◌, ℕ, pos, negsuc, List, [], ◌∷◌, ◌++◌, None, codes}
+-- Worked examples: a class file, types, a loop, a switch, a line with escapes, and a script. `src/laws.rt`
+-- states what the definitions say of them.
+use Rattle.std.specs.Prelude.{ℕ, pos, negsuc, List, [], ◌∷◌, ◌++◌, Some, None, codes}
 use Rattle.jk_model.specs.declared.class_file.ClassFile.{ClassFile}
 use Rattle.jk_model.specs.declared.class_file.PoolEntry.TheVariants.{Unusable, Utf8, Class}
 use Rattle.jk_model.specs.declared.descriptors.Base.TheVariants.{Long, Class as ClassBase}
@@ -8,15 +8,13 @@ use Rattle.jk_model.specs.declared.descriptors.FieldType.{FieldType}
 use Rattle.jk_model.specs.declared.descriptors.MethodType.{MethodType}
 use Rattle.jk_model.specs.declared.instructions.Instr.{Instr}
 use Rattle.jk_model.specs.declared.output.Line.{Line}
-use Rattle.jk_model.specs.declared.output.Line.TheVariants.{Said, Loaded, Started, Ended}
+use Rattle.jk_model.specs.declared.output.Line.TheVariants.{Said}
 use Rattle.jk_model.specs.declared.script.Event.{Event}
-use Rattle.jk_model.specs.declared.script.Event.TheVariants.{Domain, Start, Turn}
+use Rattle.jk_model.specs.declared.script.Event.TheVariants.{Domain, Start, Turn, Round, Kill}
 use Rattle.jk_model.specs.Instructions.{plain, switch}
-use Rattle.jk_model.specs.Machine.{Machine, no_domains, opened, started}
-use Rattle.jk_model.specs.Run.{DomainEvent}
 use Rattle.jk_model.specs.Script.{default_quotas}
 
--- ---- The smallest class: A, with nothing in it, behind java/lang/Object.
+-- ---- The smallest class: A, with nothing in it, below java/lang/Object.
 
 abbrev pub smallest_bytes : List ℕ
 smallest_bytes =
@@ -64,7 +62,7 @@ loop_bytes = 0x1b ∷ 0x9a ∷ 0xff ∷ 0xff ∷ 0xb1 ∷ []
 abbrev pub loop_instrs : List Instr
 loop_instrs = plain 0 0x15 (pos 1) (pos 0) ∷ plain 1 0x9a (pos 0) (pos 0) ∷ plain 4 0xb1 (pos 0) (pos 0) ∷ []
 
--- ---- A nop, and behind it a tableswitch with the keys 0 and 1, whose operands begin at place 4.
+-- ---- A nop, and after it a tableswitch with the keys 0 and 1, whose operands begin at place 4.
 
 abbrev pub switch_bytes : List ℕ
 switch_bytes =
@@ -83,24 +81,14 @@ switch_instrs =
 abbrev pub escaped_line : Line
 escaped_line = Said (codes "a") (codes "x" ++ 10 ∷ codes "b: y" ++ 92 ∷ [])
 
--- ---- A first run: a domain is opened with the class Hello, which prints one text, and a thread of it
--- runs to its end.
+-- ---- A script with each command, a comment, blanks and a carriage return, and the events that it stands for.
 
--- each domain event loads this class
-abbrev pub LoadsHello : DomainEvent
-LoadsHello m name quotas lines new =
-    (lines ≡ Loaded name ∷ []) × (new ≡ opened m name quotas (codes "Hello") (codes "Hello" ∷ []))
+abbrev pub whole_script : List ℕ
+whole_script =
+    codes "# all of it\ndomain a-1 threads 2  heap 64 steps 0\r\n\n\tstart a-1 p/M x -y\nturn 4294967295\nturn 0 5\nround 1000 1000000\nkill a-1"
 
-abbrev pub hello_events : List Event
-hello_events =
-    Domain (codes "hello") default_quotas ∷ Start (codes "hello") (codes "Hello") [] ∷ Turn 1 100 ∷ []
-
-abbrev pub hello_lines : List Line
-hello_lines =
-    Loaded (codes "hello") ∷ Started (record { 0 = 1 }) (codes "hello")
-    ∷ Said (codes "hello") (codes "Hello") ∷ Ended (record { 0 = 1 }) ∷ []
-
--- the machine once the thread is started
-abbrev pub hello_started : Machine
-hello_started =
-    (started (opened no_domains (codes "hello") default_quotas (codes "Hello") (codes "Hello" ∷ [])) (codes "hello") (codes "Hello")).1
+abbrev pub whole_events : List Event
+whole_events =
+    Domain (codes "a-1") (record default_quotas { heap = 64; threads = 2; steps = Some 0 })
+    ∷ Start (codes "a-1") (codes "p/M") (codes "x" ∷ codes "-y" ∷ [])
+    ∷ Turn 4294967295 1 ∷ Turn 0 5 ∷ Round 1000 1000000 ∷ Kill (codes "a-1") ∷ []

@@ -1,6 +1,6 @@
 -- Which bytes of a code are which instructions: the Java Virtual Machine Specification, chapter 6, without
 -- the instructions on float and double, on subroutines and on monitors. A short form is decoded as its
--- long form, goto_w as goto, and wide as the opcode behind it, at the place of wide. A jump counts from the place
+-- long form, goto_w as goto, and wide as the opcode after it, at the place of wide. A jump counts from the place
 -- of its own opcode. All numbers have their highest byte first.
 use Rattle.std.specs.Prelude.{◌≡◌, ℕ, ◌+◌, ◌-◌, ◌%◌, ◌≤◌, ◌≢◌, ◌⊎◌, ⊤, ◌&&◌, ℤ, pos, negsuc, ◌+ℤ◌, ◌-ℤ◌, ◌≤ℤ◌, ◌<ℤ◌, int_le, List, [], ◌∷◌, ◌++◌, length, map, flat_map, find, nat_le, if◌then◌else◌, option_map, unwrap_or}
 use Rattle.std.specs.List.{AllByRecursion}
@@ -9,7 +9,7 @@ use Rattle.jk_model.specs.declared.instructions.Instr.{Instr}
 use Rattle.jk_model.specs.declared.instructions.SwitchCase.{SwitchCase}
 use Rattle.jk_model.specs.ClassFile.{u4, IsU4}
 
--- ---- Opcodes: what one means, and which operands stand behind it.
+-- ---- Opcodes: what one means, and which operands follow it.
 
 pub data Form : Type 0 where
   -- itself, without operands
@@ -168,7 +168,7 @@ rows =
 abbrev pub form_of : ℕ → Form
 form_of op = form_among NoOpcode rows op
 
--- the opcodes that may stand behind wide, and what they mean there
+-- the opcodes that may follow wide, and what they mean there
 pub data WideForm : Type 0 where
   -- itself, with a local of two bytes
   WideLocal : WideForm
@@ -282,7 +282,7 @@ pub record IsLookupSwitch (at op : ℕ) (bytes : List ℕ) (i : Instr) : Type 0 
   pub rising : Rises (keys pairs)
   pub says : i ≡ switch at op default (map (λ p. case_at at (signed_int p.0) p.1) pairs)
 
--- ---- Instructions. The bytes behind an opcode, all of them, are its operands, and it is this instruction.
+-- ---- Instructions. The bytes after an opcode, all of them, are its operands, and it is this instruction.
 
 abbrev pub WideMeans : WideForm → ℕ → ℕ → List ℕ → Instr → Type 0
 WideMeans WideLocal at op (m ∷ n ∷ []) i = i ≡ plain at op (pos (short m n)) (pos 0)
@@ -315,7 +315,7 @@ abbrev pub IsInstr : ℕ → List ℕ → Instr → Type 0
 IsInstr at [] i = ⊥
 IsInstr at (op ∷ operands) i = Means (form_of op) at op operands i
 
--- the bytes are these instructions, one behind the other
+-- the bytes are these instructions, one after the other
 abbrev pub AreInstrs : ℕ → List ℕ → List Instr → Type 0
 AreInstrs at bytes [] = bytes ≡ []
 AreInstrs at bytes (i ∷ instrs) =
@@ -327,7 +327,7 @@ abbrev pub Decodes : List ℕ → List Instr → Type 0
 Decodes code instrs = AreInstrs 0 code instrs
 
 -- ---- Faults. A fault shows where an opcode stands that is none or is left out, or an operand that may not
--- be, whatever follows; so bytes that are missed behind it don't count.
+-- be, whatever follows; so bytes that are missed after it don't count.
 
 pub data Fault : Type 0 where
   IllegalOpcode : Fault
@@ -381,7 +381,7 @@ pub record IsBadKey (at : ℕ) (behind : List ℕ) : Type 0 where
   pub within : pos (length pairs) <ℤ signed_int count
   pub falls : Rises (keys pairs ++ signed_int key ∷ []) → ⊥
 
--- what stands behind an opcode of this form, or the opcode itself, shows this fault
+-- what follows an opcode of this form, or the opcode itself, shows this fault
 abbrev pub Refuses : Form → ℕ → List ℕ → Fault → Type 0
 Refuses NoOpcode at behind f = f ≡ IllegalOpcode
 Refuses FloatForm at behind f = f ≡ FloatOpcode

@@ -5,10 +5,10 @@ pub mod Descriptors
 pub mod Examples
 pub mod Extents
 pub mod Instructions
-pub mod Machine
 pub mod Output
 pub mod Outside
-pub mod Run
+pub mod ReadFaults
 pub mod Script
+pub mod ScriptGrammar
 pub mod SystemTable
 pub mod Text

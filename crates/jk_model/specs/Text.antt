@@ -2,8 +2,8 @@
 use Rattle.std.specs.Prelude.{◌≡◌, ℕ, ◌+◌, ◌-◌, ◌*◌, ◌/◌, ◌%◌, ◌≤◌, ◌&&◌, ◌≢◌, List, [], ◌∷◌, ◌++◌, nat_le, nat_lt, ◌==◌, if◌then◌else◌, length, flat_map, chars}
 use Rattle.std.specs.Char.Escape.{encode_utf16}
 
--- ---- Modified UTF-8. A unit has one, two or three bytes. Overlong forms count, and a surrogate is
--- three bytes of its own. No form begins with 00, or with f0 to ff.
+-- ---- Modified UTF-8. A unit has one, two or three bytes. Overlong spellings count, and a surrogate
+-- is three bytes of its own. No unit's bytes begin with 00, or with f0 to ff.
 
 abbrev pub IsUnit : List ℕ → ℕ → Type 0
 IsUnit [] u = ⊥
@@ -15,7 +15,7 @@ IsUnit (a ∷ b ∷ c ∷ []) u =
     × (u ≡ (a - 0xe0) * 4096 + (b - 0x80) * 64 + (c - 0x80))
 IsUnit (a ∷ b ∷ c ∷ d ∷ more) u = ⊥
 
--- the bytes spell these units, one behind the other
+-- the bytes spell these units, one after the other
 abbrev pub Spells : List ℕ → List ℕ → Type 0
 Spells bytes [] = bytes ≡ []
 Spells bytes (u ∷ units) =
@@ -24,12 +24,12 @@ Spells bytes (u ∷ units) =
 abbrev pub IsModifiedUtf8 : List ℕ → Type 0
 IsModifiedUtf8 bytes = (units : List ℕ) × Spells bytes units
 
--- a form of a unit stands in front
+-- the bytes of a unit stand in front
 abbrev pub BeginsWithUnit : List ℕ → Type 0
 BeginsWithUnit bytes = (form : List ℕ) × (u : ℕ) × (behind : List ℕ) × IsUnit form u × (bytes ≡ form ++ behind)
 
--- Bytes stop being modified UTF-8 at this place: those in front of it are forms, one behind the other,
--- and there are bytes from there on, in front of which no form stands.
+-- Bytes stop being modified UTF-8 at this place: those in front of it spell units, one after the other,
+-- and there are bytes from there on, but they begin with no unit.
 abbrev pub IsBadForm : List ℕ → ℕ → Type 0
 IsBadForm bytes place =
     (front : List ℕ) × (rest : List ℕ) × (units : List ℕ) × (bytes ≡ front ++ rest) × Spells front units

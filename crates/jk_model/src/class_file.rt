@@ -22,7 +22,7 @@ pub struct ClassFile {
 /// An entry of the constant pool, by its tag.
 #[derive(Debug, Drop)]
 pub enum PoolEntry {
-    /// Index 0, and the index behind a `Long` or `Double`.
+    /// Index 0, and the index after a `Long` or `Double`.
     Unusable,
     /// Tag 1: modified UTF-8.
     Utf8(Bytes),
@@ -57,7 +57,7 @@ pub struct MemberInfo {
     pub attributes: List<Attribute>,
 }
 
-/// An attribute: the index of its name, and its body behind the length.
+/// An attribute: the index of its name, and its body after the length.
 #[derive(Debug, Drop)]
 pub struct Attribute {
     pub name: u16,

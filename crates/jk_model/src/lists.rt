@@ -104,6 +104,15 @@ impl<T: Copy> List<T> {
         Ok(List { items })
     }
 
+    /// Puts items at the end, in their order.
+    pub fn extend_from_slice(&mut self, items: &[T]) -> Result<(), OutOfMemory>
+        ensures ok { OnOk result (self.new ≡ self.old ++ items.now) }
+        ensures err { OnErr result (self.new ≡ self.old) }
+    {
+        self.items.extend_from_slice(items)?;
+        Ok(())
+    }
+
     /// A second list of the same items.
     pub fn copied(&self) -> Result<List<T>, OutOfMemory>
         ensures { IfOk result (λ list. list ≡ self.now) }

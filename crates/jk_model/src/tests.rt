@@ -1,6 +1,6 @@
-//! The list's calls with memory left, and the text of its error.
+//! The calls of the lists with memory left, and the text of their error.
 
-use crate::{List, OutOfMemory};
+use crate::{Args, List, OutOfMemory, Value};
 use std::test::Fail;
 
 #[test]
@@ -33,5 +33,18 @@ fn lists(rt: HostRuntime) -> Result<(), Fail> {
 fn says_out_of_memory(rt: HostRuntime) -> Result<(), Fail> {
     let text = format!(in rt.alloc(); "{OutOfMemory}")?;
     assert_eq!(rt; text.as_str(), "out of memory");
+    Ok(())
+}
+
+#[test]
+fn hands_values_over(rt: HostRuntime) -> Result<(), Fail> {
+    let mut args = Args::new();
+    assert!(rt; args.is_empty());
+    args.put(Value::Int(7));
+    args.put(Value::Null);
+    assert!(rt; !args.is_empty());
+    assert_eq!(rt; args.len(), 2);
+    assert!(rt; args.get(0) == Value::Int(7));
+    assert!(rt; args.get(1) == Value::Null);
     Ok(())
 }

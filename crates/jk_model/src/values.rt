@@ -10,6 +10,6 @@ pub enum Value {
     Null,
     Obj(u32),
     Cap(CapId),
-    /// What a local has before its first store, and behind a long.
+    /// What a local has before its first store, and after a long.
     Unset,
 }

@@ -1,4 +1,4 @@
--- Each instruction, with the bytes behind it.
+-- Each instruction, with the bytes after it.
 use Rattle.std.proofs.Common.{[], ◌∷◌, refl}
 use Rattle.jk_model.proofs.laws.loop_code.Goals as goal
 

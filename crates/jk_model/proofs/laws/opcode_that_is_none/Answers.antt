@@ -1,4 +1,4 @@
--- The nop in front, and the opcode behind it.
+-- The nop, and the opcode after it.
 use Rattle.std.proofs.Common.{[], ◌∷◌, refl}
 use Rattle.jk_model.specs.Instructions.{plain}
 use Rattle.std.specs.Prelude.{pos}

@@ -1,37 +1,5 @@
-use Rattle.std.proofs.Common.{refl, inl, inr, arith}
-use Rattle.std.specs.Prelude.{codes}
-use Rattle.jk_model.specs.declared.class_file.PoolEntry.TheVariants.{Utf8}
-use Rattle.jk_model.proofs.SmallTexts.{plain_is_bytes, plain_is_text}
+use Rattle.jk_model.proofs.SmallestClass.{smallest_is_class}
 use Rattle.jk_model.proofs.laws.smallest_class.Goals as goal
 
 pub returns : goal.returns
-returns c = record {
-  layout = record {
-    sections = refl;
-    version = (omega arith, omega arith);
-    pool = (
-      tt,
-      omega arith,
-      (tt, (omega arith, ((omega arith, plain_is_bytes (codes "A") refl), (omega arith, ((omega arith, plain_is_bytes (codes "java/lang/Object") refl), tt))))),
-    );
-    header = (omega arith, omega arith, omega arith);
-    interfaces = (omega arith, tt);
-    fields = (omega arith, tt);
-    methods = (omega arith, tt);
-    attributes = (omega arith, tt);
-  };
-  version = (inr (refl, omega arith), inl (omega arith));
-  entries = (
-    tt,
-    (
-      (Utf8 (codes "A"), refl, tt),
-      (
-        plain_is_text (codes "A") refl,
-        (
-          (Utf8 (codes "java/lang/Object"), refl, tt),
-          (plain_is_text (codes "java/lang/Object") refl, tt),
-        ),
-      ),
-    ),
-  );
-}
+returns c = smallest_is_class

@@ -1,5 +1,6 @@
+-- The bytes of each unit.
 use Rattle.std.proofs.Common.{[], ◌∷◌, refl, arith}
-use Rattle.jk_model.proofs.SmallTexts.{text_of_one}
+use Rattle.jk_model.proofs.PlainBytesAreTexts.{text_of_one}
 use Rattle.jk_model.proofs.laws.texts_of_units.Goals as goal
 
 pub returns-clause-overlong_zero : goal.returns-clause-overlong_zero

@@ -1,9 +1,10 @@
--- Texts of plain bytes, and of one byte.
-use Rattle.std.proofs.Common.{◌≡◌, ℕ, ◌≤◌, Bool, true, ◌&&◌, List, [], ◌∷◌, ◌++◌, refl, arith}
+-- Bytes from 1 to 127 are modified UTF-8 and spell themselves, and a text of one byte is such a byte.
+use Rattle.std.proofs.Common.{◌≡◌, ℕ, ◌<◌, ◌≤◌, Bool, true, ◌&&◌, List, [], ◌∷◌, ◌++◌, refl, arith}
 use Rattle.std.specs.Prelude.{nat_le}
 use Rattle.std.specs.List.{AllByRecursion, list_all}
 use Rattle.jk_model.specs.ClassFile.{AreBytes}
 use Rattle.jk_model.specs.Text.{IsUnit, Spells, IsModifiedUtf8}
+use Rattle.jk_model.proofs.EachItem.{all_from_test, all_weaker}
 
 -- from 1 to 127
 abbrev pub is_plain : ℕ → Bool
@@ -15,18 +16,11 @@ IsPlain b = (1 ≤ b) × (b ≤ 127)
 plain_byte : (b : ℕ) → is_plain b ≡ true → IsPlain b
 plain_byte b h = (grind arith, grind arith)
 
-and_true : (a b : Bool) → (a && b) ≡ true → (a ≡ true) × (b ≡ true)
-and_true a b h = grind arith
-
 plain_text : (text : List ℕ) → list_all is_plain text ≡ true → AllByRecursion IsPlain text
-plain_text [] h = tt
-plain_text (b ∷ text) h =
-    let both = and_true (is_plain b) (list_all is_plain text) h in
-    (plain_byte b both.0, plain_text text both.1)
+plain_text text h = all_from_test IsPlain is_plain plain_byte text h
 
 bytes_of_plain : (text : List ℕ) → AllByRecursion IsPlain text → AreBytes text
-bytes_of_plain [] h = tt
-bytes_of_plain (b ∷ text) h = (omega (arith, h.0.1), bytes_of_plain text h.1)
+bytes_of_plain text h = all_weaker IsPlain (λ b. b < 256) text (λ b plain. omega (arith, plain.1)) h
 
 spells_of_plain : (text : List ℕ) → AllByRecursion IsPlain text → Spells text text
 spells_of_plain [] h = refl
