@@ -1,7 +1,6 @@
-pub mod Readers
-pub mod Loop
-pub mod Parts
-pub mod Entries
-pub mod Whole
-pub mod Cuts
-pub mod Body
+pub mod FirstFaultFound
+pub mod NothingFollows
+pub mod OneClassFile
+pub mod OneCodeBody
+pub mod OneFault
+pub mod OnePoolFault

@@ -1,5 +1,3 @@
+pub mod Answers
 pub mod Reading
-pub mod Refusals
-pub mod Stage
-pub use Rattle.jk_model.specs.ClassFile
-pub use Rattle.jk_model.specs.Text
+pub mod SectionLaws

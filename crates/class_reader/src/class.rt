@@ -1,115 +1,42 @@
 //! The whole of a class file.
 
-ghost use Rattle.std.specs.Prelude.{◌≡◌, ◌↔◌, ◌<◌, ◌^◌, [], length, IsTrue, IfOk, MatchResult};
-ghost use Rattle.std.specs.List.{list_all};
+ghost use Rattle.std.specs.Prelude.{◌≡◌, ◌↔◌, ℕ, ◌<◌, ◌^◌, length, drop, IsTrue, IfOk, MatchResult, Err};
 ghost use Rattle.jk_model.specs.ClassFile.{IsClass, IsVersion};
-ghost use Rattle.class_reader.specs.Stage.{HasReadPool};
-ghost use Rattle.class_reader.specs.Reading.{Gives, magic_at, header_at, parts_at, class_at, entry_holds};
-ghost use Rattle.class_reader.specs.Refusals.{class_refusal};
+ghost use Rattle.jk_model.specs.ReadFaults.{HasBadMagic, HasBadVersion, HasBadPool, IsTruncated, TrailsClass};
+ghost use Rattle.class_reader.specs.Answers.{IsVersionAnswer, IsPoolAnswer, IsClassAnswer, IsRefused, pool_refusal};
 
-use crate::fault::{Fault, ReadError};
-use crate::fields::{pair_of, u2_of, u4_of};
-use crate::pool::{pool_holds, pool_of};
-use crate::sections::{attributes_of, interfaces_of, members_of};
-use jk_model::{Attribute, ClassFile, List, MemberInfo};
+use crate::sections::sections_of;
+use byte_fields::{ReadError, pair_of, u4_of};
+use const_pool::{Pool, PoolError, read_pool};
+use jk_model::ClassFile;
 use std::alloc::Global;
 use thiserror::Error;
 
 /// Why bytes were not read as a class file.
 #[derive(Clone, Copy, Debug, PartialEq, Eq, Error)]
 pub enum ReadRefusal {
-    /// They are no class file, or one with pool entries that are not read yet.
-    #[error("no class file that is read yet")]
-    NotYet,
+    /// The first four bytes aren't the magic number.
+    #[error("the magic number is missing")]
+    BadMagic,
+    /// The version isn't one from 45.3 to 50.0.
+    #[error("the version is not one from 45.3 to 50.0")]
+    BadVersion,
+    /// The bytes end before the class file does: this is how many there are.
+    #[error("the class file ends early, after {0} bytes")]
+    Truncated(u32),
+    /// Bytes follow the class file, from this place on.
+    #[error("bytes follow the class file from {0} on")]
+    Trailing(u32),
+    /// The constant pool has a fault at this index.
+    #[error("the constant pool has a fault at index {0}")]
+    BadPool(u16),
+    /// No memory was left. It says nothing of the bytes after the version.
     #[error("out of memory")]
     OutOfMemory,
 }
 
-impl From<ReadError> for ReadRefusal {
-    ghost from_gives = { λ e r. r ≡ class_refusal e };
-
-    fn from(e: ReadError) -> ReadRefusal {
-        match e {
-            ReadError::Memory => ReadRefusal::OutOfMemory,
-            ReadError::Fault(_) => ReadRefusal::NotYet,
-        }
-    }
-}
-
 /// The number that each class file begins with.
 const MAGIC: u32 = 0xcafe_babe;
-
-#[tactic(auto, unfolding(crate::specs::Reading::magic_at))]
-fn magic_of(bytes: &[u8]) -> Result<(u32, &[u8]), ReadError>
-    ensures { Gives (λ x. (x.0, x.1.now)) result (magic_at bytes.now) }
-{
-    let (magic, rest) = u4_of(bytes)?;
-    if magic != MAGIC {
-        return Err(ReadError::Fault(Fault::Unread));
-    }
-    Ok((magic, rest))
-}
-
-/// The flags, and the indices of the class and of its super class.
-#[tactic(auto, unfolding(crate::specs::Reading::header_at))]
-fn header_of(bytes: &[u8]) -> Result<((u16, (u16, u16)), &[u8]), ReadError>
-    ensures { Gives (λ x. (x.0, x.1.now)) result (header_at bytes.now) }
-{
-    let (flags, rest) = u2_of(bytes)?;
-    let (classes, rest) = pair_of(rest)?;
-    Ok(((flags, classes), rest))
-}
-
-/// Interfaces, fields, methods and attributes.
-#[derive(Drop)]
-struct Parts {
-    interfaces: List<u16>,
-    fields: List<MemberInfo>,
-    methods: List<MemberInfo>,
-    attributes: List<Attribute>,
-}
-
-#[tactic(auto, unfolding(crate::specs::Reading::parts_at))]
-fn parts_of(alloc: Global, bytes: &[u8]) -> Result<(Parts, &[u8]), ReadError>
-    ensures { Gives (λ x. ((x.0.interfaces, (x.0.fields, (x.0.methods, x.0.attributes))), x.1.now)) result (parts_at bytes.now) }
-{
-    let (interfaces, rest) = interfaces_of(alloc, bytes)?;
-    let (fields, rest) = members_of(alloc, rest)?;
-    let (methods, rest) = members_of(alloc, rest)?;
-    let (attributes, rest) = attributes_of(alloc, rest)?;
-    let parts = Parts {
-        interfaces,
-        fields,
-        methods,
-        attributes,
-    };
-    Ok((parts, rest))
-}
-
-/// A class file by its sections, and the bytes after it.
-#[tactic(auto, unfolding(crate::specs::Reading::class_at))]
-fn class_of(alloc: Global, bytes: &[u8]) -> Result<(ClassFile, &[u8]), ReadError>
-    ensures { Gives (λ x. (x.0, x.1.now)) result (class_at bytes.now) }
-{
-    let (_, rest) = magic_of(bytes)?;
-    let ((minor, major), rest) = pair_of(rest)?;
-    let (pool, rest) = pool_of(alloc, rest)?;
-    let ((flags, (this_class, super_class)), rest) = header_of(rest)?;
-    let (parts, rest) = parts_of(alloc, rest)?;
-    let class = ClassFile {
-        minor,
-        major,
-        pool,
-        flags,
-        this_class,
-        super_class,
-        interfaces: parts.interfaces,
-        fields: parts.fields,
-        methods: parts.methods,
-        attributes: parts.attributes,
-    };
-    Ok((class, rest))
-}
 
 /// Whether the version is one from 45.3 to 50.0.
 fn is_version(major: u16, minor: u16) -> bool
@@ -118,25 +45,117 @@ fn is_version(major: u16, minor: u16) -> bool
     (45 < major || major == 45 && 3 <= minor) && (major < 50 || major == 50 && minor == 0)
 }
 
-/// Whether nothing follows the class, its version is accepted, and its entries name what they need.
-fn is_accepted(class: &ClassFile, rest: &[u8]) -> bool
-    ensures { IsTrue result ↔ ((rest.now ≡ []) × IsVersion class.now.major class.now.minor × IsTrue (list_all (entry_holds class.now.pool) class.now.pool)) }
+/// That these bytes end early.
+fn truncated(bytes: &[u8]) -> ReadRefusal
+    requires { length bytes.now < 2 ^ 31 }
+    ensures { result ≡ ReadRefusal.Truncated (length bytes.now) }
 {
-    rest.is_empty() && is_version(class.major, class.minor) && pool_holds(class.pool.as_slice())
+    ReadRefusal::Truncated(bytes.len() as u32)
 }
 
-/// The class file that the bytes are.
+/// The version after the magic number, minor and major, if it is accepted.
+fn version_of(bytes: &[u8]) -> Result<(u16, u16), ReadRefusal>
+    requires { length bytes.now < 2 ^ 31 }
+    ensures { IsVersionAnswer bytes.now result }
+{
+    let Ok((magic, rest)) = u4_of(bytes) else {
+        return Err(truncated(bytes));
+    };
+    if magic != MAGIC {
+        return Err(ReadRefusal::BadMagic);
+    }
+    let Ok((version, _)) = pair_of(rest) else {
+        return Err(truncated(bytes));
+    };
+    if !is_version(version.1, version.0) {
+        return Err(ReadRefusal::BadVersion);
+    }
+    Ok(version)
+}
+
+/// How a fault of the pool is answered, in a file of this length.
+fn pool_refusal(len: u32, e: PoolError) -> ReadRefusal
+    ensures { result ≡ pool_refusal len e }
+{
+    match e {
+        PoolError::BadTag(i) | PoolError::BadIndex(i) | PoolError::BadUtf(i) => {
+            ReadRefusal::BadPool(i)
+        }
+        PoolError::Truncated => ReadRefusal::Truncated(len),
+        PoolError::OutOfMemory => ReadRefusal::OutOfMemory,
+    }
+}
+
+/// The constant pool, which stands after the version.
+fn pool_of(alloc: Global, bytes: &[u8]) -> Result<Pool, ReadRefusal>
+    requires { length bytes.now < 2 ^ 31 }
+    ensures { IsPoolAnswer (length bytes.now) (drop 8 bytes.now) result }
+{
+    match read_pool(alloc, bytes, 8) {
+        Ok(pool) => Ok(pool),
+        Err(e) => Err(pool_refusal(bytes.len() as u32, e)),
+    }
+}
+
+/// What `read_class` answers, as one relation.
+fn answered(alloc: Global, bytes: &[u8]) -> Result<ClassFile, ReadRefusal>
+    requires { length bytes.now < 2 ^ 31 }
+    ensures { IsClassAnswer bytes.now result }
+{
+    let (minor, major) = version_of(bytes)?;
+    let pool = pool_of(alloc, bytes)?;
+    let (_, after_pool) = bytes.split_at(pool.end as usize);
+    let (sections, rest) = match sections_of(alloc, after_pool) {
+        Ok(read) => read,
+        Err(ReadError::EndsEarly) => return Err(truncated(bytes)),
+        Err(ReadError::OutOfMemory) => return Err(ReadRefusal::OutOfMemory),
+    };
+    if !rest.is_empty() {
+        return Err(ReadRefusal::Trailing((bytes.len() - rest.len()) as u32));
+    }
+    let ((flags, (this_class, super_class)), parts) = sections;
+    Ok(ClassFile {
+        minor,
+        major,
+        pool: pool.entries,
+        flags,
+        this_class,
+        super_class,
+        interfaces: parts.interfaces,
+        fields: parts.fields,
+        methods: parts.methods,
+        attributes: parts.attributes,
+    })
+}
+
+/// The class file that the bytes are, in time linear in them (the Java Virtual Machine
+/// Specification, 4.1).
+///
+/// Bytes that are none have one fault, the first that is met in reading them from front to back;
+/// the constant pool is judged before what follows it is read. No memory is taken before the
+/// version is accepted.
 pub fn read_class(alloc: Global, bytes: &[u8]) -> Result<ClassFile, ReadRefusal>
     requires { length bytes.now < 2 ^ 31 }
-    // What is read is laid out in the bytes.
-    ensures found { IfOk result (λ c. IsClass bytes.now c × HasReadPool c) }
-    // What is laid out in the bytes is read, unless memory runs out, and it is the only one.
-    ensures only { (c : ClassFile) → IsClass bytes.now c → HasReadPool c
+    ensures found { IfOk result (λ c. IsClass bytes.now c) }
+    // Bytes are one class file, and it is found unless memory runs out.
+    ensures only { (c : ClassFile) → IsClass bytes.now c
         → MatchResult result (λ d. d ≡ c) (λ e. e ≡ ReadRefusal.OutOfMemory) }
+
+    // These two come before memory is taken.
+    ensures bad_magic { result ≡ Err ReadRefusal.BadMagic ↔ HasBadMagic bytes.now }
+    ensures bad_version { result ≡ Err ReadRefusal.BadVersion ↔ HasBadVersion bytes.now }
+
+    // Each other refusal has its cause, and comes wherever its cause holds, unless memory runs out.
+    ensures truncated { (n : ℕ) → result ≡ Err (ReadRefusal.Truncated n)
+        → IsTruncated bytes.now × (n ≡ length bytes.now) }
+    ensures only_truncated { IsTruncated bytes.now
+        → IsRefused result (ReadRefusal.Truncated (length bytes.now)) ReadRefusal.OutOfMemory }
+    ensures trailing { (n : ℕ) → result ≡ Err (ReadRefusal.Trailing n) → TrailsClass bytes.now n }
+    ensures only_trailing { (n : ℕ) → TrailsClass bytes.now n
+        → IsRefused result (ReadRefusal.Trailing n) ReadRefusal.OutOfMemory }
+    ensures bad_pool { (i : ℕ) → result ≡ Err (ReadRefusal.BadPool i) → HasBadPool bytes.now i }
+    ensures only_bad_pool { (i : ℕ) → HasBadPool bytes.now i
+        → IsRefused result (ReadRefusal.BadPool i) ReadRefusal.OutOfMemory }
 {
-    let (class, rest) = class_of(alloc, bytes)?;
-    if !is_accepted(&class, rest) {
-        return Err(ReadRefusal::NotYet);
-    }
-    Ok(class)
+    answered(alloc, bytes)
 }

@@ -1,13 +1,13 @@
 //! The body of a Code attribute.
 
-ghost use Rattle.std.specs.Prelude.{◌≡◌, ℕ, ◌<◌, ◌^◌, ◌⊎◌, length, IfOk, MatchResult, Ok, Err};
+ghost use Rattle.std.specs.Prelude.{◌≡◌, ℕ, ◌<◌, ◌^◌, length, IfOk, MatchResult, Err};
 ghost use Rattle.jk_model.specs.ClassFile.{CodeLayout, IsCutCode, TrailsCode, HasBadCodeLength};
-ghost use Rattle.class_reader.specs.Reading.{Gives, front_at, behind_at, code_at};
-ghost use Rattle.class_reader.specs.Refusals.{code_refusal, body_answer};
+ghost use Rattle.byte_fields.specs.Reading.{Gives, GivesInMemory};
+ghost use Rattle.class_reader.specs.Reading.{front_at, tables_at};
+ghost use Rattle.class_reader.specs.Answers.{IsCodeAnswer, IsRefused};
 
-use crate::fault::{Fault, ReadError};
-use crate::fields::{bytes_of, u2_of, u4_of};
-use crate::sections::{attributes_of, handlers_of};
+use crate::sections::{AttributeField, HandlerField};
+use byte_fields::{EndsEarly, ReadError, bytes_of, counted_of, pair_of, u4_of};
 use jk_model::{Attribute, Bytes, Code, Handler, List};
 use std::alloc::Global;
 use thiserror::Error;
@@ -28,86 +28,70 @@ pub enum CodeRefusal {
     OutOfMemory,
 }
 
-impl From<ReadError> for CodeRefusal {
-    ghost from_gives = { λ e r. r ≡ code_refusal e };
-
-    fn from(e: ReadError) -> CodeRefusal {
-        match e {
-            ReadError::Memory => CodeRefusal::OutOfMemory,
-            ReadError::Fault(Fault::CodeLength(len)) => CodeRefusal::CodeLength(len),
-            ReadError::Fault(Fault::Short | Fault::Unread) => CodeRefusal::Cut,
-        }
-    }
-}
-
-/// max_stack, max_locals, and the length of the code.
+/// max_stack and max_locals, and the length of the code.
 #[tactic(auto, unfolding(crate::specs::Reading::front_at))]
-fn front_of(body: &[u8]) -> Result<((u16, (u16, u32)), &[u8]), ReadError>
+fn front_of(body: &[u8]) -> Result<(((u16, u16), u32), &[u8]), EndsEarly>
     ensures { Gives (λ x. (x.0, x.1.now)) result (front_at body.now) }
 {
-    let (max_stack, rest) = u2_of(body)?;
-    let (max_locals, rest) = u2_of(rest)?;
+    let (limits, rest) = pair_of(body)?;
     let (len, rest) = u4_of(rest)?;
-    Ok(((max_stack, (max_locals, len)), rest))
+    Ok(((limits, len), rest))
 }
 
 /// The code, its handlers and its attributes.
 #[derive(Drop)]
-struct Behind {
+struct Tables {
     code: Bytes,
     handlers: List<Handler>,
     attributes: List<Attribute>,
 }
 
-#[tactic(auto, unfolding(crate::specs::Reading::behind_at))]
-fn behind_of(alloc: Global, len: u32, bytes: &[u8]) -> Result<(Behind, &[u8]), ReadError>
-    ensures { Gives (λ x. ((x.0.code, (x.0.handlers, x.0.attributes)), x.1.now)) result (behind_at len bytes.now) }
+#[tactic(auto, unfolding(crate::specs::Reading::tables_at))]
+fn tables_of(alloc: Global, len: u32, bytes: &[u8]) -> Result<(Tables, &[u8]), ReadError>
+    ensures { GivesInMemory (λ x. ((x.0.code, (x.0.handlers, x.0.attributes)), x.1.now))
+        result (tables_at len bytes.now) }
 {
     let (code, rest) = bytes_of(len as usize, bytes)?;
     let code = Bytes::from_slice(alloc, code)?;
-    let (handlers, rest) = handlers_of(alloc, rest)?;
-    let (attributes, rest) = attributes_of(alloc, rest)?;
-    let behind = Behind {
+    let (handlers, rest) = counted_of::<HandlerField>(alloc, rest)?;
+    let (attributes, rest) = counted_of::<AttributeField>(alloc, rest)?;
+    let tables = Tables {
         code,
         handlers,
         attributes,
     };
-    Ok((behind, rest))
+    Ok((tables, rest))
 }
 
-/// What a body begins with, and the bytes after it.
-#[tactic(auto, unfolding(crate::specs::Reading::code_at))]
-fn code_of(alloc: Global, body: &[u8]) -> Result<(Code, &[u8]), ReadError>
-    ensures { Gives (λ x. (x.0, x.1.now)) result (code_at body.now) }
-{
-    let ((max_stack, (max_locals, len)), rest) = front_of(body)?;
-    if !(0 < len && len < 65536) {
-        return Err(ReadError::Fault(Fault::CodeLength(len)));
-    }
-    let (behind, rest) = behind_of(alloc, len, rest)?;
-    let code = Code {
-        max_stack,
-        max_locals,
-        code: behind.code,
-        handlers: behind.handlers,
-        attributes: behind.attributes,
-    };
-    Ok((code, rest))
-}
-
-/// What `read_code` answers, as one value of the definitions.
+/// What `read_code` answers, as one relation. The length of the code is tested as it is read.
 fn answered(alloc: Global, body: &[u8]) -> Result<Code, CodeRefusal>
     requires { length body.now < 2 ^ 31 }
-    ensures { MatchResult result (λ c. body_answer body.now ≡ Ok c) (λ e. (e ≡ CodeRefusal.OutOfMemory) ⊎ (body_answer body.now ≡ Err e)) }
+    ensures { IsCodeAnswer body.now result }
 {
-    let (code, rest) = code_of(alloc, body)?;
+    let Ok((((max_stack, max_locals), len), rest)) = front_of(body) else {
+        return Err(CodeRefusal::Cut);
+    };
+    if !(0 < len && len < 65536) {
+        return Err(CodeRefusal::CodeLength(len));
+    }
+    let (tables, rest) = match tables_of(alloc, len, rest) {
+        Ok(read) => read,
+        Err(ReadError::EndsEarly) => return Err(CodeRefusal::Cut),
+        Err(ReadError::OutOfMemory) => return Err(CodeRefusal::OutOfMemory),
+    };
     if !rest.is_empty() {
         return Err(CodeRefusal::Trailing((body.len() - rest.len()) as u32));
     }
-    Ok(code)
+    Ok(Code {
+        max_stack,
+        max_locals,
+        code: tables.code,
+        handlers: tables.handlers,
+        attributes: tables.attributes,
+    })
 }
 
-/// What the body of a Code attribute says. The length of the code is tested as it is read.
+/// What the body of a Code attribute says.
 pub fn read_code(alloc: Global, body: &[u8]) -> Result<Code, CodeRefusal>
     requires { length body.now < 2 ^ 31 }
     ensures found { IfOk result (λ c. CodeLayout body.now c) }
@@ -116,15 +100,16 @@ pub fn read_code(alloc: Global, body: &[u8]) -> Result<Code, CodeRefusal>
 
     ensures cut { result ≡ Err CodeRefusal.Cut → IsCutCode body.now }
     ensures only_cut { IsCutCode body.now
-        → MatchResult result (λ _. ⊥) (λ e. (e ≡ CodeRefusal.Cut) ⊎ (e ≡ CodeRefusal.OutOfMemory)) }
+        → IsRefused result CodeRefusal.Cut CodeRefusal.OutOfMemory }
 
     ensures trailing { (n : ℕ) → result ≡ Err (CodeRefusal.Trailing n) → TrailsCode body.now n }
     ensures only_trailing { (n : ℕ) → TrailsCode body.now n
-        → MatchResult result (λ _. ⊥) (λ e. (e ≡ CodeRefusal.Trailing n) ⊎ (e ≡ CodeRefusal.OutOfMemory)) }
+        → IsRefused result (CodeRefusal.Trailing n) CodeRefusal.OutOfMemory }
 
-    ensures code_length { (n : ℕ) → result ≡ Err (CodeRefusal.CodeLength n) → HasBadCodeLength body.now n }
+    ensures code_length { (n : ℕ) → result ≡ Err (CodeRefusal.CodeLength n)
+        → HasBadCodeLength body.now n }
     ensures only_code_length { (n : ℕ) → HasBadCodeLength body.now n
-        → MatchResult result (λ _. ⊥) (λ e. (e ≡ CodeRefusal.CodeLength n) ⊎ (e ≡ CodeRefusal.OutOfMemory)) }
+        → IsRefused result (CodeRefusal.CodeLength n) CodeRefusal.OutOfMemory }
 {
     answered(alloc, body)
 }

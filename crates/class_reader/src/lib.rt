@@ -1,11 +1,9 @@
-//! Reads class files: which bytes are one, and which record they stand for.
+//! Reads class files: which bytes are one, which record they stand for, and the first fault of
+//! bytes that are none.
 #![tactic(auto)]
 
 mod class;
 mod code;
-mod fault;
-mod fields;
-mod pool;
 mod sections;
 
 pub use class::{ReadRefusal, read_class};

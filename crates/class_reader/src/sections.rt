@@ -1,122 +1,85 @@
-//! Lists behind their count: attributes, fields and methods, interfaces, and handlers.
+//! The sections of a class file after its constant pool, and the kinds of fields in them.
 
 ghost use Rattle.std.specs.Prelude.{◌≡◌};
-ghost use Rattle.std.specs.Int.{w16};
-ghost use Rattle.class_reader.specs.Reading.{Gives, number_at, many_at, counted_at, attribute_at, attributes_at, member_at, handler_at};
+ghost use Rattle.byte_fields.specs.Reading.{Gives, GivesInMemory};
+ghost use Rattle.class_reader.specs.Reading.{handler_at, header_at, parts_at, sections_at};
 
-use crate::fault::ReadError;
-use crate::fields::{block_of, u2_of};
-use jk_model::{Attribute, Handler, List, MemberInfo};
+use byte_fields::{EndsEarly, Field, ReadError, U2, counted_of, long_block_of, pair_of, u2_of};
+use jk_model::{Attribute, Bytes, Handler, List, MemberInfo};
 use std::alloc::Global;
 
-#[tactic(auto, unfolding(crate::specs::Reading::attribute_at))]
-fn attribute_of(alloc: Global, bytes: &[u8]) -> Result<(Attribute, &[u8]), ReadError>
-    ensures { Gives (λ x. (x.0, x.1.now)) result (attribute_at bytes.now) }
-{
-    let (name, rest) = u2_of(bytes)?;
-    let (body, rest) = block_of(alloc, rest)?;
-    Ok((Attribute { name, body }, rest))
-}
+/// An attribute, as a kind of field.
+pub struct AttributeField;
 
-fn many_attributes_of(
-    alloc: Global,
-    count: u16,
-    bytes: &[u8],
-) -> Result<(List<Attribute>, &[u8]), ReadError>
-    ensures { Gives (λ x. (x.0, x.1.now)) result (many_at attribute_at count bytes.now) }
-{
-    let mut attributes = List::new(alloc);
-    let mut rest = bytes;
-    for _ in 0..count {
-        let (attribute, after) = attribute_of(alloc, rest)?;
-        attributes.push(attribute)?;
-        rest = after;
+impl Field for AttributeField {
+    ghost use Rattle.byte_fields.specs.Reading.{GivesInMemory};
+    ghost use Rattle.jk_model.specs.ClassFile.{attribute_bytes, IsAttribute};
+    ghost use Rattle.class_reader.specs.Reading.{attribute_at};
+    ghost use Rattle.class_reader.specs.SectionLaws.{attribute_reader, attribute_cut};
+
+    type Value = Attribute;
+
+    ghost read_at = { attribute_at };
+
+    ghost value_bytes = { attribute_bytes };
+
+    ghost is_value = { IsAttribute };
+
+    #[tactic(auto, unfolding(crate::specs::Reading::attribute_at))]
+    fn read(alloc: Global, bytes: &[u8]) -> Result<(Attribute, &[u8]), ReadError> {
+        let (name, rest) = u2_of(bytes)?;
+        let (body, rest) = long_block_of(rest)?;
+        let body = Bytes::from_slice(alloc, body)?;
+        Ok((Attribute { name, body }, rest))
     }
-    Ok((attributes, rest))
+
+    ghost reads = { attribute_reader };
+
+    ghost fails_within = { attribute_cut };
 }
 
-/// A count, and so many attributes.
-#[tactic(auto, unfolding(crate::specs::Reading::counted_at))]
-pub fn attributes_of(alloc: Global, bytes: &[u8]) -> Result<(List<Attribute>, &[u8]), ReadError>
-    ensures { Gives (λ x. (x.0, x.1.now)) result (attributes_at bytes.now) }
-{
-    let (count, rest) = u2_of(bytes)?;
-    many_attributes_of(alloc, count, rest)
-}
+/// A field or a method, as a kind of field.
+pub struct MemberField;
 
-#[tactic(auto, unfolding(crate::specs::Reading::member_at))]
-fn member_of(alloc: Global, bytes: &[u8]) -> Result<(MemberInfo, &[u8]), ReadError>
-    ensures { Gives (λ x. (x.0, x.1.now)) result (member_at bytes.now) }
-{
-    let (flags, rest) = u2_of(bytes)?;
-    let (name, rest) = u2_of(rest)?;
-    let (descriptor, rest) = u2_of(rest)?;
-    let (attributes, rest) = attributes_of(alloc, rest)?;
-    let member = MemberInfo {
-        flags,
-        name,
-        descriptor,
-        attributes,
-    };
-    Ok((member, rest))
-}
+impl Field for MemberField {
+    ghost use Rattle.byte_fields.specs.Reading.{GivesInMemory};
+    ghost use Rattle.jk_model.specs.ClassFile.{member_bytes, IsMember};
+    ghost use Rattle.class_reader.specs.Reading.{member_at};
+    ghost use Rattle.class_reader.specs.SectionLaws.{member_reader, member_cut};
 
-fn many_members_of(
-    alloc: Global,
-    count: u16,
-    bytes: &[u8],
-) -> Result<(List<MemberInfo>, &[u8]), ReadError>
-    ensures { Gives (λ x. (x.0, x.1.now)) result (many_at member_at count bytes.now) }
-{
-    let mut members = List::new(alloc);
-    let mut rest = bytes;
-    for _ in 0..count {
-        let (member, after) = member_of(alloc, rest)?;
-        members.push(member)?;
-        rest = after;
+    type Value = MemberInfo;
+
+    ghost read_at = { member_at };
+
+    ghost value_bytes = { member_bytes };
+
+    ghost is_value = { IsMember };
+
+    #[tactic(auto, unfolding(crate::specs::Reading::member_at))]
+    fn read(alloc: Global, bytes: &[u8]) -> Result<(MemberInfo, &[u8]), ReadError> {
+        let (flags, rest) = u2_of(bytes)?;
+        let ((name, descriptor), rest) = pair_of(rest)?;
+        let (attributes, rest) = counted_of::<AttributeField>(alloc, rest)?;
+        let member = MemberInfo {
+            flags,
+            name,
+            descriptor,
+            attributes,
+        };
+        Ok((member, rest))
     }
-    Ok((members, rest))
-}
 
-/// A count, and so many fields or methods.
-#[tactic(auto, unfolding(crate::specs::Reading::counted_at))]
-pub fn members_of(alloc: Global, bytes: &[u8]) -> Result<(List<MemberInfo>, &[u8]), ReadError>
-    ensures { Gives (λ x. (x.0, x.1.now)) result (counted_at member_at bytes.now) }
-{
-    let (count, rest) = u2_of(bytes)?;
-    many_members_of(alloc, count, rest)
-}
+    ghost reads = { member_reader };
 
-fn many_indices_of(alloc: Global, count: u16, bytes: &[u8]) -> Result<(List<u16>, &[u8]), ReadError>
-    ensures { Gives (λ x. (x.0, x.1.now)) result (many_at (number_at w16) count bytes.now) }
-{
-    let mut indices = List::new(alloc);
-    let mut rest = bytes;
-    for _ in 0..count {
-        let (index, after) = u2_of(rest)?;
-        indices.push(index)?;
-        rest = after;
-    }
-    Ok((indices, rest))
-}
-
-/// A count, and so many pool indices.
-#[tactic(auto, unfolding(crate::specs::Reading::counted_at))]
-pub fn interfaces_of(alloc: Global, bytes: &[u8]) -> Result<(List<u16>, &[u8]), ReadError>
-    ensures { Gives (λ x. (x.0, x.1.now)) result (counted_at (number_at w16) bytes.now) }
-{
-    let (count, rest) = u2_of(bytes)?;
-    many_indices_of(alloc, count, rest)
+    ghost fails_within = { member_cut };
 }
 
 #[tactic(auto, unfolding(crate::specs::Reading::handler_at))]
-fn handler_of(bytes: &[u8]) -> Result<(Handler, &[u8]), ReadError>
+fn handler_of(bytes: &[u8]) -> Result<(Handler, &[u8]), EndsEarly>
     ensures { Gives (λ x. (x.0, x.1.now)) result (handler_at bytes.now) }
 {
-    let (start, rest) = u2_of(bytes)?;
-    let (end, rest) = u2_of(rest)?;
-    let (handler, rest) = u2_of(rest)?;
-    let (catch, rest) = u2_of(rest)?;
+    let ((start, end), rest) = pair_of(bytes)?;
+    let ((handler, catch), rest) = pair_of(rest)?;
     let found = Handler {
         start,
         end,
@@ -126,28 +89,84 @@ fn handler_of(bytes: &[u8]) -> Result<(Handler, &[u8]), ReadError>
     Ok((found, rest))
 }
 
-fn many_handlers_of(
-    alloc: Global,
-    count: u16,
-    bytes: &[u8],
-) -> Result<(List<Handler>, &[u8]), ReadError>
-    ensures { Gives (λ x. (x.0, x.1.now)) result (many_at handler_at count bytes.now) }
-{
-    let mut handlers = List::new(alloc);
-    let mut rest = bytes;
-    for _ in 0..count {
-        let (handler, after) = handler_of(rest)?;
-        handlers.push(handler)?;
-        rest = after;
+/// An exception handler, as a kind of field.
+pub struct HandlerField;
+
+impl Field for HandlerField {
+    ghost use Rattle.byte_fields.specs.Reading.{GivesInMemory};
+    ghost use Rattle.jk_model.specs.ClassFile.{handler_bytes, IsHandler};
+    ghost use Rattle.class_reader.specs.Reading.{handler_at};
+    ghost use Rattle.class_reader.specs.SectionLaws.{handler_reader, handler_cut};
+
+    type Value = Handler;
+
+    ghost read_at = { handler_at };
+
+    ghost value_bytes = { handler_bytes };
+
+    ghost is_value = { IsHandler };
+
+    fn read(_alloc: Global, bytes: &[u8]) -> Result<(Handler, &[u8]), ReadError> {
+        Ok(handler_of(bytes)?)
     }
-    Ok((handlers, rest))
+
+    ghost reads = { handler_reader };
+
+    ghost fails_within = { handler_cut };
 }
 
-/// A count, and so many exception handlers.
-#[tactic(auto, unfolding(crate::specs::Reading::counted_at))]
-pub fn handlers_of(alloc: Global, bytes: &[u8]) -> Result<(List<Handler>, &[u8]), ReadError>
-    ensures { Gives (λ x. (x.0, x.1.now)) result (counted_at handler_at bytes.now) }
+/// The flags, and the indices of the class and of its super class.
+#[tactic(auto, unfolding(crate::specs::Reading::header_at))]
+fn header_of(bytes: &[u8]) -> Result<((u16, (u16, u16)), &[u8]), EndsEarly>
+    ensures { Gives (λ x. (x.0, x.1.now)) result (header_at bytes.now) }
 {
-    let (count, rest) = u2_of(bytes)?;
-    many_handlers_of(alloc, count, rest)
+    let (flags, rest) = u2_of(bytes)?;
+    let (classes, rest) = pair_of(rest)?;
+    Ok(((flags, classes), rest))
+}
+
+/// Interfaces, fields, methods and attributes.
+#[derive(Drop)]
+pub struct Parts {
+    pub interfaces: List<u16>,
+    pub fields: List<MemberInfo>,
+    pub methods: List<MemberInfo>,
+    pub attributes: List<Attribute>,
+}
+
+#[tactic(auto, unfolding(crate::specs::Reading::parts_at))]
+fn parts_of(alloc: Global, bytes: &[u8]) -> Result<(Parts, &[u8]), ReadError>
+    ensures { GivesInMemory
+        (λ x. ((x.0.interfaces, (x.0.fields, (x.0.methods, x.0.attributes))), x.1.now))
+        result (parts_at bytes.now) }
+{
+    let (interfaces, rest) = counted_of::<U2>(alloc, bytes)?;
+    let (fields, rest) = counted_of::<MemberField>(alloc, rest)?;
+    let (methods, rest) = counted_of::<MemberField>(alloc, rest)?;
+    let (attributes, rest) = counted_of::<AttributeField>(alloc, rest)?;
+    let parts = Parts {
+        interfaces,
+        fields,
+        methods,
+        attributes,
+    };
+    Ok((parts, rest))
+}
+
+/// The sections after the constant pool: flags, class and super class, and the parts.
+#[tactic(auto, unfolding(crate::specs::Reading::sections_at))]
+pub fn sections_of(
+    alloc: Global,
+    bytes: &[u8],
+) -> Result<(((u16, (u16, u16)), Parts), &[u8]), ReadError>
+    ensures { GivesInMemory
+        (λ x. (
+          (x.0.0, (x.0.1.interfaces, (x.0.1.fields, (x.0.1.methods, x.0.1.attributes)))),
+          x.1.now,
+        ))
+        result (sections_at bytes.now) }
+{
+    let (header, rest) = header_of(bytes)?;
+    let (parts, rest) = parts_of(alloc, rest)?;
+    Ok(((header, parts), rest))
 }

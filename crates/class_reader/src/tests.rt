@@ -1,7 +1,10 @@
 //! Class files and Code bodies by hand, each with what it is changed to.
 
+ghost use Rattle.std.specs.Prelude.{◌<◌, ◌^◌, length};
+
 use super::*;
 use jk_model::PoolEntry;
+use std::alloc::Global;
 use std::test::*;
 
 /// The class `A` in version 45.3, with nothing in it.
@@ -38,45 +41,101 @@ fn the_class_reads(rt: HostRuntime) -> Result<(), Fail> {
     Ok(())
 }
 
+/// Whether the bytes are refused so.
+fn refuses(alloc: Global, bytes: &[u8], why: ReadRefusal) -> bool
+    requires { length bytes.now < 2 ^ 31 }
+{
+    matches!(read_class(alloc, bytes), Err(e) if e == why)
+}
+
 #[test]
-fn other_classes(rt: HostRuntime) {
+fn classes_that_end_early(rt: HostRuntime) {
     for len in 0..CLASS.len() {
-        let read = read_class(rt.alloc(), &CLASS[..len]);
-        assert!(rt; matches!(read, Err(ReadRefusal::NotYet)), "of {len} bytes");
+        assert!(rt;
+            refuses(
+                rt.alloc(),
+                &CLASS[..len],
+                ReadRefusal::Truncated(len as u32)
+            ),
+            "of {len} bytes"
+        );
     }
+}
+
+#[test]
+fn a_byte_more(rt: HostRuntime) {
     let mut longer = [0; 54];
     longer[..53].copy_from_slice(&CLASS);
-    assert!(rt; matches!(read_class(rt.alloc(), &longer), Err(ReadRefusal::NotYet)));
-    // A place, the byte that is put there, and whether the class is still read.
-    for (place, byte, reads) in [
-        (5, 2, false),
-        (5, 4, true),
-        (6, 1, false),
-        (7, 0x33, false),
-        (7, 0x32, false),
-        (7, 0x2c, false),
-        (0, 0xcb, false),
-        (12, 5, false),
-        (12, 1, false),
-        (12, 4, true),
-        (10, 3, false),
-        (10, 8, true),
-        (16, 0x80, false),
-        (16, 0, false),
-        (16, 0x7f, true),
-        (46, 1, false),
-    ] {
-        let mut changed = CLASS;
-        if let Some(old) = changed.get_mut(place) {
-            *old = byte;
-        }
-        let read = read_class(rt.alloc(), &changed);
-        assert_eq!(rt; read.is_ok(), reads, "with {byte} at {place}");
+    assert!(rt; refuses(rt.alloc(), &longer, ReadRefusal::Trailing(53)));
+}
+
+/// The class with another byte at a place.
+fn changed(place: usize, byte: u8) -> [u8; 53] {
+    let mut class = CLASS;
+    if let Some(old) = class.get_mut(place) {
+        *old = byte;
+    }
+    class
+}
+
+#[test]
+fn bytes_that_may_be_others(rt: HostRuntime) {
+    for (place, byte) in [(5, 4), (12, 4), (10, 8), (16, 0x7f), (40, 0x31)] {
+        let class = changed(place, byte);
+        let read = read_class(rt.alloc(), &class);
+        assert!(rt; read.is_ok(), "with {byte} at {place}");
     }
     let mut newest = CLASS;
     newest[5] = 0;
     newest[7] = 0x32;
     assert!(rt; read_class(rt.alloc(), &newest).is_ok());
+}
+
+#[test]
+fn bytes_that_may_not(rt: HostRuntime) {
+    for (place, byte, why) in [
+        (0, 0xcb, ReadRefusal::BadMagic),
+        (3, 0xbf, ReadRefusal::BadMagic),
+        (5, 2, ReadRefusal::BadVersion),
+        (6, 1, ReadRefusal::BadVersion),
+        (7, 0x33, ReadRefusal::BadVersion),
+        (7, 0x32, ReadRefusal::BadVersion),
+        (7, 0x2c, ReadRefusal::BadVersion),
+        (9, 0, ReadRefusal::BadPool(0)),
+        (10, 2, ReadRefusal::BadPool(1)),
+        (12, 5, ReadRefusal::BadPool(1)),
+        (12, 1, ReadRefusal::BadPool(1)),
+        (16, 0, ReadRefusal::BadPool(2)),
+        (46, 1, ReadRefusal::Truncated(53)),
+    ] {
+        let class = changed(place, byte);
+        assert!(rt; refuses(rt.alloc(), &class, why), "with {byte} at {place}");
+    }
+}
+
+#[test]
+fn the_first_fault(rt: HostRuntime) {
+    // Two places, the bytes that are put there, how many bytes are left, and the fault.
+    for (places, bytes, len, why) in [
+        ((0, 7), (0, 0), 53, ReadRefusal::BadMagic),
+        ((0, 7), (0, 0), 4, ReadRefusal::BadMagic),
+        ((0, 7), (0, 0), 3, ReadRefusal::Truncated(3)),
+        ((7, 10), (0, 2), 53, ReadRefusal::BadVersion),
+        ((7, 10), (0, 2), 8, ReadRefusal::BadVersion),
+        ((7, 10), (0, 2), 7, ReadRefusal::Truncated(7)),
+        ((10, 46), (2, 1), 53, ReadRefusal::BadPool(1)),
+        ((10, 46), (2, 1), 11, ReadRefusal::BadPool(1)),
+        ((12, 46), (1, 1), 39, ReadRefusal::BadPool(1)),
+        ((12, 46), (1, 1), 38, ReadRefusal::Truncated(38)),
+    ] {
+        let mut class = changed(places.0, bytes.0);
+        if let Some(old) = class.get_mut(places.1) {
+            *old = bytes.1;
+        }
+        if let Some(front) = class.get(..len) {
+            assert!(rt; refuses(rt.alloc(), front, why), "of {len} bytes");
+        }
+    }
 }
 
 #[test]

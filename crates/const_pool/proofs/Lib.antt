@@ -1,5 +1,3 @@
-pub mod Readers
-pub mod Cuts
-pub mod Bodies
-pub mod Slots
-pub mod Whole
+mod EntriesMakePool
+mod EntryReadsBack
+pub mod OnePool

@@ -5,21 +5,22 @@ use Rattle.jk_model.specs.declared.class_file.PoolEntry.{PoolEntry}
 use Rattle.jk_model.specs.declared.class_file.PoolEntry.TheVariants.{Unusable, Long, Double}
 use Rattle.jk_model.specs.ClassFile.{IsEntry, entry_bytes, IsUtf8Entry, IsGoodEntry}
 use Rattle.jk_model.specs.ConstantPool.{BeginsWithPool, IsCutPool, IsTag, IsWideTag, StopsAtTag, IsFirstBadEntry, HasBadIndex, HasBadText}
-use Rattle.jk_model.specs.Text.{IsModifiedUtf8}
+use Rattle.const_pool.specs.declared.judge.EntryFault.{EntryFault}
+use Rattle.const_pool.specs.declared.judge.EntryFault.TheVariants as faults
 use Rattle.const_pool.specs.declared.pool.PoolError.{PoolError}
 use Rattle.const_pool.specs.declared.pool.PoolError.TheVariants.{BadTag, BadIndex, BadUtf, Truncated, OutOfMemory}
 
 -- ---- The first pass.
 
--- the unusable index behind an entry, where it has one
-abbrev pub behind : PoolEntry → List PoolEntry
-behind (Long n) = Unusable ∷ []
-behind (Double n) = Unusable ∷ []
-behind _ = []
+-- the unusable index after an entry, where it has one
+abbrev pub second_index : PoolEntry → List PoolEntry
+second_index (Long n) = Unusable ∷ []
+second_index (Double n) = Unusable ∷ []
+second_index _ = []
 
 -- an entry at its index, or its two indices
 abbrev pub group : PoolEntry → List PoolEntry
-group e = e ∷ behind e
+group e = e ∷ second_index e
 
 -- an entry that has bytes
 abbrev pub IsSlot : PoolEntry → Type 0
@@ -48,32 +49,17 @@ IsPoolAnswer bytes (Err OutOfMemory) = Unit {0}
 
 -- ---- The second pass.
 
--- what is answered of a text at an index
-abbrev pub IsTextAnswer : ℕ → List ℕ → Result Unit PoolError → Type 0
-IsTextAnswer index text (Ok u) = IsModifiedUtf8 text
-IsTextAnswer index text (Err (BadTag i)) = ⊥
-IsTextAnswer index text (Err (BadIndex i)) = ⊥
-IsTextAnswer index text (Err (BadUtf i)) = (i ≡ index) × (IsModifiedUtf8 text → ⊥)
-IsTextAnswer index text (Err Truncated) = ⊥
-IsTextAnswer index text (Err OutOfMemory) = Unit {0}
-
 -- what is answered of an entry at an index
-abbrev pub IsJudgment : List PoolEntry → PoolEntry → ℕ → Result Unit PoolError → Type 0
+abbrev pub IsJudgment : List PoolEntry → PoolEntry → ℕ → Result Unit EntryFault → Type 0
 IsJudgment pool e index (Ok u) = IsGoodEntry pool e
-IsJudgment pool e index (Err (BadTag i)) = ⊥
-IsJudgment pool e index (Err (BadIndex i)) = (i ≡ index) × (IsUtf8Entry e → ⊥) × (IsGoodEntry pool e → ⊥)
-IsJudgment pool e index (Err (BadUtf i)) = (i ≡ index) × IsUtf8Entry e × (IsGoodEntry pool e → ⊥)
-IsJudgment pool e index (Err Truncated) = ⊥
-IsJudgment pool e index (Err OutOfMemory) = Unit {0}
+IsJudgment pool e index (Err (faults.BadIndex i)) = (i ≡ index) × (IsUtf8Entry e → ⊥) × (IsGoodEntry pool e → ⊥)
+IsJudgment pool e index (Err (faults.BadUtf i)) = (i ≡ index) × IsUtf8Entry e × (IsGoodEntry pool e → ⊥)
 
 -- what is answered of all entries
-abbrev pub IsPoolJudgment : List PoolEntry → Result Unit PoolError → Type 0
+abbrev pub IsPoolJudgment : List PoolEntry → Result Unit EntryFault → Type 0
 IsPoolJudgment pool (Ok u) = AllByRecursion (IsGoodEntry pool) pool
-IsPoolJudgment pool (Err (BadTag i)) = ⊥
-IsPoolJudgment pool (Err (BadIndex i)) = (e : PoolEntry) × IsFirstBadEntry pool i e × (IsUtf8Entry e → ⊥)
-IsPoolJudgment pool (Err (BadUtf i)) = (e : PoolEntry) × IsFirstBadEntry pool i e × IsUtf8Entry e
-IsPoolJudgment pool (Err Truncated) = ⊥
-IsPoolJudgment pool (Err OutOfMemory) = Unit {0}
+IsPoolJudgment pool (Err (faults.BadIndex i)) = (e : PoolEntry) × IsFirstBadEntry pool i e × (IsUtf8Entry e → ⊥)
+IsPoolJudgment pool (Err (faults.BadUtf i)) = (e : PoolEntry) × IsFirstBadEntry pool i e × IsUtf8Entry e
 
 -- ---- Both passes.
 

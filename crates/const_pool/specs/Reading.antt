@@ -1,58 +1,32 @@
--- Reading fields from left to right: a value and the bytes behind it, or none where the bytes are cut.
-use Rattle.std.specs.Prelude.{◌≡◌, ℕ, Bool, true, false, List, length, take, drop, Option, Some, None, Result, Ok, Err, nat_lt, if◌then◌else◌}
-use Rattle.std.specs.Int.{Width, w16, w32, w64, byte_len, from_be_bytes}
+-- Reading an entry by its tag, and how the faults of its parts are answered.
+use Rattle.std.specs.Prelude.{ℕ, Bool, true, false, List, Option, Result, Ok, Err}
+use Rattle.std.specs.Int.{w16, w32, w64}
+use Rattle.byte_fields.specs.declared.errors.ReadError.{ReadError}
+use Rattle.byte_fields.specs.declared.errors.ReadError.TheVariants as reads
+use Rattle.byte_fields.specs.Reading.{mapped_at, number_at, pair_at, block_at}
 use Rattle.jk_model.specs.declared.class_file.PoolEntry.{PoolEntry}
 use Rattle.jk_model.specs.declared.class_file.PoolEntry.TheVariants as entries
 use Rattle.const_pool.specs.declared.tags.Tag.{Tag}
 use Rattle.const_pool.specs.declared.tags.Tag.TheVariants.{Utf8, Integer, Float, Long, Double, Class, Str, FieldRef, MethodRef, InterfaceMethodRef, NameAndType}
+use Rattle.const_pool.specs.declared.judge.EntryFault.{EntryFault}
+use Rattle.const_pool.specs.declared.judge.EntryFault.TheVariants as faults
 use Rattle.const_pool.specs.declared.pool.PoolError.{PoolError}
-use Rattle.const_pool.specs.declared.pool.PoolError.TheVariants.{BadTag, BadIndex, BadUtf, Truncated, OutOfMemory}
-
-infixl 10 ◌>>=◌
-abbrev pub ◌>>=◌ : {A B : Type 0} → Option A → (A → Option B) → Option B
-(Some x) >>= f = f x
-None >>= f = None
-
--- What a function returned, seen by view, is what reading gives, unless memory ran out.
-abbrev pub Fails : {Y : Type 0} → PoolError → Option Y → Type 0
-Fails Truncated read = read ≡ None
-Fails OutOfMemory read = Unit {0}
-Fails (BadTag i) read = ⊥
-Fails (BadIndex i) read = ⊥
-Fails (BadUtf i) read = ⊥
-
-abbrev pub Gives : {X Y : Type 0} → (X → Y) → Result X PoolError → Option Y → Type 0
-Gives view (Ok x) read = read ≡ Some (view x)
-Gives view (Err e) read = Fails e read
+use Rattle.const_pool.specs.declared.pool.PoolError.TheVariants.{BadIndex, BadUtf, Truncated, OutOfMemory}
 
 -- what a function returned, seen by view
-abbrev pub seen : {X Y : Type 0} → (X → Y) → Result X PoolError → Result Y PoolError
+abbrev pub seen : {X Y E : Type 0} → (X → Y) → Result X E → Result Y E
 seen view (Ok x) = Ok (view x)
 seen view (Err e) = Err e
 
--- ---- How readers are joined.
+-- why a pool is not read, where a field is not
+abbrev pub read_error : ReadError → PoolError
+read_error reads.EndsEarly = Truncated
+read_error reads.OutOfMemory = OutOfMemory
 
--- one field, and then one that may hang on it
-abbrev pub then_at : {A B : Type 0} → (List ℕ → Option (A × List ℕ)) → (A → List ℕ → Option (B × List ℕ)) → List ℕ → Option ((A × B) × List ℕ)
-then_at first second bytes = first bytes >>= λ x. second x.0 x.1 >>= λ y. Some ((x.0, y.0), y.1)
-
--- the value that f makes of what is read
-abbrev pub mapped_at : {A B : Type 0} → (A → B) → (List ℕ → Option (A × List ℕ)) → List ℕ → Option (B × List ℕ)
-mapped_at f read bytes = read bytes >>= λ x. Some (f x.0, x.1)
-
--- ---- Numbers, and bytes behind their count.
-
-abbrev pub number_at : Width → List ℕ → Option (ℕ × List ℕ)
-number_at w bytes = if nat_lt (length bytes) (byte_len w) then None else Some (from_be_bytes w (take (byte_len w) bytes), drop (byte_len w) bytes)
-
-abbrev pub bytes_at : ℕ → List ℕ → Option (List ℕ × List ℕ)
-bytes_at n bytes = if nat_lt (length bytes) n then None else Some (take n bytes, drop n bytes)
-
-unfoldable pub text_at : List ℕ → Option (List ℕ × List ℕ)
-text_at bytes = mapped_at (λ p. p.1) (then_at (number_at w16) bytes_at) bytes
-
-unfoldable pub pair_at : List ℕ → Option ((ℕ × ℕ) × List ℕ)
-pair_at bytes = then_at (number_at w16) (λ _. number_at w16) bytes
+-- why a pool is refused, where an entry isn't good
+abbrev pub fault_error : EntryFault → PoolError
+fault_error (faults.BadIndex i) = BadIndex i
+fault_error (faults.BadUtf i) = BadUtf i
 
 -- ---- Entries.
 
@@ -74,9 +48,9 @@ is_wide Long = true
 is_wide Double = true
 is_wide _ = false
 
--- what stands behind a tag
+-- what stands after a tag
 unfoldable pub body_at : Tag → List ℕ → Option (PoolEntry × List ℕ)
-body_at Utf8 bytes = mapped_at (λ t. entries.Utf8 t) text_at bytes
+body_at Utf8 bytes = mapped_at (λ t. entries.Utf8 t) (block_at w16) bytes
 body_at Integer bytes = mapped_at (λ n. entries.Integer n) (number_at w32) bytes
 body_at Float bytes = mapped_at (λ n. entries.Float n) (number_at w32) bytes
 body_at Long bytes = mapped_at (λ n. entries.Long n) (number_at w64) bytes

@@ -1,24 +1,35 @@
-//! The first pass: entries are read by their tags, one behind the other.
+//! The first pass: entries are read by their tags, one after another.
 
-ghost use Rattle.std.specs.Prelude.{◌≡◌, ◌≢◌, ◌↔◌, ◌+◌, ◌<◌, ◌++◌, ◌∷◌, [], IsTrue, OnOk, if◌then◌else◌};
+ghost use Rattle.std.specs.Prelude.{◌≡◌, ◌≢◌, ◌↔◌, ◌+◌, ◌<◌, ◌++◌, ◌∷◌, [], IsTrue, OnOk, Err, if◌then◌else◌};
+ghost use Rattle.std.specs.Int.{w16};
+ghost use Rattle.byte_fields.specs.Reading.{Gives, GivesInMemory, block_at};
 ghost use Rattle.jk_model.specs.declared.class_file.PoolEntry.TheVariants.{Unusable};
 ghost use Rattle.jk_model.specs.ClassFile.{u2};
-ghost use Rattle.const_pool.specs.Reading.{Gives, seen, is_wide, body_at};
-ghost use Rattle.const_pool.specs.Answer.{behind, group, IsEntryAnswer, IsPoolAnswer};
+ghost use Rattle.const_pool.specs.Reading.{seen, is_wide, body_at};
+ghost use Rattle.const_pool.specs.Answer.{second_index, group, IsEntryAnswer, IsPoolAnswer};
 
-use crate::fields::{pair_of, text_of, u2_of, u4_of, u8_of};
 use crate::pool::PoolError;
 use crate::tags::{Tag, tag_of};
-use jk_model::{List, OutOfMemory, PoolEntry};
+use byte_fields::{EndsEarly, ReadError, pair_of, short_block_of, u2_of, u4_of, u8_of};
+use jk_model::{Bytes, List, OutOfMemory, PoolEntry};
 use std::alloc::Global;
 
-/// What stands behind a tag.
+/// Bytes after their length, which are copied.
+fn text_of(alloc: Global, bytes: &[u8]) -> Result<(Bytes, &[u8]), ReadError>
+    ensures { GivesInMemory (λ x. (x.0, x.1.now)) result (block_at w16 bytes.now) }
+{
+    let (text, rest) = short_block_of(bytes)?;
+    Ok((Bytes::from_slice(alloc, text)?, rest))
+}
+
+/// What stands after a tag that isn't that of a text.
 #[tactic(auto, unfolding(crate::specs::Reading::body_at))]
-fn body_of(alloc: Global, tag: Tag, bytes: &[u8]) -> Result<(PoolEntry, &[u8]), PoolError>
+fn number_body_of(tag: Tag, bytes: &[u8]) -> Result<(PoolEntry, &[u8]), EndsEarly>
+    requires { tag ≢ Tag.Utf8 }
     ensures { Gives (λ x. (x.0, x.1.now)) result (body_at tag bytes.now) }
 {
     match tag {
-        Tag::Utf8 => text_of(alloc, bytes).map(|(text, rest)| (PoolEntry::Utf8(text), rest)),
+        Tag::Utf8 => unreachable!(),
         Tag::Integer => u4_of(bytes).map(|(n, rest)| (PoolEntry::Integer(n), rest)),
         Tag::Float => u4_of(bytes).map(|(bits, rest)| (PoolEntry::Float(bits), rest)),
         Tag::Long => u8_of(bytes).map(|(n, rest)| (PoolEntry::Long(n), rest)),
@@ -44,7 +55,22 @@ fn body_of(alloc: Global, tag: Tag, bytes: &[u8]) -> Result<(PoolEntry, &[u8]), 
     }
 }
 
-/// Whether an entry with this tag, and the unusable index behind it, end below the count.
+/// What stands after a tag. A text takes memory, and nothing else does.
+#[tactic(auto, unfolding(crate::specs::Reading::body_at))]
+fn body_of(alloc: Global, tag: Tag, bytes: &[u8]) -> Result<(PoolEntry, &[u8]), ReadError>
+    ensures gives { GivesInMemory (λ x. (x.0, x.1.now)) result (body_at tag bytes.now) }
+    ensures memory { result ≡ Err ReadError.OutOfMemory → tag ≡ Tag.Utf8 }
+{
+    match tag {
+        Tag::Utf8 => {
+            let (text, rest) = text_of(alloc, bytes)?;
+            Ok((PoolEntry::Utf8(text), rest))
+        }
+        _ => Ok(number_body_of(tag, bytes)?),
+    }
+}
+
+/// Whether an entry with this tag, and the unusable index after it, end below the count.
 fn has_room(tag: Tag, index: u16, count: u16) -> bool
     requires { index < count }
     ensures { IsTrue result ↔ (IsTrue (is_wide tag) → index + 1 ≢ count) }
@@ -71,16 +97,16 @@ fn entry_of(
     if !has_room(tag, index, count) {
         return Err(PoolError::BadTag(index));
     }
-    body_of(alloc, tag, rest)
+    Ok(body_of(alloc, tag, rest)?)
 }
 
 fn is_wide_entry(entry: &PoolEntry) -> bool
-    ensures { behind entry.now ≡ (if result then Unusable ∷ [] else []) }
+    ensures { second_index entry.now ≡ (if result then Unusable ∷ [] else []) }
 {
     matches!(entry, PoolEntry::Long(_) | PoolEntry::Double(_))
 }
 
-/// Puts an entry at the end, and the unusable index behind it where it has one.
+/// Puts an entry at the end, and the unusable index after it where it has one.
 fn push_entry(entries: &mut List<PoolEntry>, entry: PoolEntry) -> Result<(), OutOfMemory>
     ensures { OnOk result (entries.new ≡ entries.old ++ group entry) }
 {
@@ -112,7 +138,7 @@ fn entries_of(
     Ok((entries, rest))
 }
 
-/// The pool that is laid out in front, and the bytes behind it.
+/// The pool that is laid out in front, and the bytes after it.
 pub fn pool_of(alloc: Global, bytes: &[u8]) -> Result<(List<PoolEntry>, &[u8]), PoolError>
     ensures { IsPoolAnswer bytes.now (seen (λ x. (x.0, x.1.now)) result) }
 {

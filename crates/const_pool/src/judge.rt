@@ -3,12 +3,20 @@
 ghost use Rattle.std.specs.Prelude.{◌≡◌, ◌↔◌, ◌<◌, ◌^◌, IsTrue, length};
 ghost use Rattle.std.specs.List.{AllByRecursion};
 ghost use Rattle.jk_model.specs.ClassFile.{IsEntry, IsUtf8Entry, IsClassEntry, IsPairEntry, NamesEntry, IsGoodEntry};
-ghost use Rattle.const_pool.specs.Answer.{IsTextAnswer, IsJudgment, IsPoolJudgment};
+ghost use Rattle.jk_model.specs.Text.{IsModifiedUtf8};
+ghost use Rattle.const_pool.specs.Answer.{IsJudgment, IsPoolJudgment};
 
-use crate::pool::PoolError;
 use jk_model::PoolEntry;
-use std::alloc::Global;
-use unit_text::{UnitsError, units_of};
+use unit_text::bad_form;
+
+/// Why an entry isn't good. The numbers are pool indices.
+#[derive(Clone, Copy, Debug)]
+pub enum EntryFault {
+    /// It names an index that is out of range, or an entry of another kind.
+    BadIndex(u16),
+    /// Its text is no modified UTF-8.
+    BadUtf(u16),
+}
 
 fn names_utf8(pool: &[PoolEntry], index: u16) -> bool
     ensures { IsTrue result ↔ NamesEntry IsUtf8Entry pool.now index }
@@ -47,44 +55,38 @@ fn names_hold(pool: &[PoolEntry], entry: &PoolEntry) -> bool
 }
 
 /// Whether the bytes are modified UTF-8.
-fn is_text(alloc: Global, index: u16, text: &[u8]) -> Result<(), PoolError>
+fn is_text(text: &[u8]) -> bool
     requires { length text.now < 2 ^ 16 }
-    ensures { IsTextAnswer index text.now result }
+    ensures { IsTrue result ↔ IsModifiedUtf8 text.now }
 {
-    match units_of(alloc, text) {
-        Ok(_) => Ok(()),
-        Err(UnitsError::BadForm(_)) => Err(PoolError::BadUtf(index)),
-        Err(UnitsError::OutOfMemory) => Err(PoolError::OutOfMemory),
-    }
+    bad_form(text).is_none()
 }
 
 /// Judges the entry at an index.
-fn judge_entry(
-    alloc: Global,
-    pool: &[PoolEntry],
-    index: u16,
-    entry: &PoolEntry,
-) -> Result<(), PoolError>
+fn judge_entry(pool: &[PoolEntry], index: u16, entry: &PoolEntry) -> Result<(), EntryFault>
     requires { IsEntry entry.now }
     ensures { IsJudgment pool.now entry.now index result }
 {
     if let PoolEntry::Utf8(text) = entry {
-        return is_text(alloc, index, text.as_slice());
+        if !is_text(text.as_slice()) {
+            return Err(EntryFault::BadUtf(index));
+        }
+        return Ok(());
     }
     if !names_hold(pool, entry) {
-        return Err(PoolError::BadIndex(index));
+        return Err(EntryFault::BadIndex(index));
     }
     Ok(())
 }
 
-/// Whether all entries are good, or which is the first that isn't.
-pub fn judge_pool(alloc: Global, pool: &[PoolEntry]) -> Result<(), PoolError>
+/// Whether all entries are good, or which is the first that isn't. It takes no memory.
+pub fn judge_pool(pool: &[PoolEntry]) -> Result<(), EntryFault>
     requires few { length pool.now < 2 ^ 16 }
     requires entries { AllByRecursion IsEntry pool.now }
     ensures { IsPoolJudgment pool.now result }
 {
     for (i, entry) in pool.iter().enumerate() {
-        judge_entry(alloc, pool, i as u16, entry)?;
+        judge_entry(pool, i as u16, entry)?;
     }
     Ok(())
 }

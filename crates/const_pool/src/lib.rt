@@ -2,7 +2,6 @@
 #![tactic(auto)]
 
 mod entries;
-mod fields;
 mod judge;
 mod pool;
 mod tags;

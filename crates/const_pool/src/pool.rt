@@ -8,7 +8,8 @@ ghost use Rattle.const_pool.specs.Answer.{IsAnswer};
 ghost use Rattle.const_pool.specs.Reading.{seen};
 
 use crate::entries::pool_of;
-use crate::judge::judge_pool;
+use crate::judge::{EntryFault, judge_pool};
+use byte_fields::{EndsEarly, ReadError};
 use jk_model::{List, OutOfMemory, PoolEntry};
 use std::alloc::Global;
 use thiserror::Error;
@@ -18,14 +19,14 @@ use thiserror::Error;
 pub struct Pool {
     /// One entry per index from 0.
     pub entries: List<PoolEntry>,
-    /// The place behind the pool's last byte, in bytes from the front of the file.
+    /// The place after the pool's last byte, in bytes from the front of the file.
     pub end: u32,
 }
 
 /// Why no constant pool was read. The numbers are pool indices.
 #[derive(Clone, Copy, Debug, PartialEq, Eq, Error)]
 pub enum PoolError {
-    /// At this index stands a tag that is none, or a Long or Double that leaves no index behind it. 0
+    /// At this index stands a tag that is none, or a Long or Double that leaves no index after it. 0
     /// stands for a count of 0.
     #[error("index {0} of the constant pool holds no entry")]
     BadTag(u16),
@@ -54,6 +55,45 @@ impl From<OutOfMemory> for PoolError {
     }
 }
 
+impl From<EndsEarly> for PoolError {
+    ghost use Rattle.std.specs.Prelude.{◌≡◌};
+    ghost use Rattle.const_pool.specs.declared.pool.PoolError.TheVariants as Error;
+
+    ghost from_gives = { λ _ e. e ≡ Error.Truncated };
+
+    fn from(_e: EndsEarly) -> PoolError {
+        PoolError::Truncated
+    }
+}
+
+impl From<ReadError> for PoolError {
+    ghost use Rattle.std.specs.Prelude.{◌≡◌};
+    ghost use Rattle.const_pool.specs.Reading.{read_error};
+
+    ghost from_gives = { λ e pool. pool ≡ read_error e };
+
+    fn from(e: ReadError) -> PoolError {
+        match e {
+            ReadError::EndsEarly => PoolError::Truncated,
+            ReadError::OutOfMemory => PoolError::OutOfMemory,
+        }
+    }
+}
+
+impl From<EntryFault> for PoolError {
+    ghost use Rattle.std.specs.Prelude.{◌≡◌};
+    ghost use Rattle.const_pool.specs.Reading.{fault_error};
+
+    ghost from_gives = { λ fault pool. pool ≡ fault_error fault };
+
+    fn from(fault: EntryFault) -> PoolError {
+        match fault {
+            EntryFault::BadIndex(index) => PoolError::BadIndex(index),
+            EntryFault::BadUtf(index) => PoolError::BadUtf(index),
+        }
+    }
+}
+
 /// The bytes from a place on.
 fn from_place(bytes: &[u8], from: u32) -> &[u8]
     ensures { result.now ≡ drop from bytes.now }
@@ -61,17 +101,17 @@ fn from_place(bytes: &[u8], from: u32) -> &[u8]
     bytes.get(from as usize..).unwrap_or(&[])
 }
 
-/// The pool in front, once it has passed twice, and the bytes behind it.
+/// The pool in front, once it has passed twice, and the bytes after it.
 fn read(alloc: Global, bytes: &[u8]) -> Result<(List<PoolEntry>, &[u8]), PoolError>
     ensures { IsAnswer bytes.now (seen (λ x. (x.0, x.1.now)) result) }
 {
     let (entries, after) = pool_of(alloc, bytes)?;
-    judge_pool(alloc, entries.as_slice())?;
+    judge_pool(entries.as_slice())?;
     Ok((entries, after))
 }
 
 /// The constant pool that stands in a class file from byte `from` on, counted from 0, in time linear in
-/// its bytes (the Java Virtual Machine Specification, 4.4). A place behind the end is `Truncated`.
+/// its bytes (the Java Virtual Machine Specification, 4.4). A place after the end is `Truncated`.
 ///
 /// It is judged in two passes. The first reads the entries, and stops at a count of 0, a tag that is
 /// none, a Long or Double at the last index, and where the bytes end. The second looks at all entries

@@ -21,7 +21,7 @@ pub enum Tag {
 }
 
 impl Tag {
-    /// Whether the index behind such an entry is unusable.
+    /// Whether the index after such an entry is unusable.
     pub fn is_wide(self) -> bool
         ensures { result ≡ is_wide self }
     {

@@ -1,7 +1,5 @@
 //! Pools by hand.
 
-ghost use Rattle.std.specs.Prelude.{◌<◌, ◌^◌, length};
-
 use super::*;
 use jk_model::PoolEntry;
 use std::alloc::Global;
@@ -29,18 +27,22 @@ fn pool_of_the_smallest_class(rt: HostRuntime) -> Result<(), Fail> {
     Ok(())
 }
 
+/// What is read from byte `from` on, of fewer than 2^31 bytes.
+fn read(alloc: Global, bytes: &[u8], from: u32) -> Option<Result<Pool, PoolError>> {
+    if bytes.len() >= 1 << 31 {
+        return None;
+    }
+    Some(read_pool(alloc, bytes, from))
+}
+
 /// Whether the bytes are refused so, as a pool that begins at place 0.
-fn refuses(alloc: Global, bytes: &[u8], why: PoolError) -> bool
-    requires { length bytes.now < 2 ^ 31 }
-{
-    matches!(read_pool(alloc, bytes, 0), Err(e) if e == why)
+fn refuses(alloc: Global, bytes: &[u8], why: PoolError) -> bool {
+    matches!(read(alloc, bytes, 0), Some(Err(e)) if e == why)
 }
 
 /// Whether the bytes begin with a pool that ends at this place.
-fn ends_at(alloc: Global, bytes: &[u8], end: u32) -> bool
-    requires { length bytes.now < 2 ^ 31 }
-{
-    matches!(read_pool(alloc, bytes, 0), Ok(pool) if pool.end == end)
+fn ends_at(alloc: Global, bytes: &[u8], end: u32) -> bool {
+    matches!(read(alloc, bytes, 0), Some(Ok(pool)) if pool.end == end)
 }
 
 /// One entry of each tag, the texts `A` and `()V` first. A Long and a Double take two indices each.
@@ -57,7 +59,7 @@ const ALL_TAGS: [u8; 68] = [
     3, 0xff, 0xff, 0xff, 0xfe, // 9
     5, 1, 2, 3, 4, 5, 6, 7, 8, // 10, 11
     6, 0x40, 0, 0, 0, 0, 0, 0, 0, // 12, 13
-    4, 0x3f, 0x80, 0, 0, 1, 0, // Behind the pool, but where the count is higher.
+    4, 0x3f, 0x80, 0, 0, 1, 0, // After the pool, but where the count is higher.
 ];
 
 #[test]
@@ -108,50 +110,42 @@ fn counts_and_tags(rt: HostRuntime) {
     let alloc = rt.alloc();
     assert!(rt; ends_at(alloc, &[0, 1], 2));
     assert!(rt; ends_at(alloc, &[0, 1, 0xff], 2));
-    assert!(rt; refuses(alloc, &[0, 0], PoolError::BadTag(0)));
-    assert!(rt; refuses(alloc, &[0, 0, 1], PoolError::BadTag(0)));
-    assert!(rt; refuses(alloc, &[0, 2, 0], PoolError::BadTag(1)));
-    assert!(rt; refuses(alloc, &[0, 2, 2], PoolError::BadTag(1)));
-    assert!(rt; refuses(alloc, &[0, 2, 13], PoolError::BadTag(1)));
-    assert!(rt; refuses(alloc, &[0, 3, 3, 0, 0, 0, 0, 0xff], PoolError::BadTag(2)));
+    let rows: [(&[u8], u16); 6] = [
+        (&[0, 0], 0),
+        (&[0, 0, 1], 0),
+        (&[0, 2, 0], 1),
+        (&[0, 2, 2], 1),
+        (&[0, 2, 13], 1),
+        (&[0, 3, 3, 0, 0, 0, 0, 0xff], 2),
+    ];
+    for (bytes, index) in rows {
+        assert!(rt;
+            refuses(alloc, bytes, PoolError::BadTag(index)),
+            "{bytes:?}"
+        );
+    }
 }
 
 #[test]
 fn wide_entries(rt: HostRuntime) {
     let alloc = rt.alloc();
     assert!(rt; ends_at(alloc, &[0, 3, 5, 0, 0, 0, 0, 0, 0, 0, 1], 11));
-    assert!(rt;
-        refuses(
-            alloc,
-            &[0, 2, 5, 0, 0, 0, 0, 0, 0, 0, 1],
-            PoolError::BadTag(1)
-        )
-    );
-    // Also where its bytes are cut.
-    assert!(rt; refuses(alloc, &[0, 2, 6], PoolError::BadTag(1)));
-    // An index behind a Long counts: the entry behind it stands at index 3.
-    assert!(rt;
-        refuses(
-            alloc,
-            &[0, 4, 5, 0, 0, 0, 0, 0, 0, 0, 1, 2],
-            PoolError::BadTag(3)
-        )
-    );
-    assert!(rt;
-        refuses(
-            alloc,
-            &[0, 4, 5, 0, 0, 0, 0, 0, 0, 0, 1, 6],
-            PoolError::BadTag(3)
-        )
-    );
-    // A Class names index 2, behind a Long, where no text may stand.
-    assert!(rt;
-        refuses(
-            alloc,
+    let rows: [(&[u8], PoolError); 5] = [
+        (&[0, 2, 5, 0, 0, 0, 0, 0, 0, 0, 1], PoolError::BadTag(1)),
+        // Also where its bytes are cut.
+        (&[0, 2, 6], PoolError::BadTag(1)),
+        // An index after a Long counts: the entry after it stands at index 3.
+        (&[0, 4, 5, 0, 0, 0, 0, 0, 0, 0, 1, 2], PoolError::BadTag(3)),
+        (&[0, 4, 5, 0, 0, 0, 0, 0, 0, 0, 1, 6], PoolError::BadTag(3)),
+        // A Class names index 2, after a Long, where no text may stand.
+        (
             &[0, 4, 5, 0, 0, 0, 0, 0, 0, 0, 1, 7, 0, 2],
-            PoolError::BadIndex(3)
-        )
-    );
+            PoolError::BadIndex(3),
+        ),
+    ];
+    for (bytes, why) in rows {
+        assert!(rt; refuses(alloc, bytes, why), "{bytes:?}");
+    }
 }
 
 #[test]
@@ -170,75 +164,57 @@ fn texts(rt: HostRuntime) {
     let alloc = rt.alloc();
     assert!(rt; ends_at(alloc, &[0, 2, 1, 0, 0], 5));
     assert!(rt; ends_at(alloc, &[0, 2, 1, 0, 2, 0xc0, 0x80], 7));
-    assert!(rt; refuses(alloc, &[0, 2, 1, 0, 1, 0], PoolError::BadUtf(1)));
-    assert!(rt; refuses(alloc, &[0, 2, 1, 0, 1, 0xc3], PoolError::BadUtf(1)));
-    assert!(rt; refuses(alloc, &[0, 3, 7, 0, 2, 1, 0, 1, 0xff], PoolError::BadUtf(2)));
-    // The lower index is answered.
-    assert!(rt;
-        refuses(
-            alloc,
-            &[0, 3, 7, 0, 0, 1, 0, 1, 0xff],
-            PoolError::BadIndex(1)
-        )
-    );
-    assert!(rt; refuses(alloc, &[0, 3, 1, 0, 1, 0xff, 7, 0, 0], PoolError::BadUtf(1)));
-    // All entries are read before one is judged.
-    assert!(rt; refuses(alloc, &[0, 3, 1, 0, 1, 0xff, 2], PoolError::BadTag(2)));
-    assert!(rt; refuses(alloc, &[0, 3, 7, 0, 0, 3], PoolError::Truncated));
+    let rows: [(&[u8], PoolError); 7] = [
+        (&[0, 2, 1, 0, 1, 0], PoolError::BadUtf(1)),
+        (&[0, 2, 1, 0, 1, 0xc3], PoolError::BadUtf(1)),
+        (&[0, 3, 7, 0, 2, 1, 0, 1, 0xff], PoolError::BadUtf(2)),
+        // The lower index is answered.
+        (&[0, 3, 7, 0, 0, 1, 0, 1, 0xff], PoolError::BadIndex(1)),
+        (&[0, 3, 1, 0, 1, 0xff, 7, 0, 0], PoolError::BadUtf(1)),
+        // All entries are read before one is judged.
+        (&[0, 3, 1, 0, 1, 0xff, 2], PoolError::BadTag(2)),
+        (&[0, 3, 7, 0, 0, 3], PoolError::Truncated),
+    ];
+    for (bytes, why) in rows {
+        assert!(rt; refuses(alloc, bytes, why), "{bytes:?}");
+    }
 }
 
 #[test]
 fn indices(rt: HostRuntime) {
     let alloc = rt.alloc();
     assert!(rt; ends_at(alloc, &[0, 3, 7, 0, 2, 1, 0, 1, 0x41], 9));
-    assert!(rt;
-        refuses(
-            alloc,
-            &[0, 3, 7, 0, 0, 1, 0, 1, 0x41],
-            PoolError::BadIndex(1)
-        )
-    );
-    assert!(rt;
-        refuses(
-            alloc,
-            &[0, 3, 7, 0, 3, 1, 0, 1, 0x41],
-            PoolError::BadIndex(1)
-        )
-    );
-    assert!(rt;
-        refuses(
-            alloc,
-            &[0, 3, 7, 0, 1, 1, 0, 1, 0x41],
-            PoolError::BadIndex(1)
-        )
-    );
-    assert!(rt;
-        refuses(
-            alloc,
-            &[0, 3, 8, 0xff, 0xff, 1, 0, 1, 0x41],
-            PoolError::BadIndex(1)
-        )
-    );
-    // A reference whose second half is no name and type, and one whose first half is no class.
-    let second = [0, 4, 1, 0, 0, 7, 0, 1, 9, 0, 2, 0, 2];
-    assert!(rt; refuses(alloc, &second, PoolError::BadIndex(3)));
-    let first = [0, 4, 1, 0, 0, 12, 0, 1, 0, 1, 11, 0, 2, 0, 2];
-    assert!(rt; refuses(alloc, &first, PoolError::BadIndex(3)));
-}
-
-/// Whether the bytes are cut, as a pool that begins at this place.
-fn is_cut_from(alloc: Global, bytes: &[u8], from: u32) -> bool
-    requires { length bytes.now < 2 ^ 31 }
-{
-    matches!(read_pool(alloc, bytes, from), Err(PoolError::Truncated))
+    let rows: [(&[u8], u16); 6] = [
+        (&[0, 3, 7, 0, 0, 1, 0, 1, 0x41], 1),
+        (&[0, 3, 7, 0, 3, 1, 0, 1, 0x41], 1),
+        (&[0, 3, 7, 0, 1, 1, 0, 1, 0x41], 1),
+        (&[0, 3, 8, 0xff, 0xff, 1, 0, 1, 0x41], 1),
+        // A reference whose second half is no name and type, and one whose first half is no class.
+        (&[0, 4, 1, 0, 0, 7, 0, 1, 9, 0, 2, 0, 2], 3),
+        (&[0, 4, 1, 0, 0, 12, 0, 1, 0, 1, 11, 0, 2, 0, 2], 3),
+    ];
+    for (bytes, index) in rows {
+        assert!(rt;
+            refuses(alloc, bytes, PoolError::BadIndex(index)),
+            "{bytes:?}"
+        );
+    }
 }
 
 #[test]
-fn places_behind_the_end(rt: HostRuntime) {
-    let alloc = rt.alloc();
-    assert!(rt; !is_cut_from(alloc, &CLASS, 51));
-    assert!(rt; is_cut_from(alloc, &CLASS, 52));
-    assert!(rt; is_cut_from(alloc, &CLASS, 53));
-    assert!(rt; is_cut_from(alloc, &CLASS, 54));
-    assert!(rt; is_cut_from(alloc, &CLASS, u32::MAX));
+fn places_after_the_end(rt: HostRuntime) {
+    let rows = [
+        (51, false),
+        (52, true),
+        (53, true),
+        (54, true),
+        (u32::MAX, true),
+    ];
+    for (from, is_cut) in rows {
+        let cut = matches!(
+            read(rt.alloc(), &CLASS, from),
+            Some(Err(PoolError::Truncated))
+        );
+        assert_eq!(rt; cut, is_cut, "from {from}");
+    }
 }

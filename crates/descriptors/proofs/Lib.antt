@@ -1,4 +1,5 @@
-mod Stuck
-mod Walk
-mod Texts
-mod Places
+-- Lemmas on descriptors: how they are read, and where other units stop.
+mod NamesAreWalks
+mod NoTextBeginsAnother
+mod OneTypeOrPlace
+mod PartStopsTheWhole

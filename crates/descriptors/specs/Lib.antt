@@ -1,4 +1,5 @@
-pub mod Reading
+-- The texts of the parts of a descriptor, where units stop being one, and what is answered.
+pub mod Stops
 pub mod Names
-pub mod Parts
-pub mod Answer
+pub mod PartTexts
+pub mod TypeOrPlace

@@ -1,7 +1,7 @@
 -- The name of a class by a walk over its units.
 use Rattle.std.specs.Prelude.{◌≡◌, ℕ, ◌+◌, ◌<◌, ◌≤◌, Bool, true, false, List, [], ◌∷◌, ◌++◌, take, drop, length, Result, Ok, Err}
 use Rattle.jk_model.specs.Descriptors.{IsNameUnit, IsClassName}
-use Rattle.descriptors.specs.Reading.{IsStuck}
+use Rattle.descriptors.specs.Stops.{IsStuck}
 use Rattle.descriptors.specs.declared.names.Step.{Step}
 use Rattle.descriptors.specs.declared.names.Step.TheVariants.{Within, Between, End, Stop}
 

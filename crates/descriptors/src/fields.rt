@@ -4,11 +4,12 @@ ghost use Rattle.std.specs.Prelude.{◌≡◌, ℕ, ◌<◌, ◌≤◌, ◌⊎�
 ghost use Rattle.jk_model.specs.declared.descriptors.FieldType.{FieldType};
 ghost use Rattle.jk_model.specs.Descriptors.{IsClassName, IsFieldText, IsBadFieldText};
 ghost use Rattle.descriptors.specs.Names.{IsNameText};
-ghost use Rattle.descriptors.specs.Reading.{IsStop};
-ghost use Rattle.descriptors.specs.Parts.{IsBaseText, IsAnyFieldText, ReadsName, ReadsBase, ReadsField, AreDimensions};
-ghost use Rattle.descriptors.specs.Answer.{IsFieldAnswer};
+ghost use Rattle.descriptors.specs.Stops.{IsStop, StopsAt};
+ghost use Rattle.descriptors.specs.PartTexts.{IsBaseText, ReadsName, ReadsBase, ReadsField, AreDimensions};
+ghost use Rattle.jk_model.specs.Descriptors.{IsFieldDescriptor};
+ghost use Rattle.descriptors.specs.TypeOrPlace.{IsFieldAnswer};
 
-use crate::error::{DescriptorError, bad_before, behind};
+use crate::error::{DescriptorError, StopPlace, bad_before, place_before, rest_after};
 use crate::letters::letter;
 use crate::names::name_length;
 use jk_model::{Base, FieldType, List};
@@ -20,45 +21,45 @@ const CLASS: u16 = b'L' as u16;
 
 const MOST_DIMENSIONS: u8 = 255;
 
-/// The name of a class and what stands behind its `;`, in a descriptor of `whole` units.
-fn next_name(units: &[u16], whole: usize) -> Result<(&[u16], &[u16]), DescriptorError>
+/// The name of a class and what follows its `;`, in a descriptor of `whole` units.
+fn next_name(units: &[u16], whole: usize) -> Result<(&[u16], &[u16]), StopPlace>
     requires within { length units.now ≤ whole }
     requires short { whole < 2 ^ 31 }
-    ensures { MatchResult result (λ found. ReadsName units.now found.0.now found.1.now) (IsStop IsNameText units.now whole) }
+    ensures { MatchResult result (λ found. ReadsName units.now found.0.now found.1.now) (λ place. StopsAt IsNameText units.now whole place.0) }
 {
     match name_length(units) {
         Ok(n) => Ok((&units[..n], &units[n + 1..])),
-        Err(n) => Err(bad_before(&units[n..], whole)),
+        Err(n) => Err(place_before(&units[n..], whole)),
     }
 }
 
-/// The base of a letter in front, which is not `L`, and what stands behind it.
-fn next_letter(units: &[u16], whole: usize) -> Result<(Base, &[u16]), DescriptorError>
+/// The base of a letter in front, which is not `L`, and what follows it.
+fn next_letter(units: &[u16], whole: usize) -> Result<(Base, &[u16]), StopPlace>
     requires within { length units.now ≤ whole }
     requires short { whole < 2 ^ 31 }
     requires no_class { (more : List ℕ) → units.now ≡ 76 ∷ more → ⊥ }
-    ensures { MatchResult result (λ found. ReadsBase units.now found.0 found.1.now) (IsStop IsBaseText units.now whole) }
+    ensures { MatchResult result (λ found. ReadsBase units.now found.0 found.1.now) (λ place. StopsAt IsBaseText units.now whole place.0) }
 {
     match units {
         [unit, rest @ ..] => match letter(*unit) {
             Some(base) => Ok((base, rest)),
-            None => Err(bad_before(units, whole)),
+            None => Err(place_before(units, whole)),
         },
-        [] => Err(bad_before(units, whole)),
+        [] => Err(place_before(units, whole)),
     }
 }
 
-/// What a field is of that is no array, and what stands behind it.
+/// What a field is of that is no array, and what follows it.
 fn next_base(alloc: Global, units: &[u16], whole: usize) -> Result<(Base, &[u16]), DescriptorError>
     requires within { length units.now ≤ whole }
     requires short { whole < 2 ^ 31 }
     ensures { MatchResult result (λ found. ReadsBase units.now found.0 found.1.now) (IsStop IsBaseText units.now whole) }
 {
-    if let Some(name_on) = behind(units, CLASS) {
+    if let Some(name_on) = rest_after(units, CLASS) {
         let (name, rest) = next_name(name_on, whole)?;
         return Ok((Base::Class(List::from_slice(alloc, name)?), rest));
     }
-    next_letter(units, whole)
+    Ok(next_letter(units, whole)?)
 }
 
 /// How many brackets stand in front, 255 at most.
@@ -75,7 +76,7 @@ fn dimensions(units: &[u16]) -> u8
     dims
 }
 
-/// The type of a field in front, and what stands behind it.
+/// The type of a field in front, and what follows it.
 pub(crate) fn next_field(
     alloc: Global,
     units: &[u16],
@@ -83,7 +84,7 @@ pub(crate) fn next_field(
 ) -> Result<(FieldType, &[u16]), DescriptorError>
     requires within { length units.now ≤ whole }
     requires short { whole < 2 ^ 31 }
-    ensures { MatchResult result (λ found. ReadsField units.now found.0 found.1.now) (IsStop IsAnyFieldText units.now whole) }
+    ensures { MatchResult result (λ found. ReadsField units.now found.0 found.1.now) (IsStop IsFieldDescriptor units.now whole) }
 {
     let dims = dimensions(units);
     let (base, rest) = next_base(alloc, &units[usize::from(dims)..], whole)?;

@@ -2,7 +2,7 @@
 
 ghost use Rattle.std.specs.Prelude.{◌≡◌, ◌∷◌, [], MatchOption};
 ghost use Rattle.jk_model.specs.Descriptors.{IsBase, base_text};
-ghost use Rattle.descriptors.specs.Parts.{IsNoLetter};
+ghost use Rattle.descriptors.specs.PartTexts.{IsNoLetter};
 
 use jk_model::Base;
 

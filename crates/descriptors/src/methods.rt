@@ -3,11 +3,12 @@
 ghost use Rattle.std.specs.Prelude.{◌≡◌, ℕ, ◌<◌, ◌≤◌, ◌⊎◌, ◌^◌, List, length, MatchResult, IfOk, Err};
 ghost use Rattle.jk_model.specs.declared.descriptors.MethodType.{MethodType};
 ghost use Rattle.jk_model.specs.Descriptors.{IsMethodText, IsBadMethodText};
-ghost use Rattle.descriptors.specs.Reading.{IsStop};
-ghost use Rattle.descriptors.specs.Parts.{IsParamsText, IsResultText, IsAnyMethodText, ReadsParams, ReadsResult, ReadsMethod};
-ghost use Rattle.descriptors.specs.Answer.{IsMethodAnswer};
+ghost use Rattle.descriptors.specs.Stops.{IsStop};
+ghost use Rattle.descriptors.specs.PartTexts.{IsParamsText, IsResultText, ReadsParams, ReadsResult, ReadsMethod};
+ghost use Rattle.jk_model.specs.Descriptors.{IsMethodDescriptor};
+ghost use Rattle.descriptors.specs.TypeOrPlace.{IsMethodAnswer};
 
-use crate::error::{DescriptorError, bad_before, behind};
+use crate::error::{DescriptorError, bad_before, rest_after};
 use crate::fields::next_field;
 use jk_model::{FieldType, List, MethodType};
 use std::alloc::Global;
@@ -18,7 +19,7 @@ const CLOSE: u16 = b')' as u16;
 
 const VOID: u16 = b'V' as u16;
 
-/// The parameters in front of the closing parenthesis, and what stands behind it.
+/// The parameters in front of the closing parenthesis, and what follows it.
 fn next_params(
     alloc: Global,
     units: &[u16],
@@ -31,7 +32,7 @@ fn next_params(
     let mut params = List::new(alloc);
     let mut rest = units;
     loop {
-        if let Some(closed) = behind(rest, CLOSE) {
+        if let Some(closed) = rest_after(rest, CLOSE) {
             return Ok((params, closed));
         }
         let (param, after) = next_field(alloc, rest, whole)?;
@@ -40,7 +41,7 @@ fn next_params(
     }
 }
 
-/// The result in front, and what stands behind it.
+/// The result in front, and what follows it.
 fn next_result(
     alloc: Global,
     units: &[u16],
@@ -50,14 +51,14 @@ fn next_result(
     requires short { whole < 2 ^ 31 }
     ensures { MatchResult result (λ found. ReadsResult units.now found.0 found.1.now) (IsStop IsResultText units.now whole) }
 {
-    if let Some(rest) = behind(units, VOID) {
+    if let Some(rest) = rest_after(units, VOID) {
         return Ok((None, rest));
     }
     let (found, rest) = next_field(alloc, units, whole)?;
     Ok((Some(found), rest))
 }
 
-/// The type of a method in front, and what stands behind it.
+/// The type of a method in front, and what follows it.
 fn next_method(
     alloc: Global,
     units: &[u16],
@@ -65,9 +66,9 @@ fn next_method(
 ) -> Result<(MethodType, &[u16]), DescriptorError>
     requires within { length units.now ≤ whole }
     requires short { whole < 2 ^ 31 }
-    ensures { MatchResult result (λ found. ReadsMethod units.now found.0 found.1.now) (IsStop IsAnyMethodText units.now whole) }
+    ensures { MatchResult result (λ found. ReadsMethod units.now found.0 found.1.now) (IsStop IsMethodDescriptor units.now whole) }
 {
-    let Some(opened) = behind(units, OPEN) else {
+    let Some(opened) = rest_after(units, OPEN) else {
         return Err(bad_before(units, whole));
     };
     let (params, closed) = next_params(alloc, opened, whole)?;
@@ -89,7 +90,7 @@ fn read(alloc: Global, units: &[u16]) -> Result<MethodType, DescriptorError>
 
 /// The type of a method by its descriptor, in time linear in its units.
 ///
-/// A descriptor has the types of the parameters between parentheses, and behind them the type of the result,
+/// A descriptor has the types of the parameters between parentheses, and after them the type of the result,
 /// or `V` where there is none. Other units are refused as those of a field are.
 pub fn method_type(alloc: Global, units: &[u16]) -> Result<MethodType, DescriptorError>
     requires { length units.now < 2 ^ 31 }

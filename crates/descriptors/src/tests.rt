@@ -47,115 +47,42 @@ fn letter_of(base: &Base) -> u8 {
 }
 
 /// Whether the text is of a field with so many dimensions and a base with this letter.
-fn is_of(alloc: Global, text: &[u8], dims: u8, letter: u8) -> bool
-    requires { length text.now < 2 ^ 31 }
-{
-    matches!(field(alloc, text), Ok(t) if t.dims == dims && letter_of(&t.base) == letter)
+fn is_of(alloc: Global, text: &[u8], dims: u8, letter: u8) -> bool {
+    text.len() < 1000
+        && matches!(field(alloc, text), Ok(t) if t.dims == dims && letter_of(&t.base) == letter)
 }
 
 #[test]
 fn letters(rt: HostRuntime) {
-    let alloc = rt.alloc();
-    assert!(rt;
-        matches!(
-            field(alloc, b"B"),
-            Ok(FieldType {
-                dims: 0,
-                base: Base::Byte
-            })
-        )
-    );
-    assert!(rt;
-        matches!(
-            field(alloc, b"C"),
-            Ok(FieldType {
-                dims: 0,
-                base: Base::Char
-            })
-        )
-    );
-    assert!(rt;
-        matches!(
-            field(alloc, b"D"),
-            Ok(FieldType {
-                dims: 0,
-                base: Base::Double
-            })
-        )
-    );
-    assert!(rt;
-        matches!(
-            field(alloc, b"F"),
-            Ok(FieldType {
-                dims: 0,
-                base: Base::Float
-            })
-        )
-    );
-}
-
-#[test]
-fn more_letters(rt: HostRuntime) {
-    let alloc = rt.alloc();
-    assert!(rt;
-        matches!(
-            field(alloc, b"I"),
-            Ok(FieldType {
-                dims: 0,
-                base: Base::Int
-            })
-        )
-    );
-    assert!(rt;
-        matches!(
-            field(alloc, b"J"),
-            Ok(FieldType {
-                dims: 0,
-                base: Base::Long
-            })
-        )
-    );
-    assert!(rt;
-        matches!(
-            field(alloc, b"S"),
-            Ok(FieldType {
-                dims: 0,
-                base: Base::Short
-            })
-        )
-    );
-    assert!(rt;
-        matches!(
-            field(alloc, b"Z"),
-            Ok(FieldType {
-                dims: 0,
-                base: Base::Bool
-            })
-        )
-    );
+    for letter in *b"BCDFIJSZ" {
+        assert!(rt; is_of(rt.alloc(), &[letter], 0, letter));
+    }
 }
 
 /// Whether the text is of a field of a class with this name.
-fn is_of_class(alloc: Global, text: &[u8], name: &[u8]) -> bool
-    requires { length text.now < 2 ^ 31 }
-{
+fn is_of_class(alloc: Global, text: &[u8], name: &[u8]) -> bool {
     let Ok(wanted) = units_of(alloc, name) else {
         return false;
     };
-    matches!(field(alloc, text), Ok(FieldType { base: Base::Class(name), .. }) if name.as_slice() == wanted.as_slice())
+    text.len() < 1000
+        && matches!(field(alloc, text), Ok(FieldType { base: Base::Class(name), .. }) if name.as_slice() == wanted.as_slice())
 }
 
 #[test]
 fn classes(rt: HostRuntime) {
-    let alloc = rt.alloc();
-    assert!(rt; is_of_class(alloc, b"La;", b"a"));
-    assert!(rt; is_of_class(alloc, b"Ljava/lang/String;", b"java/lang/String"));
-    assert!(rt; is_of_class(alloc, b"[[La/b/c;", b"a/b/c"));
-    // A name may have any other unit, a parenthesis and `L` among them.
-    assert!(rt; is_of_class(alloc, b"LL/(V)/ <;", b"L/(V)/ <"));
+    let rows = [
+        ("La;", "a"),
+        ("Ljava/lang/String;", "java/lang/String"),
+        ("[[La/b/c;", "a/b/c"),
+        // A name may have any other unit, a parenthesis and `L` among them.
+        ("LL/(V)/ <;", "L/(V)/ <"),
+    ];
+    for (text, name) in rows {
+        assert!(rt; is_of_class(rt.alloc(), text.as_bytes(), name.as_bytes()));
+    }
     assert!(rt;
         matches!(
-            field_type(alloc, &[76, 0xd800, 0, 59]),
+            field_type(rt.alloc(), &[76, 0xd800, 0, 59]),
             Ok(FieldType {
                 dims: 0,
                 base: Base::Class(_)
@@ -166,79 +93,87 @@ fn classes(rt: HostRuntime) {
 
 #[test]
 fn arrays(rt: HostRuntime) {
-    let alloc = rt.alloc();
-    assert!(rt; is_of(alloc, b"[I", 1, b'I'));
-    assert!(rt; is_of(alloc, b"[[J", 2, b'J'));
-    assert!(rt; is_of(alloc, b"[[[La/b;", 3, b'L'));
+    let rows = [("[I", 1, b'I'), ("[[J", 2, b'J'), ("[[[La/b;", 3, b'L')];
+    for (text, dims, letter) in rows {
+        assert!(rt; is_of(rt.alloc(), text.as_bytes(), dims, letter));
+    }
     let mut most = [b'['; 256];
     most[255] = b'Z';
-    assert!(rt; is_of(alloc, &most, 255, b'Z'));
+    assert!(rt; is_of(rt.alloc(), &most, 255, b'Z'));
 }
 
 /// Whether the text is of no field, and so many units of it begin the text of one.
-fn stops(alloc: Global, text: &[u8], place: u32) -> bool
-    requires { length text.now < 2 ^ 31 }
-{
-    matches!(field(alloc, text), Err(DescriptorError::BadDescriptor(at)) if at == place)
+fn stops(alloc: Global, text: &[u8], place: u32) -> bool {
+    text.len() < 1000
+        && matches!(field(alloc, text), Err(DescriptorError::BadDescriptor(at)) if at == place)
 }
 
 #[test]
 fn no_fields(rt: HostRuntime) {
-    let alloc = rt.alloc();
-    assert!(rt; stops(alloc, b"", 0));
-    assert!(rt; stops(alloc, b"V", 0));
-    assert!(rt; stops(alloc, b"A", 0));
-    assert!(rt; stops(alloc, b"i", 0));
-    assert!(rt; stops(alloc, b"()V", 0));
-    assert!(rt; stops(alloc, b"II", 1));
-    assert!(rt; stops(alloc, b"La;x", 3));
+    let rows = [
+        ("", 0),
+        ("V", 0),
+        ("A", 0),
+        ("i", 0),
+        ("()V", 0),
+        ("II", 1),
+        ("La;x", 3),
+    ];
+    for (text, place) in rows {
+        assert!(rt; stops(rt.alloc(), text.as_bytes(), place));
+    }
 }
 
 #[test]
 fn no_names(rt: HostRuntime) {
-    let alloc = rt.alloc();
-    assert!(rt; stops(alloc, b"L", 1));
-    assert!(rt; stops(alloc, b"L;", 1));
-    assert!(rt; stops(alloc, b"L/a;", 1));
-    assert!(rt; stops(alloc, b"La", 2));
-    assert!(rt; stops(alloc, b"La.b;", 2));
-    assert!(rt; stops(alloc, b"La[b;", 2));
-    assert!(rt; stops(alloc, b"La//b;", 3));
-    assert!(rt; stops(alloc, b"La/;", 3));
+    let rows = [
+        ("L", 1),
+        ("L;", 1),
+        ("L/a;", 1),
+        ("La", 2),
+        ("La.b;", 2),
+        ("La[b;", 2),
+        ("La//b;", 3),
+        ("La/;", 3),
+    ];
+    for (text, place) in rows {
+        assert!(rt; stops(rt.alloc(), text.as_bytes(), place));
+    }
 }
 
 #[test]
 fn no_arrays(rt: HostRuntime) {
-    let alloc = rt.alloc();
-    assert!(rt; stops(alloc, b"[", 1));
-    assert!(rt; stops(alloc, b"[[", 2));
-    assert!(rt; stops(alloc, b"[V", 1));
-    assert!(rt; stops(alloc, b"[[I[", 3));
-    assert!(rt; stops(alloc, &[b'['; 256], 255));
+    for (text, place) in [("[", 1), ("[[", 2), ("[V", 1), ("[[I[", 3)] {
+        assert!(rt; stops(rt.alloc(), text.as_bytes(), place));
+    }
+    assert!(rt; stops(rt.alloc(), &[b'['; 256], 255));
     let mut more = [b'['; 257];
     more[256] = b'I';
-    assert!(rt; stops(alloc, &more, 255));
+    assert!(rt; stops(rt.alloc(), &more, 255));
 }
 
 /// Whether the text is of a method with so many parameters, and a result or none.
-fn takes(alloc: Global, text: &[u8], params: usize, answers: bool) -> bool
-    requires { length text.now < 2 ^ 31 }
-{
-    matches!(method(alloc, text), Ok(m) if m.params.len() == params && m.result.is_some() == answers)
+fn takes(alloc: Global, text: &[u8], params: usize, answers: bool) -> bool {
+    text.len() < 1000
+        && matches!(method(alloc, text), Ok(m) if m.params.len() == params && m.result.is_some() == answers)
 }
 
 #[test]
 fn methods(rt: HostRuntime) {
-    let alloc = rt.alloc();
-    assert!(rt; takes(alloc, b"()V", 0, false));
-    assert!(rt; takes(alloc, b"()I", 0, true));
-    assert!(rt; takes(alloc, b"(I)V", 1, false));
-    assert!(rt; takes(alloc, b"(JLjava/lang/String;)V", 2, false));
-    assert!(rt; takes(alloc, b"(BCDFIJSZ[[DLa;[Lb/c;)[La/b;", 11, true));
+    let rows = [
+        ("()V", 0, false),
+        ("()I", 0, true),
+        ("(I)V", 1, false),
+        ("(JLjava/lang/String;)V", 2, false),
+        ("(BCDFIJSZ[[DLa;[Lb/c;)[La/b;", 11, true),
+    ];
+    for (text, params, answers) in rows {
+        assert!(rt; takes(rt.alloc(), text.as_bytes(), params, answers));
+    }
     let mut many = [b'I'; 303];
     many[0] = b'(';
     many[301] = b')';
-    assert!(rt; takes(alloc, &many, 300, true));
+    assert!(rt; takes(rt.alloc(), &many, 300, true));
 }
 
 #[test]
@@ -280,42 +215,50 @@ fn types_of_a_method(rt: HostRuntime) -> Result<(), Fail> {
 }
 
 /// Whether the text is of no method, and so many units of it begin the text of one.
-fn method_stops(alloc: Global, text: &[u8], place: u32) -> bool
-    requires { length text.now < 2 ^ 31 }
-{
-    matches!(method(alloc, text), Err(DescriptorError::BadDescriptor(at)) if at == place)
+fn method_stops(alloc: Global, text: &[u8], place: u32) -> bool {
+    text.len() < 1000
+        && matches!(method(alloc, text), Err(DescriptorError::BadDescriptor(at)) if at == place)
 }
 
 #[test]
 fn no_methods(rt: HostRuntime) {
-    let alloc = rt.alloc();
-    assert!(rt; method_stops(alloc, b"", 0));
-    assert!(rt; method_stops(alloc, b"I", 0));
-    assert!(rt; method_stops(alloc, b"(", 1));
-    assert!(rt; method_stops(alloc, b"(V", 1));
-    assert!(rt; method_stops(alloc, b"(V)V", 1));
-    assert!(rt; method_stops(alloc, b"(I", 2));
-    assert!(rt; method_stops(alloc, b"(I)", 3));
-    assert!(rt; method_stops(alloc, b"()", 2));
+    let rows = [
+        ("", 0),
+        ("I", 0),
+        ("(", 1),
+        ("(V", 1),
+        ("(V)V", 1),
+        ("(I", 2),
+        ("(I)", 3),
+        ("()", 2),
+    ];
+    for (text, place) in rows {
+        assert!(rt; method_stops(rt.alloc(), text.as_bytes(), place));
+    }
 }
 
 #[test]
 fn no_other_methods(rt: HostRuntime) {
-    let alloc = rt.alloc();
-    assert!(rt; method_stops(alloc, b"(I;)V", 2));
-    assert!(rt; method_stops(alloc, b"(ILa//b;)V", 5));
-    assert!(rt; method_stops(alloc, b"([)V", 2));
-    assert!(rt; method_stops(alloc, b"()[V", 3));
-    assert!(rt; method_stops(alloc, b"()VV", 3));
-    assert!(rt; method_stops(alloc, b"(I)II", 4));
-    assert!(rt; method_stops(alloc, b"())V", 2));
-    assert!(rt; method_stops(alloc, b"()LV", 4));
+    let rows = [
+        ("(I;)V", 2),
+        ("(ILa//b;)V", 5),
+        ("([)V", 2),
+        ("()[V", 3),
+        ("()VV", 3),
+        ("(I)II", 4),
+        ("())V", 2),
+        ("()LV", 4),
+    ];
+    for (text, place) in rows {
+        assert!(rt; method_stops(rt.alloc(), text.as_bytes(), place));
+    }
 }
 
 /// Whether the arguments of a method with this descriptor take so many slots.
-fn has_slots(alloc: Global, text: &[u8], receiver: bool, wanted: u32) -> bool
-    requires { length text.now < 2 ^ 31 }
-{
+fn has_slots(alloc: Global, text: &[u8], receiver: bool, wanted: u32) -> bool {
+    if text.len() >= 1000 {
+        return false;
+    }
     match method(alloc, text) {
         Ok(m) => m.params.len() < 1000 && slots(&m, receiver) == wanted,
         Err(_) => false,
@@ -324,12 +267,16 @@ fn has_slots(alloc: Global, text: &[u8], receiver: bool, wanted: u32) -> bool
 
 #[test]
 fn slots_of_methods(rt: HostRuntime) {
-    let alloc = rt.alloc();
-    assert!(rt; has_slots(alloc, b"()V", false, 0));
-    assert!(rt; has_slots(alloc, b"()J", true, 1));
-    assert!(rt; has_slots(alloc, b"(IFLa;Z)V", false, 4));
-    assert!(rt; has_slots(alloc, b"(JD)V", false, 4));
-    assert!(rt; has_slots(alloc, b"(JI)V", true, 4));
-    assert!(rt; has_slots(alloc, b"([J[[D)V", false, 2));
-    assert!(rt; has_slots(alloc, b"(JLjava/lang/String;)V", true, 4));
+    let rows = [
+        ("()V", false, 0),
+        ("()J", true, 1),
+        ("(IFLa;Z)V", false, 4),
+        ("(JD)V", false, 4),
+        ("(JI)V", true, 4),
+        ("([J[[D)V", false, 2),
+        ("(JLjava/lang/String;)V", true, 4),
+    ];
+    for (text, receiver, wanted) in rows {
+        assert!(rt; has_slots(rt.alloc(), text.as_bytes(), receiver, wanted));
+    }
 }

@@ -1,7 +1,7 @@
-mod Bytes
-mod Cases
-mod Fixed
-mod Loops
-mod OneStep
-mod Tables
-mod Whole
+mod LoopReadsCases
+mod OneReading
+mod OperandsReadBack
+mod PlainReadsMeaning
+mod SameFormats
+mod StepReadsMeaning
+mod SwitchReadsMeaning

@@ -1,6 +1,6 @@
 pub mod Answer
 pub mod Errors
-pub mod Forms
+pub mod Formats
 pub mod Plain
 pub mod Reading
 pub mod Steps

@@ -1,16 +1,16 @@
-//! Instructions one behind the other.
+//! Instructions one after another.
 
 ghost use Rattle.std.specs.Prelude.{◌≡◌, ℕ, ◌<◌, ◌⊎◌, ◌^◌, List, length, MatchResult, IfOk, Err};
 ghost use Rattle.jk_model.specs.declared.instructions.Instr.{Instr};
 ghost use Rattle.jk_model.specs.Instructions.{Decodes, Fault, HasFault, IsCutAt};
 ghost use Rattle.jk_opcodes.specs.Errors.{error_of};
-ghost use Rattle.jk_opcodes.specs.Forms.{form_view};
-ghost use Rattle.jk_opcodes.specs.Reading.{Gives};
+ghost use Rattle.jk_opcodes.specs.Formats.{format_view, IsSwitch, BeginsWithSwitch};
+ghost use Rattle.jk_opcodes.specs.Reading.{GivesInMemory};
 ghost use Rattle.jk_opcodes.specs.Steps.{step_of, step_at};
 ghost use Rattle.jk_opcodes.specs.Answer.{IsAnswer};
 
 use crate::errors::{CodeError, StepError, Stop};
-use crate::forms::{Form, form_of};
+use crate::formats::{Format, format_of};
 use crate::plain::{
     array_of_kind, byte_constant, byte_index, far_jump, increment, interface_call, jump,
     many_dimensions, plain, short_constant, short_index, wide,
@@ -19,52 +19,54 @@ use crate::switches::{lookup_switch, table_switch};
 use jk_model::{Instr, List};
 use std::alloc::Global;
 
-/// The instruction of this form, whose operands are in front.
+/// The instruction of this format, whose operands are in front. That of a switch alone takes memory.
 fn step_of(
     alloc: Global,
-    form: Form,
+    format: Format,
     at: u32,
     op: u8,
-    behind: &[u8],
+    after: &[u8],
 ) -> Result<(Instr, &[u8]), StepError>
     requires { at < 2 ^ 16 }
-    ensures { Gives (λ x. (x.0, x.1.now)) result (step_of (form_view form) at op behind.now) }
+    ensures gives { GivesInMemory (λ x. (x.0, x.1.now)) result (step_of (format_view format) at op after.now) }
+    ensures memory { result ≡ Err StepError.Memory → IsSwitch (format_view format) }
 {
-    match form {
-        Form::AsIs => Ok((plain(alloc, at, op, 0, 0), behind)),
-        Form::Short(long, first) => {
+    match format {
+        Format::AsIs => Ok((plain(alloc, at, op, 0, 0), after)),
+        Format::Short(long, first) => {
             let a = i32::from(op) - i32::from(first);
-            Ok((plain(alloc, at, long, a, 0), behind))
+            Ok((plain(alloc, at, long, a, 0), after))
         }
-        Form::ByteConstant => byte_constant(alloc, at, behind),
-        Form::ShortConstant => short_constant(alloc, at, behind),
-        Form::LocalIndex => byte_index(alloc, at, op, behind),
-        Form::BytePoolIndex => byte_index(alloc, at, 0x13, behind),
-        Form::PoolIndex => short_index(alloc, at, op, behind),
-        Form::Increment => increment(alloc, at, op, behind),
-        Form::Jump => jump(alloc, at, op, behind),
-        Form::FarJump => far_jump(alloc, at, behind),
-        Form::InterfaceCall => interface_call(alloc, at, op, behind),
-        Form::ArrayOfKind => array_of_kind(alloc, at, op, behind),
-        Form::ManyDimensions => many_dimensions(alloc, at, op, behind),
-        Form::TableSwitch => table_switch(alloc, at, op, behind),
-        Form::LookupSwitch => lookup_switch(alloc, at, op, behind),
-        Form::Wide => wide(alloc, at, behind),
-        Form::Float => Err(StepError::Stop(Stop::FloatOpcode)),
-        Form::Subroutine => Err(StepError::Stop(Stop::Subroutine)),
-        Form::Monitor => Err(StepError::Stop(Stop::Monitor)),
-        Form::NoOpcode => Err(StepError::Stop(Stop::IllegalOpcode)),
+        Format::ByteConstant => Ok(byte_constant(alloc, at, after)?),
+        Format::ShortConstant => Ok(short_constant(alloc, at, after)?),
+        Format::LocalIndex => Ok(byte_index(alloc, at, op, after)?),
+        Format::BytePoolIndex => Ok(byte_index(alloc, at, 0x13, after)?),
+        Format::PoolIndex => Ok(short_index(alloc, at, op, after)?),
+        Format::Increment => Ok(increment(alloc, at, op, after)?),
+        Format::Jump => Ok(jump(alloc, at, op, after)?),
+        Format::FarJump => Ok(far_jump(alloc, at, after)?),
+        Format::InterfaceCall => Ok(interface_call(alloc, at, op, after)?),
+        Format::ArrayOfKind => Ok(array_of_kind(alloc, at, op, after)?),
+        Format::ManyDimensions => Ok(many_dimensions(alloc, at, op, after)?),
+        Format::TableSwitch => table_switch(alloc, at, op, after),
+        Format::LookupSwitch => lookup_switch(alloc, at, op, after),
+        Format::Wide => Ok(wide(alloc, at, after)?),
+        Format::Float => Err(StepError::Stop(Stop::FloatOpcode)),
+        Format::Subroutine => Err(StepError::Stop(Stop::Subroutine)),
+        Format::Monitor => Err(StepError::Stop(Stop::Monitor)),
+        Format::NoOpcode => Err(StepError::Stop(Stop::IllegalOpcode)),
     }
 }
 
-/// The instruction in front, which stands at this place of the code, and the bytes behind it.
+/// The instruction in front, which stands at this place of the code, and the bytes after it.
 fn step(alloc: Global, at: u32, bytes: &[u8]) -> Result<(Instr, &[u8]), StepError>
     requires { at < 2 ^ 16 }
-    ensures { Gives (λ x. (x.0, x.1.now)) result (step_at at bytes.now) }
+    ensures gives { GivesInMemory (λ x. (x.0, x.1.now)) result (step_at at bytes.now) }
+    ensures memory { result ≡ Err StepError.Memory → BeginsWithSwitch bytes.now }
 {
     match bytes {
         [] => Err(StepError::Stop(Stop::CutInstruction)),
-        [op, behind @ ..] => step_of(alloc, form_of(*op), at, *op, behind),
+        [op, after @ ..] => step_of(alloc, format_of(*op), at, *op, after),
     }
 }
 
@@ -88,7 +90,7 @@ fn read(alloc: Global, code: &[u8]) -> Result<List<Instr>, CodeError>
     Ok(instrs)
 }
 
-/// The instructions of a code of up to 65,535 bytes, one behind the other, in time linear in its
+/// The instructions of a code of up to 65,535 bytes, one after the other, in time linear in its
 /// bytes.
 ///
 /// A short form is decoded as its long form, and a jump to the place that it leads to. The

@@ -3,6 +3,7 @@
 ghost use Rattle.std.specs.Prelude.{◌≡◌};
 ghost use Rattle.jk_opcodes.specs.Errors.{code_error};
 
+use byte_fields::EndsEarly;
 use jk_model::OutOfMemory;
 use thiserror::Error;
 
@@ -48,7 +49,7 @@ impl From<OutOfMemory> for CodeError {
     }
 }
 
-/// What is wrong with the instruction that is read.
+/// What is wrong with the instruction that is read. A call that takes no memory answers nothing else.
 #[derive(Clone, Copy, Debug)]
 pub enum Stop {
     IllegalOpcode,
@@ -60,11 +61,33 @@ pub enum Stop {
     Monitor,
 }
 
-/// Why an instruction was not read.
+impl From<EndsEarly> for Stop {
+    ghost use Rattle.std.specs.Prelude.{◌≡◌};
+    ghost use Rattle.jk_opcodes.specs.declared.errors.Stop.TheVariants as Reason;
+
+    ghost from_gives = { λ _ s. s ≡ Reason.CutInstruction };
+
+    fn from(_e: EndsEarly) -> Stop {
+        Stop::CutInstruction
+    }
+}
+
+/// Why an instruction was not read by a call that takes memory.
 #[derive(Clone, Copy, Debug)]
 pub enum StepError {
     Memory,
     Stop(Stop),
+}
+
+impl From<Stop> for StepError {
+    ghost use Rattle.std.specs.Prelude.{◌≡◌};
+    ghost use Rattle.jk_opcodes.specs.declared.errors.StepError.TheVariants as Error;
+
+    ghost from_gives = { λ s e. e ≡ Error.Stop s };
+
+    fn from(stop: Stop) -> StepError {
+        StepError::Stop(stop)
+    }
 }
 
 impl From<OutOfMemory> for StepError {

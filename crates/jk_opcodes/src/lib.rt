@@ -3,7 +3,7 @@
 
 mod code;
 mod errors;
-mod forms;
+mod formats;
 mod operands;
 mod plain;
 mod switches;

@@ -1,25 +1,15 @@
-//! The bytes of operands.
+//! Operands that are signed numbers.
 
 ghost use Rattle.std.specs.Prelude.{◌≡◌};
-ghost use Rattle.jk_opcodes.specs.Reading.{Gives, bytes_at, int_at};
+ghost use Rattle.jk_opcodes.specs.Reading.{Gives, int_at};
 
-use crate::errors::{StepError, Stop};
-use byteorder::{BigEndian, ByteOrder};
+use crate::errors::Stop;
+use byte_fields::u4_of;
 
-/// So many bytes, and the bytes behind them.
-pub fn bytes_of(len: usize, bytes: &[u8]) -> Result<(&[u8], &[u8]), StepError>
-    ensures { Gives (λ x. (x.0.now, x.1.now)) result (bytes_at len bytes.now) }
-{
-    if bytes.len() < len {
-        return Err(StepError::Stop(Stop::CutInstruction));
-    }
-    Ok(bytes.split_at(len))
-}
-
-/// A signed number of four bytes, and the bytes behind it.
-pub fn int_of(bytes: &[u8]) -> Result<(i32, &[u8]), StepError>
+/// A signed number of four bytes, and the bytes after it.
+pub fn int_of(bytes: &[u8]) -> Result<(i32, &[u8]), Stop>
     ensures { Gives (λ x. (x.0, x.1.now)) result (int_at bytes.now) }
 {
-    let (front, rest) = bytes_of(4, bytes)?;
-    Ok((BigEndian::read_i32(front), rest))
+    let (number, rest) = u4_of(bytes)?;
+    Ok((number.cast_signed(), rest))
 }

@@ -1,4 +1,5 @@
-pub mod Names
-pub mod Rows
-pub mod Types
-pub mod WholeTable
+-- Lemmas on the classes of the table, and on the code's records of them.
+mod DescriptorsAreTypes
+mod FirstOfAName
+mod LawsOfTheTable
+mod RecordsAreEntries

@@ -1,11 +1,8 @@
--- Words for what holds of the whole table.
+-- Places, names and method numbers of the table, for the laws that hold of all of it.
 use Rattle.std.specs.Prelude.{◌≡◌, ℕ, ◌<◌, List, [], Option, Some, None, length, slice_get}
 use Rattle.std.specs.List.{range_with_len}
-use Rattle.jk_model.specs.Descriptors.{IsFieldText, IsMethodText}
 use Rattle.jk_model.specs.SystemTable as Table
 use Rattle.jk_model.specs.SystemTable.{system_classes, number_named, first_method_number}
-use Rattle.jk_model.specs.declared.descriptors.FieldType.{FieldType}
-use Rattle.jk_model.specs.declared.descriptors.MethodType.{MethodType}
 
 abbrev pub Class : Type 0
 Class = Table.SystemClass
@@ -17,12 +14,6 @@ IsAt c n = slice_get system_classes n ≡ Some c
 -- a class of this name is in the table, and in front of this place
 abbrev pub IsInFront : List ℕ → ℕ → Type 0
 IsInFront name n = (k : ℕ) × (number_named name ≡ Some k) × (k < n)
-
-abbrev pub IsFieldDescriptor : List ℕ → Type 0
-IsFieldDescriptor units = (t : FieldType) × IsFieldText units t
-
-abbrev pub IsMethodDescriptor : List ℕ → Type 0
-IsMethodDescriptor units = (m : MethodType) × IsMethodText units m
 
 abbrev pub numbers_from : ℕ → Option Class → List ℕ
 numbers_from first None = []

@@ -1,2 +1,3 @@
+-- What contracts say of system classes.
 pub mod Entry
 pub mod Laws

@@ -3,19 +3,20 @@
 ghost use Rattle.std.specs.Prelude.{◌≡◌, ℕ, ◌<◌, ⊤, List, Some, true, flat_map, MatchOption};
 ghost use Rattle.std.specs.List.{AllByRecursion, range_with_len};
 ghost use Rattle.jk_model.specs.SystemTable.{number_named, first_method_number};
-ghost use Rattle.system_table.specs.Laws.{Class, IsAt, IsInFront, IsFieldDescriptor, IsMethodDescriptor, method_numbers_of};
+ghost use Rattle.jk_model.specs.Descriptors.{IsFieldDescriptor, IsMethodDescriptor};
+ghost use Rattle.system_table.specs.Laws.{Class, IsAt, IsInFront, method_numbers_of};
 
 /// No two classes have one name.
 pub fn names_differ()
     ensures { (m : ℕ) (n : ℕ) (c : Class) (d : Class) → IsAt c m → IsAt d n → c.name ≡ d.name → m ≡ n }
 {}
 
-/// A class stands behind its parent. The first class alone has none.
+/// A class comes after its parent. The first class alone has none.
 pub fn parents_stand_in_front()
     ensures { (n : ℕ) (c : Class) → IsAt c n → MatchOption c.parent (n ≡ 0) (λ name. IsInFront name n) }
 {}
 
-/// A class stands behind the interfaces that it lists.
+/// A class comes after the interfaces that it lists.
 pub fn interfaces_stand_in_front()
     ensures { (n : ℕ) (c : Class) → IsAt c n → AllByRecursion (λ name. IsInFront name n) c.interfaces }
 {}
@@ -31,7 +32,7 @@ pub fn descriptors_are_of_types()
     ensures methods { (n : ℕ) (c : Class) → IsAt c n → AllByRecursion (λ m. IsMethodDescriptor m.descriptor) c.methods }
 {}
 
-/// The numbers of the methods, one class behind the other, are 0 to 110.
+/// The numbers of the methods, one class after the other, are 0 to 110.
 pub fn method_numbers()
     ensures { flat_map method_numbers_of (range_with_len 0 45) ≡ range_with_len 0 111 }
 {}

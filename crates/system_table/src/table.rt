@@ -1,4 +1,4 @@
-//! The table, in four groups one behind the other. A class's number is its place in all of them, and a
+//! The table, in four groups one after the other. A class's number is its place in all of them, and a
 //! method's number its place among all methods.
 
 ghost use Rattle.std.specs.Prelude.{◌≡◌, length};

@@ -1,1 +1,3 @@
-mod Spelling
+-- Lemmas on texts and the units that they spell.
+mod OneJudgment
+mod OneReading

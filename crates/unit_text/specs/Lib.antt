@@ -1,2 +1,3 @@
-pub mod Answer
-pub mod Forms
+-- What contracts say of bytes and of the units that they spell.
+pub mod UnitsOrFault
+pub mod Encodings

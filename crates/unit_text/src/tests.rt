@@ -6,11 +6,12 @@ use super::*;
 use std::alloc::Global;
 use std::test::Fail;
 
-/// Whether the bytes are read as these units.
+/// Whether the bytes are read as these units, and judged to be a text.
 fn reads(alloc: Global, bytes: &[u8], units: &[u16]) -> bool
     requires { length bytes.now < 2 ^ 32 }
 {
-    matches!(units_of(alloc, bytes), Ok(read) if read.as_slice() == units)
+    bad_form(bytes).is_none()
+        && matches!(units_of(alloc, bytes), Ok(read) if read.as_slice() == units)
 }
 
 #[test]
@@ -26,11 +27,12 @@ fn forms(rt: HostRuntime) {
     assert!(rt; reads(alloc, &[0xc1, 0x81, 0xe0, 0x81, 0x81], &[65, 65]));
 }
 
-/// Whether the bytes stop being a text at this place.
+/// Whether the bytes stop being a text at this place, by either call.
 fn stops(alloc: Global, bytes: &[u8], place: u32) -> bool
     requires { length bytes.now < 2 ^ 32 }
 {
-    matches!(units_of(alloc, bytes), Err(UnitsError::BadForm(at)) if at == place)
+    bad_form(bytes) == Some(place)
+        && matches!(units_of(alloc, bytes), Err(UnitsError::BadForm(at)) if at == place)
 }
 
 #[test]

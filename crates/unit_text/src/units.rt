@@ -2,8 +2,8 @@
 
 ghost use Rattle.std.specs.Prelude.{◌≡◌, ℕ, ◌<◌, ◌⊎◌, ◌^◌, List, length, MatchOption, MatchResult, IfOk, Err};
 ghost use Rattle.jk_model.specs.Text.{Spells, IsBadForm};
-ghost use Rattle.unit_text.specs.Forms.{BeginsWith, BeginsNoUnit, BeginsNoUnitOf};
-ghost use Rattle.unit_text.specs.Answer.{IsAnswer};
+ghost use Rattle.unit_text.specs.Encodings.{BeginsWith, BeginsNoUnit, BeginsNoUnitOf};
+ghost use Rattle.unit_text.specs.UnitsOrFault.{IsAnswer};
 
 use jk_model::{List, OutOfMemory, Units};
 use std::alloc::Global;
@@ -31,7 +31,7 @@ impl From<OutOfMemory> for UnitsError {
     }
 }
 
-/// The unit of a form of one byte in front, and what stands behind it.
+/// The unit of a form of one byte in front, and what follows it.
 fn one_byte(bytes: &[u8]) -> Option<(u16, &[u8])>
     ensures { MatchOption result (BeginsNoUnitOf 1 bytes.now) (λ found. BeginsWith bytes.now found.0 found.1.now) }
 {
@@ -66,8 +66,8 @@ fn three_bytes(bytes: &[u8]) -> Option<(u16, &[u8])>
     }
 }
 
-/// The unit whose form the bytes begin with, and what stands behind it.
-fn next_unit(bytes: &[u8]) -> Option<(u16, &[u8])>
+/// The unit whose form the bytes begin with, and what follows it.
+pub fn next_unit(bytes: &[u8]) -> Option<(u16, &[u8])>
     ensures { MatchOption result (BeginsNoUnit bytes.now) (λ found. BeginsWith bytes.now found.0 found.1.now) }
 {
     if let Some(found) = one_byte(bytes) {

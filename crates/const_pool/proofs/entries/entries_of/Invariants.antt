@@ -1,5 +1,6 @@
+-- The entries so far stand before what is left, and fewer indices are left each time.
 use Rattle.std.proofs.Common.{◌-◌, length}
-use Rattle.const_pool.proofs.Slots.{IsSoFar}
+use Rattle.const_pool.proofs.EntriesMakePool.{IsSoFar}
 use Rattle.const_pool.proofs.entries.entries_of.Given as goal
 
 abbrev pub invariant-loop-alloc : goal.invariant-loop-alloc

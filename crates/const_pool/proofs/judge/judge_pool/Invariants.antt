@@ -1,3 +1,4 @@
+-- All entries so far are good.
 use Rattle.std.proofs.Common.{take}
 use Rattle.std.specs.List.{AllByRecursion}
 use Rattle.jk_model.specs.ClassFile.{IsGoodEntry}

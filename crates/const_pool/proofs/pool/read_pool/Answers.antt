@@ -2,7 +2,7 @@
 use Rattle.std.proofs.Common.{ℕ, List, Ok, Err, subst}
 use Rattle.std.proofs.lemmas.Result.{err_from_is_err_and}
 use Rattle.const_pool.specs.Answer.{IsAnswer}
-use Rattle.const_pool.proofs.Whole.{ok_pool, ok_tag, ok_index, ok_text, ok_cut, err_pool, err_tag, err_index, err_text, err_cut}
+use Rattle.const_pool.proofs.OnePool.{ok_pool, ok_tag, ok_index, ok_text, ok_cut, err_pool, err_tag, err_index, err_text, err_cut}
 use Rattle.const_pool.proofs.pool.read_pool.Goals as goal
 
 pub returns-clause-only : goal.returns-clause-only

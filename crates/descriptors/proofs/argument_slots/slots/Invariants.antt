@@ -1,3 +1,4 @@
+-- The total is that of the parameters up to the index, and of the receiver.
 use Rattle.std.proofs.Common.{◌≡◌, ◌+◌, ◌*◌, ◌≤◌, take}
 use Rattle.std.specs.List.{sum_by}
 use Rattle.jk_model.specs.Descriptors.{field_slots, receiver_slots}

@@ -1,3 +1,4 @@
+-- As many brackets stand in front as were counted.
 use Rattle.std.proofs.Common.{◌≡◌, ◌≤◌, take, replicate}
 use Rattle.descriptors.proofs.fields.dimensions.Given as goal
 

@@ -1,5 +1,5 @@
 -- What one answer says of each type and each place.
-use Rattle.descriptors.proofs.Places.{only_field, only_bad_field}
+use Rattle.descriptors.proofs.OneTypeOrPlace.{only_field, only_bad_field}
 use Rattle.descriptors.proofs.fields.field_type.Goals as goal
 
 pub returns-clause-only : goal.returns-clause-only

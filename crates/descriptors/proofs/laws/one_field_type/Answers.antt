@@ -1,4 +1,5 @@
-use Rattle.descriptors.proofs.Texts.{one_field}
+-- No text of a field is of two types.
+use Rattle.descriptors.proofs.NoTextBeginsAnother.{one_field}
 use Rattle.descriptors.proofs.laws.one_field_type.Goals as goal
 
 pub returns : goal.returns

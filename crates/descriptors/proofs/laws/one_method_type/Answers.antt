@@ -1,4 +1,5 @@
-use Rattle.descriptors.proofs.Texts.{one_method}
+-- No text of a method is of two types.
+use Rattle.descriptors.proofs.NoTextBeginsAnother.{one_method}
 use Rattle.descriptors.proofs.laws.one_method_type.Goals as goal
 
 pub returns : goal.returns

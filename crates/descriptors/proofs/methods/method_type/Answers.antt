@@ -1,5 +1,5 @@
 -- What one answer says of each type and each place.
-use Rattle.descriptors.proofs.Places.{only_method, only_bad_method}
+use Rattle.descriptors.proofs.OneTypeOrPlace.{only_method, only_bad_method}
 use Rattle.descriptors.proofs.methods.method_type.Goals as goal
 
 pub returns-clause-only : goal.returns-clause-only

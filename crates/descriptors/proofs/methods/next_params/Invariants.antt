@@ -1,5 +1,6 @@
+-- The units in front of the rest are what is written of the parameters so far, and the rest gets shorter.
 use Rattle.std.proofs.Common.{length}
-use Rattle.descriptors.proofs.Texts.{AreSoFar}
+use Rattle.descriptors.proofs.NoTextBeginsAnother.{AreSoFar}
 use Rattle.descriptors.proofs.methods.next_params.Given as goal
 
 abbrev pub invariant-loop-closed : goal.invariant-loop-closed

@@ -1,5 +1,6 @@
+-- Where the result's type stops, the result does.
 use Rattle.std.proofs.lemmas.Result.{err_from_is_err_and}
-use Rattle.descriptors.proofs.Places.{result_stop}
+use Rattle.descriptors.proofs.OneTypeOrPlace.{result_stop}
 use Rattle.descriptors.proofs.methods.next_result.Goals as goal
 
 pub returns-in_err-found : goal.returns-in_err-found

@@ -1,12 +1,9 @@
-use Rattle.std.proofs.Common.{◌≡◌, ℕ, List, [], ◌∷◌, length, false}
-use Rattle.std.specs.Bool.{◌==◌}
+-- A method stops where it is read no further, or where units follow it.
+use Rattle.std.proofs.Common.{false, refl}
+use Rattle.jk_model.proofs.EmptyByLength.{not_nil_from_test}
 use Rattle.std.proofs.lemmas.Result.{err_from_is_err_and}
-use Rattle.descriptors.proofs.Places.{method_stopped, method_trailing}
+use Rattle.descriptors.proofs.OneTypeOrPlace.{method_stopped, method_trailing}
 use Rattle.descriptors.proofs.methods.read.Goals as goal
-
-some_units : (units : List ℕ) → false ≡ (length units == 0) → units ≡ [] → ⊥
-some_units [] e none = absurd cc
-some_units (u ∷ units) e none = absurd cc
 
 pub returns-in_err-found : goal.returns-in_err-found
 returns-in_err-found c =
@@ -15,4 +12,5 @@ returns-in_err-found c =
 
 pub returns-then-not-is_empty : goal.returns-then-not-is_empty
 returns-then-not-is_empty c =
-    rw c.bad_before.ensures (method_trailing c.args.units.now c.in_ok-found.rest.now c.in_ok-found.found c.in_ok-found.ensures (some_units c.in_ok-found.rest.now c.if-not-is_empty.ensures))
+    rw c.bad_before.ensures (method_trailing c.args.units.now c.in_ok-found.rest.now c.in_ok-found.found c.in_ok-found.ensures
+    (not_nil_from_test c.in_ok-found.rest.now false c.if-not-is_empty.ensures refl))

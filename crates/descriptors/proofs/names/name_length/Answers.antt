@@ -1,5 +1,6 @@
+-- The walk ends at the `;`, or stops where no name goes on.
 use Rattle.std.proofs.Common.{length, arith, refl}
-use Rattle.descriptors.proofs.Walk.{ends_here, stops_here, stops_at_end}
+use Rattle.descriptors.proofs.NamesAreWalks.{ends_here, stops_here, stops_at_end}
 use Rattle.descriptors.proofs.names.name_length.Goals as goal
 
 pub returns-in-End : goal.returns-in-End

@@ -1,5 +1,6 @@
+-- The units in front of the index are walked.
 use Rattle.std.proofs.Common.{take}
-use Rattle.descriptors.proofs.Walk.{WalksTo}
+use Rattle.descriptors.proofs.NamesAreWalks.{WalksTo}
 use Rattle.descriptors.proofs.names.name_length.Given as goal
 
 abbrev pub invariant-loop-i : goal.invariant-loop-i

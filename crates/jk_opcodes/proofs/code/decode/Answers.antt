@@ -1,6 +1,6 @@
 -- What one answer says of each reading, each fault and each place.
 use Rattle.std.proofs.Common.{arith}
-use Rattle.jk_opcodes.proofs.Whole.{only, fault, only_fault, only_cut}
+use Rattle.jk_opcodes.proofs.OneReading.{only, fault, only_fault, only_cut}
 use Rattle.jk_opcodes.proofs.code.decode.Goals as goal
 
 pub returns-clause-only : goal.returns-clause-only

@@ -1,5 +1,6 @@
+-- What is read so far stands before what is left, which grows shorter.
 use Rattle.std.proofs.Common.{length}
-use Rattle.jk_opcodes.proofs.Whole.{IsSoFar}
+use Rattle.jk_opcodes.proofs.OneReading.{IsSoFar}
 use Rattle.jk_opcodes.proofs.code.read.Given as goal
 
 abbrev pub invariant-loop-rest : goal.invariant-loop-rest

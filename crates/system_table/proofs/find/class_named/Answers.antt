@@ -2,7 +2,7 @@
 use Rattle.std.proofs.Common.{rules, true, false}
 use Rattle.std.proofs.lemmas.Iterator.{first_from_Range}
 use Rattle.system_table.specs.Entry.{HasName}
-use Rattle.system_table.proofs.Names.{first_named}
+use Rattle.system_table.proofs.FirstOfAName.{first_named}
 use Rattle.system_table.proofs.find.class_named.Goals as goal
 
 pub returns : goal.returns

@@ -1,5 +1,5 @@
 -- The record's name is that of the class.
-use Rattle.system_table.proofs.Names.{named}
+use Rattle.system_table.proofs.FirstOfAName.{named}
 use Rattle.system_table.proofs.find.has_name.Goals as goal
 
 pub returns : goal.returns

@@ -1,6 +1,6 @@
 -- A class is that of its group at its place there.
 use Rattle.std.proofs.Common.{◌-◌, arith}
-use Rattle.system_table.proofs.Rows.{entry_at}
+use Rattle.system_table.proofs.RecordsAreEntries.{entry_at}
 use Rattle.system_table.proofs.find.system_class.Goals as goal
 
 pub returns-in-0-to-9 : goal.returns-in-0-to-9

@@ -1,5 +1,5 @@
 -- Each descriptor is that of a type of a list.
-use Rattle.system_table.proofs.Types.{fields, methods}
+use Rattle.system_table.proofs.DescriptorsAreTypes.{fields, methods}
 use Rattle.system_table.proofs.laws.descriptors_are_of_types.Goals as goal
 
 pub returns-clause-fields : goal.returns-clause-fields

@@ -1,6 +1,6 @@
 -- The whole group is compared with the table, by computing both.
 use Rattle.std.proofs.Common.{refl}
-use Rattle.system_table.proofs.Rows.{group}
+use Rattle.system_table.proofs.RecordsAreEntries.{group}
 use Rattle.system_table.proofs.table.errors.Goals as goal
 
 pub returns-clause-entries : goal.returns-clause-entries

@@ -1,4 +1,5 @@
-use Rattle.unit_text.proofs.Spelling.{one_at}
+-- A byte from 01 to 7f is the encoding of the unit that it is.
+use Rattle.unit_text.proofs.OneReading.{one_at}
 use Rattle.unit_text.proofs.units.one_byte.Goals as goal
 
 pub returns-in-1-to-127 : goal.returns-in-1-to-127

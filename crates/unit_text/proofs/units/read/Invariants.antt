@@ -1,5 +1,6 @@
+-- The bytes in front of the rest spell the units so far, and the rest gets shorter.
 use Rattle.std.proofs.Common.{length}
-use Rattle.unit_text.proofs.Spelling.{IsSoFar}
+use Rattle.unit_text.proofs.OneReading.{IsSoFar}
 use Rattle.unit_text.proofs.units.read.Given as goal
 
 abbrev pub invariant-loop-rest : goal.invariant-loop-rest

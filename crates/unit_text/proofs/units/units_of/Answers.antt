@@ -1,5 +1,5 @@
 -- What one answer says of each text and each place.
-use Rattle.unit_text.proofs.Spelling.{only_text, only_place}
+use Rattle.unit_text.proofs.OneReading.{only_text, only_place}
 use Rattle.unit_text.proofs.units.units_of.Goals as goal
 
 pub returns-clause-only : goal.returns-clause-only

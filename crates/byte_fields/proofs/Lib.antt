@@ -1,0 +1,2 @@
+pub mod GivenIsLaidOut
+pub mod OneAfterAnother
