@@ -1,1 +1,2 @@
+-- What contracts and invariants say of the ranges of a table.
 pub mod Places

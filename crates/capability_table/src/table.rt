@@ -1,6 +1,6 @@
 //! The capabilities of all domains.
 
-ghost use Rattle.std.specs.Prelude.{◌≡◌, ◌+◌, ◌<◌, ◌≤◌, ◌++◌, List, [], ℕ, None, Err, IsSome, OnOk, OnErr, replicate, slice_get, option_map, option_and_then, MatchOption, find, nat_eq, vec_len, vec_capacity};
+ghost use Rattle.std.specs.Prelude.{◌≡◌, ◌+◌, ◌^◌, ◌<◌, ◌≤◌, ◌++◌, List, [], ℕ, None, Err, IsSome, OnOk, OnErr, length, replicate, slice_get, option_map, option_and_then, MatchOption, find, nat_eq, vec_len, vec_capacity};
 ghost use Rattle.indexmap.specs.IndexSet.{insert_key};
 ghost use Rattle.jk_model.specs.Capabilities.{Range, is_owned_by, last_number, numbers, range_of, has_number, status_of, next_number, admitted, created, revoked, revoked_all};
 ghost use Rattle.capability_table.specs.Places.{IsOnlyAt};
@@ -18,7 +18,7 @@ const LAST_NUMBER: u32 = 16_777_215;
 /// Why a domain was given no range of numbers.
 #[derive(Clone, Copy, Debug, PartialEq, Eq, Error)]
 pub enum CapsError {
-    /// So many numbers are not left up to 16,777,215.
+    /// Up to 16,777,215 there are fewer numbers left.
     #[error("not so many numbers are left")]
     Numbers,
     /// No memory was left.
@@ -38,7 +38,7 @@ impl From<OutOfMemory> for CapsError {
 }
 
 /// The capabilities that were given out, in ranges of numbers: each domain has one, and the first
-/// begins at 1, each later one directly behind the one before it.
+/// begins at 1, each later one directly after the one before it.
 #[derive(Drop)]
 pub struct CapabilityTable {
     alloc: Global,
@@ -75,9 +75,9 @@ impl CapabilityTable {
     }
 
     /// Gives a domain that has none a range of so many numbers: 1 and on for the first domain, and
-    /// for each later one those directly behind the range before. The memory for all of its
-    /// capabilities is taken here, 12 bytes a number. After an error all is as before. A row of calls
-    /// takes time in proportion to the calls and to the numbers that they give.
+    /// for each later one those directly after the range before. The memory for all of its
+    /// capabilities is taken here, in time in proportion to the numbers. After an error all is as
+    /// before.
     pub fn admit(&mut self, owner: DomainId, count: u32) -> Result<(), CapsError>
         requires { range_of self.old owner ≡ None }
         ensures ok { OnOk result (self.new ≡ admitted self.old owner count) }
@@ -89,10 +89,7 @@ impl CapabilityTable {
         if count > LAST_NUMBER - used {
             return Err(CapsError::Numbers);
         }
-        // No memory holds so many ranges that their places do not fit 32 bits.
-        let Ok(place) = u32::try_from(self.ranges.len()) else {
-            return Err(CapsError::OutOfMemory);
-        };
+        let place = self.next_place(owner.0);
         let range = NumberRange::new(self.alloc, owner, 1 + used, count)?;
         reserve(&mut self.ranges, &mut self.places, count)?;
         add_owner(&mut self.owners, owner)?;
@@ -102,8 +99,7 @@ impl CapabilityTable {
     }
 
     /// Creates a capability of a domain that has a range, and answers its number: the next of the
-    /// range, or none where that is used up. It takes constant time (one look-up by hash), and no
-    /// memory.
+    /// range, or none where that is used up. The range is found by a hash, and no memory is taken.
     pub fn create(&mut self, owner: DomainId, target: u32) -> Option<CapId>
         requires { IsSome (range_of self.old owner) }
         ensures number { result ≡ option_map (λ n. record { 0 = n }) (next_number self.old owner) }
@@ -121,8 +117,7 @@ impl CapabilityTable {
         self.ranges[place].status(k)
     }
 
-    /// Revokes a capability, in constant time. One that is revoked stays so, and its number is never
-    /// given out again.
+    /// Revokes a capability. One that is revoked stays so, and its number is never given out again.
     pub fn revoke(&mut self, k: CapId)
         requires { IsSome (status_of self.old k.0) }
         ensures { self.new ≡ revoked self.old k.0 }
@@ -132,7 +127,7 @@ impl CapabilityTable {
         }
     }
 
-    /// Revokes all that a domain created, in time in proportion to their count.
+    /// Revokes all that a domain created.
     pub fn revoke_all(&mut self, owner: DomainId)
         requires { IsSome (range_of self.old owner) }
         ensures { self.new ≡ revoked_all self.old owner }
@@ -148,6 +143,16 @@ impl CapabilityTable {
         ensures few { result ≤ last_number }
     {
         self.places.len() as u32
+    }
+
+    /// The place of the next range, of a domain of this number that has none yet. The owners of the
+    /// ranges differ, and are numbers of 32 bits: so the place is one too.
+    fn next_place(&self, owner: u32) -> u32
+        requires { range_of self.now (record { 0 = owner }) ≡ None }
+        ensures place { result ≡ length self.now }
+        ensures owner { owner < 2 ^ 32 }
+    {
+        self.ranges.len() as u32
     }
 
     /// The place of the range of this domain.
@@ -195,7 +200,7 @@ fn reserve(
     Ok(())
 }
 
-/// Puts an owner behind the others.
+/// Puts an owner after the others.
 fn add_owner(owners: &mut IndexSet<u32>, owner: DomainId) -> Result<(), OutOfMemory>
     ensures ok { OnOk result (owners.new.keys ≡ insert_key nat_eq owners.old.keys owner.0) }
     ensures err { OnErr result (owners.new.keys ≡ owners.old.keys) }
@@ -204,7 +209,7 @@ fn add_owner(owners: &mut IndexSet<u32>, owner: DomainId) -> Result<(), OutOfMem
     Ok(())
 }
 
-/// Puts a place behind the others for each of so many numbers.
+/// Puts a place after the others for each of so many numbers.
 fn fill(places: &mut Vec<u32>, place: u32, count: u32)
     requires { vec_len places.old + count ≤ vec_capacity places.old }
     ensures { places.new.items ≡ places.old.items ++ replicate count place }

@@ -51,10 +51,9 @@ fn numbers_not_given_out(rt: HostRuntime) {
     assert!(rt; table.admit(A, 2) == Ok(()));
     assert!(rt; table.create(A, 4_294_967_295) == Some(CapId(1)));
     assert!(rt; leads_to(&table, 1, A, 4_294_967_295));
-    assert!(rt; table.status(CapId(0)) == None);
-    assert!(rt; table.status(CapId(2)) == None);
-    assert!(rt; table.status(CapId(3)) == None);
-    assert!(rt; table.status(CapId(4_294_967_295)) == None);
+    for number in [0, 2, 3, 4_294_967_295] {
+        assert!(rt; table.status(CapId(number)) == None);
+    }
 }
 
 #[test]

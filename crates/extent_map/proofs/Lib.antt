@@ -1,8 +1,9 @@
-mod Parts
-mod Free
-mod Count
-mod Taken
-mod Back
-mod Out
-mod Starts
-pub mod Same
+-- Lemmas on free runs, and on the extents that are out. `SameInAnyOrder` is for callers too.
+mod EntriesAreExtents
+mod FewRuns
+mod GivenBackIsFree
+mod HeldOrFree
+mod OutInAnyOrder
+mod RunsHavePages
+pub mod SameInAnyOrder
+mod TakenIsOut

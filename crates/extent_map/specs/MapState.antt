@@ -12,7 +12,7 @@ pub record MapState : Type 0 where
   pub out : List Extent
   pub spare : ℕ
 
--- each extent begins before those behind it
+-- each extent begins before those after it
 abbrev pub IsAscending : List Extent → Type 0
 IsAscending out = AllPairs (λ d e. d.first < e.first) out
 

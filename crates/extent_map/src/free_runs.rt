@@ -1,4 +1,4 @@
-//! The free runs of a pool. Which extents are out is a relation here, that several lists can meet.
+//! The free runs of a pool. They say which extents are out, and not in which order.
 
 ghost use Rattle.std.specs.Prelude.{◌≡◌, ◌+◌, ◌≤◌, List, [], ◌∷◌, ◌++◌, MatchOption, IfOk, IfSome, IfNone};
 ghost use Rattle.jk_model.specs.declared.extents.Extent.{Extent};
@@ -29,14 +29,14 @@ impl Model for FreeRuns {
 
     ghost view = { λ a. record { pages = a.pages; extents = a.extents; free = a.free.items; spare = a.spare } };
 
-    // There is room for a run more than extents may be out, and there are never more runs.
+    // There is room for one run more than extents may be out. There are never more runs than that.
     ghost invariant = { λ a. AreRuns (a.pages + 1) a.free.items × (a.extents < vec_capacity a.free) };
 }
 
 impl FreeRuns {
     /// Runs of so many pages, all free, of which at most so many extents may be out at one time.
     ///
-    /// It takes all its memory here, for a free run more than extents may be out.
+    /// It takes all its memory here: for one free run more than extents may be out.
     pub fn make(alloc: Global, pages: u32, extents: u32) -> Result<FreeRuns, OutOfMemory>
         ensures out { IfOk result (λ map. IsOut map []) }
         ensures pages { IfOk result (λ map. map.pages ≡ pages) }
@@ -83,7 +83,7 @@ impl FreeRuns {
         // The first place that has so many free pages is answered, or that there is none.
         ensures place { (out : List Extent) → IsOut self.old out → MatchOption result (HasNoFit self.old.pages out pages) (λ e. IsFirstFit self.old.pages out pages e.first) }
         ensures size { IfSome result (λ e. e.pages ≡ pages) }
-        // The extent is out then, behind those that are out already.
+        // The extent is out then, after those that are out already.
         ensures out { (out : List Extent) → IsOut self.old out → IfSome result (λ e. IsOut self.new (out ++ e ∷ [])) }
         ensures spare { IfSome result (λ _. self.new.spare + 1 ≡ self.old.spare) }
         ensures pages { self.new.pages ≡ self.old.pages }

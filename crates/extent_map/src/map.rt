@@ -10,14 +10,14 @@ use jk_model::{Extent, OutOfMemory};
 use std::alloc::Global;
 use std::marker::Model;
 
-/// The extents of a pool that are out, of which so many more may be taken.
+/// The extents of a pool that are out, and how many more may be taken.
 ///
 /// An extent begins at the least page from which enough pages are free. A call goes over the free runs
-/// from the pool's start up to where it ends, and costs in proportion to those.
+/// from the pool's start up to where it ends, in time in proportion to those.
 #[derive(Debug, Drop)]
 pub struct ExtentMap {
     free: FreeRuns,
-    // For each page how many pages the extent has that begins there, or 0 where none does.
+    // An entry for each page: how many pages the extent has that begins there, or 0 where none does.
     starts: Vec<u32>,
 }
 
@@ -37,8 +37,7 @@ impl Model for ExtentMap {
 impl ExtentMap {
     /// A map of so many pages, all free, of which at most so many extents may be out at one time.
     ///
-    /// It takes all its memory here: eight bytes for each extent that may be out and one more, and four
-    /// bytes for each page.
+    /// It takes all its memory here: for each extent that may be out and one more, and for each page.
     pub fn make(alloc: Global, pages: u32, extents: u32) -> Result<ExtentMap, OutOfMemory>
         ensures out { IfOk result (λ map. map.out ≡ []) }
         ensures pages { IfOk result (λ map. map.pages ≡ pages) }

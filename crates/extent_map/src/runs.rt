@@ -42,7 +42,7 @@ pub fn cut(runs: &mut Vec<Extent>, at: usize, pages: u32) -> u32
     run.first
 }
 
-/// How many runs begin at a page or behind it.
+/// How many runs begin at a page or after it.
 pub fn place_of(runs: &[Extent], first: u32) -> usize
     ensures within { result ≤ length runs.now }
     ensures low { BeginBefore first (drop result runs.now) }
@@ -55,7 +55,8 @@ pub fn place_of(runs: &[Extent], first: u32) -> usize
     at
 }
 
-/// Joins an extent with the run at this place where that one ends at its front: the run is taken out.
+/// Joins an extent with the run at this place, if that run ends where the extent begins. The run is
+/// taken out then.
 pub fn join_low(runs: &mut Vec<Extent>, at: usize, e: Extent) -> Extent
     requires within { at ≤ vec_len runs.old }
     requires fits { at < vec_len runs.old → HoldsAt (λ run. run.first + run.pages < 2 ^ 32) runs.old.items at }
@@ -77,7 +78,7 @@ pub fn join_low(runs: &mut Vec<Extent>, at: usize, e: Extent) -> Extent
     }
 }
 
-/// Puts a run at this place, or joins it with the one in front where that one begins at its end.
+/// Puts a run at this place, or joins it with the run in front, if that one begins where it ends.
 pub fn put(runs: &mut Vec<Extent>, at: usize, e: Extent)
     requires within { at ≤ vec_len runs.old }
     requires fits { 0 < at → HoldsAt (λ run. run.first + run.pages < 2 ^ 32) runs.old.items (at - 1) }

@@ -1,5 +1,5 @@
--- Lemmas on words. `Reading` is for callers too.
-mod Clearing
-pub mod Reading
-mod Sharing
-mod Words
+-- Lemmas on words. `ReadAfterWriting` is for callers too.
+mod BlockIsLent
+mod ClearedOneMore
+pub mod ReadAfterWriting
+mod WordsAreMemory

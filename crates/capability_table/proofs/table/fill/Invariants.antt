@@ -1,3 +1,4 @@
+-- As many places were added as turns were taken, and there is room for the others.
 use Rattle.std.proofs.Common.{◌≡◌, ◌+◌, ◌-◌, ◌≤◌, ◌++◌, replicate, vec_len, vec_capacity}
 use Rattle.capability_table.proofs.table.fill.Given as goal
 

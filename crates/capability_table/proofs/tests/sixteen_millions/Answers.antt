@@ -1,8 +1,9 @@
+-- A domain that comes later has no range after the next one is admitted.
 use Rattle.std.proofs.Common.{◌≡◌, ◌+◌, false, [], nat_eq, arith, rules}
 use Rattle.std.proofs.lemmas.Bool.Decides.{nat_tests}
 use Rattle.jk_model.specs.declared.identifiers.DomainId.{DomainId}
 use Rattle.jk_model.specs.Capabilities.{Range, is_owned_by, numbers, admitted}
-use Rattle.capability_table.proofs.Ranges.{none-push}
+use Rattle.capability_table.proofs.OneRangePasses.{none-push}
 use Rattle.capability_table.proofs.tests.sixteen_millions.Goals as goal
 
 pub loop-owner-preserved : goal.loop-owner-preserved

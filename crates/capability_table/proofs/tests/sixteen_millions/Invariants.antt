@@ -1,3 +1,4 @@
+-- The domains that come later have no ranges yet.
 use Rattle.std.proofs.Common.{◌≡◌, ℕ, ◌≤◌, None}
 use Rattle.jk_model.specs.Capabilities.{range_of}
 use Rattle.capability_table.proofs.tests.sixteen_millions.Given as goal

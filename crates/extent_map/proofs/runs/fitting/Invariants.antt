@@ -1,3 +1,4 @@
+-- The runs that the search has passed are too short.
 use Rattle.std.proofs.Common.{◌≤◌, length, drop}
 use Rattle.extent_map.specs.Runs.{AreShort}
 use Rattle.extent_map.proofs.runs.fitting.Given as goal

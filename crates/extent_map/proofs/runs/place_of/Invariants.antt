@@ -1,3 +1,4 @@
+-- The runs that the search has passed begin before the page.
 use Rattle.std.proofs.Common.{◌≤◌, length, drop}
 use Rattle.extent_map.specs.Runs.{BeginBefore}
 use Rattle.extent_map.proofs.runs.place_of.Given as goal

@@ -1,3 +1,4 @@
+-- The list has the extents that are out.
 use Rattle.extent_map.specs.MapState.{AreSame}
 use Rattle.extent_map.proofs.tests.as_by_looking.Given as goal
 

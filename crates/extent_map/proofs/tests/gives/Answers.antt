@@ -1,5 +1,6 @@
+-- The extent at the place is one of those that are out.
 use Rattle.std.proofs.Common.{arith}
-use Rattle.extent_map.proofs.Same.{same_in}
+use Rattle.extent_map.proofs.SameInAnyOrder.{same_in}
 use Rattle.extent_map.proofs.tests.gives.Goals as goal
 
 pub give_back-requires : goal.give_back-requires

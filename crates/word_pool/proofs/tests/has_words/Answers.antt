@@ -1,6 +1,6 @@
 -- Both words were cleared, and a store keeps what can be read.
 use Rattle.std.proofs.Common.{◌+◌, arith, refl}
-use Rattle.word_pool.proofs.Reading.{clear_reads, store_keeps}
+use Rattle.word_pool.proofs.ReadAfterWriting.{clear_reads, store_keeps}
 use Rattle.word_pool.proofs.tests.has_words.Goals as goal
 
 pub load-requires : goal.load-requires

@@ -1,3 +1,4 @@
+-- The creations up to the index are revoked.
 use Rattle.std.proofs.Common.{◌≡◌, ◌++◌, map, take, drop}
 use Rattle.jk_model.specs.Capabilities.{revoked_creation}
 use Rattle.capability_table.proofs.number_range.NumberRange.revoke_all.Given as goal

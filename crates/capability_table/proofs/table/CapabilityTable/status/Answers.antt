@@ -1,6 +1,8 @@
+-- What is known of the number is in its range.
 use Rattle.std.proofs.Common.{arith}
 use Rattle.jk_model.specs.Capabilities.{has_number}
-use Rattle.capability_table.proofs.Ranges.{at-got, at-within, only-passes, only-find, number_from}
+use Rattle.capability_table.proofs.OneRangePasses.{at-got, at-within, only-passes, only-find}
+use Rattle.capability_table.proofs.PlaceOfANumber.{number_from}
 use Rattle.capability_table.proofs.table.CapabilityTable.status.Goals as goal
 
 pub index-requires : goal.index-requires

@@ -1,6 +1,7 @@
+-- There is a place for each number of the ranges, and these are few.
 use Rattle.std.proofs.Common.{◌≤◌, arith, rules}
 use Rattle.jk_model.specs.Capabilities.{last_number}
-use Rattle.capability_table.proofs.Tables.{table-length}
+use Rattle.capability_table.proofs.TableIsKept.{table-length}
 use Rattle.capability_table.proofs.table.CapabilityTable.used.Goals as goal
 
 pub overflow_cast-result : goal.overflow_cast-result

@@ -5,8 +5,8 @@ use Rattle.jk_model.specs.Extents.{IsFirstFit, HasNoFit}
 use Rattle.extent_map.specs.RunState.{RunState, IsOut}
 use Rattle.extent_map.specs.Runs.{AreShort}
 use Rattle.extent_map.specs.contracts.free_runs.FreeRuns.{the_view}
-use Rattle.extent_map.proofs.Parts.{ends_at}
-use Rattle.extent_map.proofs.Taken.{IsFitting, no_fit, cut_place, cut_out, taken_runs}
+use Rattle.extent_map.proofs.RunsHavePages.{ends_at}
+use Rattle.extent_map.proofs.TakenIsOut.{IsFitting, no_fit, cut_place, cut_out, taken_runs}
 use Rattle.extent_map.proofs.free_runs.FreeRuns.take.Goals as goal
 
 pub returns-in_err-at-clause-place : goal.returns-in_err-at-clause-place
@@ -16,7 +16,8 @@ returns-in_err-at-clause-place c = λ out is.
     let Short : List Extent → Type 0 = λ xs. AreShort c.args.pages xs in
     let was : IsOut (the_view c.self.inside) out = subst Out (sym c.self.view_is) is in
     let short : AreShort c.args.pages c.self.inside.free.items = subst Short c.deref.ensures.value c.in_err-at.ensures in
-    rw c.from_residual.ensures (subst None c.self.view_is (no_fit (the_view c.self.inside) out c.args.pages was c.self.invariant.0 c.requires.at_least_one short))
+    rw c.from_residual.ensures
+    (subst None c.self.view_is (no_fit (the_view c.self.inside) out c.args.pages was c.self.invariant.0 c.requires.at_least_one short))
 
 pub cut-first-requires-clause-fits : goal.cut-first-requires-clause-fits
 cut-first-requires-clause-fits c = λ d.
@@ -26,7 +27,8 @@ cut-first-requires-clause-fits c = λ d.
 
 pub invariant_of-self : goal.invariant_of-self
 invariant_of-self c = (
-  taken_runs (c.self.inside.pages + 1) c.args.pages c.in_ok-at.at c.cut-first.result c.self.inside.free.items c.cut-first.new.runs.items c.self.invariant.0 c.cut-first.ensures.cut,
+  taken_runs (c.self.inside.pages + 1) c.args.pages c.in_ok-at.at c.cut-first.result c.self.inside.free.items
+      c.cut-first.new.runs.items c.self.invariant.0 c.cut-first.ensures.cut,
   omega (arith, c.self.invariant.1, c.cut-first.ensures.capacity),
 )
 
@@ -38,7 +40,8 @@ returns-clause-place c = λ out is.
     let was : IsOut (the_view c.self.inside) out = subst Out (sym c.self.view_is) is in
     let found : IsFitting c.self.inside.free.items c.args.pages c.in_ok-at.at = subst Fitting c.deref.ensures.value c.in_ok-at.ensures in
     subst First c.self.view_is
-    (cut_place (the_view c.self.inside) out c.in_ok-at.at c.args.pages c.cut-first.result c.cut-first.new.runs.items was c.self.invariant.0 c.requires.at_least_one found c.cut-first.ensures.cut)
+    (cut_place (the_view c.self.inside) out c.in_ok-at.at c.args.pages c.cut-first.result c.cut-first.new.runs.items
+    was c.self.invariant.0 c.requires.at_least_one found c.cut-first.ensures.cut)
 
 pub returns-clause-out : goal.returns-clause-out
 returns-clause-out c = λ out is.
@@ -48,5 +51,7 @@ returns-clause-out c = λ out is.
     let was : IsOut (the_view c.self.inside) out = subst Out (sym c.self.view_is) is in
     let found : IsFitting c.self.inside.free.items c.args.pages c.in_ok-at.at = subst Fitting c.deref.ensures.value c.in_ok-at.ensures in
     let spare : 1 ≤ c.self.inside.spare = subst Spare (sym c.self.view_is) c.requires.spare in
-    cut_out (the_view c.self.inside) (the_view (record { pages = c.self.inside.pages; extents = c.self.inside.extents; free = c.cut-first.new.runs; spare = c.self.inside.spare - 1 }))
-    out c.in_ok-at.at c.args.pages c.cut-first.result was c.self.invariant.0 c.requires.at_least_one found c.cut-first.ensures.cut refl refl (omega (arith, spare))
+    cut_out (the_view c.self.inside)
+    (the_view (record { pages = c.self.inside.pages; extents = c.self.inside.extents; free = c.cut-first.new.runs; spare = c.self.inside.spare - 1 }))
+    out c.in_ok-at.at c.args.pages c.cut-first.result was c.self.invariant.0 c.requires.at_least_one found
+    c.cut-first.ensures.cut refl refl (omega (arith, spare))

@@ -3,7 +3,7 @@ use Rattle.std.proofs.Common.{sym, subst, slice_set, arith, length-set}
 use Rattle.std.specs.List.{Contains}
 use Rattle.extent_map.specs.MapState.{MapState, IsAmong}
 use Rattle.extent_map.specs.Starts.{extents_of}
-use Rattle.extent_map.proofs.Starts.{ascending, given_out, out_split, out_given}
+use Rattle.extent_map.proofs.EntriesAreExtents.{ascending, given_out, out_split, out_given}
 use Rattle.extent_map.proofs.map.ExtentMap.give_back.Goals as goal
 
 pub give_back-requires : goal.give_back-requires

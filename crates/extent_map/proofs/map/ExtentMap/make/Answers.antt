@@ -3,7 +3,7 @@ use Rattle.std.proofs.Common.{◌≡◌, List, replicate, sym, ap, subst, ◌∙
 use Rattle.jk_model.specs.declared.extents.Extent.{Extent}
 use Rattle.extent_map.specs.RunState.{IsOut}
 use Rattle.extent_map.specs.Starts.{extents_of}
-use Rattle.extent_map.proofs.Starts.{ascending, none_out}
+use Rattle.extent_map.proofs.EntriesAreExtents.{ascending, none_out}
 use Rattle.extent_map.proofs.map.ExtentMap.make.Goals as goal
 
 pub invariant_of-result : goal.invariant_of-result

@@ -27,7 +27,7 @@ use denote.Triple.Walked.{Stays, walk_of, says, stay_dropped, Goes-dropped, ends
 use Rattle.std.proofs.raw_atomic.Walks.{proved}
 use Rattle.word_pool.specs.Ownership.{block_lent}
 use Rattle.word_pool.specs.Readable.{IsReadable}
-use Rattle.word_pool.proofs.Words.{within, seen}
+use Rattle.word_pool.proofs.WordsAreMemory.{within, seen}
 use Rattle.word_pool.specs.contracts.block.Block.{the_row as Owner}
 use Rattle.word_pool.specs.contracts.block.Block.get as f
 use Rattle.word_pool.proofs.block.Block.get.Statement.{statement}
@@ -61,15 +61,18 @@ get_spec 𝓤 𝓛 𝓜 𝓡 wired =
     rewrite ! 1 (λ (p : Ptr). ‵ (hidden_shr RawPtr κs.0 p rb (ro + 0))) e refl $ move ! (1 ∷ 2 ∷ []) $
     -- [the beginning, as the `&` shows it; the token; the word, as the `&` shows it]
     enter ! _ _ _ _ _ $ alloc_all ! (λ l. pass_all ! refl ((tt, tt), ((tt, record { fits = are.1.0.1 }), tt)) $ first ! $ blocks ! $
-    looks ! tt RawPtr (RawPtr-copy.copied _ 𝓤 𝓛).opens (block_ptr b o) rb (ro + 0) (λ q vs. move ! (1 ∷ []) $ feq_l ! (λ is_p. rewrite ! 0 (λ (ws : List Val). ‵ (cell_at q RawPtr.mir ws rb (ro + 0))) is_p refl $
+    looks ! tt RawPtr (RawPtr-copy.copied _ 𝓤 𝓛).opens (block_ptr b o) rb (ro + 0)
+    (λ q vs. move ! (1 ∷ []) $ feq_l ! (λ is_p. rewrite ! 0 (λ (ws : List Val). ‵ (cell_at q RawPtr.mir ws rb (ro + 0))) is_p refl $
     sets ! (of_opd ! (load ! (through ! refl (fld ! refl (stop !))) (look ! 0 refl))) refl (tt, tt) $
     feq_i ! _ (rawptr_vals (block_ptr b o)) _ refl $ move ! (1 ∷ 0 ∷ []) $ shuts ! tt RawPtr q (block_ptr b o) (rawptr_vals (block_ptr b o)) rb (ro + 0) $
     sets ! (bin ! (get ! refl) (lit ! tt) (record { fits = far })) refl (tt, record { fits = far }) $
     sets ! (bin ! (get ! refl) (get ! refl) tt) refl (tt, tt) $ move ! (2 ∷ 0 ∷ []) $
-    looks ! tt u32 (uint_Copied 𝓛 w32).opens x b at (λ q vs. move ! (1 ∷ []) $ fsplit ! $ feq_l ! (λ is_x. flt_l ! (λ fits. rewrite ! 0 (λ (ws : List Val). ‵ (cell_at q u32.mir ws b at)) is_x refl $
+    looks ! tt u32 (uint_Copied 𝓛 w32).opens x b at
+    (λ q vs. move ! (1 ∷ []) $ fsplit ! $ feq_l ! (λ is_x. flt_l ! (λ fits. rewrite ! 0 (λ (ws : List Val). ‵ (cell_at q u32.mir ws b at)) is_x refl $
     sets_last ! (of_opd ! (load ! (through ! refl (stop !)) (look ! 0 refl))) refl (tt, record { fits = fits }) $
     exec ! 𝓣.C 𝓣.Λ (env code.Mir.locals l) code.Mir.t-2 (at_ret _ (W.post y)) $ sets ! (of_opd ! (get ! refl)) refl (tt, record { fits = fits }) $
     owned ! u32 _ (uint_Makes 𝓛 w32) x (uint_vals w32 x) (refl, fits) $ move ! (1 ∷ 0 ∷ []) $ shuts ! tt u32 q x (uint_vals w32 x) b at $
     returns ! (look_at ! 0 refl) $ free_all ! refl $ keep ! (0 ∷ []) $
     suffices ! _ (ends_at 𝓛 f.ended left c y (vint w32 x) x (tt, (tt, tt)) (tt, (tt, tt))) $ says ! ok.1 $
-    owned ! u32 _ (uint_Makes 𝓛 w32) x (uint_vals w32 x) (refl, fits) $ nothing ! $ nothing ! $ join ! $ nothing ! $ join ! $ join ! $ nothing ! $ move ! (2 ∷ 0 ∷ []) $ join ! $ join ! $ done !)))))))))))
+    owned ! u32 _ (uint_Makes 𝓛 w32) x (uint_vals w32 x) (refl, fits) $ nothing ! $ nothing ! $ join ! $ nothing ! $ join ! $ join ! $
+    nothing ! $ move ! (2 ∷ 0 ∷ []) $ join ! $ join ! $ done !)))))))))))

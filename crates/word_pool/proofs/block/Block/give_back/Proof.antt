@@ -31,7 +31,7 @@ use Rattle.std.specs.contracts.impls.GlobalAllocator.deallocate as g
 use Rattle.std.proofs.impls.GlobalAllocator.deallocate.Met.{met}
 use Rattle.std.proofs.raw_atomic.Walks.{proved}
 use Rattle.word_pool.specs.Ownership.{heap, shape_of}
-use Rattle.word_pool.proofs.Words.{handle, laid_out, ended}
+use Rattle.word_pool.proofs.WordsAreMemory.{handle, laid_out, ended}
 use Rattle.word_pool.specs.contracts.block.Block.{the_row as Owner}
 use Rattle.word_pool.proofs.block.Block.TheLaws.{lowers, the_row_laws}
 use Rattle.word_pool.specs.contracts.block.Block.give_back as f
@@ -51,7 +51,16 @@ give_back_spec 𝓤 𝓛 𝓜 𝓡 wired =
     let vss : List Val × (List Val × Unit {0}) = (lowers.lowered d ∷ [], (shr_vals r, tt)) in let y : W.Ghost = ((κs, qs, bounds, a, vss), tt) in
     let good = ((the_row_laws.lawful 𝓛).typed d _ are.0).0 in let ptr = ((rawptr_Lawful 𝓛).typed d.start (rawptr_vals d.start) refl).0 in
     let G = triple_of 𝓛 g.signature (g.spec 𝓛 𝓜.mem 𝓡.returns) in
-    let z : G.Ghost = ((κs, qs, tt, (r, (d.start, (n * 4, (4, tt)))), (shr_vals r, (rawptr_vals d.start, (uint_vals w64 (n * 4), (uint_vals w64 4, tt))))), shape_of n) in
+    let z : G.Ghost = (
+      (
+        κs,
+        qs,
+        tt,
+        (r, (d.start, (n * 4, (4, tt)))),
+        (shr_vals r, (rawptr_vals d.start, (uint_vals w64 (n * 4), (uint_vals w64 4, tt)))),
+      ),
+      shape_of n,
+    ) in
     qed 𝓛 (((‵ (flft κs.0 qs.0) ⊛ ‵ ftrue) ⊛ ‵ (owns (Owner ∷ ShrRef (named 0) κs.0 Heap ∷ []) a vss)) ∷ ‵ ftrue ∷ []) ∵
     split ! $ split ! $ move ! (2 ∷ []) $ fsplit ! $ move ! (1 ∷ []) $ fsplit ! $ keep ! (2 ∷ 0 ∷ 3 ∷ []) $ fsplit ! $ drop ! $
     use1 𝓛 (raw (fact 𝓤 (n * 4 < 2 ^ 63)) ⊛ ‵ Block') (ended 𝓛 n d.start d.content) $ split ! $ heard ! _ (λ small.
@@ -60,9 +69,11 @@ give_back_spec 𝓤 𝓛 𝓜 𝓡 wired =
     enter ! _ _ _ _ _ $ alloc_all ! (λ l. pass_all ! refl (good, ((tt, tt), tt)) $
     sets ! (of_opd ! (get_in ! (fld ! refl (stop !)) (sub ! 0 refl (whole !)))) refl ptr $
     sets ! (of_opd ! (get_in ! (fld ! refl (stop !)) (sub ! 1 refl (whole !)))) refl (tt, record { fits = size }) $
-    first ! $ blocks ! $ sets ! (of_opd ! (get ! refl)) refl ptr $ sets ! (bin ! (get ! refl) (lit ! tt) (record { fits = bytes })) refl (tt, record { fits = bytes }) $
+    first ! $ blocks ! $ sets ! (of_opd ! (get ! refl)) refl ptr $
+    sets ! (bin ! (get ! refl) (lit ! tt) (record { fits = bytes })) refl (tt, record { fits = bytes }) $
     use0 𝓛 (raw (fact 𝓤 (HasLayout (shape_of n) (n * 4) 4))) (fact_i 𝓤 _ (emp 𝓤) (laid_out n small)) $ join ! $
-    nothing ! $ owned ! usize _ (uint_Makes 𝓛 w64) 4 (uint_vals w64 4) (refl, lit< tt) $ fjoin ! $ owned ! usize _ (uint_Makes 𝓛 w64) (n * 4) (uint_vals w64 (n * 4)) (refl, bytes) $ fjoin ! $
+    nothing ! $ owned ! usize _ (uint_Makes 𝓛 w64) 4 (uint_vals w64 4) (refl, lit< tt) $ fjoin ! $
+    owned ! usize _ (uint_Makes 𝓛 w64) (n * 4) (uint_vals w64 (n * 4)) (refl, bytes) $ fjoin ! $
     owned ! RawPtr _ (rawptr_Makes 𝓛) d.start (rawptr_vals d.start) refl $ fjoin ! $ move ! (2 ∷ 0 ∷ []) $ fjoin ! $
     nothing ! $ move ! (3 ∷ 0 ∷ []) $ join ! $ join ! $ use2 𝓛 (raw (G.pre z)) (id⊢ 𝓤 _) $
     calls_at_last ! (framed 𝓤 𝓛.H 𝓜 𝓣) G (met 𝓤 𝓛 𝓜 𝓡 (code.calls-std_heap::GlobalAllocator::deallocate 𝓡.env wired)) z

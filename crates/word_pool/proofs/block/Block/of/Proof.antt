@@ -43,7 +43,7 @@ use Rattle.std.proofs.raw_atomic.Walks.{proved}
 use Rattle.std.proofs.RcSteps.{Good, first_Good}
 use Rattle.std.proofs.ResultValues.{ok_of, err_of}
 use Rattle.word_pool.specs.Ownership.{heap, shape_of, block_owned}
-use Rattle.word_pool.proofs.Words.{handle, laid_out, begun}
+use Rattle.word_pool.proofs.WordsAreMemory.{handle, laid_out, begun}
 use Rattle.word_pool.specs.contracts.block.Block as B
 use Rattle.word_pool.proofs.block.Block.TheLaws.{lowers}
 use Rattle.word_pool.specs.contracts.block.Block.of as f
@@ -76,11 +76,15 @@ refused-good = (tt, (record { fits = lit< tt }, (tt, tt)))
 
 -- the heap's answer tells which of the two it is
 module _ {M : Type 1} {𝓤 : Ura M} {𝓛 : Logic 𝓤} {K : Type 0} {Γ : List (Item 𝓤)} {G : Goal 𝓤 𝓛.H} (n : ℕ) (v : Val) where
-  told : K → (r : Answer.Denot) → ((p : Ptr) → v ≡ gave (ptr_val p) → Seq K 𝓛 (‵ (owned_block (ghosts.dealloc_token heap) (shape_of n) p) ∷ Γ) G) → (v ≡ refused → Seq K 𝓛 Γ G)
+  told : K → (r : Answer.Denot)
+      → ((p : Ptr) → v ≡ gave (ptr_val p) → Seq K 𝓛 (‵ (owned_block (ghosts.dealloc_token heap) (shape_of n) p) ∷ Γ) G)
+      → (v ≡ refused → Seq K 𝓛 Γ G)
       → Seq K 𝓛 (‵ (Answer.own_val r (v ∷ [])) ∷ ‵ (block_if_ok (ghosts.dealloc_token heap) (shape_of n) r) ∷ Γ) G
   told t (Ok p) some_memory none = fpick t (λ us. fsplit t $ feq_l t (λ e. fpick t (λ ws. fsplit t $ feq_l t (λ e1. fsplit t $ feq_l t (λ e2. drop t $
       some_memory p (ap only e ∙ ap (λ (us : List Val). live 0 (of_list us)) (e1 ∙ ap (λ (us : List Val). us ++ []) e2)))))))
-  told t (Err x) some_memory none = fpick t (λ us. fsplit t $ feq_l t (λ e. fpick t (λ ws. fsplit t $ feq_l t (λ e1. fsplit t $ fpick t (λ us. fsplit t $ feq_l t (λ e2. drop t $ drop t $ drop t $
+  told t (Err x) some_memory none =
+      fpick t (λ us. fsplit t $ feq_l t
+      (λ e. fpick t (λ ws. fsplit t $ feq_l t (λ e1. fsplit t $ fpick t (λ us. fsplit t $ feq_l t (λ e2. drop t $ drop t $ drop t $
       none (ap only e ∙ ap (λ (us : List Val). live 1 (of_list us)) (e1 ∙ ap (λ (us : List Val). us ++ []) e2))))))))
 
 pub of_spec : {M : Type 1} → statement M
@@ -94,7 +98,8 @@ of_spec 𝓤 𝓛 𝓜 𝓡 wired =
     let G = triple_of 𝓛 g.signature (g.spec 𝓛 𝓜.mem 𝓡.returns) in
     let z : G.Ghost = ((κs, qs, tt, (r, (n * 4, (4, tt))), (shr_vals r, (uint_vals w64 (n * 4), (uint_vals w64 4, tt)))), shape_of n) in
     -- [what is returned; the token]
-    let ends : (v : Val) (x : Made.Denot) → IfOk x (λ b. b.content ≡ replicate n None) → Sq 𝓛 (‵ (Made.own_val x (v ∷ [])) ∷ ‵ (flft κs.0 qs.0) ∷ []) (prop (W.post y v)) = λ v x ok.
+    let ends : (v : Val) (x : Made.Denot) → IfOk x (λ b. b.content ≡ replicate n None)
+    → Sq 𝓛 (‵ (Made.own_val x (v ∷ [])) ∷ ‵ (flft κs.0 qs.0) ∷ []) (prop (W.post y v)) = λ v x ok.
     suffices ! _ (ends_at 𝓛 f.ended left c y v x (tt, (tt, tt)) (tt, (tt, tt))) $ says ! ok $
     nothing ! $ nothing ! $ join ! $ nothing ! $ join ! $ join ! $ nothing ! $ move ! (2 ∷ 0 ∷ []) $ join ! $ join ! $ done ! in
     qed 𝓛 (((‵ (flft κs.0 qs.0) ⊛ ‵ ftrue) ⊛ ‵ (owns (ShrRef (named 0) κs.0 Heap ∷ usize ∷ []) a vss)) ∷ raw (fact 𝓤 (n * 4 < 2 ^ 63)) ∷ []) ∵
@@ -104,24 +109,34 @@ of_spec 𝓤 𝓛 𝓜 𝓡 wired =
     sets ! (bin ! (get ! refl) (lit ! tt) (record { fits = bytes })) refl (tt, record { fits = bytes }) $
     -- [the handle; the token]
     use0 𝓛 (raw (fact 𝓤 (HasLayout (shape_of n) (n * 4) 4))) (fact_i 𝓤 _ (emp 𝓤) (laid_out n small)) $ move ! (1 ∷ []) $
-    nothing ! $ owned ! usize _ (uint_Makes 𝓛 w64) 4 (uint_vals w64 4) (refl, lit< tt) $ fjoin ! $ owned ! usize _ (uint_Makes 𝓛 w64) (n * 4) (uint_vals w64 (n * 4)) (refl, bytes) $ fjoin ! $
+    nothing ! $ owned ! usize _ (uint_Makes 𝓛 w64) 4 (uint_vals w64 4) (refl, lit< tt) $ fjoin ! $
+    owned ! usize _ (uint_Makes 𝓛 w64) (n * 4) (uint_vals w64 (n * 4)) (refl, bytes) $ fjoin ! $
     move ! (1 ∷ 0 ∷ []) $ fjoin ! $ nothing ! $ move ! (3 ∷ 0 ∷ []) $ join ! $ join ! $ use2 𝓛 (raw (G.pre z)) (id⊢ 𝓤 _) $
     calls_at ! (framed 𝓤 𝓛.H 𝓜 𝓣) G (met 𝓤 𝓛 𝓜 𝓡 (code.calls-std_heap::GlobalAllocator::allocate 𝓡.env wired)) z
     (and_then ! (get ! refl) (and_then ! (get ! refl) (and_then ! (lit ! tt) (no_more !)))) (λ v.
     use1 𝓛 (later (some (λ (x : Answer.Denot). ((‵ (flft κs.0 qs.0) ⊛ ‵ ftrue) ⊛ ‵ (Answer.own_val x (v ∷ []))) ⊛
-    some (λ (ws : Unit {0} × (Unit {0} × (Unit {0} × Unit {0}))). ‵ (lasts g.ended κs z.0.3 ws) ⊛ ‵ (block_if_ok (ghosts.dealloc_token heap) (shape_of n) x))))) (id⊢ 𝓤 _) $
-    await ! tt $ pick ! (λ x. split ! $ move ! (1 ∷ []) $ pick ! (λ ws. split ! $ drop ! $ move ! (1 ∷ []) $ split ! $ split ! $ move ! (1 ∷ []) $ drop ! $ move ! (1 ∷ 2 ∷ []) $
+    some (λ (ws : Unit {0} × (Unit {0} × (Unit {0} × Unit {0}))). ‵ (lasts g.ended κs z.0.3 ws) ⊛ ‵
+    (block_if_ok (ghosts.dealloc_token heap) (shape_of n) x))))) (id⊢ 𝓤 _) $
+    await ! tt $ pick !
+    (λ x. split ! $ move ! (1 ∷ []) $ pick ! (λ ws. split ! $ drop ! $ move ! (1 ∷ []) $ split ! $ split ! $ move !
+    (1 ∷ []) $ drop ! $ move ! (1 ∷ 2 ∷ []) $
     told n v ! x (λ p is_p.
     let d : B.the_row.Denot = record { start = p; words = n; content = replicate n None } in let made = lowers.lowered d in
     let ptr = ((rawptr_Lawful 𝓛).typed p (rawptr_vals p) refl).0 in
     let laid : Is Fields (p, (n, tt)) (made ∷ []) = ((rawptr_vals p, (uint_vals w64 n, tt)), (refl, (refl, ((refl, are.1.0.1), tt)))) in
-    let good = ((Struct-Lawful 𝓛 (shape B.the_type) (rawptr_Lawful 𝓛, (uint_Lawful 𝓛 w64, tt))).typed (p, (n, tt)) (made ∷ []) laid).0 in let gave-good = first_Good (layout B.the_row) made good in
+    let good = ((Struct-Lawful 𝓛 (shape B.the_type) (rawptr_Lawful 𝓛, (uint_Lawful 𝓛 w64, tt))).typed (p, (n, tt)) (made ∷ []) laid).0 in
+    let gave-good = first_Good (layout B.the_row) made good in
     lands_as ! is_p refl (first_Good ty_ptr (ptr_val p) ptr) $ first ! $ switches ! (get_tag ! (vrt ! refl (fld ! refl (stop !))) (whole !)) (
       (λ _.
-          sets ! (of_opd ! (get_in ! (vrt ! refl (fld ! refl (stop !))) (in_variant ! 0 0 refl refl (whole !)))) refl ptr $ sets ! (of_opd ! (get ! refl)) refl ptr $
-          sets ! (agg ! (and_then ! (get ! refl) (and_then ! (get ! refl) (no_more !)))) refl good $ sets_last ! (agg ! (and_then ! (lit ! tt) (and_then ! (get ! refl) (no_more !)))) refl gave-good $
-          exec ! 𝓣.C 𝓣.Λ (env code.Mir.locals l) code.Mir.t-4 (at_ret _ (W.post y)) $ sets ! (of_opd ! (get ! refl)) refl gave-good $ returns ! (look_at ! 0 refl) $ free_all ! refl $
-          use1 𝓛 (‵ (block_owned p n d.content)) (begun 𝓛 n p small) $ owned ! Fields (Is Fields) (Struct-Makes 𝓛 (shape B.the_type) ((λ _ _. tt), ((λ _ _. (tt, tt)), tt))) (p, (n, tt)) (made ∷ []) laid $ fjoin ! $
+          sets ! (of_opd ! (get_in ! (vrt ! refl (fld ! refl (stop !))) (in_variant ! 0 0 refl refl (whole !)))) refl ptr $
+          sets ! (of_opd ! (get ! refl)) refl ptr $
+          sets ! (agg ! (and_then ! (get ! refl) (and_then ! (get ! refl) (no_more !)))) refl good $
+          sets_last ! (agg ! (and_then ! (lit ! tt) (and_then ! (get ! refl) (no_more !)))) refl gave-good $
+          exec ! 𝓣.C 𝓣.Λ (env code.Mir.locals l) code.Mir.t-4 (at_ret _ (W.post y)) $ sets ! (of_opd ! (get ! refl)) refl gave-good $
+          returns ! (look_at ! 0 refl) $ free_all ! refl $
+          use1 𝓛 (‵ (block_owned p n d.content)) (begun 𝓛 n p small) $
+          owned ! Fields (Is Fields) (Struct-Makes 𝓛 (shape B.the_type) ((λ _ _. tt), ((λ _ _. (tt, tt)), tt)))
+          (p, (n, tt)) (made ∷ []) laid $ fjoin ! $
           use1 𝓛 (‵ (Made.own_val (Ok d) (gave made ∷ []))) (ok_of 𝓛 B.the_row Refusal.the_row d made) $ ends (gave made) (Ok d) refl),
       ((λ wrong. absurd (omega (arith, wrong))), (λ none. absurd (none.0.1 refl))),
     ))
@@ -132,9 +147,11 @@ of_spec 𝓤 𝓛 𝓜 𝓡 wired =
         (λ _.
             sets ! (of_opd ! (get_in ! (vrt ! refl (fld ! refl (stop !))) (in_variant ! 1 0 refl refl (whole !)))) refl (tt, tt) $
             sets_last ! (agg ! (and_then ! (lit ! tt) (and_then ! (get ! refl) (no_more !)))) refl refused-good $
-            exec ! 𝓣.C 𝓣.Λ (env code.Mir.locals l) code.Mir.t-4 (at_ret _ (W.post y)) $ sets ! (of_opd ! (get ! refl)) refl refused-good $ returns ! (look_at ! 0 refl) $ free_all ! refl $
+            exec ! 𝓣.C 𝓣.Λ (env code.Mir.locals l) code.Mir.t-4 (at_ret _ (W.post y)) $
+            sets ! (of_opd ! (get ! refl)) refl refused-good $ returns ! (look_at ! 0 refl) $ free_all ! refl $
             owned ! Bare (Is Bare) (Struct-Makes 𝓛 (Declared.shape Refusal.the_type) tt) tt (vstruct vnil ∷ []) (tt, (refl, tt)) $
-            use1 𝓛 (‵ (Made.own_val (Err (record {})) (refused ∷ []))) (err_of 𝓛 B.the_row Refusal.the_row (record {}) (vstruct vnil)) $ ends refused (Err (record {})) tt),
+            use1 𝓛 (‵ (Made.own_val (Err (record {})) (refused ∷ [])))
+            (err_of 𝓛 B.the_row Refusal.the_row (record {}) (vstruct vnil)) $ ends refused (Err (record {})) tt),
         (λ none. absurd (none.1 refl)),
       ),
     ))))))))

@@ -1,6 +1,6 @@
 -- A turn of the loop clears one word more.
 use Rattle.std.proofs.Common.{◌<◌, Some, suc, length, length-set, ap, ◌∙◌, arith}
-use Rattle.word_pool.proofs.Clearing.{next}
+use Rattle.word_pool.proofs.ClearedOneMore.{next}
 use Rattle.word_pool.proofs.pool.WordPool.clear.Goals as goal
 
 pub loop-at-preserved : goal.loop-at-preserved

@@ -1,4 +1,4 @@
--- What is so once pages are taken from the front of the first run that is long enough.
+-- Pages that are taken from the front of the first run that is long enough are an extent that is out, at the first place.
 use Rattle.std.proofs.Common.{◌≡◌, ℕ, ◌+◌, ◌-◌, ◌<◌, ◌≤◌, ◌⊎◌, inl, inr, List, [], ◌∷◌, ◌++◌, length, get_or, take, drop, suc, refl, sym, ◌∙◌, ap, subst, arith, add-one, length-append}
 use Rattle.std.specs.List.{AllByRecursion, HoldsAt}
 use Rattle.std.proofs.lemmas.Bool.{cases_lt}
@@ -8,8 +8,9 @@ use Rattle.jk_model.specs.Extents.{HasPage, IsFreePage, LiesBelow, AreOut, IsFir
 use Rattle.extent_map.specs.RunState.{RunState, IsOut}
 use Rattle.extent_map.specs.Runs.{InRun, AreRuns, AreShort}
 use Rattle.extent_map.specs.Steps.{IsAt, IsCut}
-use Rattle.extent_map.proofs.Parts.{edge, TakesPages, split_at, in_cases, in_left, in_right, high_runs, low_runs, join_runs, looser, edge_le, below, from_edge, no_room, ends_by}
-use Rattle.extent_map.proofs.Free.{all_front, all_back, all_join, apart_from, pairs_push}
+use Rattle.extent_map.proofs.RunsHavePages.{edge, TakesPages, split_at, in_cases, in_left, in_right, high_runs, low_runs, join_runs, looser, edge_le, below, from_edge, no_room, ends_by}
+use Rattle.jk_model.proofs.EachItem.{all_front, all_back, all_append}
+use Rattle.extent_map.proofs.HeldOrFree.{apart_from, pairs_push}
 
 pub split_run : (runs : List Extent) (at : ℕ) (run : Extent) → IsAt runs at run → runs ≡ take at runs ++ run ∷ drop (suc at) runs
 split_run runs at run is =
@@ -22,7 +23,8 @@ whole_runs bound high low run h =
     let there : AreRuns (edge bound high) (run ∷ low) = low_runs bound high (run ∷ low) h in
     join_runs bound high low (high_runs bound high (run ∷ low) h) (looser run.first (edge bound high) low (omega (arith, there.1)) there.2)
 
-part_runs : (bound : ℕ) (high low : List Extent) (run : Extent) (n : ℕ) → AreRuns bound (high ++ run ∷ low) → n < run.pages → AreRuns bound (high ++ record { first = run.first + n; pages = run.pages - n } ∷ low)
+part_runs : (bound : ℕ) (high low : List Extent) (run : Extent) (n : ℕ) → AreRuns bound (high ++ run ∷ low) → n < run.pages
+    → AreRuns bound (high ++ record { first = run.first + n; pages = run.pages - n } ∷ low)
 part_runs bound high low run n h less =
     let there : AreRuns (edge bound high) (run ∷ low) = low_runs bound high (run ∷ low) h in
     join_runs bound high (record { first = run.first + n; pages = run.pages - n } ∷ low) (high_runs bound high (run ∷ low) h)
@@ -91,7 +93,8 @@ part_pages bound high low run n h less p =
           ],
     )
 
-pub taken_pages : (bound n at first : ℕ) (runs new : List Extent) → AreRuns bound runs → IsCut runs at n first new → TakesPages runs (record { first = first; pages = n }) new
+pub taken_pages : (bound n at first : ℕ) (runs new : List Extent) → AreRuns bound runs → IsCut runs at n first new
+    → TakesPages runs (record { first = first; pages = n }) new
 taken_pages bound n at first runs new h (run, is, e, cases) =
     let high : List Extent = take at runs in
     let low : List Extent = drop (suc at) runs in
@@ -108,7 +111,8 @@ taken_pages bound n at first runs new h (run, is, e, cases) =
 
 -- ---- First fit.
 
-in_low : (bound : ℕ) (high low : List Extent) (run : Extent) (p : ℕ) → AreRuns bound (high ++ run ∷ low) → p < run.first → InRun (high ++ run ∷ low) p → InRun low p
+in_low : (bound : ℕ) (high low : List Extent) (run : Extent) (p : ℕ) → AreRuns bound (high ++ run ∷ low) → p < run.first
+    → InRun (high ++ run ∷ low) p → InRun low p
 in_low bound high low run p h under i =
     let there : AreRuns (edge bound high) (run ∷ low) = low_runs bound high (run ∷ low) h in
     elim (in_cases high (run ∷ low) p i) [
@@ -128,7 +132,8 @@ fits_first limit high low out run n h free back some le short =
           (λ p from to before. in_low (limit + 1) high low run p h before (back p (omega (arith, fits.0)) (fits.1 p from to))),
     )
 
-pub first_fit : (map : RunState) (out : List Extent) (run : Extent) (at n : ℕ) → IsOut map out → AreRuns (map.pages + 1) map.free → IsAt map.free at run → 1 ≤ n → n ≤ run.pages
+pub first_fit : (map : RunState) (out : List Extent) (run : Extent) (at n : ℕ) → IsOut map out → AreRuns (map.pages + 1) map.free
+    → IsAt map.free at run → 1 ≤ n → n ≤ run.pages
     → AreShort n (drop (suc at) map.free) → IsFirstFit map.pages out n run.first
 first_fit map out run at n is h here some le short =
     let Runs : List Extent → Type 0 = λ xs. AreRuns (map.pages + 1) xs in
@@ -138,21 +143,24 @@ first_fit map out run at n is h here some le short =
     fits_first map.pages (take at map.free) (drop (suc at) map.free) out run n (subst Runs e h)
     (subst To e (λ p under. (is.free p under).0)) (subst From e (λ p under. (is.free p under).1)) some le short
 
-pub no_fit : (map : RunState) (out : List Extent) (n : ℕ) → IsOut map out → AreRuns (map.pages + 1) map.free → 1 ≤ n → AreShort n map.free → HasNoFit map.pages out n
+pub no_fit : (map : RunState) (out : List Extent) (n : ℕ) → IsOut map out → AreRuns (map.pages + 1) map.free → 1 ≤ n
+    → AreShort n map.free → HasNoFit map.pages out n
 no_fit map out n is h some short first fits =
     no_room (map.pages + 1) map.free n first h short some (omega (arith, fits.0))
     (λ p from to under. (is.free p (omega (arith, fits.0))).1 (fits.1 p from to))
 
 -- ---- The extents that are out then.
 
-all_less : (limit : ℕ) (runs : List Extent) → AllByRecursion (λ run. run.first + run.pages < limit + 1) runs → AllByRecursion (λ run. run.first + run.pages ≤ limit) runs
+all_less : (limit : ℕ) (runs : List Extent) → AllByRecursion (λ run. run.first + run.pages < limit + 1) runs
+    → AllByRecursion (λ run. run.first + run.pages ≤ limit) runs
 all_less limit [] h = tt
 all_less limit (r ∷ rs) h = (omega (arith, h.0), all_less limit rs h.1)
 
 pub below_pages : (limit : ℕ) (runs : List Extent) → AreRuns (limit + 1) runs → AllByRecursion (λ run. run.first + run.pages ≤ limit) runs
 below_pages limit runs h = all_less limit runs (ends_by (limit + 1) runs h)
 
-pub taken_out : (map new : RunState) (out : List Extent) (e : Extent) → IsOut map out → 0 < e.pages → e.first + e.pages ≤ map.pages → ((p : ℕ) → HasPage e p → InRun map.free p)
+pub taken_out : (map new : RunState) (out : List Extent) (e : Extent) → IsOut map out → 0 < e.pages → e.first + e.pages ≤ map.pages
+    → ((p : ℕ) → HasPage e p → InRun map.free p)
     → AreRuns (map.pages + 1) new.free → TakesPages map.free e new.free → new.pages ≡ map.pages → new.extents ≡ map.extents → new.spare + 1 ≡ map.spare
     → IsOut new (out ++ e ∷ [])
 taken_out map new out e is some ends inside runs takes same same_extents spare =
@@ -161,12 +169,12 @@ taken_out map new out e is some ends inside runs takes same same_extents spare =
     let Placed : ℕ → Type 0 = λ n. AreOut n (out ++ e ∷ []) in
     let Below : ℕ → Type 0 = λ n. AllByRecursion (λ run. run.first + run.pages ≤ n) new.free in
     record {
-      placed = subst Placed (sym same) (all_join (LiesBelow map.pages) out (e ∷ []) is.placed.0 ((some, ends), tt), pairs_push out e is.placed.1 apart);
+      placed = subst Placed (sym same) (all_append (LiesBelow map.pages) out (e ∷ []) is.placed.0 ((some, ends), tt), pairs_push out e is.placed.1 apart);
       free = λ p under.
           let here : p < map.pages = omega (arith, same) in (
             λ i.
                 let was = (takes p).0 i in
-                all_join (λ x. HasPage x p → ⊥) out (e ∷ []) ((is.free p here).0 was.0) (was.1, tt),
+                all_append (λ x. HasPage x p → ⊥) out (e ∷ []) ((is.free p here).0 was.0) (was.1, tt),
             λ f.
                 let last : IsFreePage (e ∷ []) p = all_back (λ x. HasPage x p → ⊥) out (e ∷ []) f in
                 (takes p).1 ((is.free p here).1 (all_front (λ x. HasPage x p → ⊥) out (e ∷ []) f), last.0),
@@ -177,7 +185,7 @@ taken_out map new out e is some ends inside runs takes same same_extents spare =
 
 -- ---- What a search and a cut say.
 
--- the run of a search has so many pages, and those behind it in the list are too short
+-- the run of a search has so many pages, and those after it in the list are too short
 abbrev pub IsFitting : List Extent → ℕ → ℕ → Type 0
 IsFitting runs n at = (at < length runs) × HoldsAt (λ run. n ≤ run.pages) runs at × AreShort n (drop (at + 1) runs)
 
@@ -192,7 +200,8 @@ short_behind runs n at h =
     let e : at + 1 ≡ suc at = omega arith in
     subst P e h
 
-pub cut_place : (map : RunState) (out : List Extent) (at n first : ℕ) (new : List Extent) → IsOut map out → AreRuns (map.pages + 1) map.free → 1 ≤ n → IsFitting map.free n at → IsCut map.free at n first new
+pub cut_place : (map : RunState) (out : List Extent) (at n first : ℕ) (new : List Extent) → IsOut map out
+    → AreRuns (map.pages + 1) map.free → 1 ≤ n → IsFitting map.free n at → IsCut map.free at n first new
     → IsFirstFit map.pages out n first
 cut_place map out at n first new is h some found (run, here, e, cases) =
     let P : ℕ → Type 0 = λ x. IsFirstFit map.pages out n x in
@@ -203,7 +212,8 @@ in_cut runs n at p run is le from to =
     let P : List Extent → Type 0 = λ xs. InRun xs p in
     subst P (sym (split_run runs at run is)) (in_right (take at runs) (run ∷ drop (suc at) runs) p (inl (from, omega arith)))
 
-pub cut_out : (map new : RunState) (out : List Extent) (at n first : ℕ) → IsOut map out → AreRuns (map.pages + 1) map.free → 1 ≤ n → IsFitting map.free n at → IsCut map.free at n first new.free
+pub cut_out : (map new : RunState) (out : List Extent) (at n first : ℕ) → IsOut map out → AreRuns (map.pages + 1) map.free → 1 ≤ n
+    → IsFitting map.free n at → IsCut map.free at n first new.free
     → new.pages ≡ map.pages → new.extents ≡ map.extents → new.spare + 1 ≡ map.spare → IsOut new (out ++ record { first = first; pages = n } ∷ [])
 cut_out map new out at n first is h some found cut same same_extents spare =
     let fit = cut_place map out at n first new.free is h some found cut in

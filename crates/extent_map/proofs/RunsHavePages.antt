@@ -1,4 +1,4 @@
--- Runs one below the other: their parts, their pages, and how long a free place is.
+-- Runs one below the other: a part of them are runs, with their own pages, and no place between them is longer than they are.
 use Rattle.std.proofs.Common.{◌≡◌, ℕ, ◌+◌, ◌<◌, ◌≤◌, ◌⊎◌, ◌↔◌, inl, inr, List, [], ◌∷◌, ◌++◌, length, get_or, take, drop, refl, sym, ◌∙◌, ap, arith}
 use Rattle.std.specs.List.{AllByRecursion, HoldsAt}
 use Rattle.std.proofs.lemmas.List.{take-append-drop, drop_more}
@@ -30,7 +30,7 @@ AddsPages old e new = (p : ℕ) → InRun new p ↔ (InRun old p ⊎ HasPage e p
 abbrev pub TakesPages : List Extent → Extent → List Extent → Type 0
 TakesPages old e new = (p : ℕ) → InRun new p ↔ (InRun old p × (HasPage e p → ⊥))
 
--- ---- Parts.
+-- ---- Some of the runs.
 
 pub split_at : (runs : List Extent) (at : ℕ) (d : Extent) → at < length runs → runs ≡ take at runs ++ get_or runs at d ∷ drop (at + 1) runs
 split_at runs at d h = sym (take-append-drop at runs) ∙ ap (λ low. take at runs ++ low) (drop_more runs at d h)
@@ -76,7 +76,8 @@ pub edge_last : (bound : ℕ) (high : List Extent) (s : Extent) → edge bound (
 edge_last bound [] s = refl
 edge_last bound (r ∷ rs) s = edge_last r.first rs s
 
-all_below : (less bound : ℕ) (runs : List Extent) → less ≤ bound → AllByRecursion (λ r. r.first + r.pages < less) runs → AllByRecursion (λ r. r.first + r.pages < bound) runs
+all_below : (less bound : ℕ) (runs : List Extent) → less ≤ bound → AllByRecursion (λ r. r.first + r.pages < less) runs
+    → AllByRecursion (λ r. r.first + r.pages < bound) runs
 all_below less bound [] le h = tt
 all_below less bound (r ∷ rs) le h = (omega (arith, h.0), all_below less bound rs le h.1)
 

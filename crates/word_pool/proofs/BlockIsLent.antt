@@ -1,4 +1,4 @@
--- A `&` to a block is made where one to a word is. Assumes `Logic`.
+-- A `&` to a block is a `&` to each of its words that can be read. Assumes `Logic`.
 use mathlib.Core.Path.{refl}
 use Prim.Native.Nat.{ℕ, ◌+◌}
 use Rattle.std.specs.Prelude.{List, [], ◌∷◌, Option, Some, None}
@@ -45,6 +45,7 @@ module _ {M : Type 1} {𝓤 : Ura M} (𝓛 : Logic 𝓤) where
 
   pub Lends-block : (p : Ptr) (n : ℕ) (cs : List (Option ℕ)) → Lends 𝓛 (block_owned p n cs) (block_lent p n cs) []
   Lends-block (block_ptr b o) n cs =
-      Lends-both 𝓛 (measured n cs) (fsep (words_at b o cs) (right n (block_ptr b o))) (said (measured n cs)) (words_lent b o cs) [] (Lends-said 𝓛 (measured n cs) (tt, tt) [])
+      Lends-both 𝓛 (measured n cs) (fsep (words_at b o cs) (right n (block_ptr b o))) (said (measured n cs))
+      (words_lent b o cs) [] (Lends-said 𝓛 (measured n cs) (tt, tt) [])
       (Lends-first 𝓛 (words_at b o cs) (right n (block_ptr b o)) (words_lent b o cs) [] (Lends-words b o cs))
   Lends-block null_ptr n cs = Lends-false 𝓛 (said ffalse) []

@@ -1,4 +1,4 @@
--- Clearing one word more.
+-- Where some words of a list are cleared and one more is written, one word more is cleared.
 use Rattle.std.proofs.Common.{◌≡◌, ℕ, zero, suc, ◌+◌, ◌<◌, ◌++◌, List, [], ◌∷◌, length, take, drop, replicate, set, refl, sym, ap, ◌∙◌, add-one, arith}
 
 pub one_more : {X : Type 0} (z : X) (xs : List X) (from n at : ℕ) → at ≡ from + n → at < length xs

@@ -4,8 +4,8 @@ use Rattle.std.specs.List.{AllByRecursion}
 use Rattle.jk_model.specs.declared.extents.Extent.{Extent}
 use Rattle.jk_model.specs.Extents.{HasPage, IsFreePage}
 use Rattle.extent_map.specs.Runs.{InRun, AreRuns}
-use Rattle.extent_map.proofs.Parts.{below, in_cases, in_left, in_right, ends_by}
-use Rattle.extent_map.proofs.Free.{all_without, all_at}
+use Rattle.extent_map.proofs.RunsHavePages.{below, in_cases, in_left, in_right, ends_by}
+use Rattle.extent_map.proofs.HeldOrFree.{all_without, all_middle}
 
 -- the extent that holds a page, and the others
 record Holder (out : List Extent) (p : ℕ) : Type 0 where
@@ -30,11 +30,12 @@ abbrev AreEnded : List Extent → List Extent → Type 0
 AreEnded out runs = AllByRecursion (λ r. InRun out (r.first + r.pages)) runs
 
 -- The extent that holds the page at the end of a run holds that of no lower run, since it would hold the run.
-others_held : (front back : List Extent) (d r : Extent) (runs : List Extent) → HasPage d (r.first + r.pages) → 0 < r.pages → IsFreePage (front ++ d ∷ back) r.first
+others_held : (front back : List Extent) (d r : Extent) (runs : List Extent) → HasPage d (r.first + r.pages) → 0 < r.pages
+    → IsFreePage (front ++ d ∷ back) r.first
     → AllByRecursion (λ s. s.first + s.pages < r.first) runs → AreEnded (front ++ d ∷ back) runs → AreEnded (front ++ back) runs
 others_held front back d r [] has some free ends held = tt
 others_held front back d r (s ∷ runs) has some free ends held =
-    let not_d = all_at (λ x. HasPage x r.first → ⊥) front back d free in
+    let not_d = all_middle (λ x. HasPage x r.first → ⊥) front back d free in
     let rest = others_held front back d r runs has some free ends.1 held.1 in
     let e = ends.0 in
     elim (in_cases front (d ∷ back) (s.first + s.pages) held.0) [
@@ -52,7 +53,8 @@ few bound (r ∷ rs) out h free held =
     let found = holder_of out (r.first + r.pages) held.0 in
     let Free : ℕ → List Extent → Type 0 = λ p xs. IsFreePage xs p in
     let Ended : List Extent → Type 0 = λ xs. AreEnded xs rs in
-    let first_free : IsFreePage (found.front ++ found.holder ∷ found.back) r.first = subst (Free r.first) found.whole (free r.first (inl (omega arith, omega (arith, h.0)))) in
+    let first_free : IsFreePage (found.front ++ found.holder ∷ found.back) r.first =
+    subst (Free r.first) found.whole (free r.first (inl (omega arith, omega (arith, h.0)))) in
     let lower : AreEnded (found.front ++ found.back) rs =
     others_held found.front found.back found.holder r rs found.has h.0 first_free (ends_by r.first rs h.2) (subst Ended found.whole held.1) in
     let less : length rs ≤ length (found.front ++ found.back) =
@@ -82,7 +84,8 @@ ended bound (r ∷ rs) out h cover =
       | inr o ↦ (o, rest)
     ]
 
-pub few_runs : (limit : ℕ) (runs out : List Extent) → AreRuns (limit + 1) runs → ((p : ℕ) → p < limit → InRun runs p ⊎ InRun out p) → ((p : ℕ) → InRun runs p → IsFreePage out p)
+pub few_runs : (limit : ℕ) (runs out : List Extent) → AreRuns (limit + 1) runs → ((p : ℕ) → p < limit → InRun runs p ⊎ InRun out p)
+    → ((p : ℕ) → InRun runs p → IsFreePage out p)
     → length runs ≤ length out + 1
 few_runs limit [] out h cover free = omega arith
 few_runs limit (r ∷ rs) out h cover free =

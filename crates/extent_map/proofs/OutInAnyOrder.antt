@@ -1,4 +1,4 @@
--- The order of the extents that are out does not matter to the free runs.
+-- The extents that are out are out in any order.
 use Rattle.std.proofs.Common.{◌≡◌, ℕ, ◌<◌, ◌⊎◌, inl, inr, List, get_or, length, refl, ◌∙◌, ap, arith}
 use Rattle.std.specs.List.{AllByRecursion, AllPairs, swap}
 use Rattle.std.specs.List.Sorted.{IsPermutation}

@@ -1,4 +1,4 @@
--- Pages that no extent holds, and extents that are out.
+-- A page is held by an extent that is out, or is free, and extents with other pages are apart.
 use Rattle.std.proofs.Common.{◌≡◌, ℕ, ◌+◌, ◌<◌, ◌⊎◌, inl, inr, List, [], ◌∷◌, ◌++◌, length, take, drop, suc, refl, subst, arith}
 use Rattle.std.specs.List.{AllByRecursion, AllPairs, remove}
 use Rattle.std.proofs.lemmas.Bool.{cases_lt}
@@ -7,6 +7,7 @@ use Rattle.std.proofs.lemmas.List.Elements.{All-from_recursion, recursion_from_A
 use Rattle.std.proofs.lemmas.List.Quantifiers.{all_pairs_push, all_pairs_remove}
 use Rattle.jk_model.specs.declared.extents.Extent.{Extent}
 use Rattle.jk_model.specs.Extents.{HasPage, IsFreePage, AreApart, LiesBelow}
+use Rattle.jk_model.proofs.EachItem.{all_front, all_back, all_append}
 use Rattle.extent_map.specs.Runs.{InRun}
 
 pub has_or_not : (e : Extent) (p : ℕ) → HasPage e p ⊎ (HasPage e p → ⊥)
@@ -28,29 +29,17 @@ held_or_free (d ∷ ds) p =
       | inr lacks ↦ elim (held_or_free ds p) [ inl held ↦ inl (inr held) | inr free ↦ inr (lacks, free) ]
     ]
 
--- ---- Parts of a list of extents.
-
-pub all_front : (P : Extent → Type 0) (xs ys : List Extent) → AllByRecursion P (xs ++ ys) → AllByRecursion P xs
-all_front P [] ys h = tt
-all_front P (x ∷ xs) ys h = (h.0, all_front P xs ys h.1)
-
-pub all_back : (P : Extent → Type 0) (xs ys : List Extent) → AllByRecursion P (xs ++ ys) → AllByRecursion P ys
-all_back P [] ys h = h
-all_back P (x ∷ xs) ys h = all_back P xs ys h.1
-
-pub all_join : (P : Extent → Type 0) (xs ys : List Extent) → AllByRecursion P xs → AllByRecursion P ys → AllByRecursion P (xs ++ ys)
-all_join P [] ys h k = k
-all_join P (x ∷ xs) ys h k = (h.0, all_join P xs ys h.1 k)
+-- ---- A list without one of its extents.
 
 pub all_without : (P : Extent → Type 0) (front back : List Extent) (e : Extent) → AllByRecursion P (front ++ e ∷ back) → AllByRecursion P (front ++ back)
 all_without P front back e h =
-    let behind : AllByRecursion P (e ∷ back) = all_back P front (e ∷ back) h in
-    all_join P front back (all_front P front (e ∷ back) h) behind.1
+    let rest : AllByRecursion P (e ∷ back) = all_back P front (e ∷ back) h in
+    all_append P front back (all_front P front (e ∷ back) h) rest.1
 
-pub all_at : (P : Extent → Type 0) (front back : List Extent) (e : Extent) → AllByRecursion P (front ++ e ∷ back) → P e
-all_at P front back e h =
-    let behind : AllByRecursion P (e ∷ back) = all_back P front (e ∷ back) h in
-    behind.0
+pub all_middle : (P : Extent → Type 0) (front back : List Extent) (e : Extent) → AllByRecursion P (front ++ e ∷ back) → P e
+all_middle P front back e h =
+    let rest : AllByRecursion P (e ∷ back) = all_back P front (e ∷ back) h in
+    rest.0
 
 -- ---- Extents in pairs.
 
@@ -70,7 +59,8 @@ one_apart limit d e h some free =
     ]
 
 -- an extent whose pages are free is apart from each that is out
-pub apart_from : (limit : ℕ) (out : List Extent) (e : Extent) → AllByRecursion (LiesBelow limit) out → 0 < e.pages → ((p : ℕ) → HasPage e p → IsFreePage out p) → AllByRecursion (λ d. AreApart d e) out
+pub apart_from : (limit : ℕ) (out : List Extent) (e : Extent) → AllByRecursion (LiesBelow limit) out → 0 < e.pages
+    → ((p : ℕ) → HasPage e p → IsFreePage out p) → AllByRecursion (λ d. AreApart d e) out
 apart_from limit [] e h some free = tt
 apart_from limit (d ∷ ds) e h some free =
     (one_apart limit d e h.0 some (λ p has. (free p has).0), apart_from limit ds e h.1 some (λ p has. (free p has).1))
@@ -102,18 +92,18 @@ pairs_tail x xs pairs = λ i j d lt under. pairs (suc i) (suc j) d (omega arith)
 pub pairs_head : (x : Extent) (xs : List Extent) → AllPairs AreApart (x ∷ xs) → AllByRecursion (AreApart x) xs
 pairs_head x xs pairs = recursion_from_All (AreApart x) xs (λ k d under. pairs 0 (suc k) d (omega arith) (omega arith))
 
-behind : (back : List Extent) (e : Extent) (p : ℕ) → HasPage e p → AllByRecursion (AreApart e) back → IsFreePage back p
-behind [] e p has apart = tt
-behind (d ∷ back) e p has apart = (
+free_of_apart : (back : List Extent) (e : Extent) (p : ℕ) → HasPage e p → AllByRecursion (AreApart e) back → IsFreePage back p
+free_of_apart [] e p has apart = tt
+free_of_apart (d ∷ back) e p has apart = (
   (λ in_d. elim apart.0 [ inl a ↦ omega (arith, a, has.1, in_d.0) | inr b ↦ omega (arith, b, has.0, in_d.1) ]),
-  behind back e p has apart.1,
+  free_of_apart back e p has apart.1,
 )
 
 -- a page of an extent is in no other that is out
 pub free_of_others : (front back : List Extent) (e : Extent) (p : ℕ) → AllPairs AreApart (front ++ e ∷ back) → HasPage e p → IsFreePage (front ++ back) p
-free_of_others [] back e p pairs has = behind back e p has (pairs_head e back pairs)
+free_of_others [] back e p pairs has = free_of_apart back e p has (pairs_head e back pairs)
 free_of_others (d ∷ front) back e p pairs has =
-    let apart : AreApart d e = all_at (AreApart d) front back e (pairs_head d (front ++ e ∷ back) pairs) in (
+    let apart : AreApart d e = all_middle (AreApart d) front back e (pairs_head d (front ++ e ∷ back) pairs) in (
       (λ in_d. elim apart [ inl a ↦ omega (arith, a, has.0, in_d.1) | inr b ↦ omega (arith, b, has.1, in_d.0) ]),
       free_of_others front back e p (pairs_tail d (front ++ e ∷ back) pairs) has,
     )

@@ -1,4 +1,4 @@
--- What is so once an extent that is out is joined with the runs beside it, or put between them.
+-- The pages of an extent that is given back are free: it is joined with the runs beside it, or put between them.
 use Rattle.std.proofs.Common.{◌≡◌, ℕ, ◌+◌, ◌-◌, ◌<◌, ◌≤◌, ◌⊎◌, ◌↔◌, inl, inr, List, [], ◌∷◌, ◌++◌, length, get_or, set, take, drop, suc, refl, sym, ◌∙◌, ap, subst, arith, length-append}
 use Rattle.std.specs.List.{AllByRecursion, HoldsAt, insert}
 use Rattle.std.proofs.lemmas.Bool.{cases_lt, cases_eq}
@@ -9,10 +9,10 @@ use Rattle.jk_model.specs.Extents.{HasPage, IsFreePage, LiesBelow, AreOut}
 use Rattle.extent_map.specs.RunState.{RunState, IsOut}
 use Rattle.extent_map.specs.Runs.{InRun, AreRuns, BeginBefore}
 use Rattle.extent_map.specs.Steps.{IsAt, IsJoined, IsPut, HasGapBelow, HasGapAbove}
-use Rattle.extent_map.proofs.Parts.{edge, EndBy, EndBefore, AddsPages, in_cases, in_left, in_right, high_runs, low_runs, join_runs, looser, tighter, edge_le, edge_last, below_limit}
-use Rattle.extent_map.proofs.Free.{all_without, all_at, has_or_not, pairs_without, free_of_others, held_or_free}
-use Rattle.extent_map.proofs.Count.{few_runs}
-use Rattle.extent_map.proofs.Taken.{split_run, below_pages}
+use Rattle.extent_map.proofs.RunsHavePages.{edge, EndBy, EndBefore, AddsPages, in_cases, in_left, in_right, high_runs, low_runs, join_runs, looser, tighter, edge_le, edge_last, below_limit}
+use Rattle.extent_map.proofs.HeldOrFree.{all_without, all_middle, has_or_not, pairs_without, free_of_others, held_or_free}
+use Rattle.extent_map.proofs.FewRuns.{few_runs}
+use Rattle.extent_map.proofs.TakenIsOut.{split_run, below_pages}
 
 -- An extent lies between the runs in front of a place and those from there on.
 pub record IsBetween (bound : ℕ) (high low : List Extent) (e : Extent) : Type 0 where
@@ -25,7 +25,8 @@ pub record IsBetween (bound : ℕ) (high low : List Extent) (e : Extent) : Type 
 
 -- ---- The place of an extent that is out.
 
-above_place : (bound : ℕ) (high : List Extent) (e : Extent) → AreRuns bound high → 0 < e.pages → e.first + e.pages ≤ bound → e.first ≤ edge bound high → ((p : ℕ) → HasPage e p → InRun high p → ⊥)
+above_place : (bound : ℕ) (high : List Extent) (e : Extent) → AreRuns bound high → 0 < e.pages → e.first + e.pages ≤ bound
+    → e.first ≤ edge bound high → ((p : ℕ) → HasPage e p → InRun high p → ⊥)
     → e.first + e.pages ≤ edge bound high
 above_place bound [] e h some within from apart = within
 above_place bound (r ∷ rs) e h some within from apart =
@@ -35,7 +36,8 @@ above_place bound (r ∷ rs) e h some within from apart =
       | inr clear ↦ above_place r.first rs e h.2 some clear from (λ p has i. apart p has (inr i))
     ]
 
-below_place : (bound : ℕ) (low : List Extent) (e : Extent) → AreRuns bound low → 0 < e.pages → BeginBefore e.first low → ((p : ℕ) → HasPage e p → InRun low p → ⊥) → EndBy low e.first
+below_place : (bound : ℕ) (low : List Extent) (e : Extent) → AreRuns bound low → 0 < e.pages → BeginBefore e.first low
+    → ((p : ℕ) → HasPage e p → InRun low p → ⊥) → EndBy low e.first
 below_place bound [] e h some before apart = tt
 below_place bound (r ∷ rs) e h some before apart =
     elim (cases_lt e.first (r.first + r.pages)) [
@@ -50,7 +52,8 @@ take_last runs at d some within =
     let e : at - 1 + 1 ≡ at = omega arith in
     subst Q e (take_more runs (at - 1) d (omega arith))
 
-edge_from : (bound at : ℕ) (runs : List Extent) (first : ℕ) → at ≤ length runs → first ≤ bound → (0 < at → HoldsAt (λ run. first ≤ run.first) runs (at - 1)) → first ≤ edge bound (take at runs)
+edge_from : (bound at : ℕ) (runs : List Extent) (first : ℕ) → at ≤ length runs → first ≤ bound
+    → (0 < at → HoldsAt (λ run. first ≤ run.first) runs (at - 1)) → first ≤ edge bound (take at runs)
 edge_from bound at runs first within under high = elim (cases_eq at 0) [
   | inl none ↦
       let e : take at runs ≡ [] = rw none refl in
@@ -77,7 +80,9 @@ between_at bound at runs e h within some under apart low high =
       low_runs = back;
       some = some;
       within = under;
-      above = above_place bound (take at runs) e front some (omega arith) (edge_from bound at runs e.first within (omega (arith, under)) high) (λ p has i. clear p has (in_left (take at runs) (drop at runs) p i));
+      above =
+          above_place bound (take at runs) e front some (omega arith)
+          (edge_from bound at runs e.first within (omega (arith, under)) high) (λ p has i. clear p has (in_left (take at runs) (drop at runs) p i));
       below = below_place (edge bound (take at runs)) (drop at runs) e back some low (λ p has i. clear p has (in_right (take at runs) (drop at runs) p i));
     }
 
@@ -147,7 +152,8 @@ joined_pages high low run e p same some some2 = (
       ]),
 )
 
-removed_right : (bound at : ℕ) (runs : List Extent) (low e : Extent) → at ≤ length runs → IsBetween bound (take at runs) (drop at runs) e → IsAt runs at low → low.first + low.pages ≡ e.first
+removed_right : (bound at : ℕ) (runs : List Extent) (low e : Extent) → at ≤ length runs
+    → IsBetween bound (take at runs) (drop at runs) e → IsAt runs at low → low.first + low.pages ≡ e.first
     → IsJoinedRight bound at runs e (take at runs ++ drop (suc at) runs) (record { first = low.first; pages = low.pages + e.pages })
 removed_right bound at runs low e within h is same =
     let high : List Extent = take at runs in
@@ -157,9 +163,9 @@ removed_right bound at runs low e within h is same =
     let long : length high ≡ at = length-take-le at runs within in
     let front : take at (high ++ lower) ≡ high = take_at high lower at long in
     let back : drop at (high ++ lower) ≡ lower = drop_at high lower at long in
-    let behind : drop at runs ≡ low ∷ lower = ap (λ xs. drop at xs) split ∙ drop_at high (low ∷ lower) at long in
+    let rest : drop at runs ≡ low ∷ lower = ap (λ xs. drop at xs) split ∙ drop_at high (low ∷ lower) at long in
     let Between : List Extent → Type 0 = λ xs. IsBetween bound high xs e in
-    let was : IsBetween bound high (low ∷ lower) e = subst Between behind h in
+    let was : IsBetween bound high (low ∷ lower) e = subst Between rest h in
     let Low : List Extent → Type 0 = λ xs. IsBetween bound high xs joined in
     let High : List Extent → Type 0 = λ xs. IsBetween bound xs (drop at (high ++ lower)) joined in
     let Gap : List Extent → Type 0 = λ xs. EndBefore xs low.first in
@@ -171,7 +177,8 @@ removed_right bound at runs low e within h is same =
       pages = subst Pages (sym split) (λ p. joined_pages high lower low e p same h.some was.low_runs.0);
     }
 
-pub joined_right : (bound at : ℕ) (runs : List Extent) (e : Extent) (new : List Extent) (joined : Extent) → at ≤ length runs → IsBetween bound (take at runs) (drop at runs) e → IsJoined runs at e new joined
+pub joined_right : (bound at : ℕ) (runs : List Extent) (e : Extent) (new : List Extent) (joined : Extent) → at ≤ length runs
+    → IsBetween bound (take at runs) (drop at runs) e → IsJoined runs at e new joined
     → IsJoinedRight bound at runs e new joined
 joined_right bound at runs e new joined within h cases =
     elim cases [
@@ -188,7 +195,8 @@ joined_right bound at runs e new joined within h cases =
 
 -- ---- Put in its place.
 
-edge_over : (bound at : ℕ) (runs : List Extent) (e : Extent) → at ≤ length runs → IsBetween bound (take at runs) (drop at runs) e → HasGapAbove runs at e → e.first + e.pages < edge bound (take at runs)
+edge_over : (bound at : ℕ) (runs : List Extent) (e : Extent) → at ≤ length runs → IsBetween bound (take at runs) (drop at runs) e
+    → HasGapAbove runs at e → e.first + e.pages < edge bound (take at runs)
 edge_over bound at runs e within h gap = elim (cases_eq at 0) [
   | inl none ↦
       let is : take at runs ≡ [] = rw none refl in
@@ -206,14 +214,20 @@ pub record IsPutRight (bound : ℕ) (runs : List Extent) (e : Extent) (new : Lis
   pub sound : AreRuns bound new
   pub pages : AddsPages runs e new
 
-inserted_right : (bound at : ℕ) (runs : List Extent) (e : Extent) → at ≤ length runs → IsBetween bound (take at runs) (drop at runs) e → EndBefore (drop at runs) e.first → HasGapAbove runs at e
+inserted_right : (bound at : ℕ) (runs : List Extent) (e : Extent) → at ≤ length runs
+    → IsBetween bound (take at runs) (drop at runs) e → EndBefore (drop at runs) e.first → HasGapAbove runs at e
     → IsPutRight bound runs e (take at runs ++ e ∷ drop at runs)
 inserted_right bound at runs e within h gap over =
     let high : List Extent = take at runs in
     let low : List Extent = drop at runs in
     let Pages : List Extent → Type 0 = λ xs. AddsPages xs e (high ++ e ∷ low) in
     record {
-      sound = join_runs bound high (e ∷ low) h.high_runs (h.some, edge_over bound at runs e within h over, tighter (edge bound high) e.first low h.low_runs gap);
+      sound =
+          join_runs bound high (e ∷ low) h.high_runs (
+            h.some,
+            edge_over bound at runs e within h over,
+            tighter (edge bound high) e.first low h.low_runs gap,
+          );
       pages = subst Pages (take-append-drop at runs) (λ p. (
         λ i.
             elim (in_cases high (e ∷ low) p i) [
@@ -228,14 +242,20 @@ inserted_right bound at runs e within h gap over =
       ));
     }
 
-joined_above : (bound : ℕ) (high low : List Extent) (s e : Extent) → IsBetween bound (high ++ s ∷ []) low e → EndBefore low e.first → e.first + e.pages ≡ s.first
+joined_above : (bound : ℕ) (high low : List Extent) (s e : Extent) → IsBetween bound (high ++ s ∷ []) low e → EndBefore low e.first
+    → e.first + e.pages ≡ s.first
     → IsPutRight bound ((high ++ s ∷ []) ++ low) e (high ++ record { first = e.first; pages = e.pages + s.pages } ∷ low)
 joined_above bound high low s e h gap same =
     let joined : Extent = record { first = e.first; pages = e.pages + s.pages } in
     let there : AreRuns (edge bound high) (s ∷ []) = low_runs bound high (s ∷ []) h.high_runs in
     let front : AreRuns bound high = high_runs bound high (s ∷ []) h.high_runs in
     record {
-      sound = join_runs bound high (joined ∷ low) front (omega (arith, h.some), omega (arith, there.1, same), tighter (edge bound (high ++ s ∷ [])) e.first low h.low_runs gap);
+      sound =
+          join_runs bound high (joined ∷ low) front (
+            omega (arith, h.some),
+            omega (arith, there.1, same),
+            tighter (edge bound (high ++ s ∷ [])) e.first low h.low_runs gap,
+          );
       pages = λ p. (
         λ i.
             elim (in_cases high (joined ∷ low) p i) [
@@ -270,8 +290,10 @@ joined_above bound high low s e h gap same =
       );
     }
 
-put_joined : (bound at : ℕ) (runs : List Extent) (e : Extent) (new : List Extent) → at ≤ length runs → IsBetween bound (take at runs) (drop at runs) e → EndBefore (drop at runs) e.first
-    → (high : Extent) × (0 < at) × IsAt runs (at - 1) high × (e.first + e.pages ≡ high.first) × (new ≡ set runs (at - 1) (record { first = e.first; pages = e.pages + high.pages }))
+put_joined : (bound at : ℕ) (runs : List Extent) (e : Extent) (new : List Extent) → at ≤ length runs
+    → IsBetween bound (take at runs) (drop at runs) e → EndBefore (drop at runs) e.first
+    → (high : Extent) × (0 < at) × IsAt runs (at - 1) high × (e.first + e.pages ≡ high.first)
+    × (new ≡ set runs (at - 1) (record { first = e.first; pages = e.pages + high.pages }))
     → IsPutRight bound runs e new
 put_joined bound at runs e new within h gap (s, some, is, same, to) =
     let joined : Extent = record { first = e.first; pages = e.pages + s.pages } in
@@ -287,7 +309,8 @@ put_joined bound at runs e new within h gap (s, some, is, same, to) =
     let new_is : new ≡ high ++ joined ∷ low = to ∙ set_split runs (at - 1) joined is.0 ∙ ap (λ n. high ++ joined ∷ drop n runs) next in
     subst New (sym new_is) (subst Old whole right)
 
-pub put_right : (bound at : ℕ) (runs : List Extent) (e : Extent) (new : List Extent) → at ≤ length runs → IsBetween bound (take at runs) (drop at runs) e → EndBefore (drop at runs) e.first → IsPut runs at e new
+pub put_right : (bound at : ℕ) (runs : List Extent) (e : Extent) (new : List Extent) → at ≤ length runs
+    → IsBetween bound (take at runs) (drop at runs) e → EndBefore (drop at runs) e.first → IsPut runs at e new
     → IsPutRight bound runs e new
 put_right bound at runs e new within h gap cases =
     let New : List Extent → Type 0 = λ xs. IsPutRight bound runs e xs in
@@ -299,7 +322,8 @@ put_right bound at runs e new within h gap cases =
 -- ---- The whole.
 
 -- the runs once the extent is back
-pub back_right : (bound at : ℕ) (runs : List Extent) (e : Extent) (runs1 : List Extent) (joined : Extent) (new : List Extent) → at ≤ length runs → IsBetween bound (take at runs) (drop at runs) e → IsJoined runs at e runs1 joined
+pub back_right : (bound at : ℕ) (runs : List Extent) (e : Extent) (runs1 : List Extent) (joined : Extent) (new : List Extent)
+    → at ≤ length runs → IsBetween bound (take at runs) (drop at runs) e → IsJoined runs at e runs1 joined
     → IsPut runs1 at joined new → IsPutRight bound runs e new
 back_right bound at runs e runs1 joined new within h join put =
     let a = joined_right bound at runs e runs1 joined within h join in
@@ -311,7 +335,8 @@ free_back [] back e p free lacks = (lacks, free)
 free_back (d ∷ front) back e p free lacks = (free.0, free_back front back e p free.1 lacks)
 
 -- the pages that are free once the extent is back
-pub free_then : (map : RunState) (front back : List Extent) (e : Extent) (new : List Extent) → IsOut map (front ++ e ∷ back) → AddsPages map.free e new → (p : ℕ) → p < map.pages → InRun new p ↔ IsFreePage (front ++ back) p
+pub free_then : (map : RunState) (front back : List Extent) (e : Extent) (new : List Extent) → IsOut map (front ++ e ∷ back)
+    → AddsPages map.free e new → (p : ℕ) → p < map.pages → InRun new p ↔ IsFreePage (front ++ back) p
 free_then map front back e new is adds p under = (
   λ i.
       elim ((adds p).0 i) [
@@ -325,7 +350,8 @@ free_then map front back e new is adds p under = (
       ],
 )
 
-pub back_out : (map new : RunState) (front back : List Extent) (e : Extent) → IsOut map (front ++ e ∷ back) → IsPutRight (map.pages + 1) map.free e new.free → new.pages ≡ map.pages → new.extents ≡ map.extents → new.spare ≡ map.spare + 1
+pub back_out : (map new : RunState) (front back : List Extent) (e : Extent) → IsOut map (front ++ e ∷ back)
+    → IsPutRight (map.pages + 1) map.free e new.free → new.pages ≡ map.pages → new.extents ≡ map.extents → new.spare ≡ map.spare + 1
     → IsOut new (front ++ back)
 back_out map new front back e is right same same_extents spare =
     let Placed : ℕ → Type 0 = λ n. AreOut n (front ++ back) in
@@ -338,15 +364,17 @@ back_out map new front back e is right same same_extents spare =
     }
 
 pub lies : (map : RunState) (front back : List Extent) (e : Extent) → IsOut map (front ++ e ∷ back) → LiesBelow map.pages e
-lies map front back e is = all_at (LiesBelow map.pages) front back e is.placed.0
+lies map front back e is = all_middle (LiesBelow map.pages) front back e is.placed.0
 
-pub apart_of_free : (map : RunState) (front back : List Extent) (e : Extent) → AreRuns (map.pages + 1) map.free → IsOut map (front ++ e ∷ back) → (p : ℕ) → HasPage e p → InRun map.free p → ⊥
+pub apart_of_free : (map : RunState) (front back : List Extent) (e : Extent) → AreRuns (map.pages + 1) map.free
+    → IsOut map (front ++ e ∷ back) → (p : ℕ) → HasPage e p → InRun map.free p → ⊥
 apart_of_free map front back e h is p has i =
     let at = lies map front back e is in
-    all_at (λ x. HasPage x p → ⊥) front back e ((is.free p (omega (arith, at.1, has.1))).0 i) has
+    all_middle (λ x. HasPage x p → ⊥) front back e ((is.free p (omega (arith, at.1, has.1))).0 i) has
 
 -- there is room for the runs of then
-pub room_then : (map : RunState) (front back : List Extent) (e : Extent) (new : List Extent) → IsOut map (front ++ e ∷ back) → IsPutRight (map.pages + 1) map.free e new → length new ≤ map.extents
+pub room_then : (map : RunState) (front back : List Extent) (e : Extent) (new : List Extent) → IsOut map (front ++ e ∷ back)
+    → IsPutRight (map.pages + 1) map.free e new → length new ≤ map.extents
 room_then map front back e new is right =
     let free = free_then map front back e new is right.pages in
     let few = few_runs map.pages new (front ++ back) right.sound
@@ -356,33 +384,51 @@ room_then map front back e new is right =
 
 -- ---- What a search and the steps say.
 
--- the runs in front of the place begin at the page or behind it, and the others before it
+-- the runs in front of the place begin at the page or after it, and the others before it
 abbrev pub IsPlace : List Extent → ℕ → ℕ → Type 0
 IsPlace runs first at = (at ≤ length runs) × BeginBefore first (drop at runs) × (0 < at → HoldsAt (λ run. first ≤ run.first) runs (at - 1))
 
-pub between_out : (map : RunState) (front back : List Extent) (e : Extent) (at : ℕ) → AreRuns (map.pages + 1) map.free → IsOut map (front ++ e ∷ back) → IsPlace map.free e.first at
+-- An extent that is given back is out, and this is its place among the free runs.
+pub record IsGiven (map : RunState) (front back : List Extent) (e : Extent) (at : ℕ) : Type 0 where
+  pub was : IsOut map (front ++ e ∷ back)
+  pub place : IsPlace map.free e.first at
+
+-- the same of a state and of runs that are known under two names
+pub given : (map now : RunState) (runs front back : List Extent) (e : Extent) (at : ℕ) → map ≡ now → runs ≡ map.free
+    → IsOut now (front ++ e ∷ back) → IsPlace runs e.first at → IsGiven map front back e at
+given map now runs front back e at same free is place =
+    let Out : RunState → Type 0 = λ m. IsOut m (front ++ e ∷ back) in
+    let Place : List Extent → Type 0 = λ xs. IsPlace xs e.first at in
+    record { was = subst Out (sym same) is; place = subst Place free place }
+
+pub between_out : (map : RunState) (front back : List Extent) (e : Extent) (at : ℕ) → AreRuns (map.pages + 1) map.free
+    → IsOut map (front ++ e ∷ back) → IsPlace map.free e.first at
     → IsBetween (map.pages + 1) (take at map.free) (drop at map.free) e
 between_out map front back e at h is place =
     let low = lies map front back e is in
     between_at (map.pages + 1) at map.free e h place.0 low.0 (omega (arith, low.1)) (apart_of_free map front back e h is) place.1 place.2
 
-pub joined_out : (map : RunState) (front back : List Extent) (e : Extent) (at : ℕ) (runs1 : List Extent) (joined : Extent) → AreRuns (map.pages + 1) map.free → IsOut map (front ++ e ∷ back) → IsPlace map.free e.first at
+pub joined_out : (map : RunState) (front back : List Extent) (e : Extent) (at : ℕ) (runs1 : List Extent) (joined : Extent)
+    → AreRuns (map.pages + 1) map.free → IsOut map (front ++ e ∷ back) → IsPlace map.free e.first at
     → IsJoined map.free at e runs1 joined → IsJoinedRight (map.pages + 1) at map.free e runs1 joined
 joined_out map front back e at runs1 joined h is place join =
     joined_right (map.pages + 1) at map.free e runs1 joined place.0 (between_out map front back e at h is place) join
 
-pub joined_runs : (bound at : ℕ) (runs : List Extent) (e : Extent) (runs1 : List Extent) (joined : Extent) → IsJoinedRight bound at runs e runs1 joined → AreRuns bound runs1
+pub joined_runs : (bound at : ℕ) (runs : List Extent) (e : Extent) (runs1 : List Extent) (joined : Extent)
+    → IsJoinedRight bound at runs e runs1 joined → AreRuns bound runs1
 joined_runs bound at runs e runs1 joined h =
     let Runs : List Extent → Type 0 = λ xs. AreRuns bound xs in
     subst Runs (take-append-drop at runs1) (join_runs bound (take at runs1) (drop at runs1) h.between.high_runs h.between.low_runs)
 
-pub put_out : (map : RunState) (front back : List Extent) (e : Extent) (at : ℕ) (runs1 : List Extent) (joined : Extent) (new : List Extent) → AreRuns (map.pages + 1) map.free → IsOut map (front ++ e ∷ back) → IsPlace map.free e.first at
+pub put_out : (map : RunState) (front back : List Extent) (e : Extent) (at : ℕ) (runs1 : List Extent) (joined : Extent) (new : List Extent)
+    → AreRuns (map.pages + 1) map.free → IsOut map (front ++ e ∷ back) → IsPlace map.free e.first at
     → IsJoined map.free at e runs1 joined → IsPut runs1 at joined new → IsPutRight (map.pages + 1) map.free e new
 put_out map front back e at runs1 joined new h is place join put =
     back_right (map.pages + 1) at map.free e runs1 joined new place.0 (between_out map front back e at h is place) join put
 
 -- there is room where the extent is put between two runs
-pub room_out : (map : RunState) (front back : List Extent) (e : Extent) (at : ℕ) (runs1 : List Extent) (joined : Extent) → AreRuns (map.pages + 1) map.free → IsOut map (front ++ e ∷ back) → IsPlace map.free e.first at
+pub room_out : (map : RunState) (front back : List Extent) (e : Extent) (at : ℕ) (runs1 : List Extent) (joined : Extent)
+    → AreRuns (map.pages + 1) map.free → IsOut map (front ++ e ∷ back) → IsPlace map.free e.first at
     → IsJoined map.free at e runs1 joined → HasGapAbove runs1 at joined → length runs1 < map.extents
 room_out map front back e at runs1 joined h is place join gap =
     let right = joined_out map front back e at runs1 joined h is place join in

@@ -1,6 +1,7 @@
--- The extents that are out, where an entry of the vector is set.
+-- Where an entry of the vector is set, the extent that begins at its page is out, and none where it is 0.
 use Rattle.std.proofs.Common.{◌≡◌, ℕ, zero, suc, ◌+◌, ◌<◌, ◌≤◌, List, [], ◌∷◌, ◌++◌, length, get_or, set, replicate, refl, sym, ◌∙◌, ap, subst, arith}
 use Rattle.std.specs.List.{AllByRecursion, Contains}
+use Rattle.std.proofs.lemmas.List.{set-get_or}
 use Rattle.std.proofs.lemmas.List.Elements.{All-from_recursion}
 use Rattle.std.proofs.lemmas.List.Kept.{AllPairs-cons}
 use Rattle.std.proofs.lemmas.List.Sorted.{IsPermutation-middle, IsPermutation-to_front, IsPermutation-trans, IsPermutation-sym}
@@ -9,7 +10,7 @@ use Rattle.jk_model.specs.Extents.{HasPage, IsFreePage, FitsAt}
 use Rattle.extent_map.specs.MapState.{IsAmong, IsAscending}
 use Rattle.extent_map.specs.RunState.{RunState, IsOut}
 use Rattle.extent_map.specs.Starts.{extents_of}
-use Rattle.extent_map.proofs.Out.{out_in_order}
+use Rattle.extent_map.proofs.OutInAnyOrder.{out_in_order}
 
 -- none is out where all entries are 0
 pub none_out : (n k : ℕ) → extents_of k (replicate n 0) ≡ []
@@ -29,7 +30,7 @@ ascending k (suc n ∷ s) =
     AllPairs-cons (λ (d e : Extent). d.first < e.first) it (extents_of (k + 1) s)
     (All-from_recursion (λ e. k < e.first) (extents_of (k + 1) s) (later k (k + 1) s (omega arith))) (ascending (k + 1) s)
 
--- The extents that begin before a page, and behind it: what is out is these, and between them the one
+-- The extents that begin before a page, and after it: what is out is these, and between them the one
 -- that begins there, if one does.
 pub record IsSplit (k at : ℕ) (starts : List ℕ) : Type 0 where
   pub front : List Extent
@@ -64,10 +65,8 @@ split k (suc at) (suc m ∷ s) h =
     }
 
 -- setting an entry to what it is changes nothing
-set_same : (starts : List ℕ) (at x : ℕ) → at < length starts → get_or starts at 0 ≡ x → set starts at x ≡ starts
-set_same [] at x h g = absurd (omega (arith, h))
-set_same (y ∷ s) zero x h g = ap (λ z. z ∷ s) (sym g)
-set_same (y ∷ s) (suc at) x h g = ap (λ l. y ∷ l) (set_same s at x (omega (arith, h)) g)
+set_same : (starts : List ℕ) (at x : ℕ) → get_or starts at 0 ≡ x → set starts at x ≡ starts
+set_same starts at x g = ap (λ (y : ℕ). set starts at y) (sym g) ∙ set-get_or starts at 0
 
 -- where an extent that is out begins, and that the entry there is its size
 record StartsAt (k : ℕ) (starts : List ℕ) (e : Extent) : Type 0 where
@@ -77,34 +76,36 @@ record StartsAt (k : ℕ) (starts : List ℕ) (e : Extent) : Type 0 where
   pub entry : get_or starts at 0 ≡ e.pages
   pub some : 0 < e.pages
 
-behind : (k x : ℕ) (starts : List ℕ) (e : Extent) → StartsAt (k + 1) starts e → StartsAt k (x ∷ starts) e
-behind k x starts e h = record { at = suc h.at; is = omega (arith, h.is); under = omega (arith, h.under); entry = h.entry; some = h.some }
+one_later : (k x : ℕ) (starts : List ℕ) (e : Extent) → StartsAt (k + 1) starts e → StartsAt k (x ∷ starts) e
+one_later k x starts e h = record { at = suc h.at; is = omega (arith, h.is); under = omega (arith, h.under); entry = h.entry; some = h.some }
 
 starts_at : (k place : ℕ) (starts : List ℕ) (e : Extent) → place < length (extents_of k starts) → get_or (extents_of k starts) place e ≡ e → StartsAt k starts e
 starts_at k place [] e h g = absurd (omega (arith, h))
-starts_at k place (zero ∷ s) e h g = behind k zero s e (starts_at (k + 1) place s e h g)
+starts_at k place (zero ∷ s) e h g = one_later k zero s e (starts_at (k + 1) place s e h g)
 starts_at k zero (suc n ∷ s) e h g =
     let first : k ≡ e.first = ap (λ (x : Extent). x.first) g in
     let pages : suc n ≡ e.pages = ap (λ (x : Extent). x.pages) g in
     record { at = 0; is = omega (arith, first); under = omega arith; entry = pages; some = omega (arith, pages) }
-starts_at k (suc place) (suc n ∷ s) e h g = behind k (suc n) s e (starts_at (k + 1) place s e (omega (arith, h)) g)
+starts_at k (suc place) (suc n ∷ s) e h g = one_later k (suc n) s e (starts_at (k + 1) place s e (omega (arith, h)) g)
 
 -- ---- Give back.
 
 extent_is : (e : Extent) (first pages : ℕ) → e.first ≡ first → e.pages ≡ pages → record { first = first; pages = pages } ≡ e
 extent_is e first pages f p = ap (λ (x : ℕ). record { first = x; pages = pages }) (sym f) ∙ ap (λ (x : ℕ). record { first = e.first; pages = x }) (sym p)
 
-among_of : (starts : List ℕ) (at n : ℕ) (e : Extent) → at < length starts → e.first ≡ at → e.pages ≡ suc n → IsAmong (extents_of 0 (set starts at 0)) e (extents_of 0 (set starts at (suc n)))
+among_of : (starts : List ℕ) (at n : ℕ) (e : Extent) → at < length starts → e.first ≡ at → e.pages ≡ suc n
+    → IsAmong (extents_of 0 (set starts at 0)) e (extents_of 0 (set starts at (suc n)))
 among_of starts at n e under first pages =
     let parts = split 0 at starts under in
     let it = extent_is e (0 + at) (suc n) (omega (arith, first)) pages in
     (parts.front, parts.back, parts.none, parts.one n ∙ ap (λ x. parts.front ++ x ∷ parts.back) it)
 
-given_of : (starts : List ℕ) (e : Extent) (n : ℕ) → e.pages ≡ n → 0 < n → e.first < length starts → get_or starts e.first 0 ≡ n → IsAmong (extents_of 0 (set starts e.first 0)) e (extents_of 0 starts)
+given_of : (starts : List ℕ) (e : Extent) (n : ℕ) → e.pages ≡ n → 0 < n → e.first < length starts → get_or starts e.first 0 ≡ n
+    → IsAmong (extents_of 0 (set starts e.first 0)) e (extents_of 0 starts)
 given_of starts e zero pages some under entry = absurd (omega (arith, some))
 given_of starts e (suc n) pages some under entry =
     let All : List ℕ → Type 0 = λ s. IsAmong (extents_of 0 (set starts e.first 0)) e (extents_of 0 s) in
-    subst All (set_same starts e.first (suc n) under entry) (among_of starts e.first n e under refl pages)
+    subst All (set_same starts e.first (suc n) entry) (among_of starts e.first n e under refl pages)
 
 pub given_out : (starts : List ℕ) (e : Extent) → Contains (extents_of 0 starts) e → IsAmong (extents_of 0 (set starts e.first 0)) e (extents_of 0 starts)
 given_out starts e (place, under, same) =
@@ -126,16 +127,17 @@ free_entry starts at (suc n) under free entry =
     let parts = split 0 at starts under in
     let e : Extent = record { first = 0 + at; pages = suc n } in
     let Free : List Extent → Type 0 = λ xs. IsFreePage xs at in
-    let all : extents_of 0 starts ≡ parts.front ++ e ∷ parts.back = ap (extents_of 0) (sym (set_same starts at (suc n) under entry)) ∙ parts.one n in
+    let all : extents_of 0 starts ≡ parts.front ++ e ∷ parts.back = ap (extents_of 0) (sym (set_same starts at (suc n) entry)) ∙ parts.one n in
     absurd (lacks parts.front e parts.back at (subst Free all free) (omega arith, omega arith))
 
-pub taken_among : (starts : List ℕ) (limit n : ℕ) (e : Extent) → length starts ≡ limit → 1 ≤ n → e.pages ≡ n → FitsAt limit (extents_of 0 starts) n e.first → IsAmong (extents_of 0 starts) e (extents_of 0 (set starts e.first n))
+pub taken_among : (starts : List ℕ) (limit n : ℕ) (e : Extent) → length starts ≡ limit → 1 ≤ n → e.pages ≡ n
+    → FitsAt limit (extents_of 0 starts) n e.first → IsAmong (extents_of 0 starts) e (extents_of 0 (set starts e.first n))
 taken_among starts limit zero e long some size fits = absurd (omega (arith, some))
 taken_among starts limit (suc n) e long some size fits =
     let under : e.first < length starts = omega (arith, long, fits.0) in
     let zero_there = free_entry starts e.first (get_or starts e.first 0) under (fits.1 e.first (omega arith) (omega arith)) refl in
     let Others : List ℕ → Type 0 = λ s. IsAmong (extents_of 0 s) e (extents_of 0 (set starts e.first (suc n))) in
-    subst Others (set_same starts e.first 0 under zero_there) (among_of starts e.first n e under refl size)
+    subst Others (set_same starts e.first 0 zero_there) (among_of starts e.first n e under refl size)
 
 -- ---- The free runs.
 

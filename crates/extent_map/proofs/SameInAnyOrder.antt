@@ -1,4 +1,4 @@
--- What a caller knows who keeps the extents that are out in an order of its own.
+-- A caller that keeps the extents that are out in an order of its own has the same ones after each call.
 use Rattle.std.proofs.Common.{◌≡◌, ℕ, suc, ◌+◌, ◌<◌, ◌⊎◌, inl, inr, List, [], ◌∷◌, ◌++◌, cond, get_or, length, refl, ◌∙◌, ap, arith, eqb}
 use Rattle.std.specs.List.{Contains, sum_by, remove}
 use Rattle.std.proofs.lemmas.Bool.{eq-eqb}
@@ -14,12 +14,13 @@ counts others all e (front, back, o, a) f =
     let right = ap (sum_by f) o ∙ sum_by-append f front back in
     omega (arith, left, right, sum_by-cons f e back)
 
--- an extent that is taken goes behind the others
+-- an extent that is taken goes after the others
 pub same_taken : (was now kept : List Extent) (e : Extent) → AreSame was kept → IsAmong was e now → AreSame now (kept ++ e ∷ [])
 same_taken was now kept e same among = λ f. omega (arith, counts was now e among f, same f, sum_by_push f kept e)
 
 -- an extent that is given back is removed from the place where it is
-pub same_given : (was now kept : List Extent) (e : Extent) (place : ℕ) → AreSame was kept → IsAmong now e was → place < length kept → e ≡ get_or kept place e → AreSame now (remove kept place)
+pub same_given : (was now kept : List Extent) (e : Extent) (place : ℕ) → AreSame was kept → IsAmong now e was → place < length kept
+    → e ≡ get_or kept place e → AreSame now (remove kept place)
 same_given was now kept e place same among under at = λ f. omega (arith, counts now was e among f, same f, sum_by-remove f kept place e under, ap f at)
 
 abbrev one_of : Extent → Extent → ℕ
