@@ -1,10 +1,12 @@
--- Files of the system: what is counted of them.
-use Rattle.std.specs.Prelude.{ℕ, ◌+◌, ◌-◌, ◌^◌, min}
+-- Files of the system: what is counted of them, and what was asked.
+use Rattle.std.specs.Prelude.{ℕ, ◌+◌, ◌-◌, ◌^◌, List, min}
+use Rattle.jk_model.specs.Outside.{Ask}
 
--- how many faults there were, and how many bytes and entries were taken
+-- how many faults there were, how many bytes and entries were taken, and what was asked
 pub record DiskState : Type 0 where
   pub faults : ℕ
   pub taken : ℕ
+  pub asked : List Ask
 
 -- a count after so many more, as far as 64 bits count
 abbrev pub count_after : ℕ → ℕ → ℕ

@@ -1,7 +1,14 @@
+pub mod Asks
 pub mod Counts
+pub mod CutTexts
 pub mod DiskStates
+pub mod FolderWalks
+pub mod LineRefs
 pub mod Lines
 pub mod MemorySinks
 pub mod MemoryTrees
+pub mod Reading
+pub mod Streams
 pub use Rattle.jk_model.specs.Outside
+pub use Rattle.jk_model.specs.Output
 pub use Rattle.jk_model.specs.Text

@@ -1,15 +1,16 @@
 -- A sink in memory: what it holds, and what a write does to it.
-use Rattle.std.specs.Prelude.{ℕ, ◌-◌, ◌||◌, Bool, List, ◌++◌, length, take, nat_lt, if◌then◌else◌}
+use Rattle.std.specs.Prelude.{ℕ, ◌-◌, ◌||◌, Bool, List, [], ◌∷◌, ◌++◌, length, take, nat_lt, if◌then◌else◌}
 use Rattle.jk_outside.specs.Counts.{next_number, is_named, faults_after}
 
--- its room in bytes, the numbers of the writes that fail, the bytes that it took, and how many writes
--- and faults there were
+-- its room in bytes, the numbers of the writes that fail, the bytes that it took, how many writes and
+-- faults there were, and the pieces that it was handed
 pub record SinkState : Type 0 where
   pub room : ℕ
   pub fails : List ℕ
   pub bytes : List ℕ
   pub writes : ℕ
   pub faults : ℕ
+  pub pieces : List (List ℕ)
 
 -- how many bytes the next write can take: none if its number is named
 abbrev pub room_left : SinkState → ℕ
@@ -25,4 +26,5 @@ after_write s piece =
       bytes = s.bytes ++ take (room_left s) piece;
       writes = next_number s.writes;
       faults = faults_after (will_fail s piece) s.faults;
+      pieces = s.pieces ++ piece ∷ [];
     }

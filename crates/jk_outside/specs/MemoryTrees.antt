@@ -3,27 +3,44 @@ use Rattle.std.specs.Prelude.{ℕ, ◌+◌, ◌==◌, ◌&&◌, Bool, true, fals
 use Rattle.std.specs.List.{list_any, list_all}
 use Rattle.std.specs.Option.{option_map}
 use Rattle.std.specs.Str.{bytes_eq, is_utf8}
-use Rattle.jk_model.specs.Outside.{Tree, ◌/-◌}
+use Rattle.jk_model.specs.Outside.{Tree, Ask, ◌/-◌}
 use Rattle.jk_model.specs.declared.entries.Entry.{Entry}
+use Rattle.jk_outside.specs.Counts.{next_number, is_named, faults_after}
 use Rattle.jk_outside.specs.declared.memory_files.MemoryFile.{MemoryFile}
 
--- the files in order, the numbers of the calls that fail, and how many calls and faults there were
+-- the files in order, the numbers of the calls that fail, how many calls and faults there were, and what
+-- was asked
 pub record FilesState : Type 0 where
   pub files : List MemoryFile
   pub fails : List ℕ
   pub calls : ℕ
   pub faults : ℕ
+  pub asked : List Ask
 
--- whether each path is a text
-unfoldable pub all_utf8 : List MemoryFile → Bool
-all_utf8 files = list_all (λ (f : MemoryFile). is_utf8 f.path) files
+-- what a call leaves: it is counted, and so is its fault, and what it asks is the last of what was asked
+abbrev pub after_call : FilesState → Ask → FilesState
+after_call s ask =
+    record s {
+      calls = next_number s.calls;
+      faults = faults_after (is_named s.fails (next_number s.calls)) s.faults;
+      asked = s.asked ++ ask ∷ [];
+    }
 
--- whether a path begins with a folder and a slash, and what stands behind those
+-- whether no name of a path is empty, where one has begun or not
+abbrev pub has_full_names : Bool → List ℕ → Bool
+has_full_names begun [] = begun
+has_full_names begun (c ∷ cs) = if c == 47 then begun && has_full_names false cs else has_full_names true cs
+
+-- whether each path is a text of names joined by slashes
+unfoldable pub are_paths : List MemoryFile → Bool
+are_paths files = list_all (λ (f : MemoryFile). is_utf8 f.path && has_full_names false f.path) files
+
+-- whether a path begins with a folder and a slash, and what stands after those
 unfoldable pub is_below : List ℕ → List ℕ → Bool
 is_below folder path = bytes_eq (take (length (folder /- [])) path) (folder /- [])
 
-abbrev pub behind : List ℕ → List ℕ → List ℕ
-behind folder path = drop (length folder + 1) path
+abbrev pub after_folder : List ℕ → List ℕ → List ℕ
+after_folder folder path = drop (length folder + 1) path
 
 -- the first name of a path, and whether more names follow it
 abbrev pub entry_at : Option ℕ → List ℕ → Entry
@@ -37,19 +54,23 @@ unfoldable pub entry_of : List ℕ → Entry
 entry_of path = entry_at (slash_of path) path
 
 unfoldable pub has_name : List Entry → List ℕ → Bool
-has_name entries name = list_any (λ (e : Entry). bytes_eq e.name name) entries
+has_name entries name = list_any (λ (e : Entry). bytes_eq name e.name) entries
 
--- what a file puts into a folder's list: a name behind the folder that isn't there yet
+-- what a file puts into a folder's list: the first name after the folder, if it isn't there yet
 abbrev pub add_entry : List Entry → Entry → List Entry
 add_entry seen entry = if has_name seen entry.name then seen else seen ++ entry ∷ []
 
 unfoldable pub add_file : List ℕ → List Entry → MemoryFile → List Entry
 add_file folder seen file =
-    if is_below folder file.path then add_entry seen (entry_of (behind folder file.path)) else seen
+    if is_below folder file.path then add_entry seen (entry_of (after_folder folder file.path)) else seen
 
 -- what stands in a folder, each name once, in the order in which the files give it
 unfoldable pub entries_of : List ℕ → List MemoryFile → List Entry
 entries_of folder files = fold (add_file folder) [] files
+
+-- whether the file at a path puts an entry of a name into a folder
+unfoldable pub puts_name : List ℕ → List ℕ → List ℕ → Bool
+puts_name folder path name = is_below folder path && bytes_eq name (entry_of (after_folder folder path)).name
 
 -- a folder is there where a file is below it
 unfoldable pub has_folder : List MemoryFile → List ℕ → Bool
@@ -63,11 +84,6 @@ file_of files path = option_map (λ (f : MemoryFile). f.bytes) (find (λ (f : Me
 
 abbrev pub tree_of : List MemoryFile → Tree
 tree_of files = record { file = file_of files; folder = folder_of files }
-
--- whether no name of a path is empty, where one has begun or not
-abbrev pub has_full_names : Bool → List ℕ → Bool
-has_full_names begun [] = begun
-has_full_names begun (c ∷ cs) = if c == 47 then begun && has_full_names false cs else has_full_names true cs
 
 -- whether neither of two paths runs through the other
 unfoldable pub stand_apart : List ℕ → List ℕ → Bool

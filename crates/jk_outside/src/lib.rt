@@ -3,14 +3,22 @@
 //! than the good one has its cause.
 #![tactic(auto)]
 
+mod asked;
 mod disk_files;
 mod files;
+mod folder_walk;
+mod found;
+mod handed_pieces;
 mod line_buffer;
 mod line_output;
+mod line_printer;
+mod line_refs;
 mod memory_files;
 mod memory_sink;
 mod numbers;
 mod parts;
+mod reading;
+mod rule_names;
 mod sinks;
 mod stream_sink;
 
@@ -19,6 +27,8 @@ pub use files::{Files, FilesError};
 pub use jk_model::Entry;
 pub use line_buffer::LineBuffer;
 pub use line_output::write_line;
+pub use line_printer::print_line;
+pub use line_refs::{LineRef, PlaceRef};
 pub use memory_files::{MemoryFile, MemoryFiles};
 pub use memory_sink::MemorySink;
 pub use parts::Part;
@@ -26,4 +36,6 @@ pub use sinks::{Sink, SinkFailed};
 pub use stream_sink::StreamSink;
 
 #[cfg(test)]
-mod tests;
+mod files_tests;
+#[cfg(test)]
+mod sinks_tests;

@@ -1,10 +1,11 @@
 //! A buffer of one piece, through which the bytes of a line go out to a sink.
 
-ghost use Rattle.std.specs.Prelude.{◌≡◌, ◌<◌, ◌++◌, ◌∷◌, [], length, OnOk, OnErr};
+ghost use Rattle.std.specs.Prelude.{◌≡◌, ◌+◌, ◌<◌, ◌≤◌, ◌++◌, ◌∷◌, [], length, OnOk, OnErr};
 ghost use Rattle.std.specs.Fmt.{signed_decimal};
-ghost use Rattle.jk_model.specs.Outside.{Appends, HasRisen, NeverFalls};
-ghost use Rattle.jk_model.specs.Text.{shown, shown_unit, hex_digit};
-ghost use Rattle.jk_outside.specs.Lines.{whole_pieces, rest_of_pieces, CarriesOn, GoesOut, BreaksOff, escape};
+ghost use Rattle.jk_model.specs.Outside.{HasRisen, NeverFalls};
+ghost use Rattle.jk_model.specs.Text.{shown, shown_unit, utf16_of, hex_digit};
+ghost use Rattle.jk_outside.specs.CutTexts.{whole_pieces, rest_of_pieces, Sends, BreaksOff};
+ghost use Rattle.jk_outside.specs.Lines.{escape};
 
 use crate::sinks::{Sink, SinkFailed};
 use itoa::Buffer;
@@ -42,52 +43,44 @@ impl LineBuffer {
         }
     }
 
-    /// Puts one byte.
-    fn put_byte<S: Sink>(&mut self, byte: u8, sink: &mut S) -> Result<(), SinkFailed>
-        ensures written { OnOk result
-            (Appends (S.bytes sink.old) (S.bytes sink.new) (whole_pieces (self.old ++ byte ∷ []))) }
-        ensures held { OnOk result (self.new ≡ rest_of_pieces (self.old ++ byte ∷ [])) }
-        ensures part { OnErr result (BreaksOff (S.bytes sink.old) (S.bytes sink.new) self.old (byte ∷ [])) }
+    /// How many bytes it still takes before they go out.
+    fn room(&self) -> usize
+        ensures room { result + length self.now ≡ 256 }
+        ensures some { 0 < result }
+    {
+        PIECE - self.len
+    }
+
+    /// Puts bytes for which there is room.
+    fn fill<S: Sink>(&mut self, bytes: &[u8], sink: &mut S) -> Result<(), SinkFailed>
+        requires { length self.old + length bytes.now ≤ 256 }
+        ensures sent { OnOk result (Sends (S.bytes sink.old) (S.bytes sink.new)
+            (S.pieces sink.old) (S.pieces sink.new) (whole_pieces (self.old ++ bytes.now))) }
+        ensures held { OnOk result (self.new ≡ rest_of_pieces (self.old ++ bytes.now)) }
+        ensures part { OnErr result (BreaksOff (S.bytes sink.old) (S.bytes sink.new)
+            (S.pieces sink.old) (S.pieces sink.new) (whole_pieces (self.old ++ bytes.now))) }
         ensures emptied { OnErr result (self.new ≡ []) }
         ensures cause { OnErr result (HasRisen (S.faults sink.old) (S.faults sink.new)) }
         ensures faults { NeverFalls (S.faults sink.old) (S.faults sink.new) }
         ensures few { length self.new < 256 }
     {
-        self.bytes[self.len] = byte;
-        if self.len == PIECE - 1 {
+        let end = self.len + bytes.len();
+        self.bytes[self.len..end].copy_from_slice(bytes);
+        if end == PIECE {
             self.len = 0;
             return sink.write(&self.bytes);
         }
-        self.len += 1;
+        self.len = end;
         Ok(())
-    }
-
-    /// Puts one unit of a text, in its escape where it has one.
-    fn put_unit<S: Sink>(&mut self, unit: u16, sink: &mut S) -> Result<(), SinkFailed>
-        ensures written { OnOk result
-            (Appends (S.bytes sink.old) (S.bytes sink.new) (whole_pieces (self.old ++ shown_unit unit))) }
-        ensures held { OnOk result (self.new ≡ rest_of_pieces (self.old ++ shown_unit unit)) }
-        ensures part { OnErr result (BreaksOff (S.bytes sink.old) (S.bytes sink.new) self.old (shown_unit unit)) }
-        ensures emptied { OnErr result (self.new ≡ []) }
-        ensures cause { OnErr result (HasRisen (S.faults sink.old) (S.faults sink.new)) }
-        ensures faults { NeverFalls (S.faults sink.old) (S.faults sink.new) }
-        ensures few { length self.new < 256 }
-    {
-        match unit {
-            0x5c => self.put_bytes(b"\\\\", sink),
-            0x20..=0x7e => self.put_byte(unit as u8, sink),
-            _ => self.put_bytes(&escape_of(unit), sink),
-        }
     }
 
     /// Puts bytes as they stand.
     pub fn put_bytes<S: Sink>(&mut self, bytes: &[u8], sink: &mut S) -> Result<(), SinkFailed>
-        ensures written { OnOk result
-            (Appends (S.bytes sink.old) (S.bytes sink.new) (whole_pieces (self.old ++ bytes.now))) }
+        ensures sent { OnOk result (Sends (S.bytes sink.old) (S.bytes sink.new)
+            (S.pieces sink.old) (S.pieces sink.new) (whole_pieces (self.old ++ bytes.now))) }
         ensures held { OnOk result (self.new ≡ rest_of_pieces (self.old ++ bytes.now)) }
-        ensures carries { OnOk result
-            (CarriesOn (S.bytes sink.old) (S.bytes sink.new) self.old self.new (bytes.now)) }
-        ensures part { OnErr result (BreaksOff (S.bytes sink.old) (S.bytes sink.new) self.old (bytes.now)) }
+        ensures part { OnErr result (BreaksOff (S.bytes sink.old) (S.bytes sink.new)
+            (S.pieces sink.old) (S.pieces sink.new) (whole_pieces (self.old ++ bytes.now))) }
         ensures emptied { OnErr result (self.new ≡ []) }
         ensures cause { OnErr result (HasRisen (S.faults sink.old) (S.faults sink.new)) }
         ensures faults { NeverFalls (S.faults sink.old) (S.faults sink.new) }
@@ -95,26 +88,48 @@ impl LineBuffer {
     {
         // The proof of the first turn wants to know that the buffer has room.
         let _ = &self.len;
-        for byte in bytes {
-            self.put_byte(*byte, sink)?;
+        let mut rest = bytes;
+        while !rest.is_empty() {
+            let (next, more) = rest.split_at(rest.len().min(self.room()));
+            self.fill(next, sink)?;
+            rest = more;
         }
         Ok(())
     }
 
-    /// Puts a text in UTF-16: a unit from 32 to 126 stands for itself, a backslash is doubled, and
-    /// each other unit is `\u` and four hexadecimal digits.
-    pub fn put_escaped<S: Sink>(&mut self, units: &[u16], sink: &mut S) -> Result<(), SinkFailed>
-        ensures written { OnOk result
-            (Appends (S.bytes sink.old) (S.bytes sink.new) (whole_pieces (self.old ++ shown units.now))) }
-        ensures held { OnOk result (self.new ≡ rest_of_pieces (self.old ++ shown units.now)) }
-        ensures carries { OnOk result
-            (CarriesOn (S.bytes sink.old) (S.bytes sink.new) self.old self.new (shown units.now)) }
-        ensures part { OnErr result (BreaksOff (S.bytes sink.old) (S.bytes sink.new) self.old (shown units.now)) }
+    /// Puts one unit of a text, in its escape where it has one.
+    fn put_unit<S: Sink>(&mut self, unit: u16, sink: &mut S) -> Result<(), SinkFailed>
+        ensures sent { OnOk result (Sends (S.bytes sink.old) (S.bytes sink.new)
+            (S.pieces sink.old) (S.pieces sink.new) (whole_pieces (self.old ++ shown_unit unit))) }
+        ensures held { OnOk result (self.new ≡ rest_of_pieces (self.old ++ shown_unit unit)) }
+        ensures part { OnErr result (BreaksOff (S.bytes sink.old) (S.bytes sink.new)
+            (S.pieces sink.old) (S.pieces sink.new) (whole_pieces (self.old ++ shown_unit unit))) }
         ensures emptied { OnErr result (self.new ≡ []) }
         ensures cause { OnErr result (HasRisen (S.faults sink.old) (S.faults sink.new)) }
         ensures faults { NeverFalls (S.faults sink.old) (S.faults sink.new) }
         ensures few { length self.new < 256 }
     {
+        match unit {
+            0x5c => self.put_bytes(b"\\\\", sink),
+            0x20..=0x7e => self.put_bytes(&[unit as u8], sink),
+            _ => self.put_bytes(&escape_of(unit), sink),
+        }
+    }
+
+    /// Puts a text in UTF-16: a unit from 32 to 126 stands for itself, a backslash is doubled, and
+    /// each other unit is `\u` and four hexadecimal digits.
+    pub fn put_escaped<S: Sink>(&mut self, units: &[u16], sink: &mut S) -> Result<(), SinkFailed>
+        ensures sent { OnOk result (Sends (S.bytes sink.old) (S.bytes sink.new)
+            (S.pieces sink.old) (S.pieces sink.new) (whole_pieces (self.old ++ shown units.now))) }
+        ensures held { OnOk result (self.new ≡ rest_of_pieces (self.old ++ shown units.now)) }
+        ensures part { OnErr result (BreaksOff (S.bytes sink.old) (S.bytes sink.new)
+            (S.pieces sink.old) (S.pieces sink.new) (whole_pieces (self.old ++ shown units.now))) }
+        ensures emptied { OnErr result (self.new ≡ []) }
+        ensures cause { OnErr result (HasRisen (S.faults sink.old) (S.faults sink.new)) }
+        ensures faults { NeverFalls (S.faults sink.old) (S.faults sink.new) }
+        ensures few { length self.new < 256 }
+    {
+        // The proof of the first turn wants to know that the buffer has room.
         let _ = &self.len;
         for unit in units {
             self.put_unit(*unit, sink)?;
@@ -122,14 +137,33 @@ impl LineBuffer {
         Ok(())
     }
 
-    /// Puts a number in decimal digits, behind a minus sign where it is below 0.
+    /// Puts a text in UTF-8 as its UTF-16 is put.
+    pub fn put_path<S: Sink>(&mut self, path: &str, sink: &mut S) -> Result<(), SinkFailed>
+        ensures sent { OnOk result (Sends (S.bytes sink.old) (S.bytes sink.new)
+            (S.pieces sink.old) (S.pieces sink.new) (whole_pieces (self.old ++ shown (utf16_of path.now)))) }
+        ensures held { OnOk result (self.new ≡ rest_of_pieces (self.old ++ shown (utf16_of path.now))) }
+        ensures part { OnErr result (BreaksOff (S.bytes sink.old) (S.bytes sink.new)
+            (S.pieces sink.old) (S.pieces sink.new) (whole_pieces (self.old ++ shown (utf16_of path.now)))) }
+        ensures emptied { OnErr result (self.new ≡ []) }
+        ensures cause { OnErr result (HasRisen (S.faults sink.old) (S.faults sink.new)) }
+        ensures faults { NeverFalls (S.faults sink.old) (S.faults sink.new) }
+        ensures few { length self.new < 256 }
+    {
+        let _ = &self.len;
+        for character in path.chars() {
+            let mut pair = [0; 2];
+            self.put_escaped(character.encode_utf16(&mut pair), sink)?;
+        }
+        Ok(())
+    }
+
+    /// Puts a number in decimal digits, after a minus sign where it is below 0.
     pub fn put_number<S: Sink>(&mut self, n: i64, sink: &mut S) -> Result<(), SinkFailed>
-        ensures written { OnOk result
-            (Appends (S.bytes sink.old) (S.bytes sink.new) (whole_pieces (self.old ++ signed_decimal n))) }
+        ensures sent { OnOk result (Sends (S.bytes sink.old) (S.bytes sink.new)
+            (S.pieces sink.old) (S.pieces sink.new) (whole_pieces (self.old ++ signed_decimal n))) }
         ensures held { OnOk result (self.new ≡ rest_of_pieces (self.old ++ signed_decimal n)) }
-        ensures carries { OnOk result
-            (CarriesOn (S.bytes sink.old) (S.bytes sink.new) self.old self.new (signed_decimal n)) }
-        ensures part { OnErr result (BreaksOff (S.bytes sink.old) (S.bytes sink.new) self.old (signed_decimal n)) }
+        ensures part { OnErr result (BreaksOff (S.bytes sink.old) (S.bytes sink.new)
+            (S.pieces sink.old) (S.pieces sink.new) (whole_pieces (self.old ++ signed_decimal n))) }
         ensures emptied { OnErr result (self.new ≡ []) }
         ensures cause { OnErr result (HasRisen (S.faults sink.old) (S.faults sink.new)) }
         ensures faults { NeverFalls (S.faults sink.old) (S.faults sink.new) }
@@ -139,12 +173,12 @@ impl LineBuffer {
         self.put_bytes(digits.format(n).as_bytes(), sink)
     }
 
-    /// Puts a line feed, after which all that was held goes out.
+    /// Puts a line feed, after which all that was held goes out as one piece.
     pub fn end_line<S: Sink>(&mut self, sink: &mut S) -> Result<(), SinkFailed>
-        ensures written { OnOk result
-            (Appends (S.bytes sink.old) (S.bytes sink.new) (self.old ++ 10 ∷ [])) }
-        ensures carries { OnOk result (GoesOut (S.bytes sink.old) (S.bytes sink.new) self.old (10 ∷ [])) }
-        ensures part { OnErr result (BreaksOff (S.bytes sink.old) (S.bytes sink.new) self.old (10 ∷ [])) }
+        ensures sent { OnOk result (Sends (S.bytes sink.old) (S.bytes sink.new)
+            (S.pieces sink.old) (S.pieces sink.new) ((self.old ++ 10 ∷ []) ∷ [])) }
+        ensures part { OnErr result (BreaksOff (S.bytes sink.old) (S.bytes sink.new)
+            (S.pieces sink.old) (S.pieces sink.new) ((self.old ++ 10 ∷ []) ∷ [])) }
         ensures emptied { self.new ≡ [] }
         ensures cause { OnErr result (HasRisen (S.faults sink.old) (S.faults sink.new)) }
         ensures faults { NeverFalls (S.faults sink.old) (S.faults sink.new) }

@@ -1,13 +1,15 @@
 //! Files in memory, whose faults are told in advance.
 
-ghost use Rattle.std.specs.Prelude.{◌≡◌, ◌≢◌, ◌<◌, ◌≤◌, ◌↔◌, ◌^◌, ◌-◌, [], ◌∷◌, ◌++◌, length, min, IfOk, IfSome, OnOk, OnErr, IsErrOf, IsTrue, Some, None, Err, true, false, MatchOption};
+ghost use Rattle.std.specs.Prelude.{◌≡◌, ◌≢◌, ◌<◌, ◌≤◌, ◌↔◌, ◌⊎◌, ◌+◌, ◌^◌, ◌-◌, [], ◌∷◌, ◌++◌, length, min, take, IfOk, IfSome, OnOk, OnErr, IsErrOf, IsTrue, IsSome, Some, None, Err, true, false, MatchOption};
 ghost use Rattle.std.specs.Option.{option_copied};
-ghost use Rattle.std.specs.List.{AllByRecursion};
+ghost use Rattle.std.specs.List.{AllByRecursion, list_any};
 ghost use Rattle.std.specs.Str.{IsUtf8, is_utf8};
-ghost use Rattle.jk_model.specs.Outside.{AreThere, FolderIs, FileIs, FolderIsAbsent, FileIsAbsent, FolderIsLong, FileIsLong, HasRisen, NeverFalls};
-ghost use Rattle.jk_outside.specs.Counts.{next_number, is_named, faults_after, min_fits};
-ghost use Rattle.jk_outside.specs.MemoryTrees.{FilesState, all_utf8, add_file, all_apart, stand_apart, place_of, slash_of, tree_of, file_of, folder_of, has_folder, entries_of, is_below, behind, entry_of, add_entry, has_name, has_full_names, is_addable, with_file};
+ghost use Rattle.jk_model.specs.Outside.{ListOf, BytesOf, AreNamed, AreThere, FoldersAreThere, FolderIs, FileIs, FolderIsAbsent, FileIsAbsent, FolderIsLong, FileIsLong, HasNoFolder, HasNoFile, HasLongFolder, HasLongFile, HasRisen, NeverFalls};
+ghost use Rattle.jk_outside.specs.Asks.{ask_of};
+ghost use Rattle.jk_outside.specs.Counts.{next_number, is_named, min_fits};
+ghost use Rattle.jk_outside.specs.MemoryTrees.{after_call, are_paths, all_apart, stand_apart, place_of, slash_of, tree_of, file_of, folder_of, has_folder, entries_of, is_below, after_folder, entry_of, has_name, puts_name, has_full_names, is_addable, with_file};
 
+use crate::asked::{Asked, Call};
 use crate::files::{Files, FilesError};
 use crate::numbers::is_named;
 use jk_model::{Bytes, Entry, List, OutOfMemory};
@@ -31,23 +33,30 @@ pub struct MemoryFiles {
     fails: List<u32>,
     calls: u32,
     faults: u64,
+    asked: Asked,
 }
 
 impl Model for MemoryFiles {
     ghost use Rattle.std.specs.Prelude.{◌≡◌, true};
-    ghost use Rattle.jk_outside.specs.MemoryTrees.{FilesState, all_utf8};
+    ghost use Rattle.jk_outside.specs.MemoryTrees.{FilesState, are_paths};
 
     ghost Value = { FilesState };
 
-    ghost view = { λ s. record { files = s.files; fails = s.fails; calls = s.calls; faults = s.faults } };
+    ghost view = { λ s. record {
+      files = s.files;
+      fails = s.fails;
+      calls = s.calls;
+      faults = s.faults;
+      asked = s.asked.asks;
+    } };
 
-    ghost invariant = { λ s. all_utf8 s.files ≡ true };
+    ghost invariant = { λ s. are_paths s.files ≡ true };
 }
 
 impl MemoryFiles {
     /// A tree of no files.
     pub fn new(alloc: Global) -> MemoryFiles
-        ensures { result ≡ record { files = []; fails = []; calls = 0; faults = 0 } }
+        ensures { result ≡ record { files = []; fails = []; calls = 0; faults = 0; asked = [] } }
     {
         MemoryFiles {
             alloc,
@@ -55,6 +64,7 @@ impl MemoryFiles {
             fails: List::new(alloc),
             calls: 0,
             faults: 0,
+            asked: Asked::nothing(),
         }
     }
 
@@ -96,13 +106,11 @@ impl MemoryFiles {
     }
 
     /// Counts a call, and answers whether it fails.
-    fn count_call(&mut self) -> bool
+    fn count_call(&mut self, call: &Call<'_>) -> bool
         ensures fails { result ≡ is_named self.old.fails (next_number self.old.calls) }
-        ensures after { self.new ≡ record self.old {
-          calls = next_number self.old.calls;
-          faults = faults_after (is_named self.old.fails (next_number self.old.calls)) self.old.faults;
-        } }
+        ensures after { self.new ≡ after_call self.old (ask_of call.now) }
     {
+        self.asked = self.asked.and(call);
         self.calls = self.calls.saturating_add(1);
         let failed = is_named(self.fails.as_slice(), self.calls);
         if failed {
@@ -119,6 +127,8 @@ impl Files for MemoryFiles {
 
     ghost taken = { λ s. 0 };
 
+    ghost asked = { λ s. s.asked };
+
     ghost faults_fit = { λ s. min_fits s.faults };
 
     ghost taken_fits = { λ s. min_fits 0 };
@@ -127,28 +137,36 @@ impl Files for MemoryFiles {
         ensures found { IfOk result (λ entries. FolderIs (Some (tree_of self.old.files)) folder.now entries) }
         ensures within { IfOk result (λ entries. length entries ≤ limit) }
         ensures names { IfOk result (λ entries. AllByRecursion (λ entry. IsUtf8 entry.name) entries) }
+        ensures named { IfOk result (λ entries. AreNamed (Some (tree_of self.old.files)) entries) }
         ensures there { IfOk result (λ entries. AreThere (Some (tree_of self.old.files)) folder.now entries) }
+        ensures folders { IfOk result (λ entries. FoldersAreThere (Some (tree_of self.old.files)) folder.now entries) }
+
         ensures failed { result ≡ Err FilesError.Failed
             → HasRisen (min self.old.faults (2 ^ 64 - 1)) (min self.new.faults (2 ^ 64 - 1)) }
         ensures absent { result ≡ Err FilesError.Absent
             → FolderIsAbsent (Some (tree_of self.old.files)) folder.now (min self.old.faults (2 ^ 64 - 1)) (min self.new.faults (2 ^ 64 - 1)) }
         ensures too_long { result ≡ Err FilesError.TooLong
             → FolderIsLong (Some (tree_of self.old.files)) folder.now limit 0 0 }
+
+        ensures missing { HasNoFolder (Some (tree_of self.old.files)) folder.now
+            → (result ≡ Err FilesError.Absent) ⊎ (result ≡ Err FilesError.Failed) }
+        ensures over { HasLongFolder (Some (tree_of self.old.files)) folder.now limit
+            → (result ≡ Err FilesError.TooLong) ⊎ (result ≡ Err FilesError.Failed) }
+
+        ensures calm { result ≢ Err FilesError.Failed
+            → (result ≡ Err FilesError.Absent → IsSome (Some (tree_of self.old.files)))
+            → min self.new.faults (2 ^ 64 - 1) ≡ min self.old.faults (2 ^ 64 - 1) }
         ensures stays { Some (tree_of self.new.files) ≡ Some (tree_of self.old.files) }
         ensures faults { NeverFalls (min self.old.faults (2 ^ 64 - 1)) (min self.new.faults (2 ^ 64 - 1)) }
         ensures taken { NeverFalls 0 0 }
+        ensures asked { self.new.asked ≡ self.old.asked ++ ListOf folder.now limit ∷ [] }
 
-        // Exactly the named calls fail, and a call that doesn't tells a folder that isn't there.
-        ensures named { IsErrOf result FilesError.Failed
+        // Exactly the calls with a number that is named fail.
+        ensures fails { IsErrOf result FilesError.Failed
             ↔ IsTrue (is_named self.old.fails (next_number self.old.calls)) }
-        ensures missing { is_named self.old.fails (next_number self.old.calls) ≡ false
-            → folder_of self.old.files folder.now ≡ None → result ≡ Err FilesError.Absent }
-        ensures after { self.new ≡ record self.old {
-          calls = next_number self.old.calls;
-          faults = faults_after (is_named self.old.fails (next_number self.old.calls)) self.old.faults;
-        } }
+        ensures after { self.new ≡ after_call self.old (ListOf folder.now limit) }
     {
-        if self.count_call() {
+        if self.count_call(&Call::List(folder.as_bytes(), limit)) {
             return Err(FilesError::Failed);
         }
         list_of(self.alloc, self.files.as_slice(), folder.as_bytes(), limit)
@@ -157,27 +175,33 @@ impl Files for MemoryFiles {
     fn read(&mut self, path: &str, limit: u32) -> Result<Bytes, FilesError>
         ensures found { IfOk result (λ bytes. FileIs (Some (tree_of self.old.files)) path.now bytes) }
         ensures within { IfOk result (λ bytes. length bytes ≤ limit) }
+
         ensures failed { result ≡ Err FilesError.Failed
             → HasRisen (min self.old.faults (2 ^ 64 - 1)) (min self.new.faults (2 ^ 64 - 1)) }
         ensures absent { result ≡ Err FilesError.Absent
             → FileIsAbsent (Some (tree_of self.old.files)) path.now (min self.old.faults (2 ^ 64 - 1)) (min self.new.faults (2 ^ 64 - 1)) }
         ensures too_long { result ≡ Err FilesError.TooLong
             → FileIsLong (Some (tree_of self.old.files)) path.now limit 0 0 }
+
+        ensures missing { HasNoFile (Some (tree_of self.old.files)) path.now
+            → (result ≡ Err FilesError.Absent) ⊎ (result ≡ Err FilesError.Failed) }
+        ensures over { HasLongFile (Some (tree_of self.old.files)) path.now limit
+            → (result ≡ Err FilesError.TooLong) ⊎ (result ≡ Err FilesError.Failed) }
+
+        ensures calm { result ≢ Err FilesError.Failed
+            → (result ≡ Err FilesError.Absent → IsSome (Some (tree_of self.old.files)))
+            → min self.new.faults (2 ^ 64 - 1) ≡ min self.old.faults (2 ^ 64 - 1) }
         ensures stays { Some (tree_of self.new.files) ≡ Some (tree_of self.old.files) }
         ensures faults { NeverFalls (min self.old.faults (2 ^ 64 - 1)) (min self.new.faults (2 ^ 64 - 1)) }
         ensures taken { NeverFalls 0 0 }
+        ensures asked { self.new.asked ≡ self.old.asked ++ BytesOf path.now limit ∷ [] }
 
-        // Exactly the named calls fail, and a call that doesn't tells a file that isn't there.
-        ensures named { IsErrOf result FilesError.Failed
+        // Exactly the calls with a number that is named fail.
+        ensures fails { IsErrOf result FilesError.Failed
             ↔ IsTrue (is_named self.old.fails (next_number self.old.calls)) }
-        ensures missing { is_named self.old.fails (next_number self.old.calls) ≡ false
-            → file_of self.old.files path.now ≡ None → result ≡ Err FilesError.Absent }
-        ensures after { self.new ≡ record self.old {
-          calls = next_number self.old.calls;
-          faults = faults_after (is_named self.old.fails (next_number self.old.calls)) self.old.faults;
-        } }
+        ensures after { self.new ≡ after_call self.old (BytesOf path.now limit) }
     {
-        if self.count_call() {
+        if self.count_call(&Call::Read(path.as_bytes(), limit)) {
             return Err(FilesError::Failed);
         }
         bytes_of(self.files.as_slice(), path.as_bytes(), limit)
@@ -192,24 +216,27 @@ fn list_of(
     folder: &[u8],
     limit: u32,
 ) -> Result<List<Entry>, FilesError>
-    requires { all_utf8 files.now ≡ true }
+    requires { are_paths files.now ≡ true }
     ensures found { IfOk result (λ entries. folder_of files.now folder.now ≡ Some entries) }
     ensures names { IfOk result (λ entries. AllByRecursion (λ entry. IsUtf8 entry.name) entries) }
+    ensures named { IfOk result (λ entries. AreNamed (Some (tree_of files.now)) entries) }
     ensures there { IfOk result (λ entries. AreThere (Some (tree_of files.now)) folder.now entries) }
+    ensures folders { IfOk result
+        (λ entries. FoldersAreThere (Some (tree_of files.now)) folder.now entries) }
     ensures within { IfOk result (λ entries. length entries ≤ limit) }
     ensures absent { IsErrOf result FilesError.Absent ↔ (folder_of files.now folder.now ≡ None) }
-    ensures too_long { result ≡ Err FilesError.TooLong
-        → FolderIsLong (Some (tree_of files.now)) folder.now limit 0 0 }
+    ensures too_long { IsErrOf result FilesError.TooLong
+        ↔ HasLongFolder (Some (tree_of files.now)) folder.now limit }
     ensures failed { result ≢ Err FilesError.Failed }
 {
     if !has_folder(files, folder) {
         return Err(FilesError::Absent);
     }
-    let entries = entries_in(alloc, files, folder)?;
-    if entries.len() > limit as usize {
+    // The entries are counted before any memory is taken for them.
+    if count_of_entries(files, folder) > limit as usize {
         return Err(FilesError::TooLong);
     }
-    Ok(entries)
+    Ok(entries_in(alloc, files, folder)?)
 }
 
 /// The bytes of a file, if there are at most `limit`.
@@ -217,8 +244,8 @@ fn bytes_of(files: &[MemoryFile], path: &[u8], limit: u32) -> Result<Bytes, File
     ensures found { IfOk result (λ bytes. file_of files.now path.now ≡ Some bytes) }
     ensures within { IfOk result (λ bytes. length bytes ≤ limit) }
     ensures absent { IsErrOf result FilesError.Absent ↔ (file_of files.now path.now ≡ None) }
-    ensures too_long { result ≡ Err FilesError.TooLong
-        → FileIsLong (Some (tree_of files.now)) path.now limit 0 0 }
+    ensures too_long { IsErrOf result FilesError.TooLong
+        ↔ HasLongFile (Some (tree_of files.now)) path.now limit }
     ensures failed { result ≢ Err FilesError.Failed }
 {
     let Some(bytes) = found_bytes(files, path) else {
@@ -260,38 +287,70 @@ fn entries_in(
     ensures { IfOk result (λ entries. entries ≡ entries_of folder.now files.now) }
 {
     let mut entries = List::new(alloc);
-    for file in files {
-        add_file(alloc, &mut entries, folder, file)?;
+    for i in 0..files.len() {
+        if let Some((name, folder)) = entry_added_by(files, i, folder) {
+            let name = Bytes::from_slice(alloc, name)?;
+            entries.push(Entry { name, folder })?;
+        }
     }
     Ok(entries)
 }
 
-/// Adds what a file puts into a folder's list.
-#[tactic(auto, unfolding(crate::specs::MemoryTrees::add_file))]
-fn add_file(
-    alloc: Global,
-    entries: &mut List<Entry>,
-    folder: &[u8],
-    file: &MemoryFile,
-) -> Result<(), OutOfMemory>
-    ensures { OnOk result (entries.new ≡ add_file folder.now entries.old file.now) }
+/// How many entries a folder has.
+fn count_of_entries(files: &[MemoryFile], folder: &[u8]) -> usize
+    ensures { result ≡ length (entries_of folder.now files.now) }
 {
-    match strip_folder(folder, file.path.as_slice()) {
-        Some(rest) => add_name(alloc, entries, rest),
-        None => Ok(()),
+    let mut count = 0;
+    for i in 0..files.len() {
+        if entry_added_by(files, i, folder).is_some() {
+            count += 1;
+        }
+    }
+    count
+}
+
+/// The entry that a file adds to a folder's list, if no file before it gives the name.
+fn entry_added_by<'a>(files: &'a [MemoryFile], i: usize, folder: &[u8]) -> Option<(&'a [u8], bool)>
+    requires { i < length files.now }
+    ensures { MatchOption result
+        (entries_of folder.now (take (i + 1) files.now) ≡ entries_of folder.now (take i files.now))
+        (λ entry. entries_of folder.now (take (i + 1) files.now)
+        ≡ entries_of folder.now (take i files.now) ++ record { name = entry.0.now; folder = entry.1 } ∷ []) }
+{
+    let entry = first_entry_below(folder, files[i].path.as_slice())?;
+    if gives_name(&files[..i], folder, entry.0) {
+        return None;
+    }
+    Some(entry)
+}
+
+/// Whether any of these files puts an entry of a name into a folder.
+fn gives_name(files: &[MemoryFile], folder: &[u8], name: &[u8]) -> bool
+    ensures { result ≡ list_any (λ file. puts_name folder.now file.path name.now) files.now }
+{
+    files
+        .iter()
+        .any(|file| puts_name(folder, file.path.as_slice(), name))
+}
+
+/// Whether the file at a path puts an entry of a name into a folder.
+#[tactic(auto, unfolding(crate::specs::MemoryTrees::puts_name))]
+fn puts_name(folder: &[u8], path: &[u8], name: &[u8]) -> bool
+    ensures { result ≡ puts_name folder.now path.now name.now }
+{
+    match first_entry_below(folder, path) {
+        Some((first, _)) => name == first,
+        None => false,
     }
 }
 
-/// Adds the first name of a path, if it isn't there.
-fn add_name(alloc: Global, entries: &mut List<Entry>, path: &[u8]) -> Result<(), OutOfMemory>
-    ensures { OnOk result (entries.new ≡ add_entry entries.old (entry_of path.now)) }
+/// The first name after a folder in a path below it, and whether more names follow it.
+fn first_entry_below<'a>(folder: &[u8], path: &'a [u8]) -> Option<(&'a [u8], bool)>
+    ensures { MatchOption result (is_below folder.now path.now ≡ false)
+        (λ entry. (is_below folder.now path.now ≡ true)
+        × (record { name = entry.0.now; folder = entry.1 } ≡ entry_of (after_folder folder.now path.now))) }
 {
-    let (name, folder) = first_name(path);
-    if has_name(entries.as_slice(), name) {
-        return Ok(());
-    }
-    let name = Bytes::from_slice(alloc, name)?;
-    entries.push(Entry { name, folder })
+    Some(first_name(strip_folder(folder, path)?))
 }
 
 /// The first name of a path, and whether more names follow it.
@@ -315,18 +374,10 @@ fn slash_of(path: &[u8]) -> Option<usize>
     path.iter().position(|c| *c == b'/')
 }
 
-/// Whether an entry has a name.
-#[tactic(auto, unfolding(crate::specs::MemoryTrees::has_name))]
-fn has_name(entries: &[Entry], name: &[u8]) -> bool
-    ensures { result ≡ has_name entries.now name.now }
-{
-    entries.iter().any(|entry| entry.name.as_slice() == name)
-}
-
-/// What stands in a path behind a folder and its slash, if it begins so.
+/// What stands in a path after a folder and its slash, if it begins so.
 fn strip_folder<'a>(folder: &[u8], path: &'a [u8]) -> Option<&'a [u8]>
     ensures { MatchOption result (is_below folder.now path.now ≡ false)
-        (λ rest. (is_below folder.now path.now ≡ true) × (rest.now ≡ behind folder.now path.now)) }
+        (λ rest. (is_below folder.now path.now ≡ true) × (rest.now ≡ after_folder folder.now path.now)) }
 {
     path.strip_prefix(folder)?.strip_prefix(b"/")
 }
@@ -382,12 +433,13 @@ fn has_full_names(path: &[u8]) -> bool
     begun
 }
 
-/// Puts a file behind the others, or in place of the one at its path.
-#[tactic(auto, using(crate::proofs::Below::all_utf8_set, crate::proofs::Below::all_utf8_push), unfolding(crate::specs::MemoryTrees::placed))]
+/// Puts a file after the others, or in place of the one at its path.
+#[tactic(auto, using(crate::proofs::PathsAreKept::are_paths_set, crate::proofs::PathsAreKept::are_paths_push), unfolding(crate::specs::MemoryTrees::placed))]
 fn put_file(files: &mut List<MemoryFile>, file: MemoryFile) -> Result<(), OutOfMemory>
     ensures ok { OnOk result (files.new ≡ with_file files.old file.path file.bytes) }
     ensures err { OnErr result (files.new ≡ files.old) }
-    ensures texts { all_utf8 files.old ≡ true → is_utf8 file.path ≡ true → all_utf8 files.new ≡ true }
+    ensures paths { are_paths files.old ≡ true → is_utf8 file.path ≡ true
+        → has_full_names false file.path ≡ true → are_paths files.new ≡ true }
 {
     match place_of(files.as_slice(), file.path.as_slice()) {
         Some(i) => {

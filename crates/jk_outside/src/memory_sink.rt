@@ -1,11 +1,12 @@
 //! A sink in memory, whose faults are told in advance.
 
-ghost use Rattle.std.specs.Prelude.{◌≡◌, ◌↔◌, ◌^◌, ◌+◌, ◌-◌, ◌≤◌, ◌++◌, [], min, take, vec_len, if◌then◌else◌, IfOk, OnOk, OnErr, IsErr, IsTrue, Some};
+ghost use Rattle.std.specs.Prelude.{◌≡◌, ◌↔◌, ◌^◌, ◌+◌, ◌-◌, ◌<◌, ◌≤◌, ◌∷◌, ◌++◌, [], length, min, take, vec_len, if◌then◌else◌, IfOk, OnOk, OnErr, IsErr, IsTrue, Some};
 ghost use Rattle.jk_model.specs.Outside.{Appends, AppendsPart, HasRisen, NeverFalls};
 ghost use Rattle.jk_outside.specs.MemorySinks.{will_fail, after_write};
 ghost use Rattle.std.specs.Vec.{vec_capacity};
 ghost use Rattle.jk_outside.specs.Counts.{min_fits};
 
+use crate::handed_pieces::HandedPieces;
 use crate::numbers::is_named;
 use crate::sinks::{Sink, SinkFailed};
 use jk_model::OutOfMemory;
@@ -21,6 +22,7 @@ pub struct MemorySink {
     bytes: Vec<u8>,
     writes: u32,
     faults: u64,
+    handed: HandedPieces,
 }
 
 impl Model for MemorySink {
@@ -36,6 +38,7 @@ impl Model for MemorySink {
       bytes = s.bytes.items;
       writes = s.writes;
       faults = s.faults;
+      pieces = s.handed.pieces;
     } };
 
     ghost invariant = { λ s. (vec_len s.bytes ≤ s.room) × (s.room ≤ vec_capacity s.bytes) };
@@ -45,7 +48,7 @@ impl MemorySink {
     /// A sink with room for so many bytes. The writes with these numbers, counted from 1, fail.
     pub fn with_room(alloc: Global, room: usize, fails: &[u32]) -> Result<MemorySink, OutOfMemory>
         ensures { IfOk result (λ sink. sink
-            ≡ record { room = room; fails = fails.now; bytes = []; writes = 0; faults = 0 }) }
+            ≡ record { room = room; fails = fails.now; bytes = []; writes = 0; faults = 0; pieces = [] }) }
     {
         Ok(MemorySink {
             room,
@@ -53,6 +56,7 @@ impl MemorySink {
             bytes: Vec::with_capacity(alloc, room)?,
             writes: 0,
             faults: 0,
+            handed: HandedPieces::new(),
         })
     }
 
@@ -74,11 +78,15 @@ impl MemorySink {
 impl Sink for MemorySink {
     ghost bytes = { λ s. Some s.bytes };
 
+    ghost pieces = { λ s. s.pieces };
+
     ghost faults = { λ s. min s.faults (2 ^ 64 - 1) };
 
     ghost faults_fit = { λ s. min_fits s.faults };
 
     fn write(&mut self, piece: &[u8]) -> Result<(), SinkFailed>
+        requires { 0 < length piece.now }
+        ensures handed { self.new.pieces ≡ self.old.pieces ++ piece.now ∷ [] }
         ensures ok { OnOk result (Appends (Some self.old.bytes) (Some self.new.bytes) piece.now) }
         ensures part { OnErr result (AppendsPart (Some self.old.bytes) (Some self.new.bytes) piece.now) }
         ensures cause { OnErr result
@@ -89,6 +97,7 @@ impl Sink for MemorySink {
         ensures fails { IsErr result ↔ IsTrue (will_fail self.old piece.now) }
         ensures after { self.new ≡ after_write self.old piece.now }
     {
+        self.handed.note(piece);
         self.writes = self.writes.saturating_add(1);
         let named = is_named(self.fails.as_slice(), self.writes);
         let free = free_room(named, self.room, self.bytes.len());

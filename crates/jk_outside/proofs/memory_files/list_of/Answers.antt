@@ -1,8 +1,18 @@
-use Rattle.jk_outside.proofs.Below.{names_are_utf8, files_are_there}
+use Rattle.jk_outside.proofs.NamesAreUtf8.{names_are_utf8}
+use Rattle.jk_outside.proofs.NamesAreNames.{names_are_names}
+use Rattle.jk_outside.proofs.NamesDiffer.{names_differ}
+use Rattle.jk_outside.proofs.ListedAreThere.{files_are_there, folders_are_there}
 use Rattle.jk_outside.proofs.memory_files.list_of.Goals as goal
 
 pub returns-clause-names : goal.returns-clause-names
-returns-clause-names c = rw c.in_ok-entries.ensures (names_are_utf8 c.args.folder.now c.args.files.now c.requires)
+returns-clause-names c = rw c.in_ok-entries_in.ensures (names_are_utf8 c.args.folder.now c.args.files.now c.requires)
+
+pub returns-clause-named : goal.returns-clause-named
+returns-clause-named c =
+    rw c.in_ok-entries_in.ensures (names_are_names c.args.folder.now c.args.files.now c.requires, names_differ c.args.folder.now c.args.files.now)
 
 pub returns-clause-there : goal.returns-clause-there
-returns-clause-there c = rw c.in_ok-entries.ensures (files_are_there c.args.folder.now c.args.files.now)
+returns-clause-there c = rw c.in_ok-entries_in.ensures (files_are_there c.args.folder.now c.args.files.now)
+
+pub returns-clause-folders : goal.returns-clause-folders
+returns-clause-folders c = rw c.in_ok-entries_in.ensures (folders_are_there c.args.folder.now c.args.files.now)

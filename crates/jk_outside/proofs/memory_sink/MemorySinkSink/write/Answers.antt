@@ -1,3 +1,4 @@
+-- A piece that is refused leaves what fits of it.
 use Rattle.std.proofs.Common.{take, drop, ap, sym, Some}
 use Rattle.std.proofs.lemmas.List.{take-append-drop}
 use Rattle.jk_outside.proofs.memory_sink.MemorySinkSink.write.Goals as goal

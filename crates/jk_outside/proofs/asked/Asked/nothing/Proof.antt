@@ -1,0 +1,34 @@
+-- `nothing` makes the value at the empty list. Assumes `Logic`.
+use Rattle.std.proofs.Common.{[], ◌∷◌, refl}
+use Rattle.std.proofs.raw_atomic.Walks.{proved}
+use types.Kit.{raw, ◌$◌, ◌∵◌, !, qed, done, drop, move, fjoin, suffices}
+use types.Part.{agg}
+use types.Run.{enter, returns, no_more}
+use types.ByLocal.{alloc_all, pass_all, free_all, look_at, sets}
+use denote.Steps.{nothing}
+use denote.Triple.Entry.{on_entry}
+use denote.Triple.Walked.{Stays, walk_of, says, ends_at}
+use Rattle.jk_outside.proofs.EmptyStruct.{empty, makes_empty}
+use Rattle.jk_outside.specs.declared.asked.Asked.{Asked}
+use Rattle.jk_outside.specs.contracts.asked.Asked.nothing as f
+use Rattle.jk_outside.proofs.asked.Asked.nothing.Statement.{statement}
+use Rattle.jk_outside.proofs.asked.Asked.nothing.Code as code
+
+abbrev stayed : Stays f.ended.signature.params f.ended.kept
+stayed = tt
+
+pub nothing_spec : {M : Type 1} → statement M
+nothing_spec 𝓤 𝓛 𝓜 𝓡 wired =
+    let c = f.clauses 𝓛 𝓜.mem 𝓡.returns in
+    let W = walk_of 𝓛 f.ended stayed c in
+    proved 𝓛 f.ended stayed c 𝓜 𝓡 tt
+    f.Key.name code.function (code.unfolded 𝓤 𝓛.H 𝓜 𝓡 wired)
+    (λ κs. tt) (λ κs. tt) (λ κs qs bounds a n are.
+    let y : W.Ghost = ((κs, qs, bounds, a, tt), n) in
+    let none : Asked = record { asks = [] } in
+    qed 𝓛 (raw (on_entry 𝓛 f.signature κs qs a tt) ∷ raw ((c κs a).requires n) ∷ []) ∵ drop ! $ drop ! $
+    enter ! _ _ _ _ _ $ alloc_all ! (λ l. pass_all ! refl tt $
+    sets ! (agg ! (no_more !)) refl (tt, tt) $
+    returns ! (look_at ! 0 refl) $ free_all ! refl $
+    suffices ! _ (ends_at 𝓛 f.ended stayed c y empty none tt tt) $ says ! refl $
+    makes_empty ! $ fjoin ! $ nothing ! $ nothing ! $ move ! (0 ∷ 1 ∷ 2 ∷ []) $ done !))

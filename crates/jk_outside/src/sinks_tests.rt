@@ -1,0 +1,201 @@
+//! Sinks and lines at work, each generic call through its bound at a concrete type.
+
+ghost use Rattle.std.specs.Prelude.{◌<◌, length};
+
+use crate::{
+    LineBuffer, LineRef, MemorySink, Part, PlaceRef, Sink, SinkFailed, StreamSink, print_line,
+    write_line,
+};
+use jk_model::{Rule, ThreadNo};
+use std::io;
+use std::io::{ErrorKind, Write};
+use std::process::Abort;
+use std::test::Fail;
+
+/// Puts a line in each way, over one buffer.
+fn put_all<S: Sink>(sink: &mut S) -> Result<(), SinkFailed> {
+    let mut buffer = LineBuffer::new();
+    buffer.put_bytes(b"* ", sink)?;
+    buffer.put_escaped(&[0x41, 0x5c, 0xe9, 0x7f], sink)?;
+    buffer.put_number(-12, sink)?;
+    buffer.end_line(sink)
+}
+
+fn write<S: Sink>(sink: &mut S, piece: &[u8]) -> Result<(), SinkFailed>
+    requires { 0 < length piece.now }
+{
+    sink.write(piece)
+}
+
+#[test]
+fn writes_lines(rt: HostRuntime) -> Result<(), Fail> {
+    let mut sink = MemorySink::with_room(rt.alloc(), 1000, &[])?;
+    put_all(&mut sink)?;
+    let parts = [
+        Part::Bytes(b"domain a: "),
+        Part::Number(i64::MIN),
+        Part::Escaped(&[0x20, 0x7e, 0x1f, 0xffff]),
+    ];
+    write_line(&mut sink, &parts)?;
+    let wanted = b"* A\\\\\\u00e9\\u007f-12\ndomain a: -9223372036854775808 ~\\u001f\\uffff\n";
+    assert!(rt; sink.bytes() == wanted.as_slice());
+    assert_eq!(rt; sink.faults(), 0);
+    Ok(())
+}
+
+#[test]
+fn writes_in_pieces(rt: HostRuntime) -> Result<(), Fail> {
+    // A line of 300 bytes is two writes, of 256 and of 44.
+    let mut sink = MemorySink::with_room(rt.alloc(), 1000, &[2])?;
+    let long = [b'x'; 299];
+    let failed = write_line(&mut sink, &[Part::Bytes(&long)]);
+    assert!(rt; failed.is_err());
+    assert!(rt; sink.bytes() == &long[..256]);
+    assert_eq!(rt; sink.faults(), 1);
+    write_line(&mut sink, &[Part::Bytes(b"more")])?;
+    assert_eq!(rt; sink.bytes().len(), 261);
+    Ok(())
+}
+
+/// Writes a piece, and asserts what comes of it: whether it fails, and how many bytes and faults the
+/// sink has then.
+fn expect_write(
+    rt: &impl Abort,
+    sink: &mut MemorySink,
+    piece: &[u8],
+    fails: bool,
+    len: usize,
+    faults: u64,
+)
+    requires { 0 < length piece.now }
+{
+    let failed = write(sink, piece).is_err();
+    assert!(rt; failed == fails);
+    assert_eq!(rt; sink.bytes().len(), len);
+    assert_eq!(rt; sink.faults(), faults);
+}
+
+#[test]
+fn sink_fails_as_told(rt: HostRuntime) -> Result<(), Fail> {
+    let mut sink = MemorySink::with_room(rt.alloc(), 5, &[2])?;
+    expect_write(&rt, &mut sink, b"ab", false, 2, 0);
+    expect_write(&rt, &mut sink, b"cd", true, 2, 1);
+    expect_write(&rt, &mut sink, b"cdef", true, 5, 2);
+    expect_write(&rt, &mut sink, b"g", true, 5, 3);
+    assert!(rt; sink.bytes() == b"abcde".as_slice());
+    Ok(())
+}
+
+#[test]
+fn writes_a_stream(rt: HostRuntime) -> Result<(), Fail> {
+    let mut sink = StreamSink::new(Vec::new(rt.alloc()));
+    put_all(&mut sink)?;
+    assert_eq!(rt; sink.faults(), 0);
+    assert!(rt; sink.into_writer().as_slice() == b"* A\\\\\\u00e9\\u007f-12\n".as_slice());
+    let mut room = [0; 3];
+    let mut small = StreamSink::new(room.as_mut_slice());
+    assert!(rt; write(&mut small, b"abcd").is_err());
+    assert_eq!(rt; small.faults(), 1);
+    Ok(())
+}
+
+/// A writer whose first write is interrupted, and whose others take one byte.
+#[derive(Drop)]
+struct Halting {
+    writes: u32,
+}
+
+impl Write for Halting {
+    fn write(&mut self, bytes: &[u8]) -> io::Result<usize> {
+        self.writes = self.writes.saturating_add(1);
+        if self.writes == 1 {
+            return Err(io::Error::from(ErrorKind::Interrupted));
+        }
+        Ok(bytes.len().min(1))
+    }
+
+    fn flush(&mut self) -> io::Result<()> {
+        Ok(())
+    }
+}
+
+#[test]
+fn goes_on_after_an_interruption(rt: HostRuntime) -> Result<(), Fail> {
+    let mut sink = StreamSink::new(Halting { writes: 0 });
+    write(&mut sink, b"abc")?;
+    assert_eq!(rt; sink.faults(), 0);
+    assert_eq!(rt; sink.into_writer().writes, 4);
+    Ok(())
+}
+
+#[test]
+fn prints_each_kind_of_line(rt: HostRuntime) -> Result<(), Fail> {
+    let domain = b"store".as_slice();
+    let thread = ThreadNo(7);
+    let place = PlaceRef::At {
+        path: "a/\u{e9}\u{10000}.class",
+        number: 40,
+    };
+    for (line, text) in [
+        (
+            LineRef::Said {
+                domain,
+                text: &[0x41, 0x5c, 0x0a, 0xe9],
+            },
+            b"store: A\\\\\\u000a\\u00e9\n".as_slice(),
+        ),
+        (
+            LineRef::Loaded { domain },
+            b"* domain store loaded\n".as_slice(),
+        ),
+        (
+            LineRef::Refused {
+                domain,
+                rule: Rule::L1,
+                place: PlaceRef::Whole,
+            },
+            b"* domain store refused L1\n".as_slice(),
+        ),
+        (
+            LineRef::Refused {
+                domain,
+                rule: Rule::C27,
+                place,
+            },
+            b"* domain store refused C27 a/\\u00e9\\ud800\\udc00.class 40\n".as_slice(),
+        ),
+        (
+            LineRef::Started { thread, domain },
+            b"* thread 7 started in store\n".as_slice(),
+        ),
+        (
+            LineRef::StartRefused { domain, number: 6 },
+            b"* start store refused S6\n".as_slice(),
+        ),
+        (LineRef::Ended { thread }, b"* thread 7 ended\n".as_slice()),
+        (
+            LineRef::EndedBy {
+                thread,
+                class: &[0x61, 0x2f, 0x42],
+            },
+            b"* thread 7 ended by a/B\n".as_slice(),
+        ),
+        (
+            LineRef::EndedByKill { thread },
+            b"* thread 7 ended by kill\n".as_slice(),
+        ),
+        (
+            LineRef::Killed { domain },
+            b"* domain store killed\n".as_slice(),
+        ),
+        (
+            LineRef::KillRefused { domain },
+            b"* kill store refused K1\n".as_slice(),
+        ),
+    ] {
+        let mut sink = MemorySink::with_room(rt.alloc(), 100, &[])?;
+        print_line(line, &mut sink)?;
+        assert!(rt; sink.bytes() == text);
+    }
+    Ok(())
+}
