@@ -29,7 +29,7 @@ fn answer(alloc: Global, call: &str, size: usize, calls: bool) -> Option<usize> 
     }
 }
 
-/// The words behind the program's name.
+/// The words after the program's name.
 fn words(rt: &HostRuntime) -> io::Result<Vec<String>> {
     let mut words = Vec::new(rt.alloc());
     for word in env::args(rt)?.skip(1) {

@@ -24,7 +24,7 @@ fn take_and_return(map: &mut ExtentMap, pages: u32) -> bool
     true
 }
 
-/// Takes one page, and keeps the extent behind the others.
+/// Takes one page, and keeps the extent after the others.
 fn take_one(map: &mut ExtentMap, out: &mut Vec<Extent>) -> bool
     requires { AreSame map.old.out out.old.items }
     ensures { AreSame map.new.out out.new.items }
@@ -63,7 +63,7 @@ fn empty_map(alloc: Global, runs: u32) -> Result<(ExtentMap, Vec<Extent>), OutOf
 }
 
 /// Makes so many free runs of one page, with a page that is out between each two, and a longer run
-/// behind them.
+/// after them.
 fn make_runs(map: &mut ExtentMap, out: &mut Vec<Extent>, runs: u32)
     requires { AreSame map.old.out out.old.items }
     ensures { AreSame map.new.out out.new.items }

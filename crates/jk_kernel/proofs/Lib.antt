@@ -1,7 +1,11 @@
-pub mod LineLemmas
-pub mod ListLemmas
+pub mod Answered
+pub mod NumberedLists
 pub mod MainMethod
 pub mod OneCode
 pub mod PrintCalls
-pub mod StateLemmas
-pub mod StepLemmas
+pub mod KeptRecords
+pub mod OneStep
+pub mod ShortBodies
+pub mod FirstRun
+pub mod StepsAreDetermined
+pub mod ClassIsShort

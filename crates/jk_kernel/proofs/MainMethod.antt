@@ -5,8 +5,8 @@ use Rattle.jk_model.specs.declared.class_file.PoolEntry.{PoolEntry}
 use Rattle.jk_model.specs.declared.class_file.MemberInfo.{MemberInfo}
 use Rattle.jk_model.specs.declared.class_file.Code.{Code}
 use Rattle.jk_model.specs.ClassFile.{CodeLayout}
-use Rattle.jk_kernel.specs.Form.{IsTextAt, HasOneCode, IsMain, AreMethods, Prints}
-use Rattle.jk_kernel.specs.FormParts.{HasRoom, IsBesideInit, IsCalledMain}
+use Rattle.jk_kernel.specs.PrintingClass.{IsTextAt, HasOneCode, IsMain, AreMethods, Prints}
+use Rattle.jk_kernel.specs.ClassParts.{HasRoom, IsBesideInit, IsCalledMain}
 use Rattle.jk_kernel.proofs.OneCode.{HasOneCode-unique}
 
 -- One answer for two properties that say the same.
@@ -24,11 +24,13 @@ only_answer (Ok (Some x)) P Q one h = λ y q. one x y h q
 only_answer (Err e) P Q one h = tt
 
 -- The Code that `main` has is the method's one Code, as it was read.
-pub main_has_body : (pool : List PoolEntry) (m : MemberInfo) (body : List ℕ) (texts : List (List ℕ)) → HasOneCode pool m.attributes body → (main : IsMain pool m texts) → CodeLayout body main.code
+pub main_has_body : (pool : List PoolEntry) (m : MemberInfo) (body : List ℕ) (texts : List (List ℕ)) → HasOneCode pool m.attributes body
+    → (main : IsMain pool m texts) → CodeLayout body main.code
 main_has_body pool m body texts one main =
     subst (λ (b : List ℕ). CodeLayout b main.code) (HasOneCode-unique pool m.attributes main.body body main.one_code one) main.layout
 
-pub main_from : (pool : List PoolEntry) (m : MemberInfo) (body : List ℕ) (code : Code) (texts : List (List ℕ)) → IsCalledMain pool m → HasOneCode pool m.attributes body
+pub main_from : (pool : List PoolEntry) (m : MemberInfo) (body : List ℕ) (code : Code) (texts : List (List ℕ)) → IsCalledMain pool m
+    → HasOneCode pool m.attributes body
     → CodeLayout body code → HasRoom code → Prints pool code.code texts → IsMain pool m texts
 main_from pool m body code texts called one layout room prints = record {
   flags = called.0;
@@ -52,7 +54,8 @@ main_reads pool m body code texts one only main =
 
 -- ---- The methods.
 
-pub AreMethods-main : (pool : List PoolEntry) (methods : List MemberInfo) (texts : List (List ℕ)) → AreMethods pool methods texts → (m : MemberInfo) × IsBesideInit pool methods m × IsMain pool m texts
+pub AreMethods-main : (pool : List PoolEntry) (methods : List MemberInfo) (texts : List (List ℕ)) → AreMethods pool methods texts → (m : MemberInfo)
+    × IsBesideInit pool methods m × IsMain pool m texts
 AreMethods-main pool methods texts (inl (m, e, main)) = (m, inl e, main)
 AreMethods-main pool methods texts (inr (m, init, e, main, i)) = (m, inr (init, e, i), main)
 
@@ -61,7 +64,8 @@ some_is m n e = cc
 
 -- The method that was found is the `main` of each list of texts.
 pub found_main : (pool : List PoolEntry) (methods : List MemberInfo) (m : MemberInfo) (texts : List (List ℕ))
-    → ((n : MemberInfo) → IsTextAt pool n.name (codes "main") → IsBesideInit pool methods n → Some m ≡ Some n) → AreMethods pool methods texts → IsMain pool m texts
+    → ((n : MemberInfo) → IsTextAt pool n.name (codes "main") → IsBesideInit pool methods n → Some m ≡ Some n) → AreMethods pool methods texts
+    → IsMain pool m texts
 found_main pool methods m texts only h =
     let n = AreMethods-main pool methods texts h in
     subst (λ (x : MemberInfo). IsMain pool x texts) (sym (some_is m n.0 (only n.0 n.2.name n.1))) n.2

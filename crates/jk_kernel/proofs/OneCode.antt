@@ -2,8 +2,8 @@
 use Rattle.std.proofs.Common.{◌≡◌, ℕ, List, [], ◌∷◌, ◌++◌, sym, ap, subst, ◌∙◌}
 use Rattle.jk_model.specs.declared.class_file.PoolEntry.{PoolEntry}
 use Rattle.jk_model.specs.declared.class_file.Attribute.{Attribute}
-use Rattle.jk_kernel.specs.Form.{IsCodeAttribute, HasOneCode}
-use Rattle.jk_kernel.specs.FormParts.{HasNoCode, BeginsCode}
+use Rattle.jk_kernel.specs.PrintingClass.{IsCodeAttribute, HasOneCode}
+use Rattle.jk_kernel.specs.ClassParts.{HasNoCode, BeginsCode}
 
 -- Two splits at a Code with none before it are the same.
 split-unique : (pool : List PoolEntry) (before before' : List Attribute) (a b : Attribute) (after after' : List Attribute)
@@ -18,11 +18,13 @@ split-unique pool (x ∷ xs) (y ∷ ys) a b after after' e p q h k =
     split-unique pool xs ys a b after after' (cc) p q h.1 k.1
 
 -- a list without a Code has none at its place
-HasNoCode-at : (pool : List PoolEntry) (before : List Attribute) (a : Attribute) (after : List Attribute) → HasNoCode pool (before ++ a ∷ after) → IsCodeAttribute pool a → ⊥
+HasNoCode-at : (pool : List PoolEntry) (before : List Attribute) (a : Attribute) (after : List Attribute) → HasNoCode pool (before ++ a ∷ after)
+    → IsCodeAttribute pool a → ⊥
 HasNoCode-at pool [] a after h p = h.0 p
 HasNoCode-at pool (x ∷ xs) a after h p = HasNoCode-at pool xs a after h.1 p
 
-pub HasOneCode-unique : (pool : List PoolEntry) (attributes : List Attribute) (x y : List ℕ) → HasOneCode pool attributes x → HasOneCode pool attributes y → x ≡ y
+pub HasOneCode-unique : (pool : List PoolEntry) (attributes : List Attribute) (x y : List ℕ) → HasOneCode pool attributes x → HasOneCode pool attributes y
+    → x ≡ y
 HasOneCode-unique pool attributes x y (before, a, after, e, p, body, h, k) (before', b, after', e', p', body', h', k') =
     let same = split-unique pool before before' a b after after' (sym e ∙ e') p p' h h' in
     sym body ∙ ap (λ (c : Attribute). c.body) same.0 ∙ body'
@@ -31,8 +33,9 @@ HasOneCode-unique pool attributes x y (before, a, after, e, p, body, h, k) (befo
 pub none-none : (pool : List PoolEntry) (attributes : List Attribute) (x : List ℕ) → HasNoCode pool attributes → HasOneCode pool attributes x → ⊥
 none-none pool attributes x h (before, a, after, e, p, body, k, l) = HasNoCode-at pool before a after (subst (HasNoCode pool) e h) p
 
--- a second Code behind the first, so not one
-pub two-none : (pool : List PoolEntry) (attributes behind behind2 : List Attribute) (x y z : List ℕ) → BeginsCode pool attributes x behind → BeginsCode pool behind y behind2 → HasOneCode pool attributes z → ⊥
+-- a second Code after the first, so not one
+pub two-none : (pool : List PoolEntry) (attributes behind behind2 : List Attribute) (x y z : List ℕ) → BeginsCode pool attributes x behind
+    → BeginsCode pool behind y behind2 → HasOneCode pool attributes z → ⊥
 two-none pool attributes behind behind2 x y z (before, a, e, p, body, h) second (before', b, after, e', p', body', h', k') =
     let same = split-unique pool before before' a b behind after (sym e ∙ e') p p' h h' in
     HasNoCode-at pool second.0 second.1 behind2 (subst (HasNoCode pool) (sym same.1 ∙ second.2) k') second.3

@@ -6,9 +6,9 @@ use Rattle.std.proofs.lemmas.Nat.{from_be_bytes-to_be_bytes_2}
 use Rattle.std.proofs.lemmas.List.{append-nil}
 use Rattle.jk_model.specs.declared.class_file.PoolEntry.{PoolEntry}
 use Rattle.jk_model.specs.ClassFile.{u2, IsU2}
-use Rattle.jk_kernel.specs.declared.form.printing.Print.{Print}
-use Rattle.jk_kernel.specs.Form.{IsTextAt, IsClassAt, IsStringAt, IsFieldAt, IsMethodAt, Prints}
-use Rattle.jk_kernel.specs.FormParts.{print_bytes, IsPrint, PrintsFirst, PrintsAfter}
+use Rattle.jk_kernel.specs.declared.printing_class.printing.Print.{Print}
+use Rattle.jk_kernel.specs.PrintingClass.{IsTextAt, IsClassAt, IsStringAt, IsFieldAt, IsMethodAt, Prints}
+use Rattle.jk_kernel.specs.ClassParts.{print_bytes, IsPrint, PrintsFirst, PrintsAfter}
 
 -- ---- An index stands for one thing.
 
@@ -54,7 +54,8 @@ PrintsFirst-unique pool code t r u s h k =
 
 -- ---- Code that begins with these operands: what it prints first is what they name.
 
-pub PrintsFirst-at : (pool : List PoolEntry) (code : List ℕ) (p : Print) (rest text behind : List ℕ) → IsPrint p → code ≡ print_bytes p ++ rest → PrintsFirst pool code text behind
+pub PrintsFirst-at : (pool : List PoolEntry) (code : List ℕ) (p : Print) (rest text behind : List ℕ) → IsPrint p → code ≡ print_bytes p ++ rest
+    → PrintsFirst pool code text behind
     → IsFieldAt pool p.out (codes "java/lang/System") (codes "out") (codes "Ljava/io/PrintStream;") × IsStringAt pool p.string text
     × IsMethodAt pool p.print (codes "java/io/PrintStream") (codes "println") (codes "(Ljava/lang/String;)V")
 PrintsFirst-at pool code p rest text behind fits e h =
@@ -66,13 +67,26 @@ PrintsFirst-at pool code p rest text behind fits e h =
 
 -- ---- The texts of code with a call in front are the call's and those of the rest.
 
-Prints-cons : (pool : List PoolEntry) (code text rest : List ℕ) (texts : List (List ℕ)) → PrintsFirst pool code text rest → Prints pool rest texts → Prints pool code (text ∷ texts)
+Prints-cons : (pool : List PoolEntry) (code text rest : List ℕ) (texts : List (List ℕ)) → PrintsFirst pool code text rest → Prints pool rest texts
+    → Prints pool code (text ∷ texts)
 Prints-cons pool code text rest texts h k =
     (h.print.out, h.print.string, h.print.print, rest, h.fits.0, h.fits.1, h.fits.2, h.parts, h.field, h.literal, h.method, k)
 
-Prints-first : (pool : List PoolEntry) (code text : List ℕ) (texts : List (List ℕ)) → Prints pool code (text ∷ texts) → (rest : List ℕ) × PrintsFirst pool code text rest × Prints pool rest texts
-Prints-first pool code text texts (out, string, print, rest, out_fits, string_fits, print_fits, parts, field, literal, method, k) =
-    (rest, record { print = record { out = out; string = string; print = print }; fits = (out_fits, string_fits, print_fits); parts = parts; field = field; literal = literal; method = method }, k)
+Prints-first : (pool : List PoolEntry) (code text : List ℕ) (texts : List (List ℕ)) → Prints pool code (text ∷ texts) → (rest : List ℕ)
+    × PrintsFirst pool code text rest × Prints pool rest texts
+Prints-first pool code text texts (out, string, print, rest, out_fits, string_fits, print_fits, parts, field, literal, method, k) = (
+  rest,
+  record {
+    print = record { out = out; string = string; print = print };
+    fits = (out_fits, string_fits, print_fits);
+    parts = parts;
+    field =
+        field;
+    literal = literal;
+    method = method;
+  },
+  k,
+)
 
 -- ---- The walk.
 
@@ -84,17 +98,20 @@ back-more pool texts rest text behind all (t ∷ ts) h e k =
     let same = PrintsFirst-unique pool rest t r text behind first h in
     (ts, e ∙ ap (λ (x : List ℕ). texts ++ x ∷ ts) same.0 ∙ sym (append_assoc texts (text ∷ []) ts), subst (λ (x : List ℕ). Prints pool x ts) same.1 later)
 
-pub PrintsAfter-more : (pool : List PoolEntry) (code : List ℕ) (texts : List (List ℕ)) (rest text behind : List ℕ) → PrintsAfter pool code texts rest → PrintsFirst pool rest text behind
+pub PrintsAfter-more : (pool : List PoolEntry) (code : List ℕ) (texts : List (List ℕ)) (rest text behind : List ℕ) → PrintsAfter pool code texts rest
+    → PrintsFirst pool rest text behind
     → PrintsAfter pool code (texts ++ text ∷ []) behind
 PrintsAfter-more pool code texts rest text behind h k = record {
   goes_on = λ more p. rw append_assoc (h.goes_on (text ∷ more) (Prints-cons pool rest text behind more k p));
   goes_back = λ all p. let b = h.goes_back all p in back-more pool texts rest text behind all b.0 k b.1 b.2;
 }
 
-pub PrintsAfter-end : (pool : List PoolEntry) (code : List ℕ) (texts : List (List ℕ)) (rest : List ℕ) → PrintsAfter pool code texts rest → rest ≡ 0xb1 ∷ [] → Prints pool code texts
+pub PrintsAfter-end : (pool : List PoolEntry) (code : List ℕ) (texts : List (List ℕ)) (rest : List ℕ) → PrintsAfter pool code texts rest → rest ≡ 0xb1 ∷ []
+    → Prints pool code texts
 PrintsAfter-end pool code texts rest h e = subst (λ (x : List (List ℕ)). Prints pool code x) (append-nil texts) (h.goes_on [] e)
 
-none-more : (pool : List PoolEntry) (rest : List ℕ) (more : List (List ℕ)) → ((text behind : List ℕ) → PrintsFirst pool rest text behind → ⊥) → (rest ≡ 0xb1 ∷ [] → ⊥) → Prints pool rest more → ⊥
+none-more : (pool : List PoolEntry) (rest : List ℕ) (more : List (List ℕ)) → ((text behind : List ℕ) → PrintsFirst pool rest text behind → ⊥)
+    → (rest ≡ 0xb1 ∷ [] → ⊥) → Prints pool rest more → ⊥
 none-more pool rest [] none other h = other h
 none-more pool rest (t ∷ ts) none other h = let f = Prints-first pool rest t ts h in none t f.0 f.1
 

@@ -1,8 +1,12 @@
-pub mod Form
-pub mod FormParts
+pub mod ClassParts
+pub mod Events
+pub mod Examples
+pub mod Execution
+pub mod FrameMoves
+pub mod Opening
+pub mod PrintingClass
 pub mod State
-pub mod Steps
 pub use Rattle.jk_model.specs.ClassFile
-pub use Rattle.jk_model.specs.Machine
-pub use Rattle.jk_model.specs.Outside
+pub use Rattle.jk_model_machine.specs.Machine
 pub use Rattle.jk_model.specs.Output
+pub use Rattle.jk_model.specs.Outside

@@ -1,15 +1,15 @@
 -- The machine that the kernel's records stand for.
 use Rattle.std.specs.Prelude.{◌≡◌, ℕ, suc, ◌+◌, ◌*◌, ◌<◌, ◌≤◌, ◌^◌, true, List, [], ◌∷◌, length, map, Option, Some, None, slice_get, ⊤}
-use Rattle.jk_model.specs.Machine.{Machine, LoadedClass, DomainState, Thread, Segment, Frame, PrintStream, Text, main_from}
+use Rattle.jk_model_machine.specs.Machine.{Machine, LoadedClass, DomainState, Thread, Segment, Frame, PrintStream, Text}
 use Rattle.jk_model.specs.Script.{default_quotas}
 use Rattle.jk_model.specs.declared.values.Value.{Value}
 use Rattle.jk_model.specs.declared.values.Value.TheVariants.{Obj}
-use Rattle.jk_kernel.specs.declared.domains.DomainRecord.{DomainRecord}
-use Rattle.jk_kernel.specs.declared.threads.ThreadRecord.{ThreadRecord}
-use Rattle.jk_kernel.specs.declared.threads.FrameRecord.{FrameRecord}
-use Rattle.jk_kernel.specs.declared.threads.Stage.{Stage}
-use Rattle.jk_kernel.specs.declared.threads.Stage.TheVariants.{Bare, HasStream, HasText}
-use Rattle.jk_kernel.specs.Steps.{IsFrameIn}
+use Rattle.jk_kernel.specs.declared.domain_records.DomainRecord.{DomainRecord}
+use Rattle.jk_kernel.specs.declared.thread_records.ThreadRecord.{ThreadRecord}
+use Rattle.jk_kernel.specs.declared.thread_records.FrameRecord.{FrameRecord}
+use Rattle.jk_kernel.specs.declared.thread_records.Stage.{Stage}
+use Rattle.jk_kernel.specs.declared.thread_records.Stage.TheVariants.{Bare, HasStream, HasText}
+use Rattle.jk_kernel.specs.FrameMoves.{IsFrameIn}
 
 -- f of each, with its number, counted from n
 abbrev pub numbered : {X Y : Type 0} → (ℕ → X → Y) → ℕ → List X → List Y
@@ -19,7 +19,7 @@ numbered f n (x ∷ xs) = f n x ∷ numbered f (suc n) xs
 -- ---- Domains.
 
 abbrev pub class_of : ℕ → DomainRecord → LoadedClass
-class_of n d = record { name = d.program.name; home = n; main = main_from 0 d.program.texts }
+class_of n d = record { name = d.program.name; home = n; texts = d.program.texts }
 
 abbrev pub domain_of : ℕ → DomainRecord → DomainState
 domain_of n d = record {
@@ -35,7 +35,7 @@ domain_of n d = record {
 
 -- ---- Threads.
 
--- how many instructions of its literal are behind it
+-- how many instructions of its literal it has done
 abbrev pub done_at : Stage → ℕ
 done_at Bare = 0
 done_at HasStream = 1

@@ -1,21 +1,26 @@
 //! The kernel's state, and the calls that make the machine's events happen.
 
 ghost use Rattle.std.specs.Prelude.{◌≡◌, ℕ, ◌+◌, ◌<◌, ◌≤◌, ◌^◌, ◌-◌, List, length, is_some, None, IfOk, OnOk, OnErr, IfSome, IfNone, Err, true, false, [], ◌∷◌};
-ghost use Rattle.jk_model.specs.Machine.{Machine, no_domains, opened, live_domain, is_live, started, stepped};
+ghost use Rattle.jk_model.specs.declared.output.Line.{Line};
 ghost use Rattle.jk_model.specs.Script.{default_quotas};
 ghost use Rattle.jk_model.specs.Outside.{Appends, AppendsPart, HasRisen, NeverFalls};
 ghost use Rattle.jk_model.specs.Output.{text_of};
-ghost use Rattle.class_reader.specs.Stage.{HasReadPool};
-ghost use Rattle.jk_kernel.specs.Form.{HasForm};
-ghost use Rattle.jk_kernel.specs.Steps.{beginning_line};
+ghost use Rattle.jk_model_machine.specs.Machine.{Machine, no_domains, live_domain, is_live};
+ghost use Rattle.jk_model_machine.specs.Starts.{Starts, Begins};
+ghost use Rattle.jk_model_machine.specs.Steps.{Steps};
+ghost use Rattle.jk_kernel.specs.Events.{CanStep};
+ghost use Rattle.jk_kernel.specs.Execution.{Executes};
+ghost use Rattle.jk_kernel.specs.FrameMoves.{beginning_line};
+ghost use Rattle.jk_kernel.specs.Opening.{opened};
+ghost use Rattle.jk_kernel.specs.PrintingClass.{IsPrintingClass, HasShortBodies};
 
 use crate::answers::EventAnswer;
-use crate::domains::{DomainRecord, is_class_name, place_of};
-use crate::form::form_of;
-use crate::lines::{print_beginning, print_step};
-use crate::threads::{Beginning, FrameRecord, Stage, ThreadRecord, live_frame, next_frame};
+use crate::domain_records::{DomainRecord, is_class_name, place_of};
+use crate::event_lines::{line_of_start, line_of_step, print_any};
+use crate::printing_class::program_of;
+use crate::thread_records::{Beginning, FrameRecord, Stage, ThreadRecord, live_frame, next_frame};
 use jk_model::{Bytes, ClassFile, DomainId, OutOfMemory};
-use jk_outside::{Sink, SinkFailed};
+use jk_outside::{Sink, SinkFailed, print_line};
 use std::alloc::Global;
 use std::marker::Model;
 
@@ -28,7 +33,7 @@ pub struct Kernel {
 }
 
 impl Model for Kernel {
-    ghost use Rattle.jk_model.specs.Machine.{Machine};
+    ghost use Rattle.jk_model_machine.specs.Machine.{Machine};
     ghost use Rattle.jk_kernel.specs.State.{machine_of, IsSound};
 
     ghost Value = { Machine };
@@ -39,15 +44,15 @@ impl Model for Kernel {
 }
 
 impl Kernel {
-    /// The machine without domains.
-    pub fn new(alloc: Global) -> Result<Kernel, OutOfMemory>
-        ensures { IfOk result (λ kernel. kernel ≡ no_domains) }
+    /// The machine without domains. It takes no memory yet.
+    pub fn new(alloc: Global) -> Kernel
+        ensures { result ≡ no_domains }
     {
-        Ok(Kernel {
+        Kernel {
             domains: Vec::new(alloc),
             threads: Vec::new(alloc),
             next_segment: 1,
-        })
+        }
     }
 
     /// Whether a live domain has this name.
@@ -57,8 +62,8 @@ impl Kernel {
         place_of(self.domains.as_slice(), name).is_some()
     }
 
-    /// Adds a domain of this name, with a class that has the form of those that run, and with
-    /// default quotas but for the threads. It prints nothing.
+    /// Adds a domain of this name, with a class that is one of those that run, and with default quotas but
+    /// for the threads. It prints nothing.
     pub fn add_domain(
         &mut self,
         name: &[u8],
@@ -66,19 +71,16 @@ impl Kernel {
         class: ClassFile,
     ) -> Result<DomainId, OutOfMemory>
         requires unused { live_domain self.old name.now ≡ None }
-        requires pool { HasReadPool class }
-        requires form { (n : List ℕ) × (texts : List (List ℕ)) × HasForm class n texts }
+        requires bodies { HasShortBodies class }
+        requires runs { (n : List ℕ) × (texts : List (List ℕ)) × IsPrintingClass class n texts }
         requires few { length self.old.domains < 2 ^ 31 }
         ensures ok { IfOk result (λ id. (id.0 ≡ length self.old.domains)
-            × ((n : List ℕ) (texts : List (List ℕ)) → HasForm class n texts
+            × ((n : List ℕ) (texts : List (List ℕ)) → IsPrintingClass class n texts
             → self.new ≡ opened self.old name.now (record default_quotas { threads = threads }) n texts)) }
         ensures err { OnErr result (self.new ≡ self.old) }
-        // Nothing but an opening changes how many domains there are.
-        ensures bounds { (length self.new.domains ≤ length self.old.domains + 1)
-            × (self.new.next_thread ≡ self.old.next_thread) × (self.new.next_segment ≡ self.old.next_segment) }
     {
         let alloc = *self.domains.allocator();
-        let program = form_of(alloc, &class)?.unwrap();
+        let program = program_of(alloc, &class)?.unwrap();
         let number = self.domains.len() as u32;
         let name = Bytes::from_slice(alloc, name)?;
         self.domains.push(DomainRecord {
@@ -91,7 +93,7 @@ impl Kernel {
 
     /// The start of a thread in the domain of this name, at the `main` of the class of this name. Its
     /// line is printed, also where it is refused. Where the sink fails, the start has happened; where
-    /// no memory is left, it hasn't, and the sink was not touched.
+    /// no memory is left for a new thread, it hasn't, and the sink was not touched.
     pub fn start<S: Sink>(
         &mut self,
         name: &[u8],
@@ -102,23 +104,21 @@ impl Kernel {
         requires no_words { words.now ≡ [] }
         requires thread { self.old.next_thread < 2 ^ 31 }
         requires segment { self.old.next_segment < 2 ^ 64 - 1 }
-        ensures event { OnOk result (self.new ≡ (started self.old name.now class.now).1) }
-        ensures ok { OnOk result (Appends (S.bytes out.old) (S.bytes out.new)
-            (text_of (started self.old name.now class.now).0)) }
-        ensures failed { result ≡ Err EventAnswer.SinkFailed → self.new ≡ (started self.old name.now class.now).1 }
-        ensures part { result ≡ Err EventAnswer.SinkFailed → AppendsPart (S.bytes out.old) (S.bytes out.new)
-            (text_of (started self.old name.now class.now).0) }
-        ensures cause { result ≡ Err EventAnswer.SinkFailed → HasRisen (S.faults out.old) (S.faults out.new) }
-        ensures memory { result ≡ Err EventAnswer.OutOfMemory → (self.new ≡ self.old) × (out.new ≡ out.old) }
+        ensures event { OnOk result ((lines : List Line) × Starts self.old name.now class.now words.now lines self.new
+            × Appends (S.bytes out.old) (S.bytes out.new) (text_of lines)) }
+        ensures failed { result ≡ Err EventAnswer.SinkFailed → (lines : List Line)
+            × Starts self.old name.now class.now words.now lines self.new
+            × AppendsPart (S.bytes out.old) (S.bytes out.new) (text_of lines)
+            × HasRisen (S.faults out.old) (S.faults out.new) }
+        ensures memory { result ≡ Err EventAnswer.OutOfMemory → (self.new ≡ self.old) × (out.new ≡ out.old)
+            × ((lines : List Line) × (new : Machine) × Begins self.old name.now class.now words.now lines new) }
         ensures faults { NeverFalls (S.faults out.old) (S.faults out.new) }
-        ensures bounds { (self.new.domains ≡ self.old.domains)
-            × (self.new.next_thread ≤ self.old.next_thread + 1) × (self.new.next_segment ≤ self.old.next_segment + 1) }
     {
         let beginning = match self.begin(name, class) {
             Ok(beginning) => beginning,
             Err(OutOfMemory) => return Err(EventAnswer::OutOfMemory),
         };
-        match print_beginning(out, name, beginning) {
+        match print_line(line_of_start(name, beginning), out) {
             Ok(()) => Ok(()),
             Err(SinkFailed) => Err(EventAnswer::SinkFailed),
         }
@@ -129,10 +129,9 @@ impl Kernel {
         requires thread { self.old.next_thread < 2 ^ 31 }
         requires segment { self.old.next_segment < 2 ^ 64 - 1 }
         ensures ok { IfOk result (λ beginning.
-            started self.old name.now class.now ≡ (beginning_line name.now beginning ∷ [], self.new)) }
+            Starts self.old name.now class.now [] (beginning_line name.now beginning ∷ []) self.new) }
         ensures err { OnErr result (self.new ≡ self.old) }
-        ensures bounds { (self.new.domains ≡ self.old.domains)
-            × (self.new.next_thread ≤ self.old.next_thread + 1) × (self.new.next_segment ≤ self.old.next_segment + 1) }
+        ensures begins { OnErr result ((lines : List Line) × (new : Machine) × Begins self.old name.now class.now [] lines new) }
     {
         let Some(domain) = place_of(self.domains.as_slice(), name) else {
             return Ok(Beginning::NoDomain);
@@ -156,14 +155,14 @@ impl Kernel {
     /// One step of a thread, with what it prints. A thread that isn't live does nothing. Where the
     /// sink fails, the step has happened.
     pub fn turn<S: Sink>(&mut self, thread: u32, out: &mut S) -> Result<(), SinkFailed>
-        ensures event { self.new ≡ (stepped self.old thread).1 }
-        ensures ok { OnOk result (Appends (S.bytes out.old) (S.bytes out.new) (text_of (stepped self.old thread).0)) }
-        ensures part { OnErr result (AppendsPart (S.bytes out.old) (S.bytes out.new)
-            (text_of (stepped self.old thread).0)) }
-        ensures cause { OnErr result (HasRisen (S.faults out.old) (S.faults out.new)) }
+        ensures event { OnOk result ((lines : List Line) × Steps Executes self.old thread lines self.new
+            × Appends (S.bytes out.old) (S.bytes out.new) (text_of lines)) }
+        ensures failed { OnErr result ((lines : List Line) × Steps Executes self.old thread lines self.new
+            × AppendsPart (S.bytes out.old) (S.bytes out.new) (text_of lines)
+            × HasRisen (S.faults out.old) (S.faults out.new)) }
+        // No thread is ever where it can't take a step.
+        ensures goes_on { CanStep self.new }
         ensures faults { NeverFalls (S.faults out.old) (S.faults out.new) }
-        ensures bounds { (self.new.domains ≡ self.old.domains)
-            × (self.new.next_thread ≡ self.old.next_thread) × (self.new.next_segment ≡ self.old.next_segment) }
     {
         let Some(frame) = live_frame(self.threads.as_slice(), thread) else {
             return Ok(());
@@ -176,7 +175,7 @@ impl Kernel {
             domain: record.domain,
             frame: next_frame(frame, domain.program.texts.len()),
         };
-        print_step(out, thread, domain, frame)
+        print_any(line_of_step(thread, domain, frame), out)
     }
 
     /// Whether a thread is live.
@@ -204,7 +203,7 @@ impl Kernel {
 #[cfg(test)]
 mod tests {
     use super::*;
-    use crate::form::Program;
+    use crate::printing_class::Program;
     use jk_model::{List, Units};
     use jk_outside::MemorySink;
     use std::test::Fail;
@@ -233,7 +232,7 @@ mod tests {
 
     #[test]
     fn without_domains(rt: HostRuntime) -> Result<(), Fail> {
-        let mut kernel = Kernel::new(rt.alloc())?;
+        let mut kernel = Kernel::new(rt.alloc());
         let mut out = MemorySink::with_room(rt.alloc(), 100, &[])?;
         assert!(rt; !kernel.has_domain(b"a"));
         assert!(rt; !kernel.is_live(1));

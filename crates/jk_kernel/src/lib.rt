@@ -2,12 +2,13 @@
 #![tactic(auto)]
 
 mod answers;
-mod domains;
-mod form;
+mod domain_records;
+mod event_lines;
 mod kernel;
-mod lines;
-mod threads;
+pub mod laws;
+mod printing_class;
+mod thread_records;
 
 pub use answers::EventAnswer;
-pub use form::{Program, form_of};
 pub use kernel::Kernel;
+pub use printing_class::{Program, program_of};

@@ -1,5 +1,5 @@
--- The words behind the program's name.
-use Rattle.std.specs.Prelude.{◌≡◌, ℕ, ◌==◌, Bool, true, false, List, [], ◌∷◌}
+-- The words after the program's name.
+use Rattle.std.specs.Prelude.{◌≡◌, ℕ, ◌==◌, Bool, false, List, [], ◌∷◌}
 
 -- a word that begins with `-`
 abbrev pub is_option : List ℕ → Bool

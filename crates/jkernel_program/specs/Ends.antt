@@ -6,7 +6,8 @@ use Rattle.jk_model.specs.Outside.{Tree, FileIs, HasRisen}
 use Rattle.script_reader.specs.Events.{IsScript, IsAtFault}
 use Rattle.jkernel_program.specs.Calls.{IsCall}
 use Rattle.jkernel_program.specs.Messages.{usage_text, fault_text, read_text, write_text, memory_text}
-use Rattle.jkernel_program.specs.Statuses.{HasFault, LacksScript, IsDone, IsStopped, IsStoppedBefore}
+use Rattle.jkernel_program.specs.Events.{Moment}
+use Rattle.jkernel_program.specs.Statuses.{HasFault, LacksScript, IsDone, IsStopped, IsStoppedBefore, IsUnread}
 use Rattle.jkernel_program.specs.declared.ends.End.{End}
 use Rattle.jkernel_program.specs.declared.ends.End.TheVariants.{Done, Usage, Refused, Stopped}
 use Rattle.jkernel_program.specs.declared.status.Status.{Status}
@@ -18,18 +19,21 @@ use Rattle.jkernel_program.specs.declared.stop.Stop.TheVariants.{ReadFault, Writ
 abbrev pub IsNoCall : List (List ℕ) → Type 0
 IsNoCall words = (root : List ℕ) (script : List ℕ) → IsCall words root script → ⊥
 
--- What an end says of the words, the tree and the output; the counts are those of the files and of
--- the output.
-abbrev pub EndsSo : Option Tree → List (List ℕ) → Option (List ℕ) → Option (List ℕ) → ℕ → ℕ → ℕ → ℕ → End → Type 0
-EndsSo tree words old out files files' faults faults' Done = IsDone tree words old out
-EndsSo tree words old out files files' faults faults' Usage = IsNoCall words × (out ≡ old)
-EndsSo tree words old out files files' faults faults' (Refused fault) = HasFault tree words fault × (out ≡ old)
-EndsSo tree words old out files files' faults faults' (Stopped ReadFault) =
-    (HasRisen files files' ⊎ LacksScript tree words) × ((out ≡ old) ⊎ IsStoppedBefore tree words old out)
-EndsSo tree words old out files files' faults faults' (Stopped WriteFault) =
-    HasRisen faults faults' × IsStopped tree words old out
-EndsSo tree words old out files files' faults faults' (Stopped OutOfMemory) =
-    (out ≡ old) ⊎ IsStopped tree words old out
+-- What an end says of the words, the tree, the output and what was asked.
+abbrev pub EndsSo : Option Tree → List (List ℕ) → Moment → Moment → End → Type 0
+EndsSo tree words a b Done = IsDone tree words a.out b.out
+EndsSo tree words a b Usage = IsNoCall words × (b.out ≡ a.out)
+EndsSo tree words a b (Refused fault) = HasFault tree words fault × (b.out ≡ a.out)
+EndsSo tree words a b (Stopped ReadFault) =
+    (HasRisen a.files_faults b.files_faults ⊎ LacksScript tree words)
+    × (IsUnread words a.out b.out a.asked b.asked ⊎ IsStoppedBefore tree words a.out b.out a.asked b.asked)
+EndsSo tree words a b (Stopped WriteFault) = HasRisen a.out_faults b.out_faults × IsStopped tree words a.out b.out
+EndsSo tree words a b (Stopped OutOfMemory) = (b.out ≡ a.out) ⊎ IsStopped tree words a.out b.out
+
+-- the end of a run of events
+abbrev pub end_of : Result (Unit {0}) Stop → End
+end_of (Ok x) = Done
+end_of (Err stop) = Stopped stop
 
 -- the status of an end
 abbrev pub status_of : End → Status

@@ -1,6 +1,6 @@
 -- What a `domain` event may do, by the folder that it names.
-use Rattle.std.specs.Prelude.{◌≡◌, ℕ, ◌≤◌, ◌⊎◌, ◌&&◌, Bool, true, false, not, IsSome, is_some, IsTrue, List, [], ◌∷◌, ◌++◌, length, count_by, find, Option, Some, None, codes, bytes_eq, nat_eq}
-use Rattle.std.specs.List.{list_all, ends_with}
+use Rattle.std.specs.Prelude.{◌≡◌, ℕ, ◌≤◌, ◌⊎◌, ◌==◌, ◌&&◌, Bool, true, not, IsSome, List, [], ◌∷◌, ◌++◌, length, count_by, find, Option, Some, None, codes, bytes_eq, nat_eq}
+use Rattle.std.specs.List.{list_all, list_any, ends_with}
 use Rattle.jk_model.specs.declared.entries.Entry.{Entry}
 use Rattle.jk_model.specs.declared.class_file.ClassFile.{ClassFile}
 use Rattle.jk_model.specs.declared.output.Line.{Line}
@@ -10,11 +10,11 @@ use Rattle.jk_model.specs.declared.output.Rule.{Rule}
 use Rattle.jk_model.specs.declared.output.Rule.TheVariants.{L1, L2, X1}
 use Rattle.jk_model.specs.declared.script.Quotas.{Quotas}
 use Rattle.jk_model.specs.ClassFile.{IsClass}
-use Rattle.jk_model.specs.Machine.{Machine, live_domain, opened}
 use Rattle.jk_model.specs.Outside.{Tree, ◌/-◌}
-use Rattle.jk_model.specs.Run.{DomainEvent}
-use Rattle.class_reader.specs.Stage.{HasReadPool}
-use Rattle.jk_kernel.specs.Form.{HasForm}
+use Rattle.jk_model_machine.specs.Machine.{Machine, live_domain}
+use Rattle.jk_model_machine.specs.Run.{DomainEvent}
+use Rattle.jk_kernel.specs.Opening.{opened}
+use Rattle.jk_kernel.specs.PrintingClass.{IsPrintingClass}
 
 -- The limits of a folder: its entries, and the bytes of a class file.
 abbrev pub MAX_ENTRIES : ℕ
@@ -30,9 +30,10 @@ class_file_name class = class ++ codes ".class"
 abbrev pub is_class_file : Entry → Bool
 is_class_file entry = ends_with nat_eq entry.name (codes ".class")
 
--- a file, and not the one that shares and imports
+-- a file directly in the folder, and not the one that shares and imports
 abbrev pub is_allowed : Entry → Bool
-is_allowed entry = not entry.folder && not (bytes_eq entry.name (codes "resolver.txt"))
+is_allowed entry =
+    not entry.folder && (not (list_any (λ c. c == 47) entry.name) && not (bytes_eq entry.name (codes "resolver.txt")))
 
 -- The folder has the file of one class, and nothing that isn't built yet: no folder, no resolver.txt,
 -- and no more entries than the limit.
@@ -48,7 +49,7 @@ pub record HasOneClass (entries : List Entry) (class : List ℕ) : Type 0 where
 abbrev pub IsOneClass : List Entry → List ℕ → List ℕ → Type 0
 IsOneClass entries file class = (one : HasOneClass entries class) × (one.file.name ≡ file)
 
--- The folder at a path has one class file, which is a class of the form that runs, under its own name.
+-- The folder at a path has one class file, which is a class that runs, under its own name.
 pub record IsLoadable (tree : Tree) (folder class : List ℕ) (texts : List (List ℕ)) : Type 0 where
   pub entries : List Entry
   pub listed : tree.folder folder ≡ Some entries
@@ -58,8 +59,7 @@ pub record IsLoadable (tree : Tree) (folder class : List ℕ) (texts : List (Lis
   pub short : length bytes ≤ MAX_CLASS_BYTES
   pub record_of : ClassFile
   pub is_class : IsClass bytes record_of
-  pub pool : HasReadPool record_of
-  pub form : HasForm record_of class texts
+  pub prints : IsPrintingClass record_of class texts
 
 -- the folder as a whole breaks a rule, and nothing changes
 abbrev pub Refuses : Rule → Machine → List ℕ → List Line → Machine → Type 0

@@ -1,15 +1,17 @@
 -- What each status of the program says of its run. A tree is told or not, and so are the bytes of a sink.
-use Rattle.std.specs.Prelude.{◌≡◌, ℕ, ◌≤◌, ◌⊎◌, List, [], ◌∷◌, Option, Some, None, take, slice_get, length}
+use Rattle.std.specs.Prelude.{◌≡◌, ◌≢◌, ℕ, ◌≤◌, ◌⊎◌, List, [], ◌∷◌, ◌++◌, Option, Some, None, take, slice_get, length}
 use Rattle.jk_model.specs.declared.output.Line.{Line}
 use Rattle.jk_model.specs.declared.script.Event.{Event}
 use Rattle.jk_model.specs.declared.script.Event.TheVariants.{Domain}
 use Rattle.jk_model.specs.declared.script.Quotas.{Quotas}
 use Rattle.jk_model.specs.declared.script.ScriptFault.{ScriptFault}
-use Rattle.jk_model.specs.Machine.{Machine, no_domains}
-use Rattle.jk_model.specs.Outside.{Tree, FileIs, Appends, AppendsPart}
+use Rattle.jk_model_machine.specs.Machine.{Machine, no_domains}
+use Rattle.jk_model.specs.Outside.{Tree, Ask, FileIs, Appends, AppendsPart, ◌/-◌}
 use Rattle.jk_model.specs.Output.{text_of}
-use Rattle.jk_model.specs.Run.{IsRun}
+use Rattle.jk_model_machine.specs.Run.{IsRun}
+use Rattle.jk_kernel.specs.Execution.{Executes}
 use Rattle.script_reader.specs.Events.{IsScript, IsAtFault}
+use Rattle.jkernel_program.specs.Asked.{ask_for_script, AsksForEvents, AsksForFolder}
 use Rattle.jkernel_program.specs.Calls.{IsCall}
 use Rattle.jkernel_program.specs.Loading.{Opens}
 use Rattle.jkernel_program.specs.Messages.{usage_text, fault_text, read_text, write_text, memory_text}
@@ -44,7 +46,7 @@ LacksScript (Some tree) words =
 pub record RunsTo (tree : Option Tree) (root : List ℕ) (events : List Event) (k : ℕ) (lines : List Line) : Type 0 where
   pub within : k ≤ length events
   pub last : Machine
-  pub run : IsRun (Opens tree root) no_domains (take k events) lines last
+  pub run : IsRun Executes (Opens tree root) no_domains (take k events) lines last
 
 -- Done: all events were run, and the text of their lines went out.
 pub record IsDone (tree : Option Tree) (words : List (List ℕ)) (old new : Option (List ℕ)) : Type 0 where
@@ -65,8 +67,9 @@ pub record IsStopped (tree : Option Tree) (words : List (List ℕ)) (old new : O
   pub runs : RunsTo tree root events k lines
   pub text : AppendsPart old new (text_of lines)
 
--- Stopped before a `domain` event: the whole text of the events before it went out.
-pub record IsStoppedBefore (tree : Option Tree) (words : List (List ℕ)) (old new : Option (List ℕ)) : Type 0 where
+-- Stopped at a `domain` event: the whole text of the events before it went out, and what was asked last is what that
+-- event asked for.
+pub record IsStoppedBefore (tree : Option Tree) (words : List (List ℕ)) (old new : Option (List ℕ)) (asked asked' : List Ask) : Type 0 where
   pub root : List ℕ
   pub events : List Event
   pub has : HasEvents tree words root events
@@ -77,6 +80,36 @@ pub record IsStoppedBefore (tree : Option Tree) (words : List (List ℕ)) (old n
   pub lines : List Line
   pub runs : RunsTo tree root events k lines
   pub text : Appends old new (text_of lines)
+  pub before : List Ask
+  pub asked_before : AsksForEvents root (take k events) before
+  pub at_last : List Ask
+  pub asked_at_last : AsksForFolder (root /- name) at_last
+  pub something : at_last ≢ []
+  pub asks : asked' ≡ asked ++ ask_for_script has.script ∷ (before ++ at_last)
+
+-- Nothing but the script was asked for, and nothing went out.
+pub record IsUnread (words : List (List ℕ)) (old new : Option (List ℕ)) (asked asked' : List Ask) : Type 0 where
+  pub root : List ℕ
+  pub script : List ℕ
+  pub call : IsCall words root script
+  pub quiet : new ≡ old
+  pub asks : asked' ≡ asked ++ ask_for_script script ∷ []
+
+-- What was asked for: with words that are no call nothing; else the script, and for its events, where it has any,
+-- what they ask for.
+pub record AsksForRun (tree : Option Tree) (words : List (List ℕ)) (asked asked' : List Ask) : Type 0 where
+  pub root : List ℕ
+  pub script : List ℕ
+  pub call : IsCall words root script
+  pub events : List Event
+  pub of_script : (events ≡ []) ⊎ HasEvents tree words root events
+  pub more : List Ask
+  pub for_events : AsksForEvents root events more
+  pub asks : asked' ≡ asked ++ ask_for_script script ∷ more
+
+abbrev pub Asks : Option Tree → List (List ℕ) → List Ask → List Ask → Type 0
+Asks tree words asked asked' =
+    (((root : List ℕ) (script : List ℕ) → IsCall words root script → ⊥) × (asked' ≡ asked)) ⊎ AsksForRun tree words asked asked'
 
 -- What was said on the error sink, by the status. At a script that is refused it is that script's fault.
 abbrev pub Says : Option Tree → List (List ℕ) → Option (List ℕ) → Option (List ℕ) → Status → Type 0
@@ -86,3 +119,12 @@ Says tree words old new ScriptRefused = (fault : ScriptFault) × HasFault tree w
 Says tree words old new ReadFault = Appends old new read_text
 Says tree words old new WriteFault = Appends old new write_text
 Says tree words old new OutOfMemory = Appends old new memory_text
+
+-- Of that a part went out, from the front on.
+abbrev pub BeginsToSay : Option Tree → List (List ℕ) → Option (List ℕ) → Option (List ℕ) → Status → Type 0
+BeginsToSay tree words old new Done = AppendsPart old new []
+BeginsToSay tree words old new Usage = AppendsPart old new usage_text
+BeginsToSay tree words old new ScriptRefused = (fault : ScriptFault) × HasFault tree words fault × AppendsPart old new (fault_text fault)
+BeginsToSay tree words old new ReadFault = AppendsPart old new read_text
+BeginsToSay tree words old new WriteFault = AppendsPart old new write_text
+BeginsToSay tree words old new OutOfMemory = AppendsPart old new memory_text

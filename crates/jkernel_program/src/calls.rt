@@ -1,4 +1,4 @@
-//! The words behind the program's name.
+//! The words after the program's name.
 
 ghost use Rattle.std.specs.Prelude.{◌≡◌, ℕ, List, map, string_bytes, MatchOption, Bool, IsTrue, ◌↔◌};
 ghost use Rattle.jkernel_program.specs.Calls.{IsCall, is_option};

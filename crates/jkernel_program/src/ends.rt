@@ -1,7 +1,7 @@
 //! How a run ends, and what is said of it.
 
 ghost use Rattle.std.specs.Prelude.{◌≡◌, ◌++◌, ◌∷◌, [], OnOk, OnErr};
-ghost use Rattle.jk_model.specs.Outside.{Appends, HasRisen};
+ghost use Rattle.jk_model.specs.Outside.{Appends, AppendsPart, HasRisen};
 ghost use Rattle.jkernel_program.specs.Ends.{message_of, status_of};
 ghost use Rattle.jkernel_program.specs.Messages.{kind_text, fault_text};
 
@@ -67,6 +67,8 @@ fn stop_text(stop: Stop) -> &'static [u8]
 fn say_fault<E: Sink>(err: &mut E, line: u32, kind: FaultKind) -> Result<(), SinkFailed>
     ensures ok { OnOk result
         (Appends (E.bytes err.old) (E.bytes err.new) (fault_text (record { line = line; kind = kind }))) }
+    ensures part { OnErr result
+        (AppendsPart (E.bytes err.old) (E.bytes err.new) (fault_text (record { line = line; kind = kind }))) }
     ensures cause { OnErr result (HasRisen (E.faults err.old) (E.faults err.new)) }
 {
     write_line(
@@ -83,6 +85,8 @@ fn say_fault<E: Sink>(err: &mut E, line: u32, kind: FaultKind) -> Result<(), Sin
 /// Says how a run ended.
 fn say<E: Sink>(err: &mut E, end: End) -> Result<(), SinkFailed>
     ensures ok { OnOk result (Appends (E.bytes err.old) (E.bytes err.new) (message_of end)) }
+    ensures part { OnErr result
+        (AppendsPart (E.bytes err.old) (E.bytes err.new) (message_of end)) }
     ensures cause { OnErr result (HasRisen (E.faults err.old) (E.faults err.new)) }
 {
     match end {
@@ -96,10 +100,11 @@ fn say<E: Sink>(err: &mut E, end: End) -> Result<(), SinkFailed>
     }
 }
 
-/// Says how a run ended. A sink that fails changes nothing.
+/// Says how a run ended, once. A sink that fails changes nothing, and has a part of the message, from the front on.
 pub fn report<E: Sink>(err: &mut E, end: End)
-    ensures { (HasRisen (E.faults err.old) (E.faults err.new) → ⊥)
+    ensures whole { (HasRisen (E.faults err.old) (E.faults err.new) → ⊥)
         → Appends (E.bytes err.old) (E.bytes err.new) (message_of end) }
+    ensures part { AppendsPart (E.bytes err.old) (E.bytes err.new) (message_of end) }
 {
     let _ = say(err, end);
 }

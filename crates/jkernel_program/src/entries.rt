@@ -6,11 +6,13 @@ ghost use Rattle.jkernel_program.specs.Loading.{HasOneClass, IsOneClass, is_allo
 
 use jk_model::Entry;
 
-/// Whether a folder may have this entry: a file, and no `resolver.txt`.
+/// Whether a folder may have this entry: a file directly in it, and no `resolver.txt`.
 fn is_allowed_entry(entry: &Entry) -> bool
     ensures { result ≡ is_allowed entry.now }
 {
-    !entry.folder && entry.name.as_slice() != b"resolver.txt".as_slice()
+    !entry.folder
+        && !(entry.name.as_slice().contains(&b'/'))
+        && entry.name.as_slice() != b"resolver.txt".as_slice()
 }
 
 /// Whether an entry has the name of a class file.

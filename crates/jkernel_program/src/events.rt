@@ -1,37 +1,36 @@
 //! The events of a script, one by one and all of them.
 
-ghost use Rattle.std.specs.Prelude.{◌≡◌, ℕ, ◌+◌, ◌<◌, ◌≤◌, ◌^◌, ◌-◌, List, [], length, OnOk, OnErr};
+ghost use Rattle.std.specs.Prelude.{◌≡◌, ℕ, ◌+◌, ◌<◌, ◌≤◌, ◌^◌, ◌-◌, List, [], length, OnOk, OnErr, Err, IsSome};
 ghost use Rattle.std.specs.List.{AllByRecursion};
 ghost use Rattle.jk_model.specs.declared.output.Line.{Line};
-ghost use Rattle.jk_model.specs.declared.script.Event.TheVariants.{Start, Turn};
-ghost use Rattle.jk_model.specs.Machine.{Machine};
 ghost use Rattle.jk_model.specs.Outside.{Appends, AppendsPart, HasRisen, NeverFalls};
 ghost use Rattle.jk_model.specs.Output.{text_of};
-ghost use Rattle.jk_model.specs.Run.{Turns};
-ghost use Rattle.jkernel_program.specs.Events.{IsBuilt, EventEnds, RunEnds};
-ghost use Rattle.jkernel_program.specs.Loading.{Opens, OpensSomehow};
+ghost use Rattle.jk_model_machine.specs.Machine.{Machine, no_domains};
+ghost use Rattle.jk_model_machine.specs.Run.{Turns};
+ghost use Rattle.jk_model_machine.specs.Starts.{Starts};
+ghost use Rattle.jk_kernel.specs.Execution.{Executes};
+ghost use Rattle.jkernel_program.specs.Events.{IsBuilt, IsPrinted, EventEnds, EventAsks, RunEnds, RunAsks, moment};
+ghost use Rattle.jkernel_program.specs.Loading.{Opens};
 
-use crate::domains::open_domain;
+use crate::opening::open_domain;
 use crate::stop::Stop;
 use jk_kernel::{EventAnswer, Kernel};
 use jk_model::{Bytes, Event};
 use jk_outside::{Files, Sink, SinkFailed};
 use std::alloc::Global;
 
-/// So many steps of one thread. The steps behind its end are none.
+/// So many steps of one thread. Those after its end are none.
 fn turn<S: Sink>(
     kernel: &mut Kernel,
     thread: u32,
     steps: u32,
     out: &mut S,
 ) -> Result<(), SinkFailed>
-    ensures ok { OnOk result ((lines : List Line) × Turns steps kernel.old thread lines kernel.new
+    ensures ok { OnOk result ((lines : List Line) × Turns Executes steps kernel.old thread lines kernel.new
         × Appends (S.bytes out.old) (S.bytes out.new) (text_of lines)) }
-    ensures failed { OnErr result ((lines : List Line) × (last : Machine) × Turns steps kernel.old thread lines last
+    ensures failed { OnErr result ((lines : List Line) × (last : Machine) × Turns Executes steps kernel.old thread lines last
         × AppendsPart (S.bytes out.old) (S.bytes out.new) (text_of lines)
         × HasRisen (S.faults out.old) (S.faults out.new)) }
-    ensures bounds { (kernel.new.domains ≡ kernel.old.domains)
-        × (kernel.new.next_thread ≡ kernel.old.next_thread) × (kernel.new.next_segment ≡ kernel.old.next_segment) }
     ensures faults { NeverFalls (S.faults out.old) (S.faults out.new) }
 {
     for _ in 0..steps {
@@ -50,10 +49,8 @@ fn turn_thread<S: Sink>(
     steps: u32,
     out: &mut S,
 ) -> Result<(), Stop>
-    ensures ends { (files files' : ℕ) → EventEnds OpensSomehow (Turn thread steps) kernel.old kernel.new
-        (S.bytes out.old) (S.bytes out.new) files files' (S.faults out.old) (S.faults out.new) result }
-    ensures bounds { (kernel.new.domains ≡ kernel.old.domains)
-        × (kernel.new.next_thread ≡ kernel.old.next_thread) × (kernel.new.next_segment ≡ kernel.old.next_segment) }
+    ensures ends { IsPrinted (Turns Executes steps kernel.old thread) kernel.new
+        (S.bytes out.old) (S.bytes out.new) (S.faults out.old) (S.faults out.new) result }
     ensures faults { NeverFalls (S.faults out.old) (S.faults out.new) }
 {
     match turn(kernel, thread, steps, out) {
@@ -73,10 +70,8 @@ fn start_thread<S: Sink>(
     requires no_words { words.now ≡ [] }
     requires thread { kernel.old.next_thread < 2 ^ 31 }
     requires segment { kernel.old.next_segment < 2 ^ 64 - 1 }
-    ensures ends { (files files' : ℕ) → EventEnds OpensSomehow (Start name.now class.now words.now) kernel.old kernel.new
-        (S.bytes out.old) (S.bytes out.new) files files' (S.faults out.old) (S.faults out.new) result }
-    ensures bounds { (kernel.new.domains ≡ kernel.old.domains)
-        × (kernel.new.next_thread ≤ kernel.old.next_thread + 1) × (kernel.new.next_segment ≤ kernel.old.next_segment + 1) }
+    ensures ends { IsPrinted (Starts kernel.old name.now class.now words.now) kernel.new
+        (S.bytes out.old) (S.bytes out.new) (S.faults out.old) (S.faults out.new) result }
     ensures faults { NeverFalls (S.faults out.old) (S.faults out.new) }
 {
     match kernel.start(name, class, words, out) {
@@ -99,10 +94,11 @@ fn happen<F: Files, S: Sink>(
     requires domains { length kernel.old.domains < 2 ^ 31 }
     requires thread { kernel.old.next_thread < 2 ^ 31 }
     requires segment { kernel.old.next_segment < 2 ^ 64 - 1 }
-    ensures ends { EventEnds (Opens (F.tree files.old) root.now) event.now kernel.old kernel.new
-        (S.bytes out.old) (S.bytes out.new) (F.faults files.old) (F.faults files.new) (S.faults out.old) (S.faults out.new) result }
-    ensures bounds { (length kernel.new.domains ≤ length kernel.old.domains + 1)
-        × (kernel.new.next_thread ≤ kernel.old.next_thread + 1) × (kernel.new.next_segment ≤ kernel.old.next_segment + 1) }
+    ensures ends { EventEnds (Opens (F.tree files.old) root.now) event.now
+        (moment kernel.old (S.bytes out.old) (S.faults out.old) (F.asked files.old) (F.faults files.old))
+        (moment kernel.new (S.bytes out.new) (S.faults out.new) (F.asked files.new) (F.faults files.new)) result }
+    ensures asks { EventAsks root.now event.now (F.asked files.old) (F.asked files.new) result }
+    ensures calm { (result ≡ Err Stop.ReadFault → ⊥) → IsSome (F.tree files.old) → F.faults files.new ≡ F.faults files.old }
     ensures stays { F.tree files.new ≡ F.tree files.old }
     ensures files_faults { NeverFalls (F.faults files.old) (F.faults files.new) }
     ensures faults { NeverFalls (S.faults out.old) (S.faults out.new) }
@@ -136,15 +132,16 @@ pub fn run_events<F: Files, S: Sink>(
 ) -> Result<(), Stop>
     requires built { AllByRecursion IsBuilt events.now }
     requires few { length events.now ≤ 65536 }
-    ensures ends { RunEnds (Opens (F.tree files.old) root.now) events.now
-        (S.bytes out.old) (S.bytes out.new) (F.faults files.old) (F.faults files.new) (S.faults out.old) (S.faults out.new) result }
+    ensures ends { RunEnds root.now (Opens (F.tree files.old) root.now) events.now
+        (moment no_domains (S.bytes out.old) (S.faults out.old) (F.asked files.old) (F.faults files.old))
+        (moment no_domains (S.bytes out.new) (S.faults out.new) (F.asked files.new) (F.faults files.new)) result }
+    ensures asks { RunAsks root.now events.now (F.asked files.old) (F.asked files.new) }
+    ensures calm { (result ≡ Err Stop.ReadFault → ⊥) → IsSome (F.tree files.old) → F.faults files.new ≡ F.faults files.old }
     ensures stays { F.tree files.new ≡ F.tree files.old }
     ensures files_faults { NeverFalls (F.faults files.old) (F.faults files.new) }
     ensures faults { NeverFalls (S.faults out.old) (S.faults out.new) }
 {
-    let Ok(mut kernel) = Kernel::new(alloc) else {
-        return Err(Stop::OutOfMemory);
-    };
+    let mut kernel = Kernel::new(alloc);
     for event in events {
         happen(alloc, &mut kernel, root, event, files, out)?;
     }

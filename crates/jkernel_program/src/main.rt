@@ -2,13 +2,18 @@
 //! streams of the system.
 #![tactic(auto)]
 
+ghost use Rattle.std.specs.Prelude.{◌≡◌, ◌≢◌, [], None};
+ghost use Rattle.std.specs.IoError.{error_kind};
+ghost use Rattle.std.specs.declared.io.ErrorKind.TheVariants.{OutOfMemory as NoMemory};
+ghost use Rattle.jk_model.specs.Outside.{HasRisen};
+ghost use Rattle.jkernel_program.specs.Statuses.{Says, BeginsToSay};
+
 mod calls;
-mod domains;
 mod ends;
 mod entries;
 mod events;
 mod folders;
-mod lines;
+mod opening;
 mod paths;
 mod program;
 mod scripts;
@@ -23,7 +28,7 @@ use std::process::ExitCode;
 use std::{env, io};
 use stop::Stop;
 
-/// The words behind the program's name.
+/// The words after the program's name.
 fn words(rt: &HostRuntime) -> io::Result<Vec<String>> {
     let mut words = Vec::new(rt.alloc());
     for word in env::args(rt)?.skip(1) {
@@ -33,7 +38,13 @@ fn words(rt: &HostRuntime) -> io::Result<Vec<String>> {
 }
 
 /// What is said, and the status, where the words could not be read: they are no text, or memory ran out.
-fn not_read<E: Sink>(error: &io::Error, err: &mut E) -> Status {
+fn not_read<E: Sink>(error: &io::Error, err: &mut E) -> Status
+    ensures memory { error_kind error.now ≡ NoMemory → result ≡ Status.OutOfMemory }
+    ensures usage { error_kind error.now ≢ NoMemory → result ≡ Status.Usage }
+    ensures messages { (HasRisen (E.faults err.old) (E.faults err.new) → ⊥)
+        → Says None [] (E.bytes err.old) (E.bytes err.new) result }
+    ensures messages_part { BeginsToSay None [] (E.bytes err.old) (E.bytes err.new) result }
+{
     let end = if error.kind() == io::ErrorKind::OutOfMemory {
         End::Stopped(Stop::OutOfMemory)
     } else {

@@ -1,11 +1,16 @@
 //! The top call: words, files and two sinks in, a status out.
 
-ghost use Rattle.std.specs.Prelude.{◌≡◌, ◌⊎◌, ℕ, List, map, string_bytes};
-ghost use Rattle.jk_model.specs.Outside.{HasRisen, NeverFalls};
+ghost use Rattle.std.specs.Prelude.{◌≡◌, ◌⊎◌, ℕ, List, map, string_bytes, IsSome};
+ghost use Rattle.jk_model.specs.Outside.{HasNoFile, HasLongFile, HasRisen, NeverFalls};
+ghost use Rattle.jk_model.specs.Script.{MAX_BYTES};
+ghost use Rattle.jk_model.specs.declared.script.FaultKind.TheVariants.{NotYet};
 ghost use Rattle.script_reader.specs.Events.{IsScript, IsAtFault};
 ghost use Rattle.jkernel_program.specs.Calls.{IsCall};
+ghost use Rattle.jkernel_program.specs.declared.stop.Stop.TheVariants.{ReadFault};
 ghost use Rattle.jkernel_program.specs.Ends.{EndsSo, EndsWell, EndsRefused, HasText, IsNoCall};
-ghost use Rattle.jkernel_program.specs.Statuses.{HasFault, LacksScript, IsDone, IsStopped, IsStoppedBefore, Says};
+ghost use Rattle.jk_model_machine.specs.Machine.{no_domains};
+ghost use Rattle.jkernel_program.specs.Events.{moment};
+ghost use Rattle.jkernel_program.specs.Statuses.{HasFault, LacksScript, IsDone, IsStopped, IsStoppedBefore, IsUnread, Asks, Says, BeginsToSay};
 
 use crate::calls::call_of;
 use crate::ends::{End, report};
@@ -18,9 +23,18 @@ use std::alloc::Global;
 
 /// Runs what the words say, and says nothing of it.
 fn run<F: Files, S: Sink>(alloc: Global, words: &[String], files: &mut F, out: &mut S) -> End
-    ensures ends { EndsSo (F.tree files.old) (map string_bytes words.now) (S.bytes out.old) (S.bytes out.new)
-        (F.faults files.old) (F.faults files.new) (S.faults out.old) (S.faults out.new) result }
+    ensures ends { EndsSo (F.tree files.old) (map string_bytes words.now)
+        (moment no_domains (S.bytes out.old) (S.faults out.old) (F.asked files.old) (F.faults files.old))
+        (moment no_domains (S.bytes out.new) (S.faults out.new) (F.asked files.new) (F.faults files.new)) result }
+    ensures asks { Asks (F.tree files.old) (map string_bytes words.now) (F.asked files.old) (F.asked files.new) }
+    ensures calm { (result ≡ End.Stopped ReadFault → ⊥) → IsSome (F.tree files.old)
+        → F.faults files.new ≡ F.faults files.old }
     ensures no_call { IsNoCall (map string_bytes words.now) → result ≡ End.Usage }
+    ensures missing { (root script : List ℕ) → IsCall (map string_bytes words.now) root script
+        → HasNoFile (F.tree files.old) script → result ≡ End.Stopped ReadFault }
+    ensures over { (root script : List ℕ) → IsCall (map string_bytes words.now) root script
+        → HasLongFile (F.tree files.old) script MAX_BYTES
+        → (result ≡ End.Refused (record { line = 0; kind = NotYet })) ⊎ (result ≡ End.Stopped ReadFault) }
     ensures script { (root script text : List ℕ) (events : List Event) → IsCall (map string_bytes words.now) root script
         → HasText (F.tree files.old) script text → IsScript text events
         → EndsWell (F.faults files.old) (F.faults files.new) (S.faults out.old) (S.faults out.new) result }
@@ -59,9 +73,16 @@ pub fn jkernel<F: Files, S: Sink, E: Sink>(
         → IsStopped (F.tree files.old) (map string_bytes words.now) (S.bytes out.old) (S.bytes out.new) }
     ensures early_memory { result ≡ Status.OutOfMemory → (S.bytes out.new ≡ S.bytes out.old)
         ⊎ IsStopped (F.tree files.old) (map string_bytes words.now) (S.bytes out.old) (S.bytes out.new) }
-    ensures early_read { result ≡ Status.ReadFault → (S.bytes out.new ≡ S.bytes out.old)
-        ⊎ IsStoppedBefore (F.tree files.old) (map string_bytes words.now) (S.bytes out.old) (S.bytes out.new) }
+    ensures early_read { result ≡ Status.ReadFault
+        → IsUnread (map string_bytes words.now) (S.bytes out.old) (S.bytes out.new) (F.asked files.old) (F.asked files.new)
+        ⊎ IsStoppedBefore (F.tree files.old) (map string_bytes words.now) (S.bytes out.old) (S.bytes out.new)
+        (F.asked files.old) (F.asked files.new) }
     ensures early_none { (result ≡ Status.Usage) ⊎ (result ≡ Status.ScriptRefused) → S.bytes out.new ≡ S.bytes out.old }
+
+    // The files are asked for nothing but the script, and what the `domain` events need of their folders.
+    ensures asks { Asks (F.tree files.old) (map string_bytes words.now) (F.asked files.old) (F.asked files.new) }
+    // No call of told files failed that did not end the run.
+    ensures calm { (result ≡ Status.ReadFault → ⊥) → IsSome (F.tree files.old) → F.faults files.new ≡ F.faults files.old }
 
     // Each status other than the good one has its cause.
     ensures causes_usage { result ≡ Status.Usage → IsNoCall (map string_bytes words.now) }
@@ -71,6 +92,12 @@ pub fn jkernel<F: Files, S: Sink, E: Sink>(
     ensures causes_fault { (root script text : List ℕ) (fault : ScriptFault) → IsCall (map string_bytes words.now) root script
         → HasText (F.tree files.old) script text → IsAtFault text fault → (HasRisen (F.faults files.old) (F.faults files.new) → ⊥)
         → (result ≡ Status.ScriptRefused) ⊎ (result ≡ Status.OutOfMemory) }
+    // Of a missing script, and of one that has too many bytes, it is said even where no memory is left.
+    ensures causes_missing { (root script : List ℕ) → IsCall (map string_bytes words.now) root script
+        → HasNoFile (F.tree files.old) script → result ≡ Status.ReadFault }
+    ensures causes_over { (root script : List ℕ) → IsCall (map string_bytes words.now) root script
+        → HasLongFile (F.tree files.old) script MAX_BYTES
+        → (result ≡ Status.ScriptRefused) ⊎ (result ≡ Status.ReadFault) }
     ensures causes_read { result ≡ Status.ReadFault
         → HasRisen (F.faults files.old) (F.faults files.new) ⊎ LacksScript (F.tree files.old) (map string_bytes words.now) }
     ensures causes_write { result ≡ Status.WriteFault → HasRisen (S.faults out.old) (S.faults out.new) }
@@ -84,6 +111,7 @@ pub fn jkernel<F: Files, S: Sink, E: Sink>(
     // What is said of the run, unless the error sink fails.
     ensures messages { (HasRisen (E.faults err.old) (E.faults err.new) → ⊥)
         → Says (F.tree files.old) (map string_bytes words.now) (E.bytes err.old) (E.bytes err.new) result }
+    ensures messages_part { BeginsToSay (F.tree files.old) (map string_bytes words.now) (E.bytes err.old) (E.bytes err.new) result }
 {
     let end = run(alloc, words, files, out);
     report(err, end);

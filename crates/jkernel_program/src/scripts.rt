@@ -1,9 +1,10 @@
 //! The script that the words name.
 
-ghost use Rattle.std.specs.Prelude.{◌≡◌, ℕ, ◌≤◌, List, length, IfOk};
+ghost use Rattle.std.specs.Prelude.{◌≡◌, ℕ, ◌≤◌, ◌⊎◌, List, [], ◌∷◌, ◌++◌, length, IfOk, Err, IsSome};
 ghost use Rattle.std.specs.List.{AllByRecursion};
-ghost use Rattle.jk_model.specs.Outside.{NeverFalls};
+ghost use Rattle.jk_model.specs.Outside.{HasNoFile, HasLongFile, NeverFalls};
 ghost use Rattle.script_reader.specs.Events.{IsScript, IsAtFault};
+ghost use Rattle.jkernel_program.specs.Asked.{ask_for_script};
 ghost use Rattle.jkernel_program.specs.Ends.{HasText, ScriptEnds, AnswersScript, AnswersFault};
 ghost use Rattle.jkernel_program.specs.Events.{IsBuilt};
 
@@ -33,6 +34,13 @@ pub fn script_at<F: Files>(alloc: Global, files: &mut F, path: &str) -> Result<L
         → AnswersScript (F.faults files.old) (F.faults files.new) result }
     ensures fault { (text : List ℕ) (f : ScriptFault) → HasText (F.tree files.old) path.now text → IsAtFault text f
         → AnswersFault f (F.faults files.old) (F.faults files.new) result }
+    // Want of memory is no answer where the tree tells another.
+    ensures missing { HasNoFile (F.tree files.old) path.now → result ≡ Err (End.Stopped Stop.ReadFault) }
+    ensures over { HasLongFile (F.tree files.old) path.now 1048576
+        → (result ≡ Err (End.Refused (record { line = 0; kind = FaultKind.NotYet }))) ⊎ (result ≡ Err (End.Stopped Stop.ReadFault)) }
+    ensures asks { F.asked files.new ≡ F.asked files.old ++ ask_for_script path.now ∷ [] }
+    ensures calm { (result ≡ Err (End.Stopped Stop.ReadFault) → ⊥) → IsSome (F.tree files.old)
+        → F.faults files.new ≡ F.faults files.old }
     ensures stays { F.tree files.new ≡ F.tree files.old }
     ensures faults { NeverFalls (F.faults files.old) (F.faults files.new) }
 {

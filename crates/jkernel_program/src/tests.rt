@@ -159,3 +159,67 @@ fn fault_names_its_line(rt: HostRuntime) -> Result<(), Fail> {
     assert!(rt; end.err.bytes() == b"jkernel: script line 2: NotYet\n".as_slice());
     Ok(())
 }
+
+/// Runs a script that starts a thread before it opens a domain, over files whose call of this number fails.
+fn run_failing(rt: &impl Abort, alloc: Global, call: u32) -> Result<Outcome, OutOfMemory> {
+    let mut files = MemoryFiles::new(alloc);
+    add(rt, &mut files, "root/hello/Hello.class", &HELLO);
+    add(
+        rt,
+        &mut files,
+        "script",
+        b"start a B\ndomain hello\nturn 1\n",
+    );
+    files.fail_at(call)?;
+    let mut words = Vec::new(alloc);
+    words.push(String::from_str(alloc, "root")?)?;
+    words.push(String::from_str(alloc, "script")?)?;
+    let mut out = MemorySink::with_room(alloc, 1000, &[])?;
+    let mut err = MemorySink::with_room(alloc, 1000, &[])?;
+    let status = jkernel(alloc, words.as_slice(), &mut files, &mut out, &mut err);
+    Ok(Outcome { status, out, err })
+}
+
+#[test]
+fn each_failing_call_ends_the_run(rt: HostRuntime) -> Result<(), Fail> {
+    // The script, the folder and the class file are read in this order, and nothing after them.
+    let before = b"* start a refused S1\n".as_slice();
+    for (call, status, out, err) in [
+        (
+            1,
+            Status::ReadFault,
+            b"".as_slice(),
+            b"jkernel: cannot read\n".as_slice(),
+        ),
+        (
+            2,
+            Status::ReadFault,
+            before,
+            b"jkernel: cannot read\n".as_slice(),
+        ),
+        (
+            3,
+            Status::ReadFault,
+            before,
+            b"jkernel: cannot read\n".as_slice(),
+        ),
+        (
+            4,
+            Status::Done,
+            b"* start a refused S1\n* domain hello loaded\n".as_slice(),
+            b"".as_slice(),
+        ),
+    ] {
+        let end = run_failing(&rt, rt.alloc(), call)?;
+        assert!(rt; end.status == status, "the status where call {call} fails");
+        assert!(rt;
+            end.out.bytes() == out,
+            "the output where call {call} fails"
+        );
+        assert!(rt;
+            end.err.bytes() == err,
+            "the message where call {call} fails"
+        );
+    }
+    Ok(())
+}

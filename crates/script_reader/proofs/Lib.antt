@@ -1,5 +1,6 @@
-mod WordLemmas
-mod LineLemmas
-mod SayLemmas
-mod ScriptLemmas
-mod NumberLemmas
+-- Lemmas on the words, lines and numbers of scripts, and on what they say.
+mod DigitsWriteNumbers
+mod FirstLineAndRest
+mod FirstWordAndRest
+mod LinesSayOneList
+mod OneScriptOrFault

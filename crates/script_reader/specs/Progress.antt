@@ -15,7 +15,7 @@ pub record IsCounted (p : Progress) : Type 0 where
   pub domains : count_by is_domain p.events ≡ (if p.has_domain then 1 else 0)
   pub starts : count_by is_start p.events ≡ (if p.has_start then 1 else 0)
 
--- the events that follow are put behind, or else they are too many there
+-- the events that follow are put after those so far, or else there would be too many
 abbrev pub Puts : Progress → List Event → Progress → Type 0
 Puts old more new = IsCounted new × (new.events ≡ old.events ++ more)
 

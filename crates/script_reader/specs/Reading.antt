@@ -17,7 +17,7 @@ IsMeaning line (Line.Event event) = Say (line ∷ []) (event ∷ [])
 IsMeaning line Line.AtFault = (events : List Event) → Say (line ∷ []) events → ⊥
 
 -- A word is as long as a number below 2 ^ 32 may be, and has no needless zero in front.
-pub record HasForm (word : List ℕ) : Type 0 where
+pub record MayBeNumeral (word : List ℕ) : Type 0 where
   pub some : 0 < length word
   pub short : length word ≤ 10
   pub no_zero : slice_index word 0 ≡ 48 → length word ≡ 1

@@ -74,7 +74,7 @@ fn is_name(word: &[u8]) -> bool
     !word.is_empty() && word.len() <= MAX_NAME && has_name_bytes(word)
 }
 
-/// The event of a line `domain NAME`, by what stands behind its first word.
+/// The event of a line `domain NAME`, by what follows its first word.
 fn domain_event(alloc: Global, rest: &[u8]) -> Result<Option<Event>, OutOfMemory>
     ensures { IfOk result (Finds (codes "domain" ∷ script.words rest.now)) }
 {
@@ -89,7 +89,7 @@ fn domain_event(alloc: Global, rest: &[u8]) -> Result<Option<Event>, OutOfMemory
     Ok(Some(Event::Domain { name, quotas }))
 }
 
-/// The event of a line `start NAME CLASS`, by what stands behind its first word.
+/// The event of a line `start NAME CLASS`, by what follows its first word.
 fn start_event(alloc: Global, rest: &[u8]) -> Result<Option<Event>, OutOfMemory>
     ensures { IfOk result (Finds (codes "start" ∷ script.words rest.now)) }
 {
@@ -109,7 +109,7 @@ fn start_event(alloc: Global, rest: &[u8]) -> Result<Option<Event>, OutOfMemory>
 }
 
 /// The number of steps that a word writes, or `None` where it writes none that a line may give.
-#[tactic(auto, using(crate::proofs::SayLemmas::number_one))]
+#[tactic(auto, using(crate::proofs::LinesSayOneList::number_one))]
 fn steps_of(word: &[u8]) -> Option<u32>
     ensures { MatchOption result ((n : ℕ) → script.IsNumber word.now n → 1 ≤ n → n ≤ 1000000000 → ⊥) (λ n. script.IsNumber word.now n × (1 ≤ n) × (n ≤ 1000000000)) }
 {
@@ -120,7 +120,7 @@ fn steps_of(word: &[u8]) -> Option<u32>
     Some(steps)
 }
 
-/// The event of a line `turn T` or `turn T N`, by what stands behind its first word.
+/// The event of a line `turn T` or `turn T N`, by what follows its first word.
 fn turn_event(rest: &[u8]) -> Option<Event>
     ensures { Finds (codes "turn" ∷ script.words rest.now) result }
 {
@@ -136,7 +136,7 @@ fn turn_event(rest: &[u8]) -> Option<Event>
     Some(Event::Turn { thread, steps })
 }
 
-/// The event that a line with words stands for, by its first word and what stands behind that.
+/// The event that a line with words stands for, by its first word and what follows that.
 /// `None` where there is no such event.
 fn event_of(alloc: Global, command: &[u8], rest: &[u8]) -> Result<Option<Event>, OutOfMemory>
     ensures { IfOk result (Finds (command.now ∷ script.words rest.now)) }
@@ -150,7 +150,7 @@ fn event_of(alloc: Global, command: &[u8], rest: &[u8]) -> Result<Option<Event>,
 }
 
 /// What a line stands for.
-#[tactic(auto, using(crate::proofs::SayLemmas::blank_says, crate::proofs::SayLemmas::comment_says, crate::proofs::SayLemmas::event_says, crate::proofs::SayLemmas::nothing_says, crate::proofs::SayLemmas::bad_byte_says))]
+#[tactic(auto, using(crate::proofs::LinesSayOneList::blank_says, crate::proofs::LinesSayOneList::comment_says, crate::proofs::LinesSayOneList::event_says, crate::proofs::LinesSayOneList::nothing_says, crate::proofs::LinesSayOneList::bad_byte_says))]
 pub(crate) fn meaning_of(alloc: Global, line: &[u8]) -> Result<LineMeaning, OutOfMemory>
     ensures { IfOk result (IsMeaning line.now) }
 {

@@ -3,7 +3,7 @@
 ghost use Rattle.std.specs.Prelude.{◌≡◌, ℕ, ◌+◌, ◌<◌, ◌≤◌, ◌^◌, length, MatchBool, MatchOption};
 ghost use Rattle.std.specs.Str.Parse.{AllDigits, digits_value};
 ghost use Rattle.jk_model.specs.Script.{IsNumber};
-ghost use Rattle.script_reader.specs.Reading.{HasForm};
+ghost use Rattle.script_reader.specs.Reading.{MayBeNumeral};
 
 /// The most digits that a number below 2 to the 32nd has.
 const MAX_DIGITS: usize = 10;
@@ -24,8 +24,8 @@ fn value_of(digits: &[u8]) -> Option<u64>
 }
 
 /// Whether a word is as long as a number may be, and has no needless zero in front.
-fn has_form(word: &[u8]) -> bool
-    ensures { MatchBool result (HasForm word.now) (¬ (HasForm word.now)) }
+fn may_be_numeral(word: &[u8]) -> bool
+    ensures { MatchBool result (MayBeNumeral word.now) (¬ (MayBeNumeral word.now)) }
 {
     !word.is_empty() && word.len() <= MAX_DIGITS && (word.len() == 1 || word[0] != b'0')
 }
@@ -34,7 +34,7 @@ fn has_form(word: &[u8]) -> bool
 pub(crate) fn number_of(word: &[u8]) -> Option<u32>
     ensures { MatchOption result ((n : ℕ) → n < 2 ^ 32 → IsNumber word.now n → ⊥) (λ n. IsNumber word.now n) }
 {
-    if !has_form(word) {
+    if !may_be_numeral(word) {
         return None;
     }
     let value = value_of(word)?;

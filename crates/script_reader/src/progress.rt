@@ -8,7 +8,7 @@ use jk_model::{Event, List, OutOfMemory};
 use std::alloc::Global;
 use std::mem;
 
-/// The events so far, and which kinds that a script has once are among them.
+/// The events so far, and whether a domain and a start are among them.
 #[derive(Debug, Drop)]
 pub(crate) struct Progress {
     pub(crate) events: List<Event>,
@@ -29,7 +29,7 @@ impl Progress {
         }
     }
 
-    /// Puts an event behind those so far, and answers whether it may stand there.
+    /// Puts an event after those so far, and answers whether it may stand there.
     fn take(&mut self, event: Event) -> Result<bool, OutOfMemory>
         requires { IsCounted self.old }
         ensures { IfOk result (Takes self.old event self.new) }

@@ -2,7 +2,7 @@
 
 ghost use Rattle.std.specs.Prelude.{◌≡◌, ◌≤◌, ◌⊎◌, List, length, IfOk, MatchResult, Err};
 ghost use Rattle.script_reader.specs.Events.{IsScript, IsAtFault};
-ghost use Rattle.script_reader.specs.Answer.{IsAnswer};
+ghost use Rattle.script_reader.specs.EventsOrFault.{IsAnswer};
 
 use crate::progress::Progress;
 use crate::words::next_line;
@@ -47,7 +47,7 @@ fn fault_at(line: u32) -> ScriptError
     ScriptError::Fault(ScriptFault { line, kind })
 }
 
-/// The events of bytes of which there are few enough, or the first line at fault.
+/// The events of bytes that are no more than a script may have, or the first line at fault.
 fn read_lines(alloc: Global, bytes: &[u8]) -> Result<List<Event>, ScriptError>
     requires { length bytes.now ≤ 1048576 }
     ensures { IsAnswer bytes.now result }

@@ -1,5 +1,5 @@
 use Rattle.std.proofs.Common.{arith}
-use Rattle.extent_map.proofs.Same.{same_in}
+use Rattle.extent_map.proofs.SameInAnyOrder.{same_in}
 use Rattle.bench_calls.proofs.stores.return_at.Goals as goal
 
 pub give_back-requires : goal.give_back-requires

@@ -1,6 +1,6 @@
 -- The class file that was found is the one, and its name ends as that of a class file does.
 use Rattle.std.proofs.Common.{rules}
-use Rattle.jkernel_program.proofs.FolderLemmas.{one_is}
+use Rattle.jkernel_program.proofs.FoundFolders.{one_is}
 use Rattle.jkernel_program.proofs.entries.one_class.Goals as goal
 
 pub returns : goal.returns

@@ -1,50 +1,121 @@
 -- One more event, and an event that stops the run.
-use Rattle.std.proofs.Common.{◌∙◌, arith, subst, ℕ, Option, Err}
+use Rattle.std.proofs.Common.{◌∙◌, sym, arith, subst, Option, Err, Ok}
+use Rattle.std.specs.Prelude.{IsSome}
 use Rattle.std.proofs.lemmas.Result.{err_from_is_err_and}
-use Rattle.jk_model.specs.Run.{Happens}
 use Rattle.jk_model.specs.Outside.{Tree}
-use Rattle.jkernel_program.specs.Events.{EventEnds}
+use Rattle.jk_model.proofs.CountsNeverFall.{NeverFalls-after}
+use Rattle.jk_model_machine.specs.Machine.{no_domains}
+use Rattle.jkernel_program.specs.Events.{EventEnds, moment}
 use Rattle.jkernel_program.specs.Loading.{Opens}
-use Rattle.jkernel_program.proofs.EventLemmas.{goes_on, run_stops}
-use Rattle.jkernel_program.proofs.RunLemmas.{never_falls_then}
+use Rattle.jkernel_program.proofs.EventsInTurn.{counts_so_far, goes_on, run_stops, runs_whole, asks_so_far, asks_to_stop}
 use Rattle.jkernel_program.proofs.events.run_events.Goals as goal
 
 pub returns-in_err-happen-clause-ends : goal.returns-in_err-happen-clause-ends
 returns-in_err-happen-clause-ends g c =
-    let opens = Opens (g.F.Files.tree c.args.files.now) c.args.root.now in
-    let so_far = c.loop-event.invariant.run in
-    let old = g.S.Sink.bytes c.args.out.now in
-    let now = g.S.Sink.bytes c.loop-event.out in
-    let new = g.S.Sink.bytes c.happen.new.out in
-    let fa = g.F.Files.faults c.args.files.now in
-    let fb = g.F.Files.faults c.loop-event.files in
-    let fc = g.F.Files.faults c.happen.new.files in
-    let sa = g.S.Sink.faults c.args.out.now in
-    let sb = g.S.Sink.faults c.loop-event.out in
-    let sc = g.S.Sink.faults c.happen.new.out in
+    let t = g.F.Files.tree c.args.files.now in
+    let root = c.args.root.now in
     let exit = err_from_is_err_and c.from_residual.result c.from_residual.ensures.1 in
-    let ends = subst (λ (t : Option Tree). EventEnds (Opens t c.args.root.now) c.event-item.result c.loop-event.kernel c.happen.new.kernel now new fb fc sb sc (Err c.in_err-happen.field-0.0)) c.loop-event.invariant.stays c.in_err-happen.ensures.ends in
+    let ends = subst (λ (o : Option Tree). EventEnds (Opens o root) c.event-item.result
+    (moment c.loop-event.kernel (g.S.Sink.bytes c.loop-event.out) (g.S.Sink.faults c.loop-event.out) (g.F.Files.asked c.loop-event.files)
+    (g.F.Files.faults c.loop-event.files))
+    (moment c.happen.new.kernel (g.S.Sink.bytes c.happen.new.out) (g.S.Sink.faults c.happen.new.out) (g.F.Files.asked c.happen.new.files)
+    (g.F.Files.faults c.happen.new.files))
+    (Err c.in_err-happen.field-0.0)) c.loop-event.invariant.stays c.in_err-happen.ensures.ends in
     rw (exit.1, exit.2)
-    (run_stops opens c.args.events.now c.loop-event.event-index c.event-item.result c.loop-event.kernel c.happen.new.kernel old now new so_far.0 fa fb fc sa sb sc c.in_err-happen.field-0.0
-    c.loop-event-test.true c.event-item.is so_far.1 so_far.2 c.loop-event.invariant.files_faults c.loop-event.invariant.faults ends)
+    (run_stops root (Opens t root) c.args.events.now c.loop-event.event-index c.event-item.result
+    (moment no_domains (g.S.Sink.bytes c.args.out.now) (g.S.Sink.faults c.args.out.now) (g.F.Files.asked c.args.files.now) (g.F.Files.faults c.args.files.now))
+    (moment c.loop-event.kernel (g.S.Sink.bytes c.loop-event.out) (g.S.Sink.faults c.loop-event.out) (g.F.Files.asked c.loop-event.files)
+    (g.F.Files.faults c.loop-event.files))
+    (moment c.happen.new.kernel (g.S.Sink.bytes c.happen.new.out) (g.S.Sink.faults c.happen.new.out) (g.F.Files.asked c.happen.new.files)
+    (g.F.Files.faults c.happen.new.files))
+    c.in_err-happen.field-0.0 c.loop-event-test.true c.event-item.is c.loop-event.invariant.run c.loop-event.invariant.files_faults
+    c.loop-event.invariant.faults ends c.in_err-happen.ensures.asks)
+
+pub returns-in_err-happen-clause-asks : goal.returns-in_err-happen-clause-asks
+returns-in_err-happen-clause-asks g c =
+    asks_to_stop c.args.root.now (Opens (g.F.Files.tree c.args.files.now) c.args.root.now) c.args.events.now c.loop-event.event-index c.event-item.result
+    (moment no_domains (g.S.Sink.bytes c.args.out.now) (g.S.Sink.faults c.args.out.now) (g.F.Files.asked c.args.files.now) (g.F.Files.faults c.args.files.now))
+    (moment c.loop-event.kernel (g.S.Sink.bytes c.loop-event.out) (g.S.Sink.faults c.loop-event.out) (g.F.Files.asked c.loop-event.files)
+    (g.F.Files.faults c.loop-event.files))
+    (moment c.happen.new.kernel (g.S.Sink.bytes c.happen.new.out) (g.S.Sink.faults c.happen.new.out) (g.F.Files.asked c.happen.new.files)
+    (g.F.Files.faults c.happen.new.files))
+    (Err c.in_err-happen.field-0.0) c.loop-event-test.true c.event-item.is c.loop-event.invariant.run c.in_err-happen.ensures.asks
+
+pub returns-in_err-happen-clause-calm : goal.returns-in_err-happen-clause-calm
+returns-in_err-happen-clause-calm g c = λ no told.
+    let exit = err_from_is_err_and c.from_residual.result c.from_residual.ensures.1 in
+    let unread = rw (exit.1, exit.2) at no in
+    c.in_err-happen.ensures.calm unread (subst (λ (o : Option Tree). IsSome o) (sym c.loop-event.invariant.stays) told) ∙ c.loop-event.invariant.calm told
 
 pub loop-event-preserved : goal.loop-event-preserved
 loop-event-preserved g c =
-    let opens = Opens (g.F.Files.tree c.args.files.now) c.args.root.now in
-    let so_far = c.loop-event.invariant.run in
-    let ends = c.in_ok-happen.ensures.ends in
-    let happens = subst (λ (t : Option Tree). Happens (Opens t c.args.root.now) c.loop-event.kernel c.event-item.result ends.0 c.happen.new.kernel) c.loop-event.invariant.stays ends.1 in
-    let bounds = c.in_ok-happen.ensures.bounds in
-    let domains = c.loop-event.invariant.domains in
-    let thread = c.loop-event.invariant.thread in
-    let segment = c.loop-event.invariant.segment in
+    let t = g.F.Files.tree c.args.files.now in
+    let root = c.args.root.now in
+    let test = c.loop-event-test.true in
+    let ends = subst (λ (o : Option Tree). EventEnds (Opens o root) c.event-item.result
+    (moment c.loop-event.kernel (g.S.Sink.bytes c.loop-event.out) (g.S.Sink.faults c.loop-event.out) (g.F.Files.asked c.loop-event.files)
+    (g.F.Files.faults c.loop-event.files))
+    (moment c.happen.new.kernel (g.S.Sink.bytes c.happen.new.out) (g.S.Sink.faults c.happen.new.out) (g.F.Files.asked c.happen.new.files)
+    (g.F.Files.faults c.happen.new.files))
+    (Ok tt)) c.loop-event.invariant.stays c.in_ok-happen.ensures.ends in
     record {
-      run = goes_on opens c.args.events.now c.loop-event.event-index c.event-item.result c.loop-event.kernel c.happen.new.kernel (g.S.Sink.bytes c.args.out.now) (g.S.Sink.bytes c.loop-event.out) (g.S.Sink.bytes c.happen.new.out)
-          so_far.0 ends.0 c.loop-event-test.true c.event-item.is so_far.1 so_far.2 happens ends.2;
+      run = goes_on root (Opens t root) c.args.events.now c.loop-event.event-index c.event-item.result
+          (moment no_domains (g.S.Sink.bytes c.args.out.now) (g.S.Sink.faults c.args.out.now) (g.F.Files.asked c.args.files.now)
+          (g.F.Files.faults c.args.files.now))
+          (moment c.loop-event.kernel (g.S.Sink.bytes c.loop-event.out) (g.S.Sink.faults c.loop-event.out) (g.F.Files.asked c.loop-event.files)
+          (g.F.Files.faults c.loop-event.files))
+          (moment c.happen.new.kernel (g.S.Sink.bytes c.happen.new.out) (g.S.Sink.faults c.happen.new.out) (g.F.Files.asked c.happen.new.files)
+          (g.F.Files.faults c.happen.new.files))
+          tt test c.event-item.is c.loop-event.invariant.run ends c.in_ok-happen.ensures.asks;
+      within = omega arith;
       stays = c.in_ok-happen.ensures.stays ∙ c.loop-event.invariant.stays;
-      domains = omega (arith, bounds.0);
-      thread = omega (arith, bounds.1);
-      segment = omega (arith, bounds.2);
-      files_faults = never_falls_then (g.F.Files.faults c.args.files.now) (g.F.Files.faults c.loop-event.files) (g.F.Files.faults c.happen.new.files) c.loop-event.invariant.files_faults c.in_ok-happen.ensures.files_faults;
-      faults = never_falls_then (g.S.Sink.faults c.args.out.now) (g.S.Sink.faults c.loop-event.out) (g.S.Sink.faults c.happen.new.out) c.loop-event.invariant.faults c.in_ok-happen.ensures.faults;
+      calm = λ told. c.in_ok-happen.ensures.calm (λ e. absurd cc) (subst (λ (o : Option Tree). IsSome o) (sym c.loop-event.invariant.stays) told)
+          ∙ c.loop-event.invariant.calm told;
+      files_faults = NeverFalls-after (g.F.Files.faults c.args.files.now) (g.F.Files.faults c.loop-event.files) (g.F.Files.faults c.happen.new.files)
+          c.loop-event.invariant.files_faults c.in_ok-happen.ensures.files_faults;
+      faults = NeverFalls-after (g.S.Sink.faults c.args.out.now) (g.S.Sink.faults c.loop-event.out) (g.S.Sink.faults c.happen.new.out)
+          c.loop-event.invariant.faults c.in_ok-happen.ensures.faults;
     }
+
+pub returns-clause-ends : goal.returns-clause-ends
+returns-clause-ends g c =
+    runs_whole c.args.root.now (Opens (g.F.Files.tree c.args.files.now) c.args.root.now) c.args.events.now c.loop-event.event-index
+    (moment no_domains (g.S.Sink.bytes c.args.out.now) (g.S.Sink.faults c.args.out.now) (g.F.Files.asked c.args.files.now) (g.F.Files.faults c.args.files.now))
+    (moment c.loop-event.kernel (g.S.Sink.bytes c.loop-event.out) (g.S.Sink.faults c.loop-event.out) (g.F.Files.asked c.loop-event.files)
+    (g.F.Files.faults c.loop-event.files))
+    (omega arith) c.loop-event.invariant.within c.loop-event.invariant.run
+
+pub returns-clause-asks : goal.returns-clause-asks
+returns-clause-asks g c =
+    asks_so_far c.args.root.now (Opens (g.F.Files.tree c.args.files.now) c.args.root.now) c.args.events.now c.loop-event.event-index
+    (moment no_domains (g.S.Sink.bytes c.args.out.now) (g.S.Sink.faults c.args.out.now) (g.F.Files.asked c.args.files.now) (g.F.Files.faults c.args.files.now))
+    (moment c.loop-event.kernel (g.S.Sink.bytes c.loop-event.out) (g.S.Sink.faults c.loop-event.out) (g.F.Files.asked c.loop-event.files)
+    (g.F.Files.faults c.loop-event.files))
+    c.loop-event.invariant.run
+
+pub happen-requires-clause-domains : goal.happen-requires-clause-domains
+happen-requires-clause-domains g c =
+    let counts = counts_so_far (g.F.Files.tree c.args.files.now) c.args.root.now c.args.root.now c.args.events.now c.loop-event.event-index
+    (moment no_domains (g.S.Sink.bytes c.args.out.now) (g.S.Sink.faults c.args.out.now) (g.F.Files.asked c.args.files.now) (g.F.Files.faults c.args.files.now))
+    (moment c.loop-event.kernel (g.S.Sink.bytes c.loop-event.out) (g.S.Sink.faults c.loop-event.out) (g.F.Files.asked c.loop-event.files)
+    (g.F.Files.faults c.loop-event.files))
+    c.loop-event.invariant.run c.loop-event.invariant.within in
+    omega (arith, counts.0, c.loop-event.invariant.within, c.requires.few)
+
+pub happen-requires-clause-thread : goal.happen-requires-clause-thread
+happen-requires-clause-thread g c =
+    let counts = counts_so_far (g.F.Files.tree c.args.files.now) c.args.root.now c.args.root.now c.args.events.now c.loop-event.event-index
+    (moment no_domains (g.S.Sink.bytes c.args.out.now) (g.S.Sink.faults c.args.out.now) (g.F.Files.asked c.args.files.now) (g.F.Files.faults c.args.files.now))
+    (moment c.loop-event.kernel (g.S.Sink.bytes c.loop-event.out) (g.S.Sink.faults c.loop-event.out) (g.F.Files.asked c.loop-event.files)
+    (g.F.Files.faults c.loop-event.files))
+    c.loop-event.invariant.run c.loop-event.invariant.within in
+    omega (arith, counts.1, c.loop-event.invariant.within, c.requires.few)
+
+pub happen-requires-clause-segment : goal.happen-requires-clause-segment
+happen-requires-clause-segment g c =
+    let counts = counts_so_far (g.F.Files.tree c.args.files.now) c.args.root.now c.args.root.now c.args.events.now c.loop-event.event-index
+    (moment no_domains (g.S.Sink.bytes c.args.out.now) (g.S.Sink.faults c.args.out.now) (g.F.Files.asked c.args.files.now) (g.F.Files.faults c.args.files.now))
+    (moment c.loop-event.kernel (g.S.Sink.bytes c.loop-event.out) (g.S.Sink.faults c.loop-event.out) (g.F.Files.asked c.loop-event.files)
+    (g.F.Files.faults c.loop-event.files))
+    c.loop-event.invariant.run c.loop-event.invariant.within in
+    omega (arith, counts.2, c.loop-event.invariant.within, c.requires.few)

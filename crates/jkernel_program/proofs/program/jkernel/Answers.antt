@@ -2,10 +2,11 @@
 use Rattle.std.proofs.Common.{◌≡◌, ◌⊎◌, sym, subst}
 use Rattle.jkernel_program.specs.declared.status.Status.{Status}
 use Rattle.jkernel_program.specs.declared.status.Status.TheVariants.{ScriptRefused, OutOfMemory}
-use Rattle.jkernel_program.proofs.EndLemmas.{refused_status}
+use Rattle.jkernel_program.proofs.RunEndsSo.{refused_status}
 use Rattle.jkernel_program.proofs.program.jkernel.Goals as goal
 
 pub returns-clause-causes_fault : goal.returns-clause-causes_fault
 returns-clause-causes_fault g c = λ root script text fault call has at calm.
     subst (λ (s : Status). (s ≡ ScriptRefused) ⊎ (s ≡ OutOfMemory)) (sym c.status.ensures)
-    (refused_status fault (g.F.Files.faults c.args.files.now) (g.F.Files.faults c.run-end.new.files) c.run-end.result (c.run-end.ensures.fault root script text fault call has at) calm)
+    (refused_status fault (g.F.Files.faults c.args.files.now) (g.F.Files.faults c.run-end.new.files) c.run-end.result
+    (c.run-end.ensures.fault root script text fault call has at) calm)

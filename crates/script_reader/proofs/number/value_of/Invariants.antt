@@ -1,4 +1,5 @@
-use Rattle.script_reader.proofs.NumberLemmas.{ReadsDigits}
+-- The value is that of the digits up to the index.
+use Rattle.script_reader.proofs.DigitsWriteNumbers.{ReadsDigits}
 use Rattle.script_reader.proofs.number.value_of.Given as goal
 
 abbrev pub invariant-loop-digit : goal.invariant-loop-digit

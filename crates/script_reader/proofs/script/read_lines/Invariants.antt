@@ -1,5 +1,6 @@
+-- The events so far are those of the lines before the rest, and the rest gets shorter.
 use Rattle.std.proofs.Common.{length}
-use Rattle.script_reader.proofs.ScriptLemmas.{IsSoFar}
+use Rattle.script_reader.proofs.OneScriptOrFault.{IsSoFar}
 use Rattle.script_reader.proofs.script.read_lines.Given as goal
 
 abbrev pub invariant-loop-line : goal.invariant-loop-line

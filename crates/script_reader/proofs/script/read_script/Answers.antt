@@ -1,5 +1,5 @@
 -- What one answer says of each script and each fault.
-use Rattle.script_reader.proofs.ScriptLemmas.{few_events, only_script, only_fault}
+use Rattle.script_reader.proofs.OneScriptOrFault.{few_events, only_script, only_fault}
 use Rattle.script_reader.proofs.script.read_script.Goals as goal
 
 pub returns-clause-few : goal.returns-clause-few

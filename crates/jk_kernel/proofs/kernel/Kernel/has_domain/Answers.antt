@@ -1,4 +1,4 @@
-use Rattle.jk_kernel.proofs.StateLemmas.{live_domain-found, is_some-found}
+use Rattle.jk_kernel.proofs.KeptRecords.{live_domain-found, is_some-found}
 use Rattle.jk_kernel.proofs.kernel.Kernel.has_domain.Goals as goal
 
 pub returns : goal.returns

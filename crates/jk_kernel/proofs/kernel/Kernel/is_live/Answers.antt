@@ -1,4 +1,4 @@
-use Rattle.jk_kernel.proofs.StateLemmas.{is_live-frame_at}
+use Rattle.jk_kernel.proofs.KeptRecords.{is_live-frame_at}
 use Rattle.jk_kernel.proofs.kernel.Kernel.is_live.Goals as goal
 
 pub returns : goal.returns
