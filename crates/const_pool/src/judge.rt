@@ -7,7 +7,7 @@ ghost use Rattle.jk_model.specs.Text.{IsModifiedUtf8};
 ghost use Rattle.const_pool.specs.Answer.{IsJudgment, IsPoolJudgment};
 
 use jk_model::PoolEntry;
-use unit_text::bad_form;
+use unit_text::bad_encoding;
 
 /// Why an entry isn't good. The numbers are pool indices.
 #[derive(Clone, Copy, Debug)]
@@ -59,7 +59,7 @@ fn is_text(text: &[u8]) -> bool
     requires { length text.now < 2 ^ 16 }
     ensures { IsTrue result ↔ IsModifiedUtf8 text.now }
 {
-    bad_form(text).is_none()
+    bad_encoding(text).is_none()
 }
 
 /// Judges the entry at an index.

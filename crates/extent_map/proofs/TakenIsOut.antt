@@ -194,8 +194,8 @@ long_enough runs n at run found is =
     let long : n ≤ (get_or runs at run).pages = found.1 run in
     omega (arith, long, ap (λ x. x.pages) (is.1 run))
 
-short_behind : (runs : List Extent) (n at : ℕ) → AreShort n (drop (at + 1) runs) → AreShort n (drop (suc at) runs)
-short_behind runs n at h =
+short_after : (runs : List Extent) (n at : ℕ) → AreShort n (drop (at + 1) runs) → AreShort n (drop (suc at) runs)
+short_after runs n at h =
     let P : ℕ → Type 0 = λ k. AreShort n (drop k runs) in
     let e : at + 1 ≡ suc at = omega arith in
     subst P e h
@@ -205,7 +205,7 @@ pub cut_place : (map : RunState) (out : List Extent) (at n first : ℕ) (new : L
     → IsFirstFit map.pages out n first
 cut_place map out at n first new is h some found (run, here, e, cases) =
     let P : ℕ → Type 0 = λ x. IsFirstFit map.pages out n x in
-    subst P (sym e) (first_fit map out run at n is h here some (long_enough map.free n at run found here) (short_behind map.free n at found.2))
+    subst P (sym e) (first_fit map out run at n is h here some (long_enough map.free n at run found here) (short_after map.free n at found.2))
 
 in_cut : (runs : List Extent) (n at p : ℕ) (run : Extent) → IsAt runs at run → n ≤ run.pages → run.first ≤ p → p < run.first + n → InRun runs p
 in_cut runs n at p run is le from to =

@@ -34,8 +34,8 @@ pub none-none : (pool : List PoolEntry) (attributes : List Attribute) (x : List 
 none-none pool attributes x h (before, a, after, e, p, body, k, l) = HasNoCode-at pool before a after (subst (HasNoCode pool) e h) p
 
 -- a second Code after the first, so not one
-pub two-none : (pool : List PoolEntry) (attributes behind behind2 : List Attribute) (x y z : List ℕ) → BeginsCode pool attributes x behind
-    → BeginsCode pool behind y behind2 → HasOneCode pool attributes z → ⊥
-two-none pool attributes behind behind2 x y z (before, a, e, p, body, h) second (before', b, after, e', p', body', h', k') =
-    let same = split-unique pool before before' a b behind after (sym e ∙ e') p p' h h' in
-    HasNoCode-at pool second.0 second.1 behind2 (subst (HasNoCode pool) (sym same.1 ∙ second.2) k') second.3
+pub two-none : (pool : List PoolEntry) (attributes later last : List Attribute) (x y z : List ℕ) → BeginsCode pool attributes x later
+    → BeginsCode pool later y last → HasOneCode pool attributes z → ⊥
+two-none pool attributes later last x y z (before, a, e, p, body, h) second (before', b, after, e', p', body', h', k') =
+    let same = split-unique pool before before' a b later after (sym e ∙ e') p p' h h' in
+    HasNoCode-at pool second.0 second.1 last (subst (HasNoCode pool) (sym same.1 ∙ second.2) k') second.3

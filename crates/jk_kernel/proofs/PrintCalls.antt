@@ -54,12 +54,12 @@ PrintsFirst-unique pool code t r u s h k =
 
 -- ---- Code that begins with these operands: what it prints first is what they name.
 
-pub PrintsFirst-at : (pool : List PoolEntry) (code : List ℕ) (p : Print) (rest text behind : List ℕ) → IsPrint p → code ≡ print_bytes p ++ rest
-    → PrintsFirst pool code text behind
+pub PrintsFirst-at : (pool : List PoolEntry) (code : List ℕ) (p : Print) (rest text left : List ℕ) → IsPrint p → code ≡ print_bytes p ++ rest
+    → PrintsFirst pool code text left
     → IsFieldAt pool p.out (codes "java/lang/System") (codes "out") (codes "Ljava/io/PrintStream;") × IsStringAt pool p.string text
     × IsMethodAt pool p.print (codes "java/io/PrintStream") (codes "println") (codes "(Ljava/lang/String;)V")
-PrintsFirst-at pool code p rest text behind fits e h =
-    let same = Print-unique h.print p behind rest h.fits fits (sym h.parts ∙ e) in (
+PrintsFirst-at pool code p rest text left fits e h =
+    let same = Print-unique h.print p left rest h.fits fits (sym h.parts ∙ e) in (
       subst (λ (n : ℕ). IsFieldAt pool n (codes "java/lang/System") (codes "out") (codes "Ljava/io/PrintStream;")) same.0.out h.field,
       subst (λ (n : ℕ). IsStringAt pool n text) same.0.string h.literal,
       subst (λ (n : ℕ). IsMethodAt pool n (codes "java/io/PrintStream") (codes "println") (codes "(Ljava/lang/String;)V")) same.0.print h.method,
@@ -90,33 +90,33 @@ Prints-first pool code text texts (out, string, print, rest, out_fits, string_fi
 
 -- ---- The walk.
 
-back-more : (pool : List PoolEntry) (texts : List (List ℕ)) (rest text behind : List ℕ) (all more : List (List ℕ)) → PrintsFirst pool rest text behind
-    → all ≡ texts ++ more → Prints pool rest more → (later : List (List ℕ)) × (all ≡ (texts ++ text ∷ []) ++ later) × Prints pool behind later
-back-more pool texts rest text behind all [] h e k = absurd (print_not_return h.print behind (sym k ∙ h.parts))
-back-more pool texts rest text behind all (t ∷ ts) h e k =
+back-more : (pool : List PoolEntry) (texts : List (List ℕ)) (rest text left : List ℕ) (all more : List (List ℕ)) → PrintsFirst pool rest text left
+    → all ≡ texts ++ more → Prints pool rest more → (later : List (List ℕ)) × (all ≡ (texts ++ text ∷ []) ++ later) × Prints pool left later
+back-more pool texts rest text left all [] h e k = absurd (print_not_return h.print left (sym k ∙ h.parts))
+back-more pool texts rest text left all (t ∷ ts) h e k =
     let (r, first, later) = Prints-first pool rest t ts k in
-    let same = PrintsFirst-unique pool rest t r text behind first h in
+    let same = PrintsFirst-unique pool rest t r text left first h in
     (ts, e ∙ ap (λ (x : List ℕ). texts ++ x ∷ ts) same.0 ∙ sym (append_assoc texts (text ∷ []) ts), subst (λ (x : List ℕ). Prints pool x ts) same.1 later)
 
-pub PrintsAfter-more : (pool : List PoolEntry) (code : List ℕ) (texts : List (List ℕ)) (rest text behind : List ℕ) → PrintsAfter pool code texts rest
-    → PrintsFirst pool rest text behind
-    → PrintsAfter pool code (texts ++ text ∷ []) behind
-PrintsAfter-more pool code texts rest text behind h k = record {
-  goes_on = λ more p. rw append_assoc (h.goes_on (text ∷ more) (Prints-cons pool rest text behind more k p));
-  goes_back = λ all p. let b = h.goes_back all p in back-more pool texts rest text behind all b.0 k b.1 b.2;
+pub PrintsAfter-more : (pool : List PoolEntry) (code : List ℕ) (texts : List (List ℕ)) (rest text left : List ℕ) → PrintsAfter pool code texts rest
+    → PrintsFirst pool rest text left
+    → PrintsAfter pool code (texts ++ text ∷ []) left
+PrintsAfter-more pool code texts rest text left h k = record {
+  goes_on = λ more p. rw append_assoc (h.goes_on (text ∷ more) (Prints-cons pool rest text left more k p));
+  goes_back = λ all p. let b = h.goes_back all p in back-more pool texts rest text left all b.0 k b.1 b.2;
 }
 
 pub PrintsAfter-end : (pool : List PoolEntry) (code : List ℕ) (texts : List (List ℕ)) (rest : List ℕ) → PrintsAfter pool code texts rest → rest ≡ 0xb1 ∷ []
     → Prints pool code texts
 PrintsAfter-end pool code texts rest h e = subst (λ (x : List (List ℕ)). Prints pool code x) (append-nil texts) (h.goes_on [] e)
 
-none-more : (pool : List PoolEntry) (rest : List ℕ) (more : List (List ℕ)) → ((text behind : List ℕ) → PrintsFirst pool rest text behind → ⊥)
+none-more : (pool : List PoolEntry) (rest : List ℕ) (more : List (List ℕ)) → ((text left : List ℕ) → PrintsFirst pool rest text left → ⊥)
     → (rest ≡ 0xb1 ∷ [] → ⊥) → Prints pool rest more → ⊥
 none-more pool rest [] none other h = other h
 none-more pool rest (t ∷ ts) none other h = let f = Prints-first pool rest t ts h in none t f.0 f.1
 
 pub PrintsAfter-none : (pool : List PoolEntry) (code : List ℕ) (texts : List (List ℕ)) (rest : List ℕ) (all : List (List ℕ)) → PrintsAfter pool code texts rest
-    → ((text behind : List ℕ) → PrintsFirst pool rest text behind → ⊥) → (rest ≡ 0xb1 ∷ [] → ⊥) → Prints pool code all → ⊥
+    → ((text left : List ℕ) → PrintsFirst pool rest text left → ⊥) → (rest ≡ 0xb1 ∷ [] → ⊥) → Prints pool code all → ⊥
 PrintsAfter-none pool code texts rest all h none other p = let b = h.goes_back all p in none-more pool rest b.0 none other b.2
 
 -- Code prints one list of texts.

@@ -37,9 +37,9 @@ HasNoCode pool attributes = AllByRecursion (λ b. IsCodeAttribute pool b → ⊥
 
 -- The first Code has this body, and these attributes follow it.
 abbrev pub BeginsCode : List PoolEntry → List Attribute → List ℕ → List Attribute → Type 0
-BeginsCode pool attributes body behind =
+BeginsCode pool attributes body after =
     (before : List Attribute) × (a : Attribute)
-    × (attributes ≡ before ++ a ∷ behind) × IsCodeAttribute pool a × (a.body ≡ body) × HasNoCode pool before
+    × (attributes ≡ before ++ a ∷ after) × IsCodeAttribute pool a × (a.body ≡ body) × HasNoCode pool before
 
 -- a call of `println` with a literal, as bytes
 abbrev pub print_bytes : Print → List ℕ

@@ -11,64 +11,64 @@ use Rattle.jk_model.specs.ClassFile.{u4, IsU4}
 
 -- ---- Opcodes: what one means, and which operands follow it.
 
-pub data Form : Type 0 where
+pub data Format : Type 0 where
   -- itself, without operands
-  AsIs : Form
+  AsIs : Format
   -- this opcode; the constant or local is its own opcode less this number
-  Short : ℕ → ℕ → Form
+  Short : ℕ → ℕ → Format
   -- bipush and sipush: sipush, with a signed constant of one byte, or of two
-  ByteConstant : Form
-  ShortConstant : Form
+  ByteConstant : Format
+  ShortConstant : Format
   -- itself, with a local of one byte
-  LocalIndex : Form
+  LocalIndex : Format
   -- ldc: ldc_w, with a pool index of one byte
-  BytePoolIndex : Form
+  BytePoolIndex : Format
   -- itself, with a pool index of two bytes
-  PoolIndex : Form
+  PoolIndex : Format
   -- iinc: a local, and a signed step, of one byte each
-  Increment : Form
+  Increment : Format
   -- itself, with a signed offset of two bytes
-  Jump : Form
+  Jump : Format
   -- goto_w: goto, with a signed offset of four bytes
-  FarJump : Form
+  FarJump : Format
   -- invokeinterface: a pool index of two bytes, a count above 0, and a byte 0
-  InterfaceCall : Form
+  InterfaceCall : Format
   -- newarray: the code of what the elements are
-  ArrayOfKind : Form
+  ArrayOfKind : Format
   -- multianewarray: a pool index of two bytes, and a number of dimensions above 0
-  ManyDimensions : Form
-  TableSwitch : Form
-  LookupSwitch : Form
+  ManyDimensions : Format
+  TableSwitch : Format
+  LookupSwitch : Format
   -- wide: another opcode, with operands of two bytes each
-  Wide : Form
+  Wide : Format
   -- what is left out
-  FloatForm : Form
-  SubroutineForm : Form
-  MonitorForm : Form
+  FloatFormat : Format
+  SubroutineFormat : Format
+  MonitorFormat : Format
   -- no opcode at all
-  NoOpcode : Form
+  NoOpcode : Format
 
 -- a row is for the opcodes from its first to its last
 pub record Row (F : Type 0) : Type 0 where
   pub first : ℕ
   pub last : ℕ
-  pub form : F
+  pub format : F
 
 abbrev pub row : {F : Type 0} → ℕ → ℕ → F → Row F
-row first last form = record { first = first; last = last; form = form }
+row first last format = record { first = first; last = last; format = format }
 
--- the form of the row that an opcode is in, or this one, where it is in none
-abbrev pub form_among : {F : Type 0} → F → List (Row F) → ℕ → F
-form_among other rows op = unwrap_or (option_map (λ r. r.form) (find (λ r. nat_le r.first op && nat_le op r.last) rows)) other
+-- the format of the row that an opcode is in, or this one, where it is in none
+abbrev pub format_among : {F : Type 0} → F → List (Row F) → ℕ → F
+format_among other rows op = unwrap_or (option_map (λ r. r.format) (find (λ r. nat_le r.first op && nat_le op r.last) rows)) other
 
-abbrev pub rows : List (Row Form)
+abbrev pub rows : List (Row Format)
 rows =
     -- nop, aconst_null
     row 0x00 0x01 AsIs
     -- iconst_m1 to iconst_5; lconst_0, lconst_1; fconst_0 to dconst_1
     ∷ row 0x02 0x08 (Short 0x11 3)
     ∷ row 0x09 0x0a (Short 0x09 9)
-    ∷ row 0x0b 0x0f FloatForm
+    ∷ row 0x0b 0x0f FloatFormat
     -- bipush; sipush; ldc; ldc_w, ldc2_w
     ∷ row 0x10 0x10 ByteConstant
     ∷ row 0x11 0x11 ShortConstant
@@ -76,70 +76,70 @@ rows =
     ∷ row 0x13 0x14 PoolIndex
     -- iload, lload; fload, dload; aload
     ∷ row 0x15 0x16 LocalIndex
-    ∷ row 0x17 0x18 FloatForm
+    ∷ row 0x17 0x18 FloatFormat
     ∷ row 0x19 0x19 LocalIndex
     -- iload_0 to iload_3; lload_0 to lload_3; fload_0 to dload_3; aload_0 to aload_3
     ∷ row 0x1a 0x1d (Short 0x15 0x1a)
     ∷ row 0x1e 0x21 (Short 0x16 0x1e)
-    ∷ row 0x22 0x29 FloatForm
+    ∷ row 0x22 0x29 FloatFormat
     ∷ row 0x2a 0x2d (Short 0x19 0x2a)
     -- iaload, laload; faload, daload; aaload, baload, caload, saload
     ∷ row 0x2e 0x2f AsIs
-    ∷ row 0x30 0x31 FloatForm
+    ∷ row 0x30 0x31 FloatFormat
     ∷ row 0x32 0x35 AsIs
     -- istore, lstore; fstore, dstore; astore
     ∷ row 0x36 0x37 LocalIndex
-    ∷ row 0x38 0x39 FloatForm
+    ∷ row 0x38 0x39 FloatFormat
     ∷ row 0x3a 0x3a LocalIndex
     -- istore_0 to istore_3; lstore_0 to lstore_3; fstore_0 to dstore_3; astore_0 to astore_3
     ∷ row 0x3b 0x3e (Short 0x36 0x3b)
     ∷ row 0x3f 0x42 (Short 0x37 0x3f)
-    ∷ row 0x43 0x4a FloatForm
+    ∷ row 0x43 0x4a FloatFormat
     ∷ row 0x4b 0x4e (Short 0x3a 0x4b)
     -- iastore, lastore; fastore, dastore; aastore, bastore, castore, sastore
     ∷ row 0x4f 0x50 AsIs
-    ∷ row 0x51 0x52 FloatForm
+    ∷ row 0x51 0x52 FloatFormat
     ∷ row 0x53 0x56 AsIs
     -- pop, pop2, dup, dup_x1, dup_x2, dup2, dup2_x1, dup2_x2, swap
     ∷ row 0x57 0x5f AsIs
     -- add, sub, mul, div, rem, neg: each of int, long, float, double in this order
     ∷ row 0x60 0x61 AsIs
-    ∷ row 0x62 0x63 FloatForm
+    ∷ row 0x62 0x63 FloatFormat
     ∷ row 0x64 0x65 AsIs
-    ∷ row 0x66 0x67 FloatForm
+    ∷ row 0x66 0x67 FloatFormat
     ∷ row 0x68 0x69 AsIs
-    ∷ row 0x6a 0x6b FloatForm
+    ∷ row 0x6a 0x6b FloatFormat
     ∷ row 0x6c 0x6d AsIs
-    ∷ row 0x6e 0x6f FloatForm
+    ∷ row 0x6e 0x6f FloatFormat
     ∷ row 0x70 0x71 AsIs
-    ∷ row 0x72 0x73 FloatForm
+    ∷ row 0x72 0x73 FloatFormat
     ∷ row 0x74 0x75 AsIs
-    ∷ row 0x76 0x77 FloatForm
+    ∷ row 0x76 0x77 FloatFormat
     -- ishl, lshl, ishr, lshr, iushr, lushr, iand, land, ior, lor, ixor, lxor
     ∷ row 0x78 0x83 AsIs
     -- iinc
     ∷ row 0x84 0x84 Increment
     -- i2l; i2f, i2d; l2i; l2f to d2f; i2b, i2c, i2s
     ∷ row 0x85 0x85 AsIs
-    ∷ row 0x86 0x87 FloatForm
+    ∷ row 0x86 0x87 FloatFormat
     ∷ row 0x88 0x88 AsIs
-    ∷ row 0x89 0x90 FloatForm
+    ∷ row 0x89 0x90 FloatFormat
     ∷ row 0x91 0x93 AsIs
     -- lcmp; fcmpl to dcmpg
     ∷ row 0x94 0x94 AsIs
-    ∷ row 0x95 0x98 FloatForm
+    ∷ row 0x95 0x98 FloatFormat
     -- ifeq, ifne, iflt, ifge, ifgt, ifle; if_icmp in the same order; if_acmpeq, if_acmpne; goto
     ∷ row 0x99 0x9e Jump
     ∷ row 0x9f 0xa4 Jump
     ∷ row 0xa5 0xa6 Jump
     ∷ row 0xa7 0xa7 Jump
     -- jsr, ret
-    ∷ row 0xa8 0xa9 SubroutineForm
+    ∷ row 0xa8 0xa9 SubroutineFormat
     ∷ row 0xaa 0xaa TableSwitch
     ∷ row 0xab 0xab LookupSwitch
     -- ireturn, lreturn; freturn, dreturn; areturn, return
     ∷ row 0xac 0xad AsIs
-    ∷ row 0xae 0xaf FloatForm
+    ∷ row 0xae 0xaf FloatFormat
     ∷ row 0xb0 0xb1 AsIs
     -- getstatic, putstatic, getfield, putfield; invokevirtual, invokespecial, invokestatic
     ∷ row 0xb2 0xb5 PoolIndex
@@ -154,7 +154,7 @@ rows =
     -- checkcast, instanceof
     ∷ row 0xc0 0xc1 PoolIndex
     -- monitorenter, monitorexit
-    ∷ row 0xc2 0xc3 MonitorForm
+    ∷ row 0xc2 0xc3 MonitorFormat
     ∷ row 0xc4 0xc4 Wide
     ∷ row 0xc5 0xc5 ManyDimensions
     -- ifnull, ifnonnull
@@ -162,25 +162,25 @@ rows =
     -- goto_w
     ∷ row 0xc8 0xc8 FarJump
     -- jsr_w
-    ∷ row 0xc9 0xc9 SubroutineForm
+    ∷ row 0xc9 0xc9 SubroutineFormat
     ∷ []
 
-abbrev pub form_of : ℕ → Form
-form_of op = form_among NoOpcode rows op
+abbrev pub format_of : ℕ → Format
+format_of op = format_among NoOpcode rows op
 
 -- the opcodes that may follow wide, and what they mean there
-pub data WideForm : Type 0 where
+pub data WideFormat : Type 0 where
   -- itself, with a local of two bytes
-  WideLocal : WideForm
+  WideLocal : WideFormat
   -- iinc: a local, and a signed step, of two bytes each
-  WideIncrement : WideForm
+  WideIncrement : WideFormat
   -- what is left out
-  WideFloat : WideForm
-  WideSubroutine : WideForm
+  WideFloat : WideFormat
+  WideSubroutine : WideFormat
   -- wide doesn't stand before it
-  NotWide : WideForm
+  NotWide : WideFormat
 
-abbrev pub wide_rows : List (Row WideForm)
+abbrev pub wide_rows : List (Row WideFormat)
 wide_rows =
     row 0x15 0x16 WideLocal
     ∷ row 0x17 0x18 WideFloat
@@ -192,8 +192,8 @@ wide_rows =
     ∷ row 0xa9 0xa9 WideSubroutine
     ∷ []
 
-abbrev pub wide_form_of : ℕ → WideForm
-wide_form_of op = form_among NotWide wide_rows op
+abbrev pub wide_format_of : ℕ → WideFormat
+wide_format_of op = format_among NotWide wide_rows op
 
 -- ---- Operands.
 
@@ -284,12 +284,12 @@ pub record IsLookupSwitch (at op : ℕ) (bytes : List ℕ) (i : Instr) : Type 0 
 
 -- ---- Instructions. The bytes after an opcode, all of them, are its operands, and it is this instruction.
 
-abbrev pub WideMeans : WideForm → ℕ → ℕ → List ℕ → Instr → Type 0
+abbrev pub WideMeans : WideFormat → ℕ → ℕ → List ℕ → Instr → Type 0
 WideMeans WideLocal at op (m ∷ n ∷ []) i = i ≡ plain at op (pos (short m n)) (pos 0)
 WideMeans WideIncrement at op (k ∷ l ∷ m ∷ n ∷ []) i = i ≡ plain at op (pos (short k l)) (signed_short m n)
 WideMeans _ at op _ i = ⊥
 
-abbrev pub Means : Form → ℕ → ℕ → List ℕ → Instr → Type 0
+abbrev pub Means : Format → ℕ → ℕ → List ℕ → Instr → Type 0
 Means AsIs at op [] i = i ≡ plain at op (pos 0) (pos 0)
 Means (Short long first) at op [] i = i ≡ plain at long (pos op -ℤ pos first) (pos 0)
 Means ByteConstant at op (n ∷ []) i = i ≡ plain at 0x11 (cast_signed w8 n) (pos 0)
@@ -307,13 +307,13 @@ Means ArrayOfKind at op (kind ∷ []) i = IsKind kind × (i ≡ plain at op (pos
 Means ManyDimensions at op (m ∷ n ∷ dims ∷ []) i = (dims ≢ 0) × (i ≡ plain at op (pos (short m n)) (pos dims))
 Means TableSwitch at op operands i = IsTableSwitch at op operands i
 Means LookupSwitch at op operands i = IsLookupSwitch at op operands i
-Means Wide at op (widened ∷ operands) i = WideMeans (wide_form_of widened) at widened operands i
+Means Wide at op (widened ∷ operands) i = WideMeans (wide_format_of widened) at widened operands i
 Means _ at op _ i = ⊥
 
 -- the bytes, whose first is at this place, are this instruction
 abbrev pub IsInstr : ℕ → List ℕ → Instr → Type 0
 IsInstr at [] i = ⊥
-IsInstr at (op ∷ operands) i = Means (form_of op) at op operands i
+IsInstr at (op ∷ operands) i = Means (format_of op) at op operands i
 
 -- the bytes are these instructions, one after the other
 abbrev pub AreInstrs : ℕ → List ℕ → List Instr → Type 0
@@ -337,7 +337,7 @@ pub data Fault : Type 0 where
   Subroutine : Fault
   Monitor : Fault
 
-abbrev pub WideRefuses : WideForm → Fault → Type 0
+abbrev pub WideRefuses : WideFormat → Fault → Type 0
 WideRefuses WideLocal f = ⊥
 WideRefuses WideIncrement f = ⊥
 WideRefuses WideFloat f = f ≡ FloatOpcode
@@ -345,61 +345,61 @@ WideRefuses WideSubroutine f = f ≡ Subroutine
 WideRefuses NotWide f = f ≡ BadOperand
 
 -- the lowest key is above the highest
-pub record IsBadTable (at : ℕ) (behind : List ℕ) : Type 0 where
+pub record IsBadTable (at : ℕ) (after : List ℕ) : Type 0 where
   pub filling : List ℕ
   pub default : ℕ
   pub low : ℕ
   pub high : ℕ
   pub more : List ℕ
-  pub layout : behind ≡ filling ++ u4 default ++ u4 low ++ u4 high ++ more
+  pub layout : after ≡ filling ++ u4 default ++ u4 low ++ u4 high ++ more
   pub filled : length filling ≡ gap at
   pub numbers : IsU4 default × IsU4 low × IsU4 high
   pub order : signed_int high <ℤ signed_int low
 
 -- the number of pairs is negative
-pub record IsBadCount (at : ℕ) (behind : List ℕ) : Type 0 where
+pub record IsBadCount (at : ℕ) (after : List ℕ) : Type 0 where
   pub filling : List ℕ
   pub default : ℕ
   pub count : ℕ
   pub more : List ℕ
-  pub layout : behind ≡ filling ++ u4 default ++ u4 count ++ more
+  pub layout : after ≡ filling ++ u4 default ++ u4 count ++ more
   pub filled : length filling ≡ gap at
   pub numbers : IsU4 default × IsU4 count
   pub negative : signed_int count <ℤ pos 0
 
 -- a key isn't above the one before it
-pub record IsBadKey (at : ℕ) (behind : List ℕ) : Type 0 where
+pub record IsBadKey (at : ℕ) (after : List ℕ) : Type 0 where
   pub filling : List ℕ
   pub default : ℕ
   pub count : ℕ
   pub pairs : List (ℕ × ℕ)
   pub key : ℕ
   pub more : List ℕ
-  pub layout : behind ≡ filling ++ u4 default ++ u4 count ++ flat_map pair_bytes pairs ++ u4 key ++ more
+  pub layout : after ≡ filling ++ u4 default ++ u4 count ++ flat_map pair_bytes pairs ++ u4 key ++ more
   pub filled : length filling ≡ gap at
   pub numbers : IsU4 default × IsU4 count × AllByRecursion IsPair pairs × IsU4 key
   pub within : pos (length pairs) <ℤ signed_int count
   pub falls : Rises (keys pairs ++ signed_int key ∷ []) → ⊥
 
--- what follows an opcode of this form, or the opcode itself, shows this fault
-abbrev pub Refuses : Form → ℕ → List ℕ → Fault → Type 0
-Refuses NoOpcode at behind f = f ≡ IllegalOpcode
-Refuses FloatForm at behind f = f ≡ FloatOpcode
-Refuses SubroutineForm at behind f = f ≡ Subroutine
-Refuses MonitorForm at behind f = f ≡ Monitor
+-- what follows an opcode of this format, or the opcode itself, shows this fault
+abbrev pub Refuses : Format → ℕ → List ℕ → Fault → Type 0
+Refuses NoOpcode at after f = f ≡ IllegalOpcode
+Refuses FloatFormat at after f = f ≡ FloatOpcode
+Refuses SubroutineFormat at after f = f ≡ Subroutine
+Refuses MonitorFormat at after f = f ≡ Monitor
 Refuses InterfaceCall at (m ∷ n ∷ count ∷ []) f = (count ≡ 0) × (f ≡ BadOperand)
 Refuses InterfaceCall at (m ∷ n ∷ count ∷ last ∷ more) f = ((count ≡ 0) ⊎ (last ≢ 0)) × (f ≡ BadOperand)
 Refuses ArrayOfKind at (kind ∷ more) f =
     (IsFloatKind kind × (f ≡ FloatOpcode)) ⊎ ((IsKind kind → ⊥) × (IsFloatKind kind → ⊥) × (f ≡ BadOperand))
 Refuses ManyDimensions at (m ∷ n ∷ dims ∷ more) f = (dims ≡ 0) × (f ≡ BadOperand)
-Refuses TableSwitch at behind f = IsBadTable at behind × (f ≡ BadSwitch)
-Refuses LookupSwitch at behind f = (IsBadCount at behind ⊎ IsBadKey at behind) × (f ≡ BadSwitch)
-Refuses Wide at (widened ∷ more) f = WideRefuses (wide_form_of widened) f
+Refuses TableSwitch at after f = IsBadTable at after × (f ≡ BadSwitch)
+Refuses LookupSwitch at after f = (IsBadCount at after ⊎ IsBadKey at after) × (f ≡ BadSwitch)
+Refuses Wide at (widened ∷ more) f = WideRefuses (wide_format_of widened) f
 Refuses _ at _ f = ⊥
 
 abbrev pub Shows : ℕ → List ℕ → Fault → Type 0
 Shows at [] f = ⊥
-Shows at (op ∷ behind) f = Refuses (form_of op) at behind f
+Shows at (op ∷ after) f = Refuses (format_of op) at after f
 
 -- an instruction stands in front of these bytes
 abbrev pub BeginsWithInstr : ℕ → List ℕ → Type 0

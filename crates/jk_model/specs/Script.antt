@@ -1,6 +1,6 @@
--- The words of a script, and what its names and numbers are.
-use Rattle.std.specs.Prelude.{◌≡◌, ℕ, ◌≤◌, ◌||◌, ◌&&◌, Bool, false, not, IsTrue, List, [], ◌∷◌, length, filter, ◌==◌, nat_le, decimal, None}
-use Rattle.std.specs.List.{slice_split, list_all}
+-- The lines of a script and their words.
+use Rattle.std.specs.Prelude.{ℕ, ◌||◌, ◌&&◌, Bool, false, not, List, [], ◌∷◌, length, filter, ◌==◌, nat_le, None}
+use Rattle.std.specs.List.{slice_split}
 use Rattle.std.specs.Str.Lines.{lines}
 use Rattle.jk_model.specs.declared.script.Quotas.{Quotas}
 
@@ -42,18 +42,6 @@ is_empty_line line = length (words line) == 0 || is_comment (words line)
 abbrev pub is_name_byte : ℕ → Bool
 is_name_byte b =
     (nat_le 97 b && nat_le b 122) || (nat_le 65 b && nat_le b 90) || (nat_le 48 b && nat_le b 57) || b == 95 || b == 45
-
--- a domain's name: 1 to 32 of these
-abbrev pub IsName : List ℕ → Type 0
-IsName name = (1 ≤ length name) × (length name ≤ 32) × IsTrue (list_all is_name_byte name)
-
--- a class's name as a script writes it
-abbrev pub IsClassWord : List ℕ → Type 0
-IsClassWord class = (1 ≤ length class) × (length class ≤ 255)
-
--- A number is written in decimal digits, without a needless leading zero.
-abbrev pub IsNumber : List ℕ → ℕ → Type 0
-IsNumber word n = word ≡ decimal n
 
 -- what a `domain` line without options gives
 abbrev pub default_quotas : Quotas

@@ -26,12 +26,12 @@ IsModifiedUtf8 bytes = (units : List ℕ) × Spells bytes units
 
 -- the bytes of a unit stand in front
 abbrev pub BeginsWithUnit : List ℕ → Type 0
-BeginsWithUnit bytes = (form : List ℕ) × (u : ℕ) × (behind : List ℕ) × IsUnit form u × (bytes ≡ form ++ behind)
+BeginsWithUnit bytes = (front : List ℕ) × (u : ℕ) × (rest : List ℕ) × IsUnit front u × (bytes ≡ front ++ rest)
 
 -- Bytes stop being modified UTF-8 at this place: those in front of it spell units, one after the other,
 -- and there are bytes from there on, but they begin with no unit.
-abbrev pub IsBadForm : List ℕ → ℕ → Type 0
-IsBadForm bytes place =
+abbrev pub IsBadEncoding : List ℕ → ℕ → Type 0
+IsBadEncoding bytes place =
     (front : List ℕ) × (rest : List ℕ) × (units : List ℕ) × (bytes ≡ front ++ rest) × Spells front units
     × (length front ≡ place) × (rest ≢ []) × (BeginsWithUnit rest → ⊥)
 

@@ -4,7 +4,7 @@ use Rattle.std.proofs.lemmas.Bool.{false≢true}
 use Rattle.std.proofs.lemmas.Bool.Decides.{nat_tests, Decides-eqb}
 use Rattle.jk_model.specs.declared.instructions.Instr.{Instr}
 use Rattle.jk_model.specs.Instructions as def
-use Rattle.jk_model.specs.Instructions.{Form, Means, Refuses, plain, IsKind, IsFloatKind, WideForm, WideMeans, WideRefuses, wide_form_of}
+use Rattle.jk_model.specs.Instructions.{Format, Means, Refuses, plain, IsKind, IsFloatKind, WideFormat, WideMeans, WideRefuses, wide_format_of}
 use Rattle.jk_opcodes.specs.declared.errors.Stop.{Stop}
 use Rattle.jk_opcodes.specs.declared.errors.Stop.TheVariants as stops
 use Rattle.jk_opcodes.specs.Errors.{stop_of}
@@ -14,7 +14,7 @@ use Rattle.jk_opcodes.proofs.OperandsReadBack.{u2_again, u4_again}
 use Rattle.jk_opcodes.proofs.SameFormats.{same_wide_format}
 
 -- what may stop an instruction of a format
-abbrev pub StopsAt : Form → ℕ → List ℕ → Stop → Type 0
+abbrev pub StopsAt : Format → ℕ → List ℕ → Stop → Type 0
 StopsAt format at after stops.CutInstruction = Unit {0}
 StopsAt format at after stops.IllegalOpcode = Refuses format at after def.Fault.IllegalOpcode
 StopsAt format at after stops.BadSwitch = Refuses format at after def.Fault.BadSwitch
@@ -24,31 +24,31 @@ StopsAt format at after stops.Subroutine = Refuses format at after def.Fault.Sub
 StopsAt format at after stops.Monitor = Refuses format at after def.Fault.Monitor
 
 -- what reading an instruction of a format may give
-abbrev pub Sound : Form → ℕ → ℕ → List ℕ → Read → Type 0
+abbrev pub Sound : Format → ℕ → ℕ → List ℕ → Read → Type 0
 Sound format at op after (Ok x) = (front : List ℕ) × Means format at op front x.0 × (after ≡ front ++ x.1)
 Sound format at op after (Err stop) = StopsAt format at after stop
 
 -- ---- Constants, indices and jumps.
 
-pub byte_constant_sound : (at op : ℕ) (after : List ℕ) → Sound Form.ByteConstant at op after (byte_constant_at at after)
+pub byte_constant_sound : (at op : ℕ) (after : List ℕ) → Sound Format.ByteConstant at op after (byte_constant_at at after)
 unfolding byte_constant_at
 byte_constant_sound at op [] = tt
 byte_constant_sound at op (n ∷ rest) = (n ∷ [], refl, refl)
 
-pub byte_constant_again : (at op : ℕ) (front rest : List ℕ) (i : Instr) → Means Form.ByteConstant at op front i
+pub byte_constant_again : (at op : ℕ) (front rest : List ℕ) (i : Instr) → Means Format.ByteConstant at op front i
     → byte_constant_at at (front ++ rest) ≡ Ok (i, rest)
 unfolding byte_constant_at
 byte_constant_again at op [] rest i h = absurd h
 byte_constant_again at op (n ∷ []) rest i h = rw h refl
 byte_constant_again at op (n ∷ m ∷ more) rest i h = absurd h
 
-pub short_constant_sound : (at op : ℕ) (after : List ℕ) → Sound Form.ShortConstant at op after (short_constant_at at after)
+pub short_constant_sound : (at op : ℕ) (after : List ℕ) → Sound Format.ShortConstant at op after (short_constant_at at after)
 unfolding short_constant_at
 short_constant_sound at op [] = tt
 short_constant_sound at op (m ∷ []) = tt
 short_constant_sound at op (m ∷ n ∷ rest) = rw (u2_again m n rest) (m ∷ n ∷ [], refl, refl)
 
-pub short_constant_again : (at op : ℕ) (front rest : List ℕ) (i : Instr) → Means Form.ShortConstant at op front i
+pub short_constant_again : (at op : ℕ) (front rest : List ℕ) (i : Instr) → Means Format.ShortConstant at op front i
     → short_constant_at at (front ++ rest) ≡ Ok (i, rest)
 unfolding short_constant_at
 short_constant_again at op [] rest i h = absurd h
@@ -56,37 +56,37 @@ short_constant_again at op (m ∷ []) rest i h = absurd h
 short_constant_again at op (m ∷ n ∷ []) rest i h = rw (u2_again m n rest, h) refl
 short_constant_again at op (m ∷ n ∷ other ∷ more) rest i h = absurd h
 
-pub local_index_sound : (at op : ℕ) (after : List ℕ) → Sound Form.LocalIndex at op after (byte_index_at at op after)
+pub local_index_sound : (at op : ℕ) (after : List ℕ) → Sound Format.LocalIndex at op after (byte_index_at at op after)
 unfolding byte_index_at
 local_index_sound at op [] = tt
 local_index_sound at op (n ∷ rest) = (n ∷ [], refl, refl)
 
-pub local_index_again : (at op : ℕ) (front rest : List ℕ) (i : Instr) → Means Form.LocalIndex at op front i
+pub local_index_again : (at op : ℕ) (front rest : List ℕ) (i : Instr) → Means Format.LocalIndex at op front i
     → byte_index_at at op (front ++ rest) ≡ Ok (i, rest)
 unfolding byte_index_at
 local_index_again at op [] rest i h = absurd h
 local_index_again at op (n ∷ []) rest i h = rw h refl
 local_index_again at op (n ∷ other ∷ more) rest i h = absurd h
 
-pub byte_pool_index_sound : (at op : ℕ) (after : List ℕ) → Sound Form.BytePoolIndex at op after (byte_index_at at 0x13 after)
+pub byte_pool_index_sound : (at op : ℕ) (after : List ℕ) → Sound Format.BytePoolIndex at op after (byte_index_at at 0x13 after)
 unfolding byte_index_at
 byte_pool_index_sound at op [] = tt
 byte_pool_index_sound at op (n ∷ rest) = (n ∷ [], refl, refl)
 
-pub byte_pool_index_again : (at op : ℕ) (front rest : List ℕ) (i : Instr) → Means Form.BytePoolIndex at op front i
+pub byte_pool_index_again : (at op : ℕ) (front rest : List ℕ) (i : Instr) → Means Format.BytePoolIndex at op front i
     → byte_index_at at 0x13 (front ++ rest) ≡ Ok (i, rest)
 unfolding byte_index_at
 byte_pool_index_again at op [] rest i h = absurd h
 byte_pool_index_again at op (n ∷ []) rest i h = rw h refl
 byte_pool_index_again at op (n ∷ other ∷ more) rest i h = absurd h
 
-pub pool_index_sound : (at op : ℕ) (after : List ℕ) → Sound Form.PoolIndex at op after (short_index_at at op after)
+pub pool_index_sound : (at op : ℕ) (after : List ℕ) → Sound Format.PoolIndex at op after (short_index_at at op after)
 unfolding short_index_at
 pool_index_sound at op [] = tt
 pool_index_sound at op (m ∷ []) = tt
 pool_index_sound at op (m ∷ n ∷ rest) = rw (u2_again m n rest) (m ∷ n ∷ [], refl, refl)
 
-pub pool_index_again : (at op : ℕ) (front rest : List ℕ) (i : Instr) → Means Form.PoolIndex at op front i
+pub pool_index_again : (at op : ℕ) (front rest : List ℕ) (i : Instr) → Means Format.PoolIndex at op front i
     → short_index_at at op (front ++ rest) ≡ Ok (i, rest)
 unfolding short_index_at
 pool_index_again at op [] rest i h = absurd h
@@ -94,13 +94,13 @@ pool_index_again at op (m ∷ []) rest i h = absurd h
 pool_index_again at op (m ∷ n ∷ []) rest i h = rw (u2_again m n rest, h) refl
 pool_index_again at op (m ∷ n ∷ other ∷ more) rest i h = absurd h
 
-pub increment_sound : (at op : ℕ) (after : List ℕ) → Sound Form.Increment at op after (increment_at at op after)
+pub increment_sound : (at op : ℕ) (after : List ℕ) → Sound Format.Increment at op after (increment_at at op after)
 unfolding increment_at
 increment_sound at op [] = tt
 increment_sound at op (m ∷ []) = tt
 increment_sound at op (m ∷ n ∷ rest) = (m ∷ n ∷ [], refl, refl)
 
-pub increment_again : (at op : ℕ) (front rest : List ℕ) (i : Instr) → Means Form.Increment at op front i
+pub increment_again : (at op : ℕ) (front rest : List ℕ) (i : Instr) → Means Format.Increment at op front i
     → increment_at at op (front ++ rest) ≡ Ok (i, rest)
 unfolding increment_at
 increment_again at op [] rest i h = absurd h
@@ -108,20 +108,20 @@ increment_again at op (m ∷ []) rest i h = absurd h
 increment_again at op (m ∷ n ∷ []) rest i h = rw h refl
 increment_again at op (m ∷ n ∷ other ∷ more) rest i h = absurd h
 
-pub jump_sound : (at op : ℕ) (after : List ℕ) → Sound Form.Jump at op after (jump_at at op after)
+pub jump_sound : (at op : ℕ) (after : List ℕ) → Sound Format.Jump at op after (jump_at at op after)
 unfolding jump_at
 jump_sound at op [] = tt
 jump_sound at op (m ∷ []) = tt
 jump_sound at op (m ∷ n ∷ rest) = rw (u2_again m n rest) (m ∷ n ∷ [], refl, refl)
 
-pub jump_again : (at op : ℕ) (front rest : List ℕ) (i : Instr) → Means Form.Jump at op front i → jump_at at op (front ++ rest) ≡ Ok (i, rest)
+pub jump_again : (at op : ℕ) (front rest : List ℕ) (i : Instr) → Means Format.Jump at op front i → jump_at at op (front ++ rest) ≡ Ok (i, rest)
 unfolding jump_at
 jump_again at op [] rest i h = absurd h
 jump_again at op (m ∷ []) rest i h = absurd h
 jump_again at op (m ∷ n ∷ []) rest i h = rw (u2_again m n rest, h) refl
 jump_again at op (m ∷ n ∷ other ∷ more) rest i h = absurd h
 
-pub far_jump_sound : (at op : ℕ) (after : List ℕ) → Sound Form.FarJump at op after (far_jump_at at after)
+pub far_jump_sound : (at op : ℕ) (after : List ℕ) → Sound Format.FarJump at op after (far_jump_at at after)
 unfolding far_jump_at
 far_jump_sound at op [] = tt
 far_jump_sound at op (k ∷ []) = tt
@@ -129,7 +129,7 @@ far_jump_sound at op (k ∷ l ∷ []) = tt
 far_jump_sound at op (k ∷ l ∷ m ∷ []) = tt
 far_jump_sound at op (k ∷ l ∷ m ∷ n ∷ rest) = rw (u4_again k l m n rest) (k ∷ l ∷ m ∷ n ∷ [], refl, refl)
 
-pub far_jump_again : (at op : ℕ) (front rest : List ℕ) (i : Instr) → Means Form.FarJump at op front i → far_jump_at at (front ++ rest) ≡ Ok (i, rest)
+pub far_jump_again : (at op : ℕ) (front rest : List ℕ) (i : Instr) → Means Format.FarJump at op front i → far_jump_at at (front ++ rest) ≡ Ok (i, rest)
 unfolding far_jump_at
 far_jump_again at op [] rest i h = absurd h
 far_jump_again at op (k ∷ []) rest i h = absurd h
@@ -152,7 +152,7 @@ eq_cases a b =
     ]
 
 interface_call_long : (at op m n count last : ℕ) (more : List ℕ)
-    → Sound Form.InterfaceCall at op (m ∷ n ∷ count ∷ last ∷ more) (interface_call_at at op (m ∷ n ∷ count ∷ last ∷ more))
+    → Sound Format.InterfaceCall at op (m ∷ n ∷ count ∷ last ∷ more) (interface_call_at at op (m ∷ n ∷ count ∷ last ∷ more))
 unfolding interface_call_at
 interface_call_long at op m n count last more =
     elim (eq_cases count 0) [
@@ -163,7 +163,7 @@ interface_call_long at op m n count last more =
       ]
     ]
 
-pub interface_call_sound : (at op : ℕ) (after : List ℕ) → Sound Form.InterfaceCall at op after (interface_call_at at op after)
+pub interface_call_sound : (at op : ℕ) (after : List ℕ) → Sound Format.InterfaceCall at op after (interface_call_at at op after)
 unfolding interface_call_at
 interface_call_sound at op [] = tt
 interface_call_sound at op (m ∷ []) = tt
@@ -181,7 +181,7 @@ is_not a h = elim (eq_cases a 0) [ inl e ↦ absurd (h e.0) | inr e ↦ e.1 ]
 is_zero : (a : ℕ) → a ≡ 0 → eqb a 0 ≡ true
 is_zero a h = elim (eq_cases a 0) [ inl e ↦ e.1 | inr e ↦ absurd (e.0 h) ]
 
-pub interface_call_again : (at op : ℕ) (front rest : List ℕ) (i : Instr) → Means Form.InterfaceCall at op front i
+pub interface_call_again : (at op : ℕ) (front rest : List ℕ) (i : Instr) → Means Format.InterfaceCall at op front i
     → interface_call_at at op (front ++ rest) ≡ Ok (i, rest)
 unfolding interface_call_at
 interface_call_again at op [] rest i h = absurd h
@@ -192,7 +192,7 @@ interface_call_again at op (m ∷ n ∷ count ∷ last ∷ []) rest i h =
     rw (u2_again m n (count ∷ last ∷ rest), is_not count h.0, is_zero last h.1, h.2) refl
 interface_call_again at op (m ∷ n ∷ count ∷ last ∷ other ∷ more) rest i h = absurd h
 
-pub interface_call_refused : (at op : ℕ) (after : List ℕ) (f : def.Fault) → Refuses Form.InterfaceCall at after f
+pub interface_call_refused : (at op : ℕ) (after : List ℕ) (f : def.Fault) → Refuses Format.InterfaceCall at after f
     → interface_call_at at op after ≡ Err (stop_of f)
 unfolding interface_call_at
 interface_call_refused at op [] f h = absurd h
@@ -208,7 +208,7 @@ interface_call_refused at op (m ∷ n ∷ count ∷ last ∷ more) f h =
       ]
     ]
 
-pub many_dimensions_sound : (at op : ℕ) (after : List ℕ) → Sound Form.ManyDimensions at op after (many_dimensions_at at op after)
+pub many_dimensions_sound : (at op : ℕ) (after : List ℕ) → Sound Format.ManyDimensions at op after (many_dimensions_at at op after)
 unfolding many_dimensions_at
 many_dimensions_sound at op [] = tt
 many_dimensions_sound at op (m ∷ []) = tt
@@ -219,7 +219,7 @@ many_dimensions_sound at op (m ∷ n ∷ dims ∷ rest) =
       | inr some ↦ rw (u2_again m n (dims ∷ rest), some.1) (m ∷ n ∷ dims ∷ [], (some.0, refl), refl)
     ]
 
-pub many_dimensions_again : (at op : ℕ) (front rest : List ℕ) (i : Instr) → Means Form.ManyDimensions at op front i
+pub many_dimensions_again : (at op : ℕ) (front rest : List ℕ) (i : Instr) → Means Format.ManyDimensions at op front i
     → many_dimensions_at at op (front ++ rest) ≡ Ok (i, rest)
 unfolding many_dimensions_at
 many_dimensions_again at op [] rest i h = absurd h
@@ -228,7 +228,7 @@ many_dimensions_again at op (m ∷ n ∷ []) rest i h = absurd h
 many_dimensions_again at op (m ∷ n ∷ dims ∷ []) rest i h = rw (u2_again m n (dims ∷ rest), is_not dims h.0, h.1) refl
 many_dimensions_again at op (m ∷ n ∷ dims ∷ other ∷ more) rest i h = absurd h
 
-pub many_dimensions_refused : (at op : ℕ) (after : List ℕ) (f : def.Fault) → Refuses Form.ManyDimensions at after f
+pub many_dimensions_refused : (at op : ℕ) (after : List ℕ) (f : def.Fault) → Refuses Format.ManyDimensions at after f
     → many_dimensions_at at op after ≡ Err (stop_of f)
 unfolding many_dimensions_at
 many_dimensions_refused at op [] f h = absurd h
@@ -283,7 +283,7 @@ kind_cases k =
       ]
     ]
 
-pub array_of_kind_sound : (at op : ℕ) (after : List ℕ) → Sound Form.ArrayOfKind at op after (array_of_kind_at at op after)
+pub array_of_kind_sound : (at op : ℕ) (after : List ℕ) → Sound Format.ArrayOfKind at op after (array_of_kind_at at op after)
 unfolding array_of_kind_at
 array_of_kind_sound at op [] = tt
 array_of_kind_sound at op (k ∷ rest) =
@@ -293,14 +293,14 @@ array_of_kind_sound at op (k ∷ rest) =
       | inr (inr n) ↦ rw (n.other, n.tested) (inr (n.kind, n.float, refl))
     ]
 
-pub array_of_kind_again : (at op : ℕ) (front rest : List ℕ) (i : Instr) → Means Form.ArrayOfKind at op front i
+pub array_of_kind_again : (at op : ℕ) (front rest : List ℕ) (i : Instr) → Means Format.ArrayOfKind at op front i
     → array_of_kind_at at op (front ++ rest) ≡ Ok (i, rest)
 unfolding array_of_kind_at
 array_of_kind_again at op [] rest i h = absurd h
 array_of_kind_again at op (k ∷ []) rest i h = rw (is_kind_yes k h.0, h.1) refl
 array_of_kind_again at op (k ∷ other ∷ more) rest i h = absurd h
 
-pub array_of_kind_refused : (at op : ℕ) (after : List ℕ) (f : def.Fault) → Refuses Form.ArrayOfKind at after f
+pub array_of_kind_refused : (at op : ℕ) (after : List ℕ) (f : def.Fault) → Refuses Format.ArrayOfKind at after f
     → array_of_kind_at at op after ≡ Err (stop_of f)
 unfolding array_of_kind_at
 array_of_kind_refused at op [] f h = absurd h
@@ -316,7 +316,7 @@ array_of_kind_refused at op (k ∷ more) f h =
 
 -- ---- Behind wide.
 
-abbrev WideStops : WideForm → Stop → Type 0
+abbrev WideStops : WideFormat → Stop → Type 0
 WideStops format stops.CutInstruction = Unit {0}
 WideStops format stops.IllegalOpcode = WideRefuses format def.Fault.IllegalOpcode
 WideStops format stops.BadSwitch = WideRefuses format def.Fault.BadSwitch
@@ -325,17 +325,17 @@ WideStops format stops.FloatOpcode = WideRefuses format def.Fault.FloatOpcode
 WideStops format stops.Subroutine = WideRefuses format def.Fault.Subroutine
 WideStops format stops.Monitor = WideRefuses format def.Fault.Monitor
 
-abbrev WideSound : WideForm → ℕ → ℕ → List ℕ → Read → Type 0
+abbrev WideSound : WideFormat → ℕ → ℕ → List ℕ → Read → Type 0
 WideSound format at op after (Ok x) = (front : List ℕ) × WideMeans format at op front x.0 × (after ≡ front ++ x.1)
 WideSound format at op after (Err stop) = WideStops format stop
 
-wide_local_sound : (at op : ℕ) (after : List ℕ) → WideSound WideForm.WideLocal at op after (short_index_at at op after)
+wide_local_sound : (at op : ℕ) (after : List ℕ) → WideSound WideFormat.WideLocal at op after (short_index_at at op after)
 unfolding short_index_at
 wide_local_sound at op [] = tt
 wide_local_sound at op (m ∷ []) = tt
 wide_local_sound at op (m ∷ n ∷ rest) = rw (u2_again m n rest) (m ∷ n ∷ [], refl, refl)
 
-wide_increment_sound : (at op : ℕ) (after : List ℕ) → WideSound WideForm.WideIncrement at op after (wide_increment_at at op after)
+wide_increment_sound : (at op : ℕ) (after : List ℕ) → WideSound WideFormat.WideIncrement at op after (wide_increment_at at op after)
 unfolding wide_increment_at
 wide_increment_sound at op [] = tt
 wide_increment_sound at op (k ∷ []) = tt
@@ -344,15 +344,15 @@ wide_increment_sound at op (k ∷ l ∷ m ∷ []) = tt
 wide_increment_sound at op (k ∷ l ∷ m ∷ n ∷ rest) =
     rw (u2_again k l (m ∷ n ∷ rest), u2_again m n rest) (k ∷ l ∷ m ∷ n ∷ [], refl, refl)
 
-widened_sound : (format : WideForm) (at op : ℕ) (after : List ℕ) → WideSound format at op after (widened_at format at op after)
-widened_sound WideForm.WideLocal at op after = wide_local_sound at op after
-widened_sound WideForm.WideIncrement at op after = wide_increment_sound at op after
-widened_sound WideForm.WideFloat at op after = refl
-widened_sound WideForm.WideSubroutine at op after = refl
-widened_sound WideForm.NotWide at op after = refl
+widened_sound : (format : WideFormat) (at op : ℕ) (after : List ℕ) → WideSound format at op after (widened_at format at op after)
+widened_sound WideFormat.WideLocal at op after = wide_local_sound at op after
+widened_sound WideFormat.WideIncrement at op after = wide_increment_sound at op after
+widened_sound WideFormat.WideFloat at op after = refl
+widened_sound WideFormat.WideSubroutine at op after = refl
+widened_sound WideFormat.NotWide at op after = refl
 
-after_wide : (at op widened : ℕ) (rest : List ℕ) (r : Read) → WideSound (wide_form_of widened) at widened rest r
-    → Sound Form.Wide at op (widened ∷ rest) r
+after_wide : (at op widened : ℕ) (rest : List ℕ) (r : Read) → WideSound (wide_format_of widened) at widened rest r
+    → Sound Format.Wide at op (widened ∷ rest) r
 after_wide at op widened rest (Ok x) (front, means, e) = (widened ∷ front, means, ap (λ (xs : List ℕ). widened ∷ xs) e)
 after_wide at op widened rest (Err stops.CutInstruction) h = tt
 after_wide at op widened rest (Err stops.IllegalOpcode) h = h
@@ -362,47 +362,47 @@ after_wide at op widened rest (Err stops.FloatOpcode) h = h
 after_wide at op widened rest (Err stops.Subroutine) h = h
 after_wide at op widened rest (Err stops.Monitor) h = h
 
-pub wide_sound : (at op : ℕ) (after : List ℕ) → IsBytes after → Sound Form.Wide at op after (wide_at at after)
+pub wide_sound : (at op : ℕ) (after : List ℕ) → IsBytes after → Sound Format.Wide at op after (wide_at at after)
 unfolding wide_at
 wide_sound at op [] fits = tt
 wide_sound at op (widened ∷ rest) fits =
-    rw (same_wide_format widened (fits 0)) (after_wide at op widened rest (widened_at (wide_form_of widened) at widened rest)
-    (widened_sound (wide_form_of widened) at widened rest))
+    rw (same_wide_format widened (fits 0)) (after_wide at op widened rest (widened_at (wide_format_of widened) at widened rest)
+    (widened_sound (wide_format_of widened) at widened rest))
 
-widened_again : (format : WideForm) (at op : ℕ) (front rest : List ℕ) (i : Instr) → WideMeans format at op front i
+widened_again : (format : WideFormat) (at op : ℕ) (front rest : List ℕ) (i : Instr) → WideMeans format at op front i
     → widened_at format at op (front ++ rest) ≡ Ok (i, rest)
 unfolding short_index_at wide_increment_at
-widened_again WideForm.WideLocal at op [] rest i h = absurd h
-widened_again WideForm.WideLocal at op (m ∷ []) rest i h = absurd h
-widened_again WideForm.WideLocal at op (m ∷ n ∷ []) rest i h = rw (u2_again m n rest, h) refl
-widened_again WideForm.WideLocal at op (m ∷ n ∷ other ∷ more) rest i h = absurd h
-widened_again WideForm.WideIncrement at op [] rest i h = absurd h
-widened_again WideForm.WideIncrement at op (k ∷ []) rest i h = absurd h
-widened_again WideForm.WideIncrement at op (k ∷ l ∷ []) rest i h = absurd h
-widened_again WideForm.WideIncrement at op (k ∷ l ∷ m ∷ []) rest i h = absurd h
-widened_again WideForm.WideIncrement at op (k ∷ l ∷ m ∷ n ∷ []) rest i h =
+widened_again WideFormat.WideLocal at op [] rest i h = absurd h
+widened_again WideFormat.WideLocal at op (m ∷ []) rest i h = absurd h
+widened_again WideFormat.WideLocal at op (m ∷ n ∷ []) rest i h = rw (u2_again m n rest, h) refl
+widened_again WideFormat.WideLocal at op (m ∷ n ∷ other ∷ more) rest i h = absurd h
+widened_again WideFormat.WideIncrement at op [] rest i h = absurd h
+widened_again WideFormat.WideIncrement at op (k ∷ []) rest i h = absurd h
+widened_again WideFormat.WideIncrement at op (k ∷ l ∷ []) rest i h = absurd h
+widened_again WideFormat.WideIncrement at op (k ∷ l ∷ m ∷ []) rest i h = absurd h
+widened_again WideFormat.WideIncrement at op (k ∷ l ∷ m ∷ n ∷ []) rest i h =
     rw (u2_again k l (m ∷ n ∷ rest), u2_again m n rest, h) refl
-widened_again WideForm.WideIncrement at op (k ∷ l ∷ m ∷ n ∷ other ∷ more) rest i h = absurd h
-widened_again WideForm.WideFloat at op front rest i h = absurd h
-widened_again WideForm.WideSubroutine at op front rest i h = absurd h
-widened_again WideForm.NotWide at op front rest i h = absurd h
+widened_again WideFormat.WideIncrement at op (k ∷ l ∷ m ∷ n ∷ other ∷ more) rest i h = absurd h
+widened_again WideFormat.WideFloat at op front rest i h = absurd h
+widened_again WideFormat.WideSubroutine at op front rest i h = absurd h
+widened_again WideFormat.NotWide at op front rest i h = absurd h
 
-pub wide_again : (at op : ℕ) (front rest : List ℕ) (i : Instr) → IsBytes (front ++ rest) → Means Form.Wide at op front i
+pub wide_again : (at op : ℕ) (front rest : List ℕ) (i : Instr) → IsBytes (front ++ rest) → Means Format.Wide at op front i
     → wide_at at (front ++ rest) ≡ Ok (i, rest)
 unfolding wide_at
 wide_again at op [] rest i fits h = absurd h
 wide_again at op (widened ∷ front) rest i fits h =
-    rw (same_wide_format widened (fits 0)) (widened_again (wide_form_of widened) at widened front rest i h)
+    rw (same_wide_format widened (fits 0)) (widened_again (wide_format_of widened) at widened front rest i h)
 
-widened_refused : (format : WideForm) (at op : ℕ) (after : List ℕ) (f : def.Fault) → WideRefuses format f → widened_at format at op after ≡ Err (stop_of f)
-widened_refused WideForm.WideLocal at op after f h = absurd h
-widened_refused WideForm.WideIncrement at op after f h = absurd h
-widened_refused WideForm.WideFloat at op after f h = rw h refl
-widened_refused WideForm.WideSubroutine at op after f h = rw h refl
-widened_refused WideForm.NotWide at op after f h = rw h refl
+widened_refused : (format : WideFormat) (at op : ℕ) (after : List ℕ) (f : def.Fault) → WideRefuses format f → widened_at format at op after ≡ Err (stop_of f)
+widened_refused WideFormat.WideLocal at op after f h = absurd h
+widened_refused WideFormat.WideIncrement at op after f h = absurd h
+widened_refused WideFormat.WideFloat at op after f h = rw h refl
+widened_refused WideFormat.WideSubroutine at op after f h = rw h refl
+widened_refused WideFormat.NotWide at op after f h = rw h refl
 
-pub wide_refused : (at op : ℕ) (after : List ℕ) (f : def.Fault) → IsBytes after → Refuses Form.Wide at after f → wide_at at after ≡ Err (stop_of f)
+pub wide_refused : (at op : ℕ) (after : List ℕ) (f : def.Fault) → IsBytes after → Refuses Format.Wide at after f → wide_at at after ≡ Err (stop_of f)
 unfolding wide_at
 wide_refused at op [] f fits h = absurd h
 wide_refused at op (widened ∷ rest) f fits h =
-    rw (same_wide_format widened (fits 0)) (widened_refused (wide_form_of widened) at widened rest f h)
+    rw (same_wide_format widened (fits 0)) (widened_refused (wide_format_of widened) at widened rest f h)

@@ -9,7 +9,7 @@ use Rattle.jk_model.specs.declared.instructions.Instr.{Instr}
 use Rattle.jk_model.specs.declared.instructions.SwitchCase.{SwitchCase}
 use Rattle.jk_model.specs.ClassFile.{u4, IsU4}
 use Rattle.jk_model.specs.Instructions as def
-use Rattle.jk_model.specs.Instructions.{Form, Means, Refuses, gap, signed_int, case_at, table_cases, switch, IsTableSwitch, pair_bytes, IsPair, keys, Rises, IsLookupSwitch, IsBadTable, IsBadCount, IsBadKey}
+use Rattle.jk_model.specs.Instructions.{Format, Means, Refuses, gap, signed_int, case_at, table_cases, switch, IsTableSwitch, pair_bytes, IsPair, keys, Rises, IsLookupSwitch, IsBadTable, IsBadCount, IsBadKey}
 use Rattle.jk_opcodes.specs.declared.errors.Stop.{Stop}
 use Rattle.jk_opcodes.specs.declared.errors.Stop.TheVariants as stops
 use Rattle.jk_opcodes.specs.Errors.{stop_of}
@@ -109,7 +109,7 @@ table_end : (at op : ℕ) (after filling rest : List ℕ) (default low high : �
     → length filling ≡ gap at
     → IsU4 default → IsU4 low → IsU4 high → signed_int low ≤ℤ signed_int high
     → TableRead at (signed_int low) (span (signed_int low) (signed_int high)) rest r
-    → Sound Form.TableSwitch at op after (r >>= λ c. Ok (switch_of at op (signed_int default) c.0, c.1))
+    → Sound Format.TableSwitch at op after (r >>= λ c. Ok (switch_of at op (signed_int default) c.0, c.1))
 table_end at op after filling rest default low high (Ok x) layout filled dfits lfits hfits order (offsets, parts, long, all, says) =
     let keys_fit = nat_of_is (signed_int high -ℤ signed_int low) (omega (arith, ints)) in (
       filling ++ u4 default ++ u4 low ++ u4 high ++ flat_map u4 offsets,
@@ -130,7 +130,7 @@ table_end at op after filling rest default low high (Ok x) layout filled dfits l
     )
 table_end at op after filling rest default low high (Err e) layout filled dfits lfits hfits order h = rw h tt
 
-pub table_switch_sound : (at op : ℕ) (after : List ℕ) → IsBytes after → Sound Form.TableSwitch at op after (table_switch_at at op after)
+pub table_switch_sound : (at op : ℕ) (after : List ℕ) → IsBytes after → Sound Format.TableSwitch at op after (table_switch_at at op after)
 unfolding table_switch_at table_head_at
 table_switch_sound at op after fits =
     elim (filling_cases at after fits) [
@@ -169,7 +169,7 @@ table_switch_sound at op after fits =
       ]
     ]
 
-pub table_switch_again : (at op : ℕ) (front rest : List ℕ) (i : Instr) → Means Form.TableSwitch at op front i
+pub table_switch_again : (at op : ℕ) (front rest : List ℕ) (i : Instr) → Means Format.TableSwitch at op front i
     → table_switch_at at op (front ++ rest) ≡ Ok (i, rest)
 unfolding table_switch_at table_head_at
 table_switch_again at op front rest i h =
@@ -189,7 +189,7 @@ table_switch_again at op front rest i h =
       h.says,
     ) refl
 
-pub table_switch_refused : (at op : ℕ) (after : List ℕ) (f : def.Fault) → Refuses Form.TableSwitch at after f
+pub table_switch_refused : (at op : ℕ) (after : List ℕ) (f : def.Fault) → Refuses Format.TableSwitch at after f
     → table_switch_at at op after ≡ Err (stop_of f)
 unfolding table_switch_at table_head_at
 table_switch_refused at op after f (h, e) =
@@ -386,7 +386,7 @@ signed_is n fits h =
 lookup_end : (at op : ℕ) (after filling rest : List ℕ) (default count : ℕ) (r : Cases) → after ≡ filling ++ u4 default ++ u4 count ++ rest
     → length filling ≡ gap at
     → IsU4 default → IsU4 count → pos 0 ≤ℤ signed_int count → LookupRead at None (nat_of (signed_int count)) rest r
-    → Sound Form.LookupSwitch at op after (r >>= λ c. Ok (switch_of at op (signed_int default) c.0, c.1))
+    → Sound Format.LookupSwitch at op after (r >>= λ c. Ok (switch_of at op (signed_int default) c.0, c.1))
 lookup_end at op after filling rest default count (Ok x) layout filled dfits cfits order (pairs, parts, long, all, rises, says) =
     let many : count ≡ length pairs = sym (signed_is count cfits order) ∙ sym long in (
       filling ++ u4 default ++ u4 (length pairs) ++ flat_map pair_bytes pairs,
@@ -427,7 +427,7 @@ lookup_end at op after filling rest default count (Err stops.FloatOpcode) layout
 lookup_end at op after filling rest default count (Err stops.Subroutine) layout filled dfits cfits order h = absurd h
 lookup_end at op after filling rest default count (Err stops.Monitor) layout filled dfits cfits order h = absurd h
 
-pub lookup_switch_sound : (at op : ℕ) (after : List ℕ) → IsBytes after → Sound Form.LookupSwitch at op after (lookup_switch_at at op after)
+pub lookup_switch_sound : (at op : ℕ) (after : List ℕ) → IsBytes after → Sound Format.LookupSwitch at op after (lookup_switch_at at op after)
 unfolding lookup_switch_at lookup_head_at
 lookup_switch_sound at op after fits =
     elim (filling_cases at after fits) [
@@ -461,7 +461,7 @@ lookup_switch_sound at op after fits =
       ]
     ]
 
-pub lookup_switch_again : (at op : ℕ) (front rest : List ℕ) (i : Instr) → Means Form.LookupSwitch at op front i
+pub lookup_switch_again : (at op : ℕ) (front rest : List ℕ) (i : Instr) → Means Format.LookupSwitch at op front i
     → lookup_switch_at at op (front ++ rest) ≡ Ok (i, rest)
 unfolding lookup_switch_at lookup_head_at
 lookup_switch_again at op front rest i h =
@@ -506,7 +506,7 @@ bad_key_refused at op after h =
       lookup_refused at None (nat_of (signed_int h.count)) h.pairs h.key h.more h.numbers.2 h.numbers.3 (omega (arith, ints, h.within)) h.falls,
     ) refl
 
-pub lookup_switch_refused : (at op : ℕ) (after : List ℕ) (f : def.Fault) → Refuses Form.LookupSwitch at after f
+pub lookup_switch_refused : (at op : ℕ) (after : List ℕ) (f : def.Fault) → Refuses Format.LookupSwitch at after f
     → lookup_switch_at at op after ≡ Err (stop_of f)
 lookup_switch_refused at op after f (h, e) =
     elim h [

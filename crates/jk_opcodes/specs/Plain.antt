@@ -3,7 +3,7 @@ use Rattle.std.specs.Prelude.{ℕ, pos, ◌==◌, Bool, ◌&&◌, ◌||◌, List
 use Rattle.std.specs.Int.{w8, w16, cast_signed}
 use Rattle.byte_fields.specs.Reading.{byte_at, number_at}
 use Rattle.jk_model.specs.declared.instructions.Instr.{Instr}
-use Rattle.jk_model.specs.Instructions.{WideForm, plain, target}
+use Rattle.jk_model.specs.Instructions.{WideFormat, plain, target}
 use Rattle.jk_opcodes.specs.declared.errors.Stop.{Stop}
 use Rattle.jk_opcodes.specs.declared.errors.Stop.TheVariants.{BadOperand, FloatOpcode, Subroutine}
 use Rattle.jk_opcodes.specs.Formats.{wide_format_at}
@@ -66,12 +66,12 @@ unfoldable pub wide_increment_at : ℕ → ℕ → List ℕ → Read
 wide_increment_at at op after =
     u2_at after >>= λ local. u2_at local.1 >>= λ step. Ok (plain at op (pos local.0) (cast_signed w16 step.0), step.1)
 
-abbrev pub widened_at : WideForm → ℕ → ℕ → List ℕ → Read
-widened_at WideForm.WideLocal at op after = short_index_at at op after
-widened_at WideForm.WideIncrement at op after = wide_increment_at at op after
-widened_at WideForm.WideFloat at op after = Err FloatOpcode
-widened_at WideForm.WideSubroutine at op after = Err Subroutine
-widened_at WideForm.NotWide at op after = Err BadOperand
+abbrev pub widened_at : WideFormat → ℕ → ℕ → List ℕ → Read
+widened_at WideFormat.WideLocal at op after = short_index_at at op after
+widened_at WideFormat.WideIncrement at op after = wide_increment_at at op after
+widened_at WideFormat.WideFloat at op after = Err FloatOpcode
+widened_at WideFormat.WideSubroutine at op after = Err Subroutine
+widened_at WideFormat.NotWide at op after = Err BadOperand
 
 unfoldable pub wide_at : ℕ → List ℕ → Read
 wide_at at after = u1_at after >>= λ op. widened_at (wide_format_at op.0) at op.0 op.1

@@ -6,7 +6,8 @@ use Rattle.jk_model.specs.declared.script.Event.TheVariants.{Domain, Start, Turn
 use Rattle.jk_model.specs.declared.script.Quotas.{Quotas}
 use Rattle.jk_model.specs.Outside.{Ask, Appends, AppendsPart, HasRisen, ◌/-◌}
 use Rattle.jk_model.specs.Output.{text_of}
-use Rattle.jk_model.specs.Script.{IsName, default_quotas}
+use Rattle.jk_model.specs.Script.{default_quotas}
+use Rattle.script_reader.specs.Words.{IsName}
 use Rattle.jk_model_machine.specs.Machine.{Machine, no_domains}
 use Rattle.jk_model_machine.specs.Run.{DomainEvent, Happens, IsRun}
 use Rattle.jk_kernel.specs.Execution.{Executes}

@@ -3,7 +3,7 @@ use Rattle.std.proofs.Common.{◌≡◌, ℕ, ◌+◌, ◌-◌, ◌*◌, ◌^◌
 use Rattle.std.specs.Str.Parse.{AllDigits, digits_value}
 use Rattle.std.specs.Int.{IsInRange, IsOutOfRange}
 use Rattle.std.specs.Result.{OkIff, result_ok}
-use Rattle.jk_model.specs.Script.{IsNumber}
+use Rattle.script_reader.specs.Words.{IsNumber}
 use Rattle.script_reader.specs.Reading.{MayBeNumeral}
 use Rattle.std.specs.Fmt.{decimal}
 use Rattle.std.proofs.lemmas.Int.Digits.{digits_more, digits_value_more}

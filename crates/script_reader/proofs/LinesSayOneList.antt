@@ -6,7 +6,8 @@ use Rattle.std.proofs.lemmas.Bool.{ne_eqb, cases_order}
 use Rattle.std.proofs.lemmas.Grind.{common_steps}
 use Rattle.jk_model.specs.declared.script.Event.{Event}
 use Rattle.jk_model.specs.declared.script.Event.TheVariants.{Domain, Start, Turn, Round, Kill}
-use Rattle.jk_model.specs.Script.{is_line_byte, is_empty_line, words, IsNumber}
+use Rattle.jk_model.specs.Script.{is_line_byte, is_empty_line, words}
+use Rattle.script_reader.specs.Words.{IsNumber}
 use Rattle.script_reader.specs.Events.{Means, Say, AreLines, EndsAt, is_domain, is_start}
 
 -- a word writes one number

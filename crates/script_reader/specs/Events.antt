@@ -5,7 +5,8 @@ use Rattle.jk_model.specs.declared.script.Event.{Event}
 use Rattle.jk_model.specs.declared.script.Event.TheVariants.{Domain, Start, Turn, Round, Kill}
 use Rattle.jk_model.specs.declared.script.ScriptFault.{ScriptFault}
 use Rattle.jk_model.specs.declared.script.FaultKind.TheVariants.{NotYet}
-use Rattle.jk_model.specs.Script.{script_lines, words, is_line_byte, is_empty_line, IsName, IsClassWord, IsNumber, default_quotas, MAX_BYTES, MAX_LINES}
+use Rattle.jk_model.specs.Script.{script_lines, words, is_line_byte, is_empty_line, default_quotas, MAX_BYTES, MAX_LINES}
+use Rattle.script_reader.specs.Words.{IsName, IsClassWord, IsNumber}
 
 -- The words of a line stand for an event.
 abbrev pub Means : List (List ℕ) → Event → Type 0

@@ -3,3 +3,4 @@ pub mod EventsOrFault
 pub mod Events
 pub mod Progress
 pub mod Reading
+pub mod Words

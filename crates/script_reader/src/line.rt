@@ -3,6 +3,7 @@
 ghost use Rattle.std.specs.Prelude.{◌≡◌, ◌≤◌, ◌∷◌, ℕ, codes, IfOk, MatchBool, MatchOption};
 ghost use Rattle.std.specs.List.{list_all};
 ghost use Rattle.jk_model.specs.Script as script;
+ghost use Rattle.script_reader.specs.Words.{IsName, IsNumber};
 ghost use Rattle.script_reader.specs.Reading.{Finds, IsMeaning};
 
 use crate::number::number_of;
@@ -69,7 +70,7 @@ fn has_name_bytes(word: &[u8]) -> bool
 
 /// Whether a word is a domain's name.
 fn is_name(word: &[u8]) -> bool
-    ensures { MatchBool result (script.IsName word.now) (¬ (script.IsName word.now)) }
+    ensures { MatchBool result (IsName word.now) (¬ (IsName word.now)) }
 {
     !word.is_empty() && word.len() <= MAX_NAME && has_name_bytes(word)
 }
@@ -111,7 +112,7 @@ fn start_event(alloc: Global, rest: &[u8]) -> Result<Option<Event>, OutOfMemory>
 /// The number of steps that a word writes, or `None` where it writes none that a line may give.
 #[tactic(auto, using(crate::proofs::LinesSayOneList::number_one))]
 fn steps_of(word: &[u8]) -> Option<u32>
-    ensures { MatchOption result ((n : ℕ) → script.IsNumber word.now n → 1 ≤ n → n ≤ 1000000000 → ⊥) (λ n. script.IsNumber word.now n × (1 ≤ n) × (n ≤ 1000000000)) }
+    ensures { MatchOption result ((n : ℕ) → IsNumber word.now n → 1 ≤ n → n ≤ 1000000000 → ⊥) (λ n. IsNumber word.now n × (1 ≤ n) × (n ≤ 1000000000)) }
 {
     let steps = number_of(word)?;
     if steps == 0 || steps > MAX_STEPS {

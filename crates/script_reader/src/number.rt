@@ -2,7 +2,7 @@
 
 ghost use Rattle.std.specs.Prelude.{◌≡◌, ℕ, ◌+◌, ◌<◌, ◌≤◌, ◌^◌, length, MatchBool, MatchOption};
 ghost use Rattle.std.specs.Str.Parse.{AllDigits, digits_value};
-ghost use Rattle.jk_model.specs.Script.{IsNumber};
+ghost use Rattle.script_reader.specs.Words.{IsNumber};
 ghost use Rattle.script_reader.specs.Reading.{MayBeNumeral};
 
 /// The most digits that a number below 2 to the 32nd has.

@@ -1,7 +1,7 @@
 -- Bytes have one reading as the encodings of units, one after the other, and stop being a text at one place.
 use Rattle.std.proofs.Common.{◌≡◌, ℕ, ◌+◌, ◌-◌, ◌*◌, ◌<◌, ◌≤◌, ◌⊎◌, inl, inr, List, [], ◌∷◌, ◌++◌, length, refl, sym, ◌∙◌, ap, arith, length-append, take, drop, slice_index_or, append-nil, append_assoc, Result, Ok, Err, MatchResult}
 use Rattle.std.proofs.lemmas.List.{take_all}
-use Rattle.jk_model.specs.Text.{IsUnit, Spells, BeginsWithUnit, IsBadForm}
+use Rattle.jk_model.specs.Text.{IsUnit, Spells, BeginsWithUnit, IsBadEncoding}
 use Rattle.unit_text.specs.declared.units.UnitsError.{UnitsError}
 use Rattle.unit_text.specs.declared.units.UnitsError.TheVariants.{BadForm, OutOfMemory}
 use Rattle.unit_text.specs.Encodings.{BeginsWith, BeginsNoUnit}
@@ -26,8 +26,8 @@ all_read bytes rest units (front, e, h) none =
     let whole : bytes ≡ front = e ∙ rw none (append-nil front) in
     rw whole h
 
-pub at_bad_form : (bytes rest units : List ℕ) → IsSoFar bytes rest units → (rest ≡ [] → ⊥) → BeginsNoUnit rest → IsBadForm bytes (length bytes - length rest)
-at_bad_form bytes rest units (front, e, h) some never =
+pub at_bad_encoding : (bytes rest units : List ℕ) → IsSoFar bytes rest units → (rest ≡ [] → ⊥) → BeginsNoUnit rest → IsBadEncoding bytes (length bytes - length rest)
+at_bad_encoding bytes rest units (front, e, h) some never =
     (front, rest, units, e, h, rw e (omega (arith, length-append front rest)), some, λ (encoding, u, after, one, begins). never encoding u after one begins)
 
 -- ---- There is one reading.
@@ -144,7 +144,7 @@ only_text bytes (Err (BadForm place)) (front, rest, us, e, read, long, some, nev
 only_text bytes (Err OutOfMemory) h units k = refl
 
 pub only_place : (bytes : List ℕ) (result : Result (List ℕ) UnitsError) → IsAnswer bytes result → (place : ℕ)
-    → IsBadForm bytes place → MatchResult result (λ _. ⊥) (λ e. (e ≡ BadForm place) ⊎ (e ≡ OutOfMemory))
+    → IsBadEncoding bytes place → MatchResult result (λ _. ⊥) (λ e. (e ≡ BadForm place) ⊎ (e ≡ OutOfMemory))
 only_place bytes (Ok found) h place (front, rest, us, e, read, long, some, never) = no_reading front rest us bytes found read e some never h
 only_place bytes (Err (BadForm found)) (front2, rest2, vs, e2, read2, long2, some2, never2) place (front, rest, us, e, read, long, some, never) =
     let same : length front2 ≡ length front = one_place front2 rest2 vs front rest us read2 never2 read never (sym e2 ∙ e) in

@@ -4,7 +4,7 @@
 mod judge;
 mod units;
 
-pub use judge::bad_form;
+pub use judge::bad_encoding;
 pub use units::{UnitsError, units_of};
 
 #[cfg(test)]

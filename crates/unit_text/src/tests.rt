@@ -1,4 +1,4 @@
-//! Forms of one, two and three bytes, and bytes that have none.
+//! Encodings of one, two and three bytes, and bytes that have none.
 
 ghost use Rattle.std.specs.Prelude.{◌<◌, ◌^◌, length};
 
@@ -10,12 +10,12 @@ use std::test::Fail;
 fn reads(alloc: Global, bytes: &[u8], units: &[u16]) -> bool
     requires { length bytes.now < 2 ^ 32 }
 {
-    bad_form(bytes).is_none()
+    bad_encoding(bytes).is_none()
         && matches!(units_of(alloc, bytes), Ok(read) if read.as_slice() == units)
 }
 
 #[test]
-fn forms(rt: HostRuntime) {
+fn encodings(rt: HostRuntime) {
     let alloc = rt.alloc();
     assert!(rt; reads(alloc, b"", &[]));
     assert!(rt; reads(alloc, b"A\x7f\x01", &[65, 127, 1]));
@@ -31,18 +31,18 @@ fn forms(rt: HostRuntime) {
 fn stops(alloc: Global, bytes: &[u8], place: u32) -> bool
     requires { length bytes.now < 2 ^ 32 }
 {
-    bad_form(bytes) == Some(place)
+    bad_encoding(bytes) == Some(place)
         && matches!(units_of(alloc, bytes), Err(UnitsError::BadForm(at)) if at == place)
 }
 
 #[test]
-fn no_forms(rt: HostRuntime) {
+fn no_encodings(rt: HostRuntime) {
     let alloc = rt.alloc();
     assert!(rt; stops(alloc, &[0], 0));
     assert!(rt; stops(alloc, &[0xff], 0));
     assert!(rt; stops(alloc, &[0x41, 0x80], 1));
     assert!(rt; stops(alloc, &[0x41, 0xc3, 0xa9, 0xf0, 0x90, 0x80, 0x80], 3));
-    // A form that is cut, or that another byte follows than it needs.
+    // An encoding that is cut, or that another byte follows than it needs.
     assert!(rt; stops(alloc, &[0x41, 0xc3], 1));
     assert!(rt; stops(alloc, &[0xe0, 0x80], 0));
     assert!(rt; stops(alloc, &[0xc3, 0x28], 0));

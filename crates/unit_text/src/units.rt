@@ -1,7 +1,7 @@
 //! Reads modified UTF-8.
 
 ghost use Rattle.std.specs.Prelude.{◌≡◌, ℕ, ◌<◌, ◌⊎◌, ◌^◌, List, length, MatchOption, MatchResult, IfOk, Err};
-ghost use Rattle.jk_model.specs.Text.{Spells, IsBadForm};
+ghost use Rattle.jk_model.specs.Text.{Spells, IsBadEncoding};
 ghost use Rattle.unit_text.specs.Encodings.{BeginsWith, BeginsNoUnit, BeginsNoUnitOf};
 ghost use Rattle.unit_text.specs.UnitsOrFault.{IsAnswer};
 
@@ -12,8 +12,8 @@ use thiserror::Error;
 /// Why bytes were not read as a text.
 #[derive(Clone, Copy, Debug, PartialEq, Eq, Error)]
 pub enum UnitsError {
-    /// The bytes in front of this place, counted from 0, are forms of units, and none begins there.
-    #[error("no form begins at byte {0}")]
+    /// The bytes in front of this place, counted from 0, are encodings of units, and none begins there.
+    #[error("no encoding of a unit begins at byte {0}")]
     BadForm(u32),
     /// No memory was left. It says nothing of the bytes.
     #[error("out of memory")]
@@ -31,7 +31,7 @@ impl From<OutOfMemory> for UnitsError {
     }
 }
 
-/// The unit of a form of one byte in front, and what follows it.
+/// The unit that the first byte encodes, and what follows it.
 fn one_byte(bytes: &[u8]) -> Option<(u16, &[u8])>
     ensures { MatchOption result (BeginsNoUnitOf 1 bytes.now) (λ found. BeginsWith bytes.now found.0 found.1.now) }
 {
@@ -41,7 +41,7 @@ fn one_byte(bytes: &[u8]) -> Option<(u16, &[u8])>
     }
 }
 
-/// The same of a form of two bytes.
+/// The same of two bytes.
 fn two_bytes(bytes: &[u8]) -> Option<(u16, &[u8])>
     ensures { MatchOption result (BeginsNoUnitOf 2 bytes.now) (λ found. BeginsWith bytes.now found.0 found.1.now) }
 {
@@ -53,7 +53,7 @@ fn two_bytes(bytes: &[u8]) -> Option<(u16, &[u8])>
     }
 }
 
-/// The same of a form of three bytes.
+/// The same of three bytes.
 fn three_bytes(bytes: &[u8]) -> Option<(u16, &[u8])>
     ensures { MatchOption result (BeginsNoUnitOf 3 bytes.now) (λ found. BeginsWith bytes.now found.0 found.1.now) }
 {
@@ -66,7 +66,7 @@ fn three_bytes(bytes: &[u8]) -> Option<(u16, &[u8])>
     }
 }
 
-/// The unit whose form the bytes begin with, and what follows it.
+/// The unit whose encoding the bytes begin with, and what follows it.
 pub fn next_unit(bytes: &[u8]) -> Option<(u16, &[u8])>
     ensures { MatchOption result (BeginsNoUnit bytes.now) (λ found. BeginsWith bytes.now found.0 found.1.now) }
 {
@@ -98,18 +98,18 @@ fn read(alloc: Global, bytes: &[u8]) -> Result<Units, UnitsError>
 
 /// The units of a text in modified UTF-8, in time linear in its bytes.
 ///
-/// A form of a unit has one byte from 01 to 7f, or two or three bytes as in UTF-8. Longer forms than
-/// a unit needs are read, and a surrogate has a form of its own. The bytes 00, 80 to bf and f0 to ff
-/// begin no form, and a form that is cut is none (the Java Virtual Machine Specification, 4.4.7).
+/// A unit is encoded in one byte from 01 to 7f, or in two or three as in UTF-8. Longer encodings than
+/// a unit needs are read, and a surrogate has one of its own. The bytes 00, 80 to bf and f0 to ff
+/// begin none, and one that is cut is none (the Java Virtual Machine Specification, 4.4.7).
 pub fn units_of(alloc: Global, bytes: &[u8]) -> Result<Units, UnitsError>
     requires { length bytes.now < 2 ^ 32 }
     ensures read { IfOk result (λ units. Spells bytes.now units) }
     // A text has one reading, and it is found unless memory runs out.
     ensures only { (units : List ℕ) → Spells bytes.now units
         → MatchResult result (λ found. found ≡ units) (λ e. e ≡ UnitsError.OutOfMemory) }
-    ensures bad { (place : ℕ) → result ≡ Err (UnitsError.BadForm place) → IsBadForm bytes.now place }
+    ensures bad { (place : ℕ) → result ≡ Err (UnitsError.BadForm place) → IsBadEncoding bytes.now place }
     // Bytes without a reading are refused so, unless memory runs out.
-    ensures only_bad { (place : ℕ) → IsBadForm bytes.now place
+    ensures only_bad { (place : ℕ) → IsBadEncoding bytes.now place
         → MatchResult result (λ _. ⊥) (λ e. (e ≡ UnitsError.BadForm place) ⊎ (e ≡ UnitsError.OutOfMemory)) }
 {
     read(alloc, bytes)

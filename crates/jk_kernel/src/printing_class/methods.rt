@@ -58,10 +58,10 @@ pub fn one_code<'a>(pool: &[PoolEntry], attributes: &'a [Attribute]) -> Option<&
     ensures { MatchOption result ((body : List ℕ) → HasOneCode pool.now attributes.now body → ⊥)
         (λ body. HasOneCode pool.now attributes.now body.now) }
 {
-    let Some((body, behind)) = first_code(pool, attributes) else {
+    let Some((body, later)) = first_code(pool, attributes) else {
         return None;
     };
-    match first_code(pool, behind) {
+    match first_code(pool, later) {
         None => Some(body),
         Some(_) => None,
     }

@@ -119,9 +119,9 @@ pub fn texts_of(
 {
     let mut texts = List::new(alloc);
     let mut rest = code;
-    while let Some((text, behind)) = first_print(pool, rest) {
+    while let Some((text, left)) = first_print(pool, rest) {
         texts.push(units_of(alloc, text)?)?;
-        rest = behind;
+        rest = left;
     }
     if is_return(rest) {
         Ok(Some(texts))

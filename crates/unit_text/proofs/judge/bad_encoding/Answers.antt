@@ -1,7 +1,7 @@
--- The bytes are a text, or they stop being one where no form begins.
+-- The bytes are a text, or they stop being one where no encoding begins.
 use Rattle.std.proofs.Common.{◌-◌, length}
 use Rattle.unit_text.proofs.OneJudgment.{one_further, ends, stops, text_is_bad_nowhere, bad_is_no_text, bad_at_one_place}
-use Rattle.unit_text.proofs.judge.bad_form.Goals as goal
+use Rattle.unit_text.proofs.judge.bad_encoding.Goals as goal
 
 pub loop-rest-preserved : goal.loop-rest-preserved
 loop-rest-preserved c = one_further c.args.bytes.now c.loop-rest.rest.now c.in-Some.after.now c.in-Some.field-0-0 c.loop-rest.invariant c.in-Some.ensures

@@ -1,7 +1,7 @@
 -- What is passed stands before what is left, which grows shorter.
 use Rattle.std.proofs.Common.{length}
 use Rattle.unit_text.proofs.OneJudgment.{IsPassed}
-use Rattle.unit_text.proofs.judge.bad_form.Given as goal
+use Rattle.unit_text.proofs.judge.bad_encoding.Given as goal
 
 abbrev pub invariant-loop-rest : goal.invariant-loop-rest
 invariant-loop-rest l = IsPassed l.bytes l.rest
