@@ -187,12 +187,15 @@ finds_no_program (Some tree) t' folder entries file class path bytes same is one
 pub asked_both : (folder path file class : List ℕ) (entries : List Entry) (old mid new : List Ask) → IsOneClass entries file class → path ≡ folder /- file
     → mid ≡ old ++ ListOf folder MAX_ENTRIES ∷ [] → new ≡ mid ++ BytesOf path MAX_CLASS_BYTES ∷ [] → FolderAsks folder old new
 asked_both folder path file class entries old mid new one at first second =
-  let name = sym one.1 ∙ one.0.named in (
-  ListOf folder MAX_ENTRIES ∷ BytesOf (folder /- file) MAX_CLASS_BYTES ∷ [],
-  inr (inr (class, subst IsEntryName name (file_has_name entries file class one),
-      ap (λ (f : List ℕ). ListOf folder MAX_ENTRIES ∷ BytesOf (folder /- f) MAX_CLASS_BYTES ∷ []) name)),
-  λ e. absurd cc,
-  second ∙ ap (λ (x : List Ask). x ++ BytesOf path MAX_CLASS_BYTES ∷ []) first
-      ∙ append_assoc old (ListOf folder MAX_ENTRIES ∷ []) (BytesOf path MAX_CLASS_BYTES ∷ [])
-      ∙ ap (λ (p : List ℕ). old ++ ListOf folder MAX_ENTRIES ∷ BytesOf p MAX_CLASS_BYTES ∷ []) at,
-)
+    let name = sym one.1 ∙ one.0.named in (
+      ListOf folder MAX_ENTRIES ∷ BytesOf (folder /- file) MAX_CLASS_BYTES ∷ [],
+      inr (inr (
+        class,
+        subst IsEntryName name (file_has_name entries file class one),
+        ap (λ (f : List ℕ). ListOf folder MAX_ENTRIES ∷ BytesOf (folder /- f) MAX_CLASS_BYTES ∷ []) name,
+      )),
+      λ e. absurd cc,
+      second ∙ ap (λ (x : List Ask). x ++ BytesOf path MAX_CLASS_BYTES ∷ []) first
+          ∙ append_assoc old (ListOf folder MAX_ENTRIES ∷ []) (BytesOf path MAX_CLASS_BYTES ∷ [])
+          ∙ ap (λ (p : List ℕ). old ++ ListOf folder MAX_ENTRIES ∷ BytesOf p MAX_CLASS_BYTES ∷ []) at,
+    )
