@@ -1,6 +1,6 @@
 -- The rules on names: C7, which names have not the form that they need; C16, which members are there twice; C17,
 -- whether a class stands under its own path.
-use Rattle.std.specs.Prelude.{◌≡◌, ℕ, ◌+◌, ◌≤◌, ◌≢◌, ◌⊎◌, List, ◌++◌, length, Some, slice_get, codes}
+use Rattle.std.specs.Prelude.{◌≡◌, ℕ, ◌+◌, ◌≤◌, ◌≢◌, ◌⊎◌, List, ◌∷◌, ◌++◌, length, Some, slice_get, codes}
 use Rattle.std.specs.List.{AllByRecursion}
 use Rattle.jk_model.specs.declared.class_file.ClassFile.{ClassFile}
 use Rattle.jk_model.specs.declared.class_file.PoolEntry.{PoolEntry}
@@ -12,7 +12,7 @@ use Rattle.jk_model.specs.Text.{utf16_of}
 use Rattle.jk_model_classes.specs.Items.{HasItem, HasItemBefore, FieldAt, MethodAt, Spot, Member, Entry}
 use Rattle.jk_model_classes.specs.Members.{TextAt, ClassAt, MemberKind, Field, Method, InterfaceMethod, ReferenceAt, INIT, CLINIT}
 
--- ---- Forms of names. Characters stand as their numbers: 60 and 62 are `<` and `>`.
+-- ---- Forms of names. Characters stand as their numbers: 60 and 62 are `<` and `>`, 91 is `[`.
 
 -- the name of a method other than `<init>` and `<clinit>`
 abbrev pub IsPlainMethodName : List ℕ → Type 0
@@ -37,9 +37,13 @@ IsClassEntryName units = IsClassName units ⊎ IsArrayDescriptor units
 
 -- ---- C7.
 
+-- the name of an array begins with `[`
+abbrev pub BeginsArray : List ℕ → Type 0
+BeginsArray units = (rest : List ℕ) × (units ≡ 91 ∷ rest)
+
 -- a Class entry stands at this index, and it is none of an array
 abbrev pub NamesClass : List PoolEntry → ℕ → Type 0
-NamesClass pool i = (units : List ℕ) × ClassAt pool i units × (IsArrayDescriptor units → ⊥)
+NamesClass pool i = (units : List ℕ) × ClassAt pool i units × (BeginsArray units → ⊥)
 
 -- the class, its parent or one of its interfaces is no Class entry, or is one of an array
 abbrev pub HasBadHeader : ClassFile → Type 0

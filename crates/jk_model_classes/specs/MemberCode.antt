@@ -16,7 +16,7 @@ use Rattle.jk_model.specs.ClassFile.{NamesEntry, IsClassEntry, CodeLayout}
 use Rattle.jk_model.specs.Descriptors.{IsFieldText, IsMethodText, method_slots}
 use Rattle.jk_model.specs.Instructions.{Decodes, Fault, IllegalOpcode, BadSwitch, BadOperand, FloatOpcode, Subroutine, Monitor, HasFault, IsCutAt}
 use Rattle.jk_model_classes.specs.ClassFlags.{MethodFlags, STATIC, SYNCHRONIZED, NATIVE, ABSTRACT, has}
-use Rattle.jk_model_classes.specs.ClassNames.{HasText, NamesClass, IsArrayDescriptor}
+use Rattle.jk_model_classes.specs.ClassNames.{HasText, NamesClass, BeginsArray}
 use Rattle.jk_model_classes.specs.Items.{HasItem, MethodAt, Spot, Member, Entry}
 use Rattle.jk_model_classes.specs.MemberAttributes.{IsCodeAttribute}
 use Rattle.jk_model_classes.specs.MemberDescriptors.{HasFloatDescriptor}
@@ -239,7 +239,7 @@ HasDimensions units n = (t : FieldType) × (1 ≤ t.dims) × IsFieldText units t
 abbrev pub MakesBadArray : List PoolEntry → Instr → Type 0
 MakesBadArray pool instr =
     (units : List ℕ) × NamesClassOf pool instr units
-    × (((instr.op ≡ NEW) × IsArrayDescriptor units)
+    × (((instr.op ≡ NEW) × BeginsArray units)
     ⊎ ((instr.op ≡ MULTIANEWARRAY) × (HasDimensions units instr.b → ⊥))
     ⊎ ((instr.op ≡ ANEWARRAY) × HasDimensions units (pos 255)))
 
