@@ -26,7 +26,8 @@ all_read bytes rest units (front, e, h) none =
     let whole : bytes ≡ front = e ∙ rw none (append-nil front) in
     rw whole h
 
-pub at_bad_encoding : (bytes rest units : List ℕ) → IsSoFar bytes rest units → (rest ≡ [] → ⊥) → BeginsNoUnit rest → IsBadEncoding bytes (length bytes - length rest)
+pub at_bad_encoding : (bytes rest units : List ℕ) → IsSoFar bytes rest units → (rest ≡ [] → ⊥) → BeginsNoUnit rest
+    → IsBadEncoding bytes (length bytes - length rest)
 at_bad_encoding bytes rest units (front, e, h) some never =
     (front, rest, units, e, h, rw e (omega (arith, length-append front rest)), some, λ (encoding, u, after, one, begins). never encoding u after one begins)
 
