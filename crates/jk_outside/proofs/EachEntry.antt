@@ -3,9 +3,9 @@ use Rattle.std.proofs.Common.{◌≡◌, ℕ, Bool, true, false, List, [], ◌�
 use Rattle.std.specs.Prelude.{if◌then◌else◌}
 use Rattle.std.specs.List.{AllByRecursion}
 use Rattle.jk_model.specs.declared.entries.Entry.{Entry}
+use Rattle.jk_model.proofs.EachItem.{all_push}
 use Rattle.jk_outside.specs.declared.memory_files.MemoryFile.{MemoryFile}
 use Rattle.jk_outside.specs.MemoryTrees.{is_below, after_folder, entry_of, add_file, entries_of, has_name}
-use Rattle.jk_outside.proofs.EachItem.{all_push}
 
 good_at : (P : Entry → Type 0) (seen : List Entry) (e : Entry) (b c : Bool) → AllByRecursion P seen → (b ≡ true → P e)
     → AllByRecursion P (if b then (if c then seen else seen ++ e ∷ []) else seen)

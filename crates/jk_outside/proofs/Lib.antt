@@ -3,7 +3,6 @@ pub mod Below
 pub mod BufferFills
 pub mod CutIsWholeAndRest
 pub mod EachEntry
-pub mod EachItem
 pub mod EmptyStruct
 pub mod FolderWalkSteps
 pub mod LineTexts

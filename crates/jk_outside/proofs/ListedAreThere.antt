@@ -11,10 +11,10 @@ use Rattle.std.proofs.lemmas.List.Quantifiers.{position-Some}
 use Rattle.std.proofs.lemmas.Slice.Eq.{bytes_eq-Decides}
 use Rattle.jk_model.specs.declared.entries.Entry.{Entry}
 use Rattle.jk_model.specs.Outside.{◌/-◌}
+use Rattle.jk_model.proofs.EachItem.{all_weaker}
 use Rattle.jk_outside.specs.declared.memory_files.MemoryFile.{MemoryFile}
 use Rattle.jk_outside.specs.MemoryTrees.{is_below, after_folder, entry_at, entry_of, slash_of, entries_of, file_of, folder_of, has_folder}
 use Rattle.jk_outside.proofs.Below.{below_splits, below_from}
-use Rattle.jk_outside.proofs.EachItem.{all_weaker}
 use Rattle.jk_outside.proofs.EachEntry.{good_entries}
 
 -- ---- files

@@ -3,25 +3,25 @@ use Rattle.std.proofs.Common.{◌≡◌, ◌≢◌, ℕ, ◌+◌, ◌≤◌, Boo
 use Rattle.std.specs.Prelude.{◌&&◌, if◌then◌else◌, not, nat_lt}
 use Rattle.std.specs.List.{AllByRecursion, prefix_len, position_or_len}
 use Rattle.std.specs.Str.{is_utf8}
-use Rattle.std.proofs.lemmas.Bool.{false≢true, eq-eqb, ltb-false}
+use Rattle.std.proofs.lemmas.Bool.{and_parts, false≢true, eq-eqb, ltb-false}
 use Rattle.std.proofs.Math.Numerals.{one-add}
 use Rattle.std.proofs.Math.Seq.{take-length}
 use Rattle.jk_model.specs.declared.entries.Entry.{Entry}
 use Rattle.jk_model.specs.Outside.{IsEntryName}
+use Rattle.jk_model.proofs.EachItem.{all_from_test}
 use Rattle.jk_outside.specs.declared.memory_files.MemoryFile.{MemoryFile}
 use Rattle.jk_outside.specs.MemoryTrees.{is_below, after_folder, entry_at, entry_of, slash_of, entries_of, are_paths, has_full_names}
 use Rattle.jk_outside.proofs.Below.{below_splits}
-use Rattle.jk_outside.proofs.EachItem.{and_both, all_weaker, all_from_test}
 use Rattle.jk_outside.proofs.EachEntry.{good_entries}
 
 -- what stands after a slash has full names
 either_full : (slash begun : Bool) (ended more : Bool) (R : Type 0) → (if slash then begun && ended else more) ≡ true → (ended ≡ true → R)
     → (more ≡ true → R) → R
-either_full true begun ended more R h a b = a ((and_both begun ended h).1)
+either_full true begun ended more R h a b = a ((and_parts begun ended h).1)
 either_full false begun ended more R h a b = b h
 
 full_after_slash : (front rest : List ℕ) (begun : Bool) → has_full_names begun (front ++ 47 ∷ rest) ≡ true → has_full_names false rest ≡ true
-full_after_slash [] rest begun h = (and_both begun (has_full_names false rest) h).1
+full_after_slash [] rest begun h = (and_parts begun (has_full_names false rest) h).1
 full_after_slash (c ∷ cs) rest begun h =
     either_full (eqb c 47) begun (has_full_names false (cs ++ 47 ∷ rest)) (has_full_names true (cs ++ 47 ∷ rest)) (has_full_names false rest ≡ true) h
     (full_after_slash cs rest false) (full_after_slash cs rest true)
@@ -87,7 +87,7 @@ pub names_are_names : (folder : List ℕ) (files : List MemoryFile) → are_path
 unfolding are_paths
 names_are_names folder files u =
     good_entries (λ (e : Entry). IsEntryName e.name) folder files
-    (all_weaker (λ (f : MemoryFile). (is_utf8 f.path && has_full_names false f.path) ≡ true)
-    (λ (f : MemoryFile). is_below folder f.path ≡ true → IsEntryName (entry_of (after_folder folder f.path)).name) files
-    (λ f t below. first_is_name (after_folder folder f.path) (rest_is_full folder f.path below ((and_both (is_utf8 f.path) (has_full_names false f.path) t).1)))
-    (all_from_test (λ (f : MemoryFile). is_utf8 f.path && has_full_names false f.path) files u))
+    (all_from_test (λ (f : MemoryFile). is_below folder f.path ≡ true → IsEntryName (entry_of (after_folder folder f.path)).name)
+    (λ (f : MemoryFile). is_utf8 f.path && has_full_names false f.path)
+    (λ f t below. first_is_name (after_folder folder f.path) (rest_is_full folder f.path below ((and_parts (is_utf8 f.path) (has_full_names false f.path) t).1)))
+    files u)

@@ -3,15 +3,16 @@ use Rattle.std.proofs.Common.{◌≡◌, ℕ, ◌+◌, ◌<◌, true, false, eqb
 use Rattle.std.specs.Prelude.{◌&&◌}
 use Rattle.std.specs.List.{AllByRecursion}
 use Rattle.std.specs.Str.{IsUtf8, is_utf8}
+use Rattle.std.proofs.lemmas.Bool.{and_parts}
 use Rattle.std.proofs.lemmas.Bool.Decides.{Decides-eqb}
 use Rattle.std.proofs.lemmas.List.{get_or_at, length-append}
 use Rattle.std.proofs.lemmas.List.Quantifiers.{position-Some}
 use Rattle.std.proofs.lemmas.Str.{IsUtf8-take, IsUtf8-drop, IsCharBoundary-after_ascii, IsCharBoundary-before_ascii, IsUtf8-from_is_utf8}
 use Rattle.jk_model.specs.declared.entries.Entry.{Entry}
+use Rattle.jk_model.proofs.EachItem.{all_from_test}
 use Rattle.jk_outside.specs.declared.memory_files.MemoryFile.{MemoryFile}
 use Rattle.jk_outside.specs.MemoryTrees.{is_below, after_folder, entry_at, entry_of, slash_of, entries_of, are_paths, has_full_names}
 use Rattle.jk_outside.proofs.Below.{below_splits}
-use Rattle.jk_outside.proofs.EachItem.{and_both, all_weaker, all_from_test}
 use Rattle.jk_outside.proofs.EachEntry.{good_entries}
 
 rest_is_utf8 : (folder path : List ℕ) → is_below folder path ≡ true → is_utf8 path ≡ true → IsUtf8 (after_folder folder path)
@@ -44,7 +45,7 @@ pub names_are_utf8 : (folder : List ℕ) (files : List MemoryFile) → are_paths
 unfolding are_paths
 names_are_utf8 folder files u =
     good_entries (λ (e : Entry). IsUtf8 e.name) folder files
-    (all_weaker (λ (f : MemoryFile). (is_utf8 f.path && has_full_names false f.path) ≡ true)
-    (λ (f : MemoryFile). is_below folder f.path ≡ true → IsUtf8 (entry_of (after_folder folder f.path)).name) files
-    (λ f t below. name_is_utf8 (after_folder folder f.path) (rest_is_utf8 folder f.path below ((and_both (is_utf8 f.path) (has_full_names false f.path) t).0)))
-    (all_from_test (λ (f : MemoryFile). is_utf8 f.path && has_full_names false f.path) files u))
+    (all_from_test (λ (f : MemoryFile). is_below folder f.path ≡ true → IsUtf8 (entry_of (after_folder folder f.path)).name)
+    (λ (f : MemoryFile). is_utf8 f.path && has_full_names false f.path)
+    (λ f t below. name_is_utf8 (after_folder folder f.path) (rest_is_utf8 folder f.path below ((and_parts (is_utf8 f.path) (has_full_names false f.path) t).0)))
+    files u)

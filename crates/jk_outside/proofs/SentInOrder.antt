@@ -1,36 +1,15 @@
 -- What a sink was handed and took, one text after another.
-use Rattle.std.proofs.Common.{◌≡◌, ℕ, ◌^◌, ◌<◌, List, [], ◌∷◌, ◌++◌, Option, Some, None, length, refl, sym, ap, ◌∙◌, subst, inl, inr, ⊎_elim, arith, append_assoc, append-nil}
+use Rattle.std.proofs.Common.{◌≡◌, ℕ, ◌^◌, ◌<◌, List, [], ◌∷◌, ◌++◌, Option, length, refl, sym, ap, ◌∙◌, subst, append_assoc, append-nil}
 use Rattle.std.specs.List.{concat}
 use Rattle.std.proofs.lemmas.List.Folds.{concat-append}
-use Rattle.jk_model.specs.Outside.{Appends, AppendsPart, HasRisen, NeverFalls}
+use Rattle.jk_model.specs.Outside.{Appends, AppendsPart, NeverFalls}
+use Rattle.jk_model.proofs.AppendsInTurn.{Appends-nil, Appends-append}
+use Rattle.jk_model.proofs.CountsNeverFall.{NeverFalls-refl, NeverFalls-after}
 use Rattle.jk_outside.specs.CutTexts.{whole_pieces, rest_of_pieces, Sends, BreaksOff}
 use Rattle.jk_outside.proofs.CutIsWholeAndRest.{whole_pieces-append, rest_of_pieces-append, whole_pieces-short, rest_of_pieces-short}
 
-pub Appends-nil : (a : Option (List ℕ)) → Appends a a []
-Appends-nil None = refl
-Appends-nil (Some xs) = ap Some (sym (append-nil xs))
-
-pub Appends-append : (a b c : Option (List ℕ)) (x y : List ℕ) → Appends a b x → Appends b c y → Appends a c (x ++ y)
-Appends-append None b c x y h k =
-    let P : Option (List ℕ) → Type 0 = λ o. Appends o c y in
-    let at_none : Appends None c y = subst P h k in at_none
-Appends-append (Some xs) b c x y h k =
-    let P : Option (List ℕ) → Type 0 = λ o. Appends o c y in
-    let at_some : c ≡ Some (xs ++ x ++ y) = subst P h k in
-    at_some ∙ ap Some (append_assoc xs x y)
-
 Appends-is : (a b : Option (List ℕ)) (x y : List ℕ) → x ≡ y → Appends a b x → Appends a b y
 Appends-is a b x y e h = let P : List ℕ → Type 0 = λ t. Appends a b t in subst P e h
-
-pub NeverFalls-refl : (n : ℕ) → n < 2 ^ 64 → NeverFalls n n
-NeverFalls-refl n h = record { later = omega arith; fits = h }
-
-pub NeverFalls-after : (a b c : ℕ) → NeverFalls a b → NeverFalls b c → NeverFalls a c
-NeverFalls-after a b c first second = record { later = omega arith; fits = second.fits }
-
-pub HasRisen-after : (a b c : ℕ) → NeverFalls a b → HasRisen b c → HasRisen a c
-HasRisen-after a b c first risen =
-    ⊎_elim (λ below. inl (omega arith)) (λ last. inr last) risen
 
 -- ---- pieces
 
@@ -110,11 +89,12 @@ AppendsPart-broken a b p q x broken =
 
 -- ---- texts over a buffer
 
--- What was put so far: its whole pieces went out, and the rest is held.
+-- What was put so far: its whole pieces went out, the rest is held, and no fault was counted.
 pub record SoFar (old new : Option (List ℕ)) (old_pieces new_pieces : List (List ℕ)) (old_faults new_faults : ℕ)
     (old_held new_held text : List ℕ) : Type 0 where
   pub sends : Sends old new old_pieces new_pieces (whole_pieces (old_held ++ text))
   pub held : new_held ≡ rest_of_pieces (old_held ++ text)
+  pub calm : new_faults ≡ old_faults
   pub faults : NeverFalls old_faults new_faults
   pub few : length new_held < 256
 
@@ -124,6 +104,7 @@ SoFar-nil a p faults held few fits =
     record {
       sends = rw (append-nil held, whole_pieces-short held few) (Sends-nil a p);
       held = rw (append-nil held) (sym (rest_of_pieces-short held few));
+      calm = refl;
       faults = NeverFalls-refl faults fits;
       few = few;
     }
@@ -135,12 +116,14 @@ joined g h x y held =
     ∙ ap whole_pieces (append_assoc g x y)
 
 pub SoFar-append : (a b c : Option (List ℕ)) (p q r : List (List ℕ)) (fa fb fc : ℕ) (g h k x y : List ℕ) → SoFar a b p q fa fb g h x
-    → Sends b c q r (whole_pieces (h ++ y)) → k ≡ rest_of_pieces (h ++ y) → NeverFalls fb fc → length k < 256 → SoFar a c p r fa fc g k (x ++ y)
-SoFar-append a b c p q r fa fb fc g h k x y so_far sends held faults few =
+    → Sends b c q r (whole_pieces (h ++ y)) → k ≡ rest_of_pieces (h ++ y) → fc ≡ fb → NeverFalls fb fc → length k < 256
+    → SoFar a c p r fa fc g k (x ++ y)
+SoFar-append a b c p q r fa fb fc g h k x y so_far sends held calm faults few =
     let P : List (List ℕ) → Type 0 = λ t. Sends a c p r t in
     record {
       sends = subst P (joined g h x y so_far.held) (Sends-append a b c p q r (whole_pieces (g ++ x)) (whole_pieces (h ++ y)) so_far.sends sends);
       held = held ∙ ap (λ (t : List ℕ). rest_of_pieces (t ++ y)) so_far.held ∙ sym (rest_of_pieces-append (g ++ x) y) ∙ ap rest_of_pieces (append_assoc g x y);
+      calm = calm ∙ so_far.calm;
       faults = NeverFalls-after fa fb fc so_far.faults faults;
       few = few;
     }

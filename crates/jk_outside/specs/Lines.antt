@@ -31,4 +31,5 @@ pub record Prints {E : Type 0} (old_bytes new_bytes : Option (List ℕ)) (old_pi
   pub part : OnErr result (AppendsPart old_bytes new_bytes text)
   pub pieces_part : OnErr result (BreaksOff old_bytes new_bytes old_pieces new_pieces (cut_text text))
   pub cause : OnErr result (HasRisen old_faults new_faults)
+  pub calm : OnOk result (new_faults ≡ old_faults)
   pub faults : NeverFalls old_faults new_faults

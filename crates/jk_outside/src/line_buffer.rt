@@ -61,6 +61,7 @@ impl LineBuffer {
             (S.pieces sink.old) (S.pieces sink.new) (whole_pieces (self.old ++ bytes.now))) }
         ensures emptied { OnErr result (self.new ≡ []) }
         ensures cause { OnErr result (HasRisen (S.faults sink.old) (S.faults sink.new)) }
+        ensures calm { OnOk result (S.faults sink.new ≡ S.faults sink.old) }
         ensures faults { NeverFalls (S.faults sink.old) (S.faults sink.new) }
         ensures few { length self.new < 256 }
     {
@@ -83,6 +84,7 @@ impl LineBuffer {
             (S.pieces sink.old) (S.pieces sink.new) (whole_pieces (self.old ++ bytes.now))) }
         ensures emptied { OnErr result (self.new ≡ []) }
         ensures cause { OnErr result (HasRisen (S.faults sink.old) (S.faults sink.new)) }
+        ensures calm { OnOk result (S.faults sink.new ≡ S.faults sink.old) }
         ensures faults { NeverFalls (S.faults sink.old) (S.faults sink.new) }
         ensures few { length self.new < 256 }
     {
@@ -106,6 +108,7 @@ impl LineBuffer {
             (S.pieces sink.old) (S.pieces sink.new) (whole_pieces (self.old ++ shown_unit unit))) }
         ensures emptied { OnErr result (self.new ≡ []) }
         ensures cause { OnErr result (HasRisen (S.faults sink.old) (S.faults sink.new)) }
+        ensures calm { OnOk result (S.faults sink.new ≡ S.faults sink.old) }
         ensures faults { NeverFalls (S.faults sink.old) (S.faults sink.new) }
         ensures few { length self.new < 256 }
     {
@@ -126,6 +129,7 @@ impl LineBuffer {
             (S.pieces sink.old) (S.pieces sink.new) (whole_pieces (self.old ++ shown units.now))) }
         ensures emptied { OnErr result (self.new ≡ []) }
         ensures cause { OnErr result (HasRisen (S.faults sink.old) (S.faults sink.new)) }
+        ensures calm { OnOk result (S.faults sink.new ≡ S.faults sink.old) }
         ensures faults { NeverFalls (S.faults sink.old) (S.faults sink.new) }
         ensures few { length self.new < 256 }
     {
@@ -146,6 +150,7 @@ impl LineBuffer {
             (S.pieces sink.old) (S.pieces sink.new) (whole_pieces (self.old ++ shown (utf16_of path.now)))) }
         ensures emptied { OnErr result (self.new ≡ []) }
         ensures cause { OnErr result (HasRisen (S.faults sink.old) (S.faults sink.new)) }
+        ensures calm { OnOk result (S.faults sink.new ≡ S.faults sink.old) }
         ensures faults { NeverFalls (S.faults sink.old) (S.faults sink.new) }
         ensures few { length self.new < 256 }
     {
@@ -166,6 +171,7 @@ impl LineBuffer {
             (S.pieces sink.old) (S.pieces sink.new) (whole_pieces (self.old ++ signed_decimal n))) }
         ensures emptied { OnErr result (self.new ≡ []) }
         ensures cause { OnErr result (HasRisen (S.faults sink.old) (S.faults sink.new)) }
+        ensures calm { OnOk result (S.faults sink.new ≡ S.faults sink.old) }
         ensures faults { NeverFalls (S.faults sink.old) (S.faults sink.new) }
         ensures few { length self.new < 256 }
     {
@@ -181,6 +187,7 @@ impl LineBuffer {
             (S.pieces sink.old) (S.pieces sink.new) ((self.old ++ 10 ∷ []) ∷ [])) }
         ensures emptied { self.new ≡ [] }
         ensures cause { OnErr result (HasRisen (S.faults sink.old) (S.faults sink.new)) }
+        ensures calm { OnOk result (S.faults sink.new ≡ S.faults sink.old) }
         ensures faults { NeverFalls (S.faults sink.old) (S.faults sink.new) }
     {
         self.bytes[self.len] = b'\n';

@@ -17,6 +17,7 @@ fn put_part<S: Sink>(buffer: &mut LineBuffer, part: &Part, sink: &mut S) -> Resu
     ensures part { OnErr result (BreaksOff (S.bytes sink.old) (S.bytes sink.new)
         (S.pieces sink.old) (S.pieces sink.new) (whole_pieces (buffer.old ++ part_text part.now))) }
     ensures cause { OnErr result (HasRisen (S.faults sink.old) (S.faults sink.new)) }
+    ensures calm { OnOk result (S.faults sink.new ≡ S.faults sink.old) }
     ensures faults { NeverFalls (S.faults sink.old) (S.faults sink.new) }
     ensures few { length buffer.new < 256 }
 {
@@ -49,6 +50,7 @@ pub fn write_line<S: Sink>(sink: &mut S, parts: &[Part]) -> Result<(), SinkFaile
     ensures pieces_part { OnErr result (BreaksOff (S.bytes sink.old) (S.bytes sink.new)
         (S.pieces sink.old) (S.pieces sink.new) (cut_text (parts_text parts.now))) }
     ensures cause { OnErr result (HasRisen (S.faults sink.old) (S.faults sink.new)) }
+    ensures calm { OnOk result (S.faults sink.new ≡ S.faults sink.old) }
     ensures faults { NeverFalls (S.faults sink.old) (S.faults sink.new) }
 {
     print_parts(sink, parts)

@@ -27,6 +27,7 @@ pub fn print_line<S: Sink>(line: LineRef<'_>, out: &mut S) -> Result<(), SinkFai
     ensures pieces_part { OnErr result (BreaksOff (S.bytes out.old) (S.bytes out.new)
         (S.pieces out.old) (S.pieces out.new) (cut_text (text_of (line_of line.entry ∷ [])))) }
     ensures cause { OnErr result (HasRisen (S.faults out.old) (S.faults out.new)) }
+    ensures calm { OnOk result (S.faults out.new ≡ S.faults out.old) }
     ensures faults { NeverFalls (S.faults out.old) (S.faults out.new) }
 {
     print_kind(line, out)

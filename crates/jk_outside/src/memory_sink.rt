@@ -91,6 +91,7 @@ impl Sink for MemorySink {
         ensures part { OnErr result (AppendsPart (Some self.old.bytes) (Some self.new.bytes) piece.now) }
         ensures cause { OnErr result
             (HasRisen (min self.old.faults (2 ^ 64 - 1)) (min self.new.faults (2 ^ 64 - 1))) }
+        ensures calm { OnOk result (min self.new.faults (2 ^ 64 - 1) ≡ min self.old.faults (2 ^ 64 - 1)) }
         ensures faults { NeverFalls (min self.old.faults (2 ^ 64 - 1)) (min self.new.faults (2 ^ 64 - 1)) }
 
         // What it does is settled by what it holds.

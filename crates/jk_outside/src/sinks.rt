@@ -21,13 +21,15 @@ pub trait Sink {
     /// How many faults there were. At its last value, 2 ^ 64 - 1, it stands still.
     ghost faults: { Self → ℕ };
 
-    /// Appends a piece. Where it fails, a part of the piece, from the front on, was appended.
+    /// Appends a piece. Where it fails, a part of the piece, from the front on, was appended. A write
+    /// that counts a fault fails.
     fn write(&mut self, piece: &[u8]) -> Result<(), SinkFailed>
         requires { 0 < length piece.now }
         ensures handed { pieces self.new ≡ pieces self.old ++ piece.now ∷ [] }
         ensures ok { OnOk result (Appends (bytes self.old) (bytes self.new) piece.now) }
         ensures part { OnErr result (AppendsPart (bytes self.old) (bytes self.new) piece.now) }
         ensures cause { OnErr result (HasRisen (faults self.old) (faults self.new)) }
+        ensures calm { OnOk result (faults self.new ≡ faults self.old) }
         ensures faults { NeverFalls (faults self.old) (faults self.new) };
 
     /// A count of 64 bits.

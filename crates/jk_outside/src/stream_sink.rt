@@ -82,6 +82,7 @@ impl<W: Write> Sink for StreamSink<W> {
         ensures part { OnErr result (AppendsPart None None piece.now) }
         ensures cause { OnErr result
             (HasRisen (min self.old.faults (2 ^ 64 - 1)) (min self.new.faults (2 ^ 64 - 1))) }
+        ensures calm { OnOk result (min self.new.faults (2 ^ 64 - 1) ≡ min self.old.faults (2 ^ 64 - 1)) }
         ensures faults { NeverFalls (min self.old.faults (2 ^ 64 - 1)) (min self.new.faults (2 ^ 64 - 1)) }
 
         // The writer took all of the piece, or a part of it.

@@ -1,6 +1,6 @@
 use Rattle.std.specs.Str.{IsUtf8}
 use Rattle.jk_model.specs.declared.entries.Entry.{Entry}
-use Rattle.jk_outside.proofs.EachItem.{all_push}
+use Rattle.jk_model.proofs.EachItem.{all_push}
 use Rattle.jk_outside.proofs.FolderWalkSteps.{listed_is_utf8}
 use Rattle.jk_outside.proofs.folder_walk.add_found.Goals as goal
 

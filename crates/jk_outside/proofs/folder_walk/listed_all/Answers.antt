@@ -6,10 +6,10 @@ use Rattle.std.specs.Prelude.{IsOk}
 use Rattle.std.specs.declared.io.Error.{Error}
 use Rattle.std.proofs.lemmas.List.{length_push}
 use Rattle.jk_model.specs.declared.entries.Entry.{Entry}
+use Rattle.jk_model.proofs.EachItem.{all_push}
 use Rattle.jk_outside.specs.declared.found.Found.{Found}
 use Rattle.jk_outside.specs.declared.files.FilesError.TheVariants.{TooLong}
 use Rattle.jk_outside.specs.FolderWalks.{listed, listed_as}
-use Rattle.jk_outside.proofs.EachItem.{all_push}
 use Rattle.jk_outside.proofs.FolderWalkSteps.{lists_one_more, no_more_than, yields_one_more}
 use Rattle.jk_outside.proofs.folder_walk.listed_all.Goals as goal
 

@@ -15,7 +15,7 @@ loop-part-preserved g c =
     let within : c.loop-part.part-index < length c.args.parts.now = omega arith in
     rw (flat_map-more part_text c.args.parts.now c.loop-part.part-index no_part within)
     (SoFar-append _ _ _ _ _ _ _ _ _ _ _ _ _ _ c.loop-part.invariant c.in_ok-put_part.ensures.sent c.in_ok-put_part.ensures.held
-    c.in_ok-put_part.ensures.faults c.in_ok-put_part.ensures.few)
+    c.in_ok-put_part.ensures.calm c.in_ok-put_part.ensures.faults c.in_ok-put_part.ensures.few)
 
 pub returns-in_err-put_part : goal.returns-in_err-put_part
 returns-in_err-put_part g c =
@@ -26,4 +26,5 @@ returns-in_err-put_part g c =
 pub returns : goal.returns
 returns g c =
     Prints-ended _ _ _ _ _ _ _ _ _ _ c.end_line.result c.args.parts.now c.loop-part.part-index
-    (omega arith) c.loop-part.invariant c.end_line.ensures.sent c.end_line.ensures.part c.end_line.ensures.cause c.end_line.ensures.faults
+    (omega arith) c.loop-part.invariant c.end_line.ensures.sent c.end_line.ensures.part c.end_line.ensures.cause c.end_line.ensures.calm
+    c.end_line.ensures.faults

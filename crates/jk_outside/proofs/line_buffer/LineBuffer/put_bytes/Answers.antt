@@ -29,5 +29,5 @@ loop-rest-preserved g c =
       c.loop-rest.invariant.1 ∙ ap (λ (t : List ℕ). c.loop-rest.invariant.0 ++ t) split
           ∙ sym (append_assoc c.loop-rest.invariant.0 c.split_at.result.0.now c.split_at.result.1.now),
       SoFar-append _ _ _ _ _ _ _ _ _ _ _ _ c.loop-rest.invariant.0 c.split_at.result.0.now c.loop-rest.invariant.2 c.in_ok-fill.ensures.sent
-          c.in_ok-fill.ensures.held c.in_ok-fill.ensures.faults c.in_ok-fill.ensures.few,
+          c.in_ok-fill.ensures.held c.in_ok-fill.ensures.calm c.in_ok-fill.ensures.faults c.in_ok-fill.ensures.few,
     )

@@ -23,4 +23,4 @@ loop-unit-preserved g c =
     let within : c.loop-unit.unit-index < length c.args.units.now = omega arith in
     rw (flat_map-more shown_unit c.args.units.now c.loop-unit.unit-index 0 within)
     (SoFar-append _ _ _ _ _ _ _ _ _ _ _ _ _ _ c.loop-unit.invariant c.in_ok-put_unit.ensures.sent c.in_ok-put_unit.ensures.held
-    c.in_ok-put_unit.ensures.faults c.in_ok-put_unit.ensures.few)
+    c.in_ok-put_unit.ensures.calm c.in_ok-put_unit.ensures.faults c.in_ok-put_unit.ensures.few)

@@ -24,7 +24,7 @@ loop-character-preserved g c = (
   IsPut-append c.args.path.now (chars_rest c.loop-character.character-iterator) c.loop-character.invariant.0 _ c.encode_utf16.result.now
       c.in-Some.character c.loop-character.invariant.1 c.in-Some.ensures.steps.0 c.encode_utf16.ensures.value,
   SoFar-append _ _ _ _ _ _ _ _ _ _ _ _ _ _ c.loop-character.invariant.2 c.in_ok-put_escaped.ensures.sent c.in_ok-put_escaped.ensures.held
-      c.in_ok-put_escaped.ensures.faults c.in_ok-put_escaped.ensures.few,
+      c.in_ok-put_escaped.ensures.calm c.in_ok-put_escaped.ensures.faults c.in_ok-put_escaped.ensures.few,
 )
 
 pub returns-in_err-put_escaped-clause-part : goal.returns-in_err-put_escaped-clause-part

@@ -1,14 +1,14 @@
 use Rattle.std.proofs.Common.{◌≡◌, ℕ, List, true, false, sym, ap, ◌∙◌, subst}
 use Rattle.std.specs.Str.{IsUtf8}
+use Rattle.std.proofs.lemmas.Bool.{and_parts}
 use Rattle.std.proofs.lemmas.Str.{is_utf8-from_IsUtf8}
 use Rattle.jk_outside.specs.declared.memory_files.MemoryFile.{MemoryFile}
 use Rattle.jk_outside.specs.MemoryTrees.{is_addable, all_apart, has_full_names}
-use Rattle.jk_outside.proofs.EachItem.{and_both}
 use Rattle.jk_outside.proofs.memory_files.MemoryFiles.add.Goals as goal
 
 addable_is_full : (files : List MemoryFile) (path : List ℕ) → is_addable files path ≡ true → has_full_names false path ≡ true
 unfolding is_addable
-addable_is_full files path h = (and_both (has_full_names false path) (all_apart files path) h).0
+addable_is_full files path h = (and_parts (has_full_names false path) (all_apart files path) h).0
 
 pub invariant_of-self : goal.invariant_of-self
 invariant_of-self c =
