@@ -51,6 +51,7 @@ pub(crate) fn print_any<S: Sink>(line: Option<LineRef<'_>>, out: &mut S) -> Resu
     ensures ok { OnOk result (Appends (S.bytes out.old) (S.bytes out.new) (text_of (lines_of line.entry))) }
     ensures part { OnErr result (AppendsPart (S.bytes out.old) (S.bytes out.new) (text_of (lines_of line.entry))) }
     ensures cause { OnErr result (HasRisen (S.faults out.old) (S.faults out.new)) }
+    ensures calm { OnOk result (S.faults out.new ≡ S.faults out.old) }
     ensures faults { NeverFalls (S.faults out.old) (S.faults out.new) }
 {
     match line {

@@ -112,6 +112,7 @@ impl Kernel {
             × HasRisen (S.faults out.old) (S.faults out.new) }
         ensures memory { result ≡ Err EventAnswer.OutOfMemory → (self.new ≡ self.old) × (out.new ≡ out.old)
             × ((lines : List Line) × (new : Machine) × Begins self.old name.now class.now words.now lines new) }
+        ensures calm { OnOk result (S.faults out.new ≡ S.faults out.old) }
         ensures faults { NeverFalls (S.faults out.old) (S.faults out.new) }
     {
         let beginning = match self.begin(name, class) {
@@ -162,6 +163,7 @@ impl Kernel {
             × HasRisen (S.faults out.old) (S.faults out.new)) }
         // No thread is ever where it can't take a step.
         ensures goes_on { CanStep self.new }
+        ensures calm { OnOk result (S.faults out.new ≡ S.faults out.old) }
         ensures faults { NeverFalls (S.faults out.old) (S.faults out.new) }
     {
         let Some(frame) = live_frame(self.threads.as_slice(), thread) else {

@@ -31,6 +31,7 @@ fn turn<S: Sink>(
     ensures failed { OnErr result ((lines : List Line) × (last : Machine) × Turns Executes steps kernel.old thread lines last
         × AppendsPart (S.bytes out.old) (S.bytes out.new) (text_of lines)
         × HasRisen (S.faults out.old) (S.faults out.new)) }
+    ensures calm { OnOk result (S.faults out.new ≡ S.faults out.old) }
     ensures faults { NeverFalls (S.faults out.old) (S.faults out.new) }
 {
     for _ in 0..steps {
@@ -51,6 +52,7 @@ fn turn_thread<S: Sink>(
 ) -> Result<(), Stop>
     ensures ends { IsPrinted (Turns Executes steps kernel.old thread) kernel.new
         (S.bytes out.old) (S.bytes out.new) (S.faults out.old) (S.faults out.new) result }
+    ensures calm_out { (result ≡ Err Stop.WriteFault → ⊥) → S.faults out.new ≡ S.faults out.old }
     ensures faults { NeverFalls (S.faults out.old) (S.faults out.new) }
 {
     match turn(kernel, thread, steps, out) {
@@ -72,6 +74,7 @@ fn start_thread<S: Sink>(
     requires segment { kernel.old.next_segment < 2 ^ 64 - 1 }
     ensures ends { IsPrinted (Starts kernel.old name.now class.now words.now) kernel.new
         (S.bytes out.old) (S.bytes out.new) (S.faults out.old) (S.faults out.new) result }
+    ensures calm_out { (result ≡ Err Stop.WriteFault → ⊥) → S.faults out.new ≡ S.faults out.old }
     ensures faults { NeverFalls (S.faults out.old) (S.faults out.new) }
 {
     match kernel.start(name, class, words, out) {
@@ -101,6 +104,7 @@ fn happen<F: Files, S: Sink>(
     ensures calm { (result ≡ Err Stop.ReadFault → ⊥) → IsSome (F.tree files.old) → F.faults files.new ≡ F.faults files.old }
     ensures stays { F.tree files.new ≡ F.tree files.old }
     ensures files_faults { NeverFalls (F.faults files.old) (F.faults files.new) }
+    ensures calm_out { (result ≡ Err Stop.WriteFault → ⊥) → S.faults out.new ≡ S.faults out.old }
     ensures faults { NeverFalls (S.faults out.old) (S.faults out.new) }
 {
     match event {
@@ -139,6 +143,7 @@ pub fn run_events<F: Files, S: Sink>(
     ensures calm { (result ≡ Err Stop.ReadFault → ⊥) → IsSome (F.tree files.old) → F.faults files.new ≡ F.faults files.old }
     ensures stays { F.tree files.new ≡ F.tree files.old }
     ensures files_faults { NeverFalls (F.faults files.old) (F.faults files.new) }
+    ensures calm_out { (result ≡ Err Stop.WriteFault → ⊥) → S.faults out.new ≡ S.faults out.old }
     ensures faults { NeverFalls (S.faults out.old) (S.faults out.new) }
 {
     let mut kernel = Kernel::new(alloc);

@@ -40,6 +40,7 @@ fn folder_path(alloc: Global, root: &str, name: &[u8]) -> Result<String, OutOfMe
 fn say<S: Sink>(line: LineRef<'_>, out: &mut S) -> Result<(), Stop>
     ensures prints { GoesOut (line_of line.entry ∷ [])
         (S.bytes out.old) (S.bytes out.new) (S.faults out.old) (S.faults out.new) result }
+    ensures calm_out { (result ≡ Err Stop.WriteFault → ⊥) → S.faults out.new ≡ S.faults out.old }
     ensures faults { NeverFalls (S.faults out.old) (S.faults out.new) }
 {
     match print_line(line, out) {
@@ -52,6 +53,7 @@ fn say<S: Sink>(line: LineRef<'_>, out: &mut S) -> Result<(), Stop>
 fn say_refused<S: Sink>(out: &mut S, name: &[u8], rule: Rule) -> Result<(), Stop>
     ensures prints { GoesOut (Refused name.now rule Whole ∷ [])
         (S.bytes out.old) (S.bytes out.new) (S.faults out.old) (S.faults out.new) result }
+    ensures calm_out { (result ≡ Err Stop.WriteFault → ⊥) → S.faults out.new ≡ S.faults out.old }
     ensures faults { NeverFalls (S.faults out.old) (S.faults out.new) }
 {
     let line = LineRef::Refused {
@@ -74,6 +76,7 @@ fn add_class<S: Sink>(
     requires few { length kernel.old.domains < 2 ^ 31 }
     ensures adds { IsPrinted (SaysLoaded kernel.old name.now class) kernel.new
         (S.bytes out.old) (S.bytes out.new) (S.faults out.old) (S.faults out.new) result }
+    ensures calm_out { (result ≡ Err Stop.WriteFault → ⊥) → S.faults out.new ≡ S.faults out.old }
     ensures faults { NeverFalls (S.faults out.old) (S.faults out.new) }
 {
     match kernel.add_domain(name, THREADS, class) {
@@ -100,6 +103,7 @@ pub fn open_domain<F: Files, S: Sink>(
     ensures calm { (result ≡ Err Stop.ReadFault → ⊥) → IsSome (F.tree files.old) → F.faults files.new ≡ F.faults files.old }
     ensures stays { F.tree files.new ≡ F.tree files.old }
     ensures files_faults { NeverFalls (F.faults files.old) (F.faults files.new) }
+    ensures calm_out { (result ≡ Err Stop.WriteFault → ⊥) → S.faults out.new ≡ S.faults out.old }
     ensures faults { NeverFalls (S.faults out.old) (S.faults out.new) }
 {
     if kernel.has_domain(name) {

@@ -6,7 +6,7 @@ ghost use Rattle.jk_model.specs.Script.{MAX_BYTES};
 ghost use Rattle.jk_model.specs.declared.script.FaultKind.TheVariants.{NotYet};
 ghost use Rattle.script_reader.specs.Events.{IsScript, IsAtFault};
 ghost use Rattle.jkernel_program.specs.Calls.{IsCall};
-ghost use Rattle.jkernel_program.specs.declared.stop.Stop.TheVariants.{ReadFault};
+ghost use Rattle.jkernel_program.specs.declared.stop.Stop.TheVariants.{ReadFault, WriteFault};
 ghost use Rattle.jkernel_program.specs.Ends.{EndsSo, EndsWell, EndsRefused, HasText, IsNoCall};
 ghost use Rattle.jk_model_machine.specs.Machine.{no_domains};
 ghost use Rattle.jkernel_program.specs.Events.{moment};
@@ -29,6 +29,7 @@ fn run<F: Files, S: Sink>(alloc: Global, words: &[String], files: &mut F, out: &
     ensures asks { Asks (F.tree files.old) (map string_bytes words.now) (F.asked files.old) (F.asked files.new) }
     ensures calm { (result ≡ End.Stopped ReadFault → ⊥) → IsSome (F.tree files.old)
         → F.faults files.new ≡ F.faults files.old }
+    ensures calm_out { (result ≡ End.Stopped WriteFault → ⊥) → S.faults out.new ≡ S.faults out.old }
     ensures no_call { IsNoCall (map string_bytes words.now) → result ≡ End.Usage }
     ensures missing { (root script : List ℕ) → IsCall (map string_bytes words.now) root script
         → HasNoFile (F.tree files.old) script → result ≡ End.Stopped ReadFault }
@@ -83,6 +84,9 @@ pub fn jkernel<F: Files, S: Sink, E: Sink>(
     ensures asks { Asks (F.tree files.old) (map string_bytes words.now) (F.asked files.old) (F.asked files.new) }
     // No call of told files failed that did not end the run.
     ensures calm { (result ≡ Status.ReadFault → ⊥) → IsSome (F.tree files.old) → F.faults files.new ≡ F.faults files.old }
+
+    // No write failed that did not end the run.
+    ensures calm_out { (result ≡ Status.WriteFault → ⊥) → S.faults out.new ≡ S.faults out.old }
 
     // Each status other than the good one has its cause.
     ensures causes_usage { result ≡ Status.Usage → IsNoCall (map string_bytes words.now) }

@@ -47,6 +47,12 @@ returns-in_err-happen-clause-calm g c = λ no told.
     let unread = rw (exit.1, exit.2) at no in
     c.in_err-happen.ensures.calm unread (subst (λ (o : Option Tree). IsSome o) (sym c.loop-event.invariant.stays) told) ∙ c.loop-event.invariant.calm told
 
+pub returns-in_err-happen-clause-calm_out : goal.returns-in_err-happen-clause-calm_out
+returns-in_err-happen-clause-calm_out g c = λ no.
+    let exit = err_from_is_err_and c.from_residual.result c.from_residual.ensures.1 in
+    let written = rw (exit.1, exit.2) at no in
+    c.in_err-happen.ensures.calm_out written ∙ c.loop-event.invariant.calm_out
+
 pub loop-event-preserved : goal.loop-event-preserved
 loop-event-preserved g c =
     let t = g.F.Files.tree c.args.files.now in
@@ -73,6 +79,7 @@ loop-event-preserved g c =
           ∙ c.loop-event.invariant.calm told;
       files_faults = NeverFalls-after (g.F.Files.faults c.args.files.now) (g.F.Files.faults c.loop-event.files) (g.F.Files.faults c.happen.new.files)
           c.loop-event.invariant.files_faults c.in_ok-happen.ensures.files_faults;
+      calm_out = c.in_ok-happen.ensures.calm_out (λ e. absurd cc) ∙ c.loop-event.invariant.calm_out;
       faults = NeverFalls-after (g.S.Sink.faults c.args.out.now) (g.S.Sink.faults c.loop-event.out) (g.S.Sink.faults c.happen.new.out)
           c.loop-event.invariant.faults c.in_ok-happen.ensures.faults;
     }

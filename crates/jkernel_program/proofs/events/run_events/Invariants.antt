@@ -17,5 +17,6 @@ invariant-loop-event g l = record {
   stays : g.F.Files.tree l.files ≡ g.F.Files.tree l.fn.files;
   calm : IsSome (g.F.Files.tree l.fn.files) → g.F.Files.faults l.files ≡ g.F.Files.faults l.fn.files;
   files_faults : NeverFalls (g.F.Files.faults l.fn.files) (g.F.Files.faults l.files);
+  calm_out : g.S.Sink.faults l.out ≡ g.S.Sink.faults l.fn.out;
   faults : NeverFalls (g.S.Sink.faults l.fn.out) (g.S.Sink.faults l.out);
 }

@@ -39,6 +39,7 @@ loop-preserved g c =
         turns_more Executes c.loop.counter c.args.kernel.now c.loop.kernel c.turn.new.self c.args.thread so_far.0 step.0 so_far.1 step.1,
         goes_out_then (g.S.Sink.bytes c.args.out.now) (g.S.Sink.bytes c.loop.out) (g.S.Sink.bytes c.turn.new.out) so_far.0 step.0 so_far.2 step.2,
       );
+      calm = c.in_ok-turn.ensures.calm ∙ c.loop.invariant.calm;
       faults = NeverFalls-after (g.S.Sink.faults c.args.out.now) (g.S.Sink.faults c.loop.out) (g.S.Sink.faults c.turn.new.out) c.loop.invariant.faults
           c.turn.ensures.faults;
     }

@@ -1,5 +1,5 @@
 -- So far the thread took as many steps as the counter says, and their text went out.
-use Rattle.std.proofs.Common.{◌≤◌, List}
+use Rattle.std.proofs.Common.{◌≡◌, ◌≤◌, List}
 use Rattle.jk_model.specs.declared.output.Line.{Line}
 use Rattle.jk_model.specs.Outside.{Appends, NeverFalls}
 use Rattle.jk_model.specs.Output.{text_of}
@@ -12,5 +12,6 @@ invariant-loop g l = record {
   within : l.counter ≤ l.steps;
   turns : (lines : List Line) × Turns Executes l.counter l.fn.kernel l.thread lines l.kernel
       × Appends (g.S.Sink.bytes l.fn.out) (g.S.Sink.bytes l.out) (text_of lines);
+  calm : g.S.Sink.faults l.out ≡ g.S.Sink.faults l.fn.out;
   faults : NeverFalls (g.S.Sink.faults l.fn.out) (g.S.Sink.faults l.out);
 }
