@@ -89,5 +89,6 @@ names_are_names folder files u =
     good_entries (λ (e : Entry). IsEntryName e.name) folder files
     (all_from_test (λ (f : MemoryFile). is_below folder f.path ≡ true → IsEntryName (entry_of (after_folder folder f.path)).name)
     (λ (f : MemoryFile). is_utf8 f.path && has_full_names false f.path)
-    (λ f t below. first_is_name (after_folder folder f.path) (rest_is_full folder f.path below ((and_parts (is_utf8 f.path) (has_full_names false f.path) t).1)))
-    files u)
+    (λ f t below.
+    let full = (and_parts (is_utf8 f.path) (has_full_names false f.path) t).1 in
+    first_is_name (after_folder folder f.path) (rest_is_full folder f.path below full)) files u)

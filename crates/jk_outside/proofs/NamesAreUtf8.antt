@@ -47,5 +47,6 @@ names_are_utf8 folder files u =
     good_entries (λ (e : Entry). IsUtf8 e.name) folder files
     (all_from_test (λ (f : MemoryFile). is_below folder f.path ≡ true → IsUtf8 (entry_of (after_folder folder f.path)).name)
     (λ (f : MemoryFile). is_utf8 f.path && has_full_names false f.path)
-    (λ f t below. name_is_utf8 (after_folder folder f.path) (rest_is_utf8 folder f.path below ((and_parts (is_utf8 f.path) (has_full_names false f.path) t).0)))
-    files u)
+    (λ f t below.
+    let text = (and_parts (is_utf8 f.path) (has_full_names false f.path) t).0 in
+    name_is_utf8 (after_folder folder f.path) (rest_is_utf8 folder f.path below text)) files u)

@@ -41,6 +41,7 @@ pub(crate) fn found_as(alloc: Global, name: &str, looked: io::Result<Metadata>) 
     ensures err { IfErr looked (λ e. result ≡ Err e) }
     ensures name { IfOk result (λ found. found.name ≡ name.now) }
     ensures sort { IfOk looked (λ metadata. IfOk result (λ found. IsSortOf (file_type metadata) found.sort)) }
+    ensures memory { IfOk looked (λ _. IfErr result (λ e. error_kind e ≡ ErrorKind.OutOfMemory)) }
 {
     let sort = sort_of(&looked?);
     match Bytes::from_slice(alloc, name.as_bytes()) {
