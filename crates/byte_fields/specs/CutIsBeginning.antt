@@ -1,11 +1,13 @@
 -- Bytes in which a reader ends early are a proper beginning of the spelling of a value that it reads. The
 -- laws go from the readers of parts to the reader of the whole.
-use Rattle.std.proofs.Common.{◌≡◌, ◌≢◌, ℕ, zero, suc, ◌-◌, ◌^◌, ◌<◌, ◌⊎◌, Bool, true, false, cond, ltb, List, [], ◌∷◌, ◌++◌, length, take, drop, Option, Some, None, refl, sym, ap, subst, ◌∙◌, append_assoc, append-nil, arith, inl, inr}
+use Rattle.std.proofs.Common.{◌≡◌, ℕ, zero, suc, ◌-◌, ◌^◌, ◌<◌, ◌⊎◌, Bool, true, false, cond, ltb, List, [], ◌∷◌, ◌++◌, length, take, drop, Option, Some, None, refl, sym, ap, subst, ◌∙◌, append_assoc, append-nil, arith, inl, inr}
 use Rattle.std.specs.List.{flat_map}
 use Rattle.std.specs.Int.{Width, w16, w32, w64, byte_len, from_be_bytes, to_be_bytes}
 use Rattle.std.proofs.lemmas.Bool.{ltb-true}
 use Rattle.std.proofs.lemmas.List.{length-append}
+use Rattle.std.proofs.lemmas.Option.{none-some}
 use Rattle.jk_model.specs.ClassFile.{u2, u4, u8, IsU2, IsU4, IsU8}
+use Rattle.jk_model.proofs.EmptyByLength.{not_nil_front, not_nil_back, not_nil_from_length}
 use Rattle.byte_fields.specs.Reading.{◌>>=◌, then_at, mapped_at, many_at, byte_at, number_at, bytes_at, pair_at, block_at, counted_at}
 use Rattle.byte_fields.specs.Layouts.{IsBytes, IsReader, Completes, FailsWithin, u1, IsU1, pair_bytes, IsPair, AreBytesOf, block_bytes, IsBlock, AreMany, counted_bytes, AreCounted}
 use Rattle.byte_fields.specs.PartsAreBytes.{IsBytes-append, are_bytes, zeros, length-zeros, IsBytes-zeros}
@@ -23,24 +25,6 @@ pub guard_none : {A : Type 0} (b : Bool) (x : A) → cond b None (Some x) ≡ No
 guard_none true x e = refl
 guard_none false x e = absurd cc
 
-abbrev done : {A : Type 0} → A → Option A
-done x = Some x
-
-pub some_not_none : {A : Type 0} (x : A) → done x ≡ None → ⊥
-some_not_none x e = absurd cc
-
-pub not_empty : (a b : List ℕ) → a ≢ [] → a ++ b ≢ []
-not_empty [] b h = absurd (h refl)
-not_empty (x ∷ a) b h = λ e. absurd cc
-
-pub not_empty_either : (a b : List ℕ) → b ≢ [] → a ++ b ≢ []
-not_empty_either [] b h = h
-not_empty_either (x ∷ a) b h = λ e. absurd cc
-
-long_not_empty : (a : List ℕ) → 0 < length a → a ≢ []
-long_not_empty [] h = absurd (omega arith)
-long_not_empty (x ∷ a) h = λ e. absurd cc
-
 -- ---- A proper beginning of a spelling isn't read, with or without anything after it.
 
 pub never_both : {A : Type 0} (r : List ℕ → Option (A × List ℕ)) (s : A → List ℕ) (F : A → Type 0) → IsReader r s F
@@ -50,7 +34,7 @@ never_both {A = A} r s F p bytes x fits e c =
     let again : r (bytes ++ c.more) ≡ Some (x.0, x.1 ++ c.more) =
     ap (λ (v : List ℕ). r (v ++ c.more)) h.0.parts ∙ ap r (append_assoc (s x.0) x.1 c.more) ∙ p.again x.0 (x.1 ++ c.more) h.1 in
     let whole : r (bytes ++ c.more) ≡ Some (c.value, []) = ap r (c.spelled ∙ sym (append-nil (s c.value))) ∙ p.again c.value [] c.fits in
-    not_empty_either x.1 c.more c.some (found_is x.0 c.value (x.1 ++ c.more) [] (sym again ∙ whole)).1
+    not_nil_back x.1 c.more c.some (found_is x.0 c.value (x.1 ++ c.more) [] (sym again ∙ whole)).1
 
 -- ---- Readers of wholes.
 
@@ -82,7 +66,7 @@ then_cut {A = A} {B = B} r k s t F G p c d = record {
               value = (h.value, b);
               fits = (h.fits, (d h.value).one_fits);
               more = h.more ++ tail;
-              some = not_empty h.more tail h.some;
+              some = not_nil_front h.more tail h.some;
               spelled = whole;
             }
         | inr w ↦
@@ -94,7 +78,7 @@ then_cut {A = A} {B = B} r k s t F G p c d = record {
                   let whole : bytes ++ h.more ≡ front ++ t w.0.0 h.value =
                   ap (λ (v : List ℕ). v ++ h.more) first.0.parts ∙ append_assoc front w.0.1 h.more ∙ ap (λ (v : List ℕ). front ++ v) h.spelled in
                   record { value = (w.0.0, h.value); fits = (first.1, h.fits); more = h.more; some = h.some; spelled = whole }
-              | inr v ↦ absurd (some_not_none ((w.0.0, v.0.0), v.0.1) v.2)
+              | inr v ↦ absurd (none-some ((w.0.0, v.0.0), v.0.1) (sym v.2))
             ]
       ];
 }
@@ -116,7 +100,7 @@ mapped_cut {A = A} f g r s F gf p = record {
             let h = p.cut bytes fits e1 in
             let back = sym (gf h.value h.fits) in
             record { value = f h.value; fits = subst F back h.fits; more = h.more; some = h.some; spelled = h.spelled ∙ ap s back }
-        | inr w ↦ absurd (some_not_none (f w.0.0, w.0.1) w.2)
+        | inr w ↦ absurd (none-some (f w.0.0, w.0.1) (sym w.2))
       ];
 }
 
@@ -130,7 +114,7 @@ many_cuts : {A : Type 0} (r : List ℕ → Option (A × List ℕ)) (s : A → Li
     → (n : ℕ) (bytes : List ℕ) → IsBytes bytes → many_at r n bytes ≡ None → Completes (flat_map s) (AreMany F n) bytes
 many_cuts {A = A} r s F p c zero bytes fits e =
     let made : List A × List ℕ = ([], bytes) in
-    absurd (some_not_none made e)
+    absurd (none-some made (sym e))
 many_cuts {A = A} r s F p c (suc n) bytes fits e =
     elim (bind_none (r bytes) (λ first. many_at r n first.1 >>= λ others. Some (first.0 ∷ others.0, others.1)) e) [
       | inl e1 ↦
@@ -142,7 +126,7 @@ many_cuts {A = A} r s F p c (suc n) bytes fits e =
             value = h.value ∷ others.0;
             fits = (ap suc others.1.0, (h.fits, others.1.1));
             more = h.more ++ tail;
-            some = not_empty h.more tail h.some;
+            some = not_nil_front h.more tail h.some;
             spelled = whole;
           }
       | inr w ↦
@@ -154,7 +138,7 @@ many_cuts {A = A} r s F p c (suc n) bytes fits e =
                 let whole : bytes ++ h.more ≡ front ++ flat_map s h.value =
                 ap (λ (v : List ℕ). v ++ h.more) first.0.parts ∙ append_assoc front w.0.1 h.more ∙ ap (λ (v : List ℕ). front ++ v) h.spelled in
                 record { value = w.0.0 ∷ h.value; fits = (ap suc h.fits.0, (first.1, h.fits.1)); more = h.more; some = h.some; spelled = whole }
-            | inr v ↦ absurd (some_not_none (w.0.0 ∷ v.0.0, v.0.1) v.2)
+            | inr v ↦ absurd (none-some (w.0.0 ∷ v.0.0, v.0.1) (sym v.2))
           ]
     ]
 
@@ -168,7 +152,7 @@ many_cut r s F p c n =
 
 byte_ends : (bytes : List ℕ) → byte_at bytes ≡ None → Completes u1 IsU1 bytes
 byte_ends [] e = record { value = 0; fits = omega arith; more = 0 ∷ []; some = λ e. absurd cc; spelled = refl }
-byte_ends (b ∷ bytes) e = let made : ℕ × List ℕ = (b, bytes) in absurd (some_not_none made e)
+byte_ends (b ∷ bytes) e = let made : ℕ × List ℕ = (b, bytes) in absurd (none-some made (sym e))
 
 pub u1_cut : FailsWithin byte_at u1 IsU1
 u1_cut = record { one = 0; one_fits = omega arith; cut = λ bytes fits e. byte_ends bytes e }
@@ -191,7 +175,7 @@ number_cut w limit wide pos = record {
         value = from_be_bytes w full;
         fits = wide.below full full_fits;
         more = more;
-        some = long_not_empty more (omega (arith, many));
+        some = not_nil_from_length more (omega (arith, many));
         spelled = sym (wide.back full len full_fits);
       };
 }
@@ -222,7 +206,7 @@ bytes_cut n = record {
       let full = bytes ++ more in
       let full_fits : IsBytes full = IsBytes-append bytes more fits (IsBytes-zeros lacking) in
       let len : length full ≡ n = omega (arith, length-append bytes more, many) in
-      record { value = full; fits = (len, are_bytes full full_fits); more = more; some = long_not_empty more (omega (arith, many)); spelled = refl };
+      record { value = full; fits = (len, are_bytes full full_fits); more = more; some = not_nil_from_length more (omega (arith, many)); spelled = refl };
 }
 
 -- ---- Two numbers of two bytes.

@@ -4,6 +4,7 @@ use Rattle.std.proofs.Common.{◌≡◌, ℕ, zero, suc, ◌^◌, ◌<◌, ◌�
 use Rattle.std.specs.List.{flat_map, AllByRecursion}
 use Rattle.std.specs.Int.{Width, w16, w32, w64, byte_len, from_be_bytes, to_be_bytes}
 use Rattle.std.proofs.lemmas.Bool.{ltb-false, le-ltb}
+use Rattle.std.proofs.lemmas.Option.{same_Some}
 use Rattle.std.proofs.lemmas.List.{take_at, drop_at, take-append-drop, length-append, length-take}
 use Rattle.jk_model.specs.ClassFile.{u2, u4, u8, IsU2, IsU4, IsU8}
 use Rattle.byte_fields.specs.Reading.{◌>>=◌, then_at, mapped_at, many_at, byte_at, number_at, bytes_at, pair_at, block_at, counted_at}
@@ -23,12 +24,6 @@ pub guard_some : {A : Type 0} (b : Bool) (x y : A) → cond b None (Some x) ≡ 
 guard_some true x y e = absurd cc
 guard_some false x y e = (refl, cc)
 
-abbrev done : {A : Type 0} → A → Option A
-done x = Some x
-
-pub some_is : {A : Type 0} (x y : A) → done x ≡ done y → x ≡ y
-some_is x y e = cc
-
 pub Takes-then : (a x b y c : List ℕ) → Takes a x b → Takes b y c → Takes a (x ++ y) c
 Takes-then a x b y c p q = record {
   parts = p.parts ∙ ap (λ (t : List ℕ). x ++ t) q.parts ∙ sym (append_assoc x y c);
@@ -44,7 +39,7 @@ pub found_is : {A : Type 0} (a b : A) (x y : List ℕ) → found a x ≡ found b
 found_is {A = A} a b x y e =
     let made : A × List ℕ = (a, x) in
     let given : A × List ℕ = (b, y) in
-    let same : made ≡ given = some_is made given e in
+    let same : made ≡ given = same_Some made given e in
     (ap (λ (p : A × List ℕ). p.0) same, ap (λ (p : A × List ℕ). p.1) same)
 
 pub one_reading : {A : Type 0} (r : List ℕ → Option (A × List ℕ)) (s : A → List ℕ) (F : A → Type 0) → IsReader r s F
@@ -76,7 +71,7 @@ then_reader {A = A} {B = B} r k s t F G p q = record {
       let both = Takes-then bytes (s a.0.0) a.0.1 (t a.0.0 b.0.0) b.0.1 first.0 second.0 in
       let made : (A × B) × List ℕ = ((a.0.0, b.0.0), b.0.1) in
       let P : (A × B) × List ℕ → Type 0 = λ y. Takes bytes (s y.0.0 ++ t y.0.0 y.0.1) y.1 × (F y.0.0 × G y.0.0 y.0.1) in
-      subst P (some_is made x b.2) (both, (first.1, second.1));
+      subst P (same_Some made x b.2) (both, (first.1, second.1));
   again = λ a rest fits.
       ap (then_at r k) (append_assoc (s a.0) (t a.0 a.1) rest)
       ∙ rw (p.again a.0 (t a.0 a.1 ++ rest) fits.0, (q a.0).again a.1 rest fits.1) refl;
@@ -96,7 +91,7 @@ mapped_reader {A = A} {B = B} f g r s F fg gf p = record {
       let made : B × List ℕ = (f a.0.0, a.0.1) in
       let back = sym (gf a.0.0 h.1) in
       let P : B × List ℕ → Type 0 = λ y. Takes bytes (s (g y.0)) y.1 × F (g y.0) in
-      subst P (some_is made x a.2) (subst (λ (v : A). Takes bytes (s v) a.0.1 × F v) back h);
+      subst P (same_Some made x a.2) (subst (λ (v : A). Takes bytes (s v) a.0.1 × F v) back h);
   again = λ b rest fits. rw (p.again (g b) rest fits) (ap (λ (v : B). Some (v, rest)) (fg b));
 }
 
@@ -108,7 +103,7 @@ many_take : {A : Type 0} (r : List ℕ → Option (A × List ℕ)) (s : A → Li
 many_take {A = A} r s F p zero bytes x fits e =
     let made : List A × List ℕ = ([], bytes) in
     let P : List A × List ℕ → Type 0 = λ y. Takes bytes (flat_map s y.0) y.1 × AreMany F 0 y.0 in
-    subst P (some_is made x e) (record { parts = refl; rest_fits = fits }, (refl, tt))
+    subst P (same_Some made x e) (record { parts = refl; rest_fits = fits }, (refl, tt))
 many_take {A = A} r s F p (suc n) bytes x fits e =
     let a = bind_some (r bytes) (λ first. many_at r n first.1 >>= λ others. Some (first.0 ∷ others.0, others.1)) x e in
     let b = bind_some (many_at r n a.0.1) (λ others. Some (a.0.0 ∷ others.0, others.1)) x a.2 in
@@ -117,7 +112,7 @@ many_take {A = A} r s F p (suc n) bytes x fits e =
     let both = Takes-then bytes (s a.0.0) a.0.1 (flat_map s b.0.0) b.0.1 first.0 second.0 in
     let made : List A × List ℕ = (a.0.0 ∷ b.0.0, b.0.1) in
     let P : List A × List ℕ → Type 0 = λ y. Takes bytes (flat_map s y.0) y.1 × AreMany F (suc n) y.0 in
-    subst P (some_is made x b.2) (both, (ap suc second.1.0, (first.1, second.1.1)))
+    subst P (same_Some made x b.2) (both, (ap suc second.1.0, (first.1, second.1.1)))
 
 many_again : {A : Type 0} (r : List ℕ → Option (A × List ℕ)) (s : A → List ℕ) (F : A → Type 0) → IsReader r s F
     → (xs : List A) (rest : List ℕ) → AllByRecursion F xs → many_at r (length xs) (flat_map s xs ++ rest) ≡ Some (xs, rest)
@@ -146,7 +141,7 @@ u1_reader = record {
     byte_takes (b ∷ bytes) x fits e =
         let made : ℕ × List ℕ = (b, bytes) in
         let P : ℕ × List ℕ → Type 0 = λ y. Takes (b ∷ bytes) (u1 y.0) y.1 × IsU1 y.0 in
-        subst P (some_is made x e) (record { parts = refl; rest_fits = λ i. fits (suc i) }, fits 0)
+        subst P (same_Some made x e) (record { parts = refl; rest_fits = λ i. fits (suc i) }, fits 0)
 
 pub number_reader : (w : Width) (limit : ℕ) → IsWide w limit → IsReader (number_at w) (to_be_bytes w) (λ n. n < limit)
 number_reader w limit wide = record {
@@ -189,6 +184,11 @@ one_u8 = one_reading (number_at w64) u8 IsU8 u8_reader
 abbrev pub itself : List ℕ → List ℕ
 itself bytes = bytes
 
+pub bytes_again : (n : ℕ) (front rest : List ℕ) → length front ≡ n → bytes_at n (front ++ rest) ≡ Some (front, rest)
+bytes_again n front rest len =
+    let long : ltb (length (front ++ rest)) n ≡ false = le-ltb _ _ (omega (arith, length-append front rest)) in
+    rw (long, take_at front rest n len, drop_at front rest n len) refl
+
 pub bytes_reader : (n : ℕ) → IsReader (bytes_at n) itself (AreBytesOf n)
 bytes_reader n = record {
   takes = λ bytes x fits e.
@@ -199,10 +199,7 @@ bytes_reader n = record {
       let P : List ℕ × List ℕ → Type 0 = λ y. Takes bytes y.0 y.1 × AreBytesOf n y.0 in
       let took : Takes bytes (take n bytes) (drop n bytes) = record { parts = sym (take-append-drop n bytes); rest_fits = IsBytes-drop n bytes fits } in
       subst P g.1 (took, (len, are_bytes (take n bytes) (IsBytes-take n bytes fits)));
-  again = λ t rest fits.
-      let len = fits.0 in
-      let long : ltb (length (t ++ rest)) n ≡ false = le-ltb _ _ (omega (arith, length-append t rest)) in
-      rw (long, take_at t rest n len, drop_at t rest n len) refl;
+  again = λ t rest fits. bytes_again n t rest fits.0;
 }
 
 -- ---- Two numbers of two bytes.
