@@ -10,6 +10,8 @@ use Rattle.jk_model.specs.declared.class_file.PoolEntry.{PoolEntry}
 use Rattle.jk_model.specs.declared.class_file.PoolEntry.TheVariants.{Unusable, Utf8, Integer, Float, Long, Double, Class, Str, FieldRef, MethodRef, InterfaceMethodRef, NameAndType}
 use Rattle.jk_model.specs.ClassFile.{u2, entry_bytes, IsEntry, AreSlots}
 use Rattle.jk_model.specs.ConstantPool.{BeginsWithPool, IsCutPool, AreFirstEntries, IsTag, IsWideTag}
+use Rattle.jk_model.proofs.EachItem.{all_append}
+use Rattle.jk_model.proofs.EmptyByLength.{not_nil_front}
 use Rattle.const_pool.specs.declared.tags.Tag.{Tag}
 use Rattle.const_pool.specs.declared.pool.PoolError.{PoolError}
 use Rattle.const_pool.specs.declared.pool.PoolError.TheVariants.{BadTag, BadIndex, BadUtf, Truncated, OutOfMemory}
@@ -19,7 +21,7 @@ use Rattle.byte_fields.specs.Layouts.{IsBytes}
 use Rattle.byte_fields.specs.Reading.{FailsInMemory, number_at}
 use Rattle.byte_fields.specs.PartsAreBytes.{IsBytes-take, IsBytes-drop}
 use Rattle.byte_fields.specs.OneReading.{u2_reader}
-use Rattle.byte_fields.specs.CutIsBeginning.{not_empty, guard_none}
+use Rattle.byte_fields.specs.CutIsBeginning.{guard_none}
 use Rattle.const_pool.specs.Reading.{read_error, tag_number, is_wide, body_at}
 use Rattle.const_pool.specs.Answer.{second_index, group, IsSlot, IsEntryAnswer, IsPoolAnswer}
 use Rattle.const_pool.proofs.EntryReadsBack.{bodies}
@@ -181,17 +183,13 @@ begins count bytes entries some e = record { heads = []; slots = tt; same = e; p
 abbrev pub AllSlots : List PoolEntry → Type 0
 AllSlots es = AllByRecursion IsSlot es
 
-pub slots-append : (hs ks : List PoolEntry) → AllSlots hs → AllSlots ks → AllSlots (hs ++ ks)
-slots-append [] ks h k = k
-slots-append (e ∷ hs) ks h k = (h.0, slots-append hs ks h.1 k)
-
 pub goes_on : (count : ℕ) (bytes : List ℕ) (entries : List PoolEntry) (left : List ℕ) (e : PoolEntry) (after : List ℕ)
     → IsSoFar count bytes entries left
     → IsSlot e → left ≡ entry_bytes e ++ after → length entries + length (group e) ≤ count
     → IsSoFar count bytes (entries ++ group e) after
 goes_on count bytes entries left e after h slot read fits = record {
   heads = h.heads ++ e ∷ [];
-  slots = slots-append h.heads (e ∷ []) h.slots (slot, tt);
+  slots = all_append IsSlot h.heads (e ∷ []) h.slots (slot, tt);
   same = ap (λ (xs : List PoolEntry). xs ++ group e) h.same
       ∙ ap (λ (xs : List PoolEntry). Unusable ∷ (flat_map group h.heads ++ xs)) (sym (append-nil (group e)))
       ∙ ap (λ (xs : List PoolEntry). Unusable ∷ xs) (sym (flat_map-append group h.heads (e ∷ [])));
@@ -245,7 +243,7 @@ cut_pool count bytes entries left e more h short some slot spelled fits =
     let tail = fillers k in
     let all = h.heads ++ e ∷ tail in
     let pool = from_heads all in
-    let slots = slots-append h.heads (e ∷ tail) h.slots (slot, fillers_fit k) in
+    let slots = all_append IsSlot h.heads (e ∷ tail) h.slots (slot, fillers_fit k) in
     let first = heads_first all slots in
     let grouped : flat_map group all ≡ flat_map group h.heads ++ (group e ++ flat_map group tail) = flat_map-append group h.heads (e ∷ tail) in
     let entries_len : length entries ≡ suc (length (flat_map group h.heads)) = ap length h.same in
@@ -267,7 +265,7 @@ cut_pool count bytes entries left e more h short some slot spelled fits =
     let whole : (u2 count ++ bytes) ++ rest ≡ u2 (length pool) ++ flat_map entry_bytes pool =
     append_assoc (u2 count) bytes rest ∙ ap (λ (w : List ℕ). u2 count ++ w) (parts ∙ sym (heads_bytes all))
     ∙ ap (λ (n : ℕ). u2 n ++ flat_map entry_bytes pool) (sym len) in
-    (pool, rest, not_empty more (flat_map entry_bytes tail) some, (first.0, omega arith, first.1), whole)
+    (pool, rest, not_nil_front more (flat_map entry_bytes tail) some, (first.0, omega arith, first.1), whole)
 
 -- why no entry is read at an index is why no pool is read
 pub stops : (count : ℕ) (bytes : List ℕ) (entries : List PoolEntry) (left : List ℕ) (x : PoolError)
