@@ -38,16 +38,6 @@ never_both {A = A} r s F p bytes x fits e c =
 
 -- ---- Readers of wholes.
 
-pub refitted_cut : {A : Type 0} (r : List ℕ → Option (A × List ℕ)) (s t : A → List ℕ) (F G : A → Type 0) → FailsWithin r s F
-    → ((a : A) → F a → G a) → ((a : A) → s a ≡ t a) → FailsWithin r t G
-refitted_cut r s t F G p there same = record {
-  one = p.one;
-  one_fits = there p.one p.one_fits;
-  cut = λ bytes fits e.
-      let h = p.cut bytes fits e in
-      record { value = h.value; fits = there h.value h.fits; more = h.more; some = h.some; spelled = h.spelled ∙ same h.value };
-}
-
 pub then_cut : {A B : Type 0} (r : List ℕ → Option (A × List ℕ)) (k : A → List ℕ → Option (B × List ℕ))
     (s : A → List ℕ) (t : A → B → List ℕ) (F : A → Type 0) (G : A → B → Type 0)
     → IsReader r s F → FailsWithin r s F → ((a : A) → FailsWithin (k a) (t a) (G a))
@@ -89,7 +79,7 @@ pub next_cut : {A B : Type 0} (r : List ℕ → Option (A × List ℕ)) (q : Lis
     → FailsWithin (then_at r (λ _. q)) (λ p. s p.0 ++ t p.1) (λ p. F p.0 × G p.1)
 next_cut r q s t F G p c d = then_cut r (λ _. q) s (λ _. t) F (λ _. G) p c (λ _. d)
 
-pub mapped_cut : {A B : Type 0} (f : A → B) (g : B → A) (r : List ℕ → Option (A × List ℕ)) (s : A → List ℕ) (F : A → Type 0)
+mapped_cut : {A B : Type 0} (f : A → B) (g : B → A) (r : List ℕ → Option (A × List ℕ)) (s : A → List ℕ) (F : A → Type 0)
     → ((a : A) → F a → g (f a) ≡ a) → FailsWithin r s F → FailsWithin (mapped_at f r) (λ b. s (g b)) (λ b. F (g b))
 mapped_cut {A = A} f g r s F gf p = record {
   one = f p.one;
@@ -103,6 +93,23 @@ mapped_cut {A = A} f g r s F gf p = record {
         | inr w ↦ absurd (none-some (f w.0.0, w.0.1) (sym w.2))
       ];
 }
+
+refitted_cut : {A : Type 0} (r : List ℕ → Option (A × List ℕ)) (s t : A → List ℕ) (F G : A → Type 0) → FailsWithin r s F
+    → ((a : A) → F a → G a) → ((a : A) → s a ≡ t a) → FailsWithin r t G
+refitted_cut r s t F G p there same = record {
+  one = p.one;
+  one_fits = there p.one p.one_fits;
+  cut = λ bytes fits e.
+      let h = p.cut bytes fits e in
+      record { value = h.value; fits = there h.value h.fits; more = h.more; some = h.some; spelled = h.spelled ∙ same h.value };
+}
+
+-- a value that f makes of what is read, with its own spelling and its own words for which values fit
+pub made_cut : {A B : Type 0} (f : A → B) (g : B → A) (r : List ℕ → Option (A × List ℕ)) (s : A → List ℕ) (F : A → Type 0)
+    (t : B → List ℕ) (G : B → Type 0) → ((a : A) → F a → g (f a) ≡ a) → FailsWithin r s F
+    → ((b : B) → F (g b) → G b) → ((b : B) → s (g b) ≡ t b) → FailsWithin (mapped_at f r) t G
+made_cut f g r s F t G gf c there same =
+    refitted_cut (mapped_at f r) (λ b. s (g b)) t (λ b. F (g b)) G (mapped_cut f g r s F gf c) there same
 
 -- ---- So many, one after another.
 
@@ -226,8 +233,8 @@ block_cut w limit wide pos =
     let P : ℕ × List ℕ → Type 0 = λ p. below p.0 × AreBytesOf p.0 p.1 in
     let S : ℕ × List ℕ → List ℕ = λ p. to_be_bytes w p.0 ++ p.1 in
     let back = λ (p : ℕ × List ℕ) (h : P p). ap (λ (n : ℕ). let made : ℕ × List ℕ = (n, p.1) in made) h.1.0 in
-    let mapped = mapped_cut (second {A = ℕ} {B = List ℕ}) with_length (then_at (number_at w) bytes_at) S P back both in
-    refitted_cut (block_at w) (λ t. S (with_length t)) (block_bytes w) (λ t. P (with_length t)) (IsBlock limit) mapped (λ t h. (h.0, h.1.1)) (λ t. refl)
+    made_cut (second {A = ℕ} {B = List ℕ}) with_length (then_at (number_at w) bytes_at) S P (block_bytes w) (IsBlock limit) back both
+    (λ t h. (h.0, h.1.1)) (λ t. refl)
 
 pub counted_cut : {A : Type 0} (r : List ℕ → Option (A × List ℕ)) (s : A → List ℕ) (F : A → Type 0) → IsReader r s F → FailsWithin r s F
     → FailsWithin (counted_at r) (counted_bytes s) (AreCounted F)
@@ -237,5 +244,5 @@ counted_cut {A = A} r s F p c =
     let P : ℕ × List A → Type 0 = λ p. IsU2 p.0 × AreMany F p.0 p.1 in
     let S : ℕ × List A → List ℕ = λ p. u2 p.0 ++ flat_map s p.1 in
     let back = λ (p : ℕ × List A) (h : P p). ap (λ (n : ℕ). let made : ℕ × List A = (n, p.1) in made) h.1.0 in
-    let mapped = mapped_cut (second {A = ℕ} {B = List A}) with_length (then_at (number_at w16) (many_at r)) S P back both in
-    refitted_cut (counted_at r) (λ t. S (with_length t)) (counted_bytes s) (λ t. P (with_length t)) (AreCounted F) mapped (λ t h. (h.0, h.1.1)) (λ t. refl)
+    made_cut (second {A = ℕ} {B = List A}) with_length (then_at (number_at w16) (many_at r)) S P (counted_bytes s) (AreCounted F) back both
+    (λ t h. (h.0, h.1.1)) (λ t. refl)

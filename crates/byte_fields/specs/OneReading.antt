@@ -48,16 +48,6 @@ one_reading r s F p a b x y fa fb e = found_is a b x y (sym (p.again a x fa) ∙
 
 -- ---- Readers of wholes.
 
--- other words for the same spelling and the same values
-pub refitted : {A : Type 0} (r : List ℕ → Option (A × List ℕ)) (s t : A → List ℕ) (F G : A → Type 0) → IsReader r s F
-    → ((a : A) → F a → G a) → ((a : A) → G a → F a) → ((a : A) → s a ≡ t a) → IsReader r t G
-refitted r s t F G p there back same = record {
-  takes = λ bytes x fits e.
-      let h = p.takes bytes x fits e in
-      (subst (λ (w : List ℕ). Takes bytes w x.1) (same x.0) h.0, there x.0 h.1);
-  again = λ a rest fits. ap (λ (w : List ℕ). r (w ++ rest)) (sym (same a)) ∙ p.again a rest (back a fits);
-}
-
 pub then_reader : {A B : Type 0} (r : List ℕ → Option (A × List ℕ)) (k : A → List ℕ → Option (B × List ℕ))
     (s : A → List ℕ) (t : A → B → List ℕ) (F : A → Type 0) (G : A → B → Type 0)
     → IsReader r s F → ((a : A) → IsReader (k a) (t a) (G a))
@@ -82,7 +72,7 @@ pub next_reader : {A B : Type 0} (r : List ℕ → Option (A × List ℕ)) (q : 
     (F : A → Type 0) (G : B → Type 0) → IsReader r s F → IsReader q t G → IsReader (then_at r (λ _. q)) (λ p. s p.0 ++ t p.1) (λ p. F p.0 × G p.1)
 next_reader r q s t F G p k = then_reader r (λ _. q) s (λ _. t) F (λ _. G) p (λ _. k)
 
-pub mapped_reader : {A B : Type 0} (f : A → B) (g : B → A) (r : List ℕ → Option (A × List ℕ)) (s : A → List ℕ) (F : A → Type 0)
+mapped_reader : {A B : Type 0} (f : A → B) (g : B → A) (r : List ℕ → Option (A × List ℕ)) (s : A → List ℕ) (F : A → Type 0)
     → ((b : B) → f (g b) ≡ b) → ((a : A) → F a → g (f a) ≡ a) → IsReader r s F → IsReader (mapped_at f r) (λ b. s (g b)) (λ b. F (g b))
 mapped_reader {A = A} {B = B} f g r s F fg gf p = record {
   takes = λ bytes x fits e.
@@ -94,6 +84,23 @@ mapped_reader {A = A} {B = B} f g r s F fg gf p = record {
       subst P (same_Some made x a.2) (subst (λ (v : A). Takes bytes (s v) a.0.1 × F v) back h);
   again = λ b rest fits. rw (p.again (g b) rest fits) (ap (λ (v : B). Some (v, rest)) (fg b));
 }
+
+-- other words for the same spelling and the same values
+refitted : {A : Type 0} (r : List ℕ → Option (A × List ℕ)) (s t : A → List ℕ) (F G : A → Type 0) → IsReader r s F
+    → ((a : A) → F a → G a) → ((a : A) → G a → F a) → ((a : A) → s a ≡ t a) → IsReader r t G
+refitted r s t F G p there back same = record {
+  takes = λ bytes x fits e.
+      let h = p.takes bytes x fits e in
+      (subst (λ (w : List ℕ). Takes bytes w x.1) (same x.0) h.0, there x.0 h.1);
+  again = λ a rest fits. ap (λ (w : List ℕ). r (w ++ rest)) (sym (same a)) ∙ p.again a rest (back a fits);
+}
+
+-- a value that f makes of what is read, with its own spelling and its own words for which values fit
+pub made_reader : {A B : Type 0} (f : A → B) (g : B → A) (r : List ℕ → Option (A × List ℕ)) (s : A → List ℕ) (F : A → Type 0)
+    (t : B → List ℕ) (G : B → Type 0) → ((b : B) → f (g b) ≡ b) → ((a : A) → F a → g (f a) ≡ a) → IsReader r s F
+    → ((b : B) → F (g b) → G b) → ((b : B) → G b → F (g b)) → ((b : B) → s (g b) ≡ t b) → IsReader (mapped_at f r) t G
+made_reader f g r s F t G fg gf p there back same =
+    refitted (mapped_at f r) (λ b. s (g b)) t (λ b. F (g b)) G (mapped_reader f g r s F fg gf p) there back same
 
 -- ---- So many, one after another.
 
@@ -224,8 +231,7 @@ block_reader w limit wide =
     let P : ℕ × List ℕ → Type 0 = λ p. below p.0 × AreBytesOf p.0 p.1 in
     let S : ℕ × List ℕ → List ℕ = λ p. to_be_bytes w p.0 ++ p.1 in
     let back = λ (p : ℕ × List ℕ) (h : P p). ap (λ (n : ℕ). let made : ℕ × List ℕ = (n, p.1) in made) h.1.0 in
-    let mapped = mapped_reader (second {A = ℕ} {B = List ℕ}) with_length (then_at (number_at w) bytes_at) S P (λ t. refl) back both in
-    refitted (block_at w) (λ t. S (with_length t)) (block_bytes w) (λ t. P (with_length t)) (IsBlock limit) mapped
+    made_reader (second {A = ℕ} {B = List ℕ}) with_length (then_at (number_at w) bytes_at) S P (block_bytes w) (IsBlock limit) (λ t. refl) back both
     (λ t h. (h.0, h.1.1)) (λ t h. (h.0, (refl, h.1))) (λ t. refl)
 
 pub counted_reader : {A : Type 0} (r : List ℕ → Option (A × List ℕ)) (s : A → List ℕ) (F : A → Type 0) → IsReader r s F
@@ -236,6 +242,5 @@ counted_reader {A = A} r s F p =
     let P : ℕ × List A → Type 0 = λ p. IsU2 p.0 × AreMany F p.0 p.1 in
     let S : ℕ × List A → List ℕ = λ p. u2 p.0 ++ flat_map s p.1 in
     let back = λ (p : ℕ × List A) (h : P p). ap (λ (n : ℕ). let made : ℕ × List A = (n, p.1) in made) h.1.0 in
-    let mapped = mapped_reader (second {A = ℕ} {B = List A}) with_length (then_at (number_at w16) (many_at r)) S P (λ t. refl) back both in
-    refitted (counted_at r) (λ t. S (with_length t)) (counted_bytes s) (λ t. P (with_length t)) (AreCounted F) mapped
+    made_reader (second {A = ℕ} {B = List A}) with_length (then_at (number_at w16) (many_at r)) S P (counted_bytes s) (AreCounted F) (λ t. refl) back both
     (λ t h. (h.0, h.1.1)) (λ t h. (h.0, (refl, h.1))) (λ t. refl)
