@@ -1,11 +1,13 @@
 -- Bytes in which a reader ends early are a proper beginning of the spelling of a value that it reads. The
 -- laws go from the readers of parts to the reader of the whole.
-use Rattle.std.proofs.Common.{◌≡◌, ◌≢◌, ℕ, zero, suc, ◌-◌, ◌^◌, ◌<◌, ◌⊎◌, Bool, true, false, cond, ltb, List, [], ◌∷◌, ◌++◌, length, take, drop, Option, Some, None, refl, sym, ap, subst, ◌∙◌, append_assoc, append-nil, arith, inl, inr}
+use Rattle.std.proofs.Common.{◌≡◌, ℕ, zero, suc, ◌-◌, ◌^◌, ◌<◌, ◌⊎◌, Bool, true, false, cond, ltb, List, [], ◌∷◌, ◌++◌, length, take, drop, Option, Some, None, refl, sym, ap, subst, ◌∙◌, append_assoc, append-nil, arith, inl, inr}
 use Rattle.std.specs.List.{flat_map}
 use Rattle.std.specs.Int.{Width, w16, w32, w64, byte_len, from_be_bytes, to_be_bytes}
 use Rattle.std.proofs.lemmas.Bool.{ltb-true}
 use Rattle.std.proofs.lemmas.List.{length-append}
+use Rattle.std.proofs.lemmas.Option.{none-some}
 use Rattle.jk_model.specs.ClassFile.{u2, u4, u8, IsU2, IsU4, IsU8}
+use Rattle.jk_model.proofs.EmptyByLength.{not_nil_front, not_nil_back, not_nil_from_length}
 use Rattle.byte_fields.specs.Reading.{◌>>=◌, then_at, mapped_at, many_at, byte_at, number_at, bytes_at, pair_at, block_at, counted_at}
 use Rattle.byte_fields.specs.Layouts.{IsBytes, IsReader, Completes, FailsWithin, u1, IsU1, pair_bytes, IsPair, AreBytesOf, block_bytes, IsBlock, AreMany, counted_bytes, AreCounted}
 use Rattle.byte_fields.specs.PartsAreBytes.{IsBytes-append, are_bytes, zeros, length-zeros, IsBytes-zeros}
@@ -23,24 +25,6 @@ pub guard_none : {A : Type 0} (b : Bool) (x : A) → cond b None (Some x) ≡ No
 guard_none true x e = refl
 guard_none false x e = absurd cc
 
-abbrev done : {A : Type 0} → A → Option A
-done x = Some x
-
-pub some_not_none : {A : Type 0} (x : A) → done x ≡ None → ⊥
-some_not_none x e = absurd cc
-
-pub not_empty : (a b : List ℕ) → a ≢ [] → a ++ b ≢ []
-not_empty [] b h = absurd (h refl)
-not_empty (x ∷ a) b h = λ e. absurd cc
-
-pub not_empty_either : (a b : List ℕ) → b ≢ [] → a ++ b ≢ []
-not_empty_either [] b h = h
-not_empty_either (x ∷ a) b h = λ e. absurd cc
-
-long_not_empty : (a : List ℕ) → 0 < length a → a ≢ []
-long_not_empty [] h = absurd (omega arith)
-long_not_empty (x ∷ a) h = λ e. absurd cc
-
 -- ---- A proper beginning of a spelling isn't read, with or without anything after it.
 
 pub never_both : {A : Type 0} (r : List ℕ → Option (A × List ℕ)) (s : A → List ℕ) (F : A → Type 0) → IsReader r s F
@@ -50,19 +34,9 @@ never_both {A = A} r s F p bytes x fits e c =
     let again : r (bytes ++ c.more) ≡ Some (x.0, x.1 ++ c.more) =
     ap (λ (v : List ℕ). r (v ++ c.more)) h.0.parts ∙ ap r (append_assoc (s x.0) x.1 c.more) ∙ p.again x.0 (x.1 ++ c.more) h.1 in
     let whole : r (bytes ++ c.more) ≡ Some (c.value, []) = ap r (c.spelled ∙ sym (append-nil (s c.value))) ∙ p.again c.value [] c.fits in
-    not_empty_either x.1 c.more c.some (found_is x.0 c.value (x.1 ++ c.more) [] (sym again ∙ whole)).1
+    not_nil_back x.1 c.more c.some (found_is x.0 c.value (x.1 ++ c.more) [] (sym again ∙ whole)).1
 
 -- ---- Readers of wholes.
-
-pub refitted_cut : {A : Type 0} (r : List ℕ → Option (A × List ℕ)) (s t : A → List ℕ) (F G : A → Type 0) → FailsWithin r s F
-    → ((a : A) → F a → G a) → ((a : A) → s a ≡ t a) → FailsWithin r t G
-refitted_cut r s t F G p there same = record {
-  one = p.one;
-  one_fits = there p.one p.one_fits;
-  cut = λ bytes fits e.
-      let h = p.cut bytes fits e in
-      record { value = h.value; fits = there h.value h.fits; more = h.more; some = h.some; spelled = h.spelled ∙ same h.value };
-}
 
 pub then_cut : {A B : Type 0} (r : List ℕ → Option (A × List ℕ)) (k : A → List ℕ → Option (B × List ℕ))
     (s : A → List ℕ) (t : A → B → List ℕ) (F : A → Type 0) (G : A → B → Type 0)
@@ -82,7 +56,7 @@ then_cut {A = A} {B = B} r k s t F G p c d = record {
               value = (h.value, b);
               fits = (h.fits, (d h.value).one_fits);
               more = h.more ++ tail;
-              some = not_empty h.more tail h.some;
+              some = not_nil_front h.more tail h.some;
               spelled = whole;
             }
         | inr w ↦
@@ -94,7 +68,7 @@ then_cut {A = A} {B = B} r k s t F G p c d = record {
                   let whole : bytes ++ h.more ≡ front ++ t w.0.0 h.value =
                   ap (λ (v : List ℕ). v ++ h.more) first.0.parts ∙ append_assoc front w.0.1 h.more ∙ ap (λ (v : List ℕ). front ++ v) h.spelled in
                   record { value = (w.0.0, h.value); fits = (first.1, h.fits); more = h.more; some = h.some; spelled = whole }
-              | inr v ↦ absurd (some_not_none ((w.0.0, v.0.0), v.0.1) v.2)
+              | inr v ↦ absurd (none-some ((w.0.0, v.0.0), v.0.1) (sym v.2))
             ]
       ];
 }
@@ -105,7 +79,7 @@ pub next_cut : {A B : Type 0} (r : List ℕ → Option (A × List ℕ)) (q : Lis
     → FailsWithin (then_at r (λ _. q)) (λ p. s p.0 ++ t p.1) (λ p. F p.0 × G p.1)
 next_cut r q s t F G p c d = then_cut r (λ _. q) s (λ _. t) F (λ _. G) p c (λ _. d)
 
-pub mapped_cut : {A B : Type 0} (f : A → B) (g : B → A) (r : List ℕ → Option (A × List ℕ)) (s : A → List ℕ) (F : A → Type 0)
+mapped_cut : {A B : Type 0} (f : A → B) (g : B → A) (r : List ℕ → Option (A × List ℕ)) (s : A → List ℕ) (F : A → Type 0)
     → ((a : A) → F a → g (f a) ≡ a) → FailsWithin r s F → FailsWithin (mapped_at f r) (λ b. s (g b)) (λ b. F (g b))
 mapped_cut {A = A} f g r s F gf p = record {
   one = f p.one;
@@ -116,9 +90,26 @@ mapped_cut {A = A} f g r s F gf p = record {
             let h = p.cut bytes fits e1 in
             let back = sym (gf h.value h.fits) in
             record { value = f h.value; fits = subst F back h.fits; more = h.more; some = h.some; spelled = h.spelled ∙ ap s back }
-        | inr w ↦ absurd (some_not_none (f w.0.0, w.0.1) w.2)
+        | inr w ↦ absurd (none-some (f w.0.0, w.0.1) (sym w.2))
       ];
 }
+
+refitted_cut : {A : Type 0} (r : List ℕ → Option (A × List ℕ)) (s t : A → List ℕ) (F G : A → Type 0) → FailsWithin r s F
+    → ((a : A) → F a → G a) → ((a : A) → s a ≡ t a) → FailsWithin r t G
+refitted_cut r s t F G p there same = record {
+  one = p.one;
+  one_fits = there p.one p.one_fits;
+  cut = λ bytes fits e.
+      let h = p.cut bytes fits e in
+      record { value = h.value; fits = there h.value h.fits; more = h.more; some = h.some; spelled = h.spelled ∙ same h.value };
+}
+
+-- a value that f makes of what is read, with its own spelling and its own words for which values fit
+pub made_cut : {A B : Type 0} (f : A → B) (g : B → A) (r : List ℕ → Option (A × List ℕ)) (s : A → List ℕ) (F : A → Type 0)
+    (t : B → List ℕ) (G : B → Type 0) → ((a : A) → F a → g (f a) ≡ a) → FailsWithin r s F
+    → ((b : B) → F (g b) → G b) → ((b : B) → s (g b) ≡ t b) → FailsWithin (mapped_at f r) t G
+made_cut f g r s F t G gf c there same =
+    refitted_cut (mapped_at f r) (λ b. s (g b)) t (λ b. F (g b)) G (mapped_cut f g r s F gf c) there same
 
 -- ---- So many, one after another.
 
@@ -130,7 +121,7 @@ many_cuts : {A : Type 0} (r : List ℕ → Option (A × List ℕ)) (s : A → Li
     → (n : ℕ) (bytes : List ℕ) → IsBytes bytes → many_at r n bytes ≡ None → Completes (flat_map s) (AreMany F n) bytes
 many_cuts {A = A} r s F p c zero bytes fits e =
     let made : List A × List ℕ = ([], bytes) in
-    absurd (some_not_none made e)
+    absurd (none-some made (sym e))
 many_cuts {A = A} r s F p c (suc n) bytes fits e =
     elim (bind_none (r bytes) (λ first. many_at r n first.1 >>= λ others. Some (first.0 ∷ others.0, others.1)) e) [
       | inl e1 ↦
@@ -142,7 +133,7 @@ many_cuts {A = A} r s F p c (suc n) bytes fits e =
             value = h.value ∷ others.0;
             fits = (ap suc others.1.0, (h.fits, others.1.1));
             more = h.more ++ tail;
-            some = not_empty h.more tail h.some;
+            some = not_nil_front h.more tail h.some;
             spelled = whole;
           }
       | inr w ↦
@@ -154,7 +145,7 @@ many_cuts {A = A} r s F p c (suc n) bytes fits e =
                 let whole : bytes ++ h.more ≡ front ++ flat_map s h.value =
                 ap (λ (v : List ℕ). v ++ h.more) first.0.parts ∙ append_assoc front w.0.1 h.more ∙ ap (λ (v : List ℕ). front ++ v) h.spelled in
                 record { value = w.0.0 ∷ h.value; fits = (ap suc h.fits.0, (first.1, h.fits.1)); more = h.more; some = h.some; spelled = whole }
-            | inr v ↦ absurd (some_not_none (w.0.0 ∷ v.0.0, v.0.1) v.2)
+            | inr v ↦ absurd (none-some (w.0.0 ∷ v.0.0, v.0.1) (sym v.2))
           ]
     ]
 
@@ -168,7 +159,7 @@ many_cut r s F p c n =
 
 byte_ends : (bytes : List ℕ) → byte_at bytes ≡ None → Completes u1 IsU1 bytes
 byte_ends [] e = record { value = 0; fits = omega arith; more = 0 ∷ []; some = λ e. absurd cc; spelled = refl }
-byte_ends (b ∷ bytes) e = let made : ℕ × List ℕ = (b, bytes) in absurd (some_not_none made e)
+byte_ends (b ∷ bytes) e = let made : ℕ × List ℕ = (b, bytes) in absurd (none-some made (sym e))
 
 pub u1_cut : FailsWithin byte_at u1 IsU1
 u1_cut = record { one = 0; one_fits = omega arith; cut = λ bytes fits e. byte_ends bytes e }
@@ -191,7 +182,7 @@ number_cut w limit wide pos = record {
         value = from_be_bytes w full;
         fits = wide.below full full_fits;
         more = more;
-        some = long_not_empty more (omega (arith, many));
+        some = not_nil_from_length more (omega (arith, many));
         spelled = sym (wide.back full len full_fits);
       };
 }
@@ -222,7 +213,7 @@ bytes_cut n = record {
       let full = bytes ++ more in
       let full_fits : IsBytes full = IsBytes-append bytes more fits (IsBytes-zeros lacking) in
       let len : length full ≡ n = omega (arith, length-append bytes more, many) in
-      record { value = full; fits = (len, are_bytes full full_fits); more = more; some = long_not_empty more (omega (arith, many)); spelled = refl };
+      record { value = full; fits = (len, are_bytes full full_fits); more = more; some = not_nil_from_length more (omega (arith, many)); spelled = refl };
 }
 
 -- ---- Two numbers of two bytes.
@@ -242,8 +233,8 @@ block_cut w limit wide pos =
     let P : ℕ × List ℕ → Type 0 = λ p. below p.0 × AreBytesOf p.0 p.1 in
     let S : ℕ × List ℕ → List ℕ = λ p. to_be_bytes w p.0 ++ p.1 in
     let back = λ (p : ℕ × List ℕ) (h : P p). ap (λ (n : ℕ). let made : ℕ × List ℕ = (n, p.1) in made) h.1.0 in
-    let mapped = mapped_cut (second {A = ℕ} {B = List ℕ}) with_length (then_at (number_at w) bytes_at) S P back both in
-    refitted_cut (block_at w) (λ t. S (with_length t)) (block_bytes w) (λ t. P (with_length t)) (IsBlock limit) mapped (λ t h. (h.0, h.1.1)) (λ t. refl)
+    made_cut (second {A = ℕ} {B = List ℕ}) with_length (then_at (number_at w) bytes_at) S P (block_bytes w) (IsBlock limit) back both
+    (λ t h. (h.0, h.1.1)) (λ t. refl)
 
 pub counted_cut : {A : Type 0} (r : List ℕ → Option (A × List ℕ)) (s : A → List ℕ) (F : A → Type 0) → IsReader r s F → FailsWithin r s F
     → FailsWithin (counted_at r) (counted_bytes s) (AreCounted F)
@@ -253,5 +244,5 @@ counted_cut {A = A} r s F p c =
     let P : ℕ × List A → Type 0 = λ p. IsU2 p.0 × AreMany F p.0 p.1 in
     let S : ℕ × List A → List ℕ = λ p. u2 p.0 ++ flat_map s p.1 in
     let back = λ (p : ℕ × List A) (h : P p). ap (λ (n : ℕ). let made : ℕ × List A = (n, p.1) in made) h.1.0 in
-    let mapped = mapped_cut (second {A = ℕ} {B = List A}) with_length (then_at (number_at w16) (many_at r)) S P back both in
-    refitted_cut (counted_at r) (λ t. S (with_length t)) (counted_bytes s) (λ t. P (with_length t)) (AreCounted F) mapped (λ t h. (h.0, h.1.1)) (λ t. refl)
+    made_cut (second {A = ℕ} {B = List A}) with_length (then_at (number_at w16) (many_at r)) S P (counted_bytes s) (AreCounted F) back both
+    (λ t h. (h.0, h.1.1)) (λ t. refl)

@@ -4,6 +4,7 @@ use Rattle.std.proofs.Common.{◌≡◌, ℕ, zero, suc, ◌^◌, ◌<◌, ◌�
 use Rattle.std.specs.List.{flat_map, AllByRecursion}
 use Rattle.std.specs.Int.{Width, w16, w32, w64, byte_len, from_be_bytes, to_be_bytes}
 use Rattle.std.proofs.lemmas.Bool.{ltb-false, le-ltb}
+use Rattle.std.proofs.lemmas.Option.{same_Some}
 use Rattle.std.proofs.lemmas.List.{take_at, drop_at, take-append-drop, length-append, length-take}
 use Rattle.jk_model.specs.ClassFile.{u2, u4, u8, IsU2, IsU4, IsU8}
 use Rattle.byte_fields.specs.Reading.{◌>>=◌, then_at, mapped_at, many_at, byte_at, number_at, bytes_at, pair_at, block_at, counted_at}
@@ -23,12 +24,6 @@ pub guard_some : {A : Type 0} (b : Bool) (x y : A) → cond b None (Some x) ≡ 
 guard_some true x y e = absurd cc
 guard_some false x y e = (refl, cc)
 
-abbrev done : {A : Type 0} → A → Option A
-done x = Some x
-
-pub some_is : {A : Type 0} (x y : A) → done x ≡ done y → x ≡ y
-some_is x y e = cc
-
 pub Takes-then : (a x b y c : List ℕ) → Takes a x b → Takes b y c → Takes a (x ++ y) c
 Takes-then a x b y c p q = record {
   parts = p.parts ∙ ap (λ (t : List ℕ). x ++ t) q.parts ∙ sym (append_assoc x y c);
@@ -44,7 +39,7 @@ pub found_is : {A : Type 0} (a b : A) (x y : List ℕ) → found a x ≡ found b
 found_is {A = A} a b x y e =
     let made : A × List ℕ = (a, x) in
     let given : A × List ℕ = (b, y) in
-    let same : made ≡ given = some_is made given e in
+    let same : made ≡ given = same_Some made given e in
     (ap (λ (p : A × List ℕ). p.0) same, ap (λ (p : A × List ℕ). p.1) same)
 
 pub one_reading : {A : Type 0} (r : List ℕ → Option (A × List ℕ)) (s : A → List ℕ) (F : A → Type 0) → IsReader r s F
@@ -52,16 +47,6 @@ pub one_reading : {A : Type 0} (r : List ℕ → Option (A × List ℕ)) (s : A 
 one_reading r s F p a b x y fa fb e = found_is a b x y (sym (p.again a x fa) ∙ ap r e ∙ p.again b y fb)
 
 -- ---- Readers of wholes.
-
--- other words for the same spelling and the same values
-pub refitted : {A : Type 0} (r : List ℕ → Option (A × List ℕ)) (s t : A → List ℕ) (F G : A → Type 0) → IsReader r s F
-    → ((a : A) → F a → G a) → ((a : A) → G a → F a) → ((a : A) → s a ≡ t a) → IsReader r t G
-refitted r s t F G p there back same = record {
-  takes = λ bytes x fits e.
-      let h = p.takes bytes x fits e in
-      (subst (λ (w : List ℕ). Takes bytes w x.1) (same x.0) h.0, there x.0 h.1);
-  again = λ a rest fits. ap (λ (w : List ℕ). r (w ++ rest)) (sym (same a)) ∙ p.again a rest (back a fits);
-}
 
 pub then_reader : {A B : Type 0} (r : List ℕ → Option (A × List ℕ)) (k : A → List ℕ → Option (B × List ℕ))
     (s : A → List ℕ) (t : A → B → List ℕ) (F : A → Type 0) (G : A → B → Type 0)
@@ -76,7 +61,7 @@ then_reader {A = A} {B = B} r k s t F G p q = record {
       let both = Takes-then bytes (s a.0.0) a.0.1 (t a.0.0 b.0.0) b.0.1 first.0 second.0 in
       let made : (A × B) × List ℕ = ((a.0.0, b.0.0), b.0.1) in
       let P : (A × B) × List ℕ → Type 0 = λ y. Takes bytes (s y.0.0 ++ t y.0.0 y.0.1) y.1 × (F y.0.0 × G y.0.0 y.0.1) in
-      subst P (some_is made x b.2) (both, (first.1, second.1));
+      subst P (same_Some made x b.2) (both, (first.1, second.1));
   again = λ a rest fits.
       ap (then_at r k) (append_assoc (s a.0) (t a.0 a.1) rest)
       ∙ rw (p.again a.0 (t a.0 a.1 ++ rest) fits.0, (q a.0).again a.1 rest fits.1) refl;
@@ -87,7 +72,7 @@ pub next_reader : {A B : Type 0} (r : List ℕ → Option (A × List ℕ)) (q : 
     (F : A → Type 0) (G : B → Type 0) → IsReader r s F → IsReader q t G → IsReader (then_at r (λ _. q)) (λ p. s p.0 ++ t p.1) (λ p. F p.0 × G p.1)
 next_reader r q s t F G p k = then_reader r (λ _. q) s (λ _. t) F (λ _. G) p (λ _. k)
 
-pub mapped_reader : {A B : Type 0} (f : A → B) (g : B → A) (r : List ℕ → Option (A × List ℕ)) (s : A → List ℕ) (F : A → Type 0)
+mapped_reader : {A B : Type 0} (f : A → B) (g : B → A) (r : List ℕ → Option (A × List ℕ)) (s : A → List ℕ) (F : A → Type 0)
     → ((b : B) → f (g b) ≡ b) → ((a : A) → F a → g (f a) ≡ a) → IsReader r s F → IsReader (mapped_at f r) (λ b. s (g b)) (λ b. F (g b))
 mapped_reader {A = A} {B = B} f g r s F fg gf p = record {
   takes = λ bytes x fits e.
@@ -96,9 +81,26 @@ mapped_reader {A = A} {B = B} f g r s F fg gf p = record {
       let made : B × List ℕ = (f a.0.0, a.0.1) in
       let back = sym (gf a.0.0 h.1) in
       let P : B × List ℕ → Type 0 = λ y. Takes bytes (s (g y.0)) y.1 × F (g y.0) in
-      subst P (some_is made x a.2) (subst (λ (v : A). Takes bytes (s v) a.0.1 × F v) back h);
+      subst P (same_Some made x a.2) (subst (λ (v : A). Takes bytes (s v) a.0.1 × F v) back h);
   again = λ b rest fits. rw (p.again (g b) rest fits) (ap (λ (v : B). Some (v, rest)) (fg b));
 }
+
+-- other words for the same spelling and the same values
+refitted : {A : Type 0} (r : List ℕ → Option (A × List ℕ)) (s t : A → List ℕ) (F G : A → Type 0) → IsReader r s F
+    → ((a : A) → F a → G a) → ((a : A) → G a → F a) → ((a : A) → s a ≡ t a) → IsReader r t G
+refitted r s t F G p there back same = record {
+  takes = λ bytes x fits e.
+      let h = p.takes bytes x fits e in
+      (subst (λ (w : List ℕ). Takes bytes w x.1) (same x.0) h.0, there x.0 h.1);
+  again = λ a rest fits. ap (λ (w : List ℕ). r (w ++ rest)) (sym (same a)) ∙ p.again a rest (back a fits);
+}
+
+-- a value that f makes of what is read, with its own spelling and its own words for which values fit
+pub made_reader : {A B : Type 0} (f : A → B) (g : B → A) (r : List ℕ → Option (A × List ℕ)) (s : A → List ℕ) (F : A → Type 0)
+    (t : B → List ℕ) (G : B → Type 0) → ((b : B) → f (g b) ≡ b) → ((a : A) → F a → g (f a) ≡ a) → IsReader r s F
+    → ((b : B) → F (g b) → G b) → ((b : B) → G b → F (g b)) → ((b : B) → s (g b) ≡ t b) → IsReader (mapped_at f r) t G
+made_reader f g r s F t G fg gf p there back same =
+    refitted (mapped_at f r) (λ b. s (g b)) t (λ b. F (g b)) G (mapped_reader f g r s F fg gf p) there back same
 
 -- ---- So many, one after another.
 
@@ -108,7 +110,7 @@ many_take : {A : Type 0} (r : List ℕ → Option (A × List ℕ)) (s : A → Li
 many_take {A = A} r s F p zero bytes x fits e =
     let made : List A × List ℕ = ([], bytes) in
     let P : List A × List ℕ → Type 0 = λ y. Takes bytes (flat_map s y.0) y.1 × AreMany F 0 y.0 in
-    subst P (some_is made x e) (record { parts = refl; rest_fits = fits }, (refl, tt))
+    subst P (same_Some made x e) (record { parts = refl; rest_fits = fits }, (refl, tt))
 many_take {A = A} r s F p (suc n) bytes x fits e =
     let a = bind_some (r bytes) (λ first. many_at r n first.1 >>= λ others. Some (first.0 ∷ others.0, others.1)) x e in
     let b = bind_some (many_at r n a.0.1) (λ others. Some (a.0.0 ∷ others.0, others.1)) x a.2 in
@@ -117,7 +119,7 @@ many_take {A = A} r s F p (suc n) bytes x fits e =
     let both = Takes-then bytes (s a.0.0) a.0.1 (flat_map s b.0.0) b.0.1 first.0 second.0 in
     let made : List A × List ℕ = (a.0.0 ∷ b.0.0, b.0.1) in
     let P : List A × List ℕ → Type 0 = λ y. Takes bytes (flat_map s y.0) y.1 × AreMany F (suc n) y.0 in
-    subst P (some_is made x b.2) (both, (ap suc second.1.0, (first.1, second.1.1)))
+    subst P (same_Some made x b.2) (both, (ap suc second.1.0, (first.1, second.1.1)))
 
 many_again : {A : Type 0} (r : List ℕ → Option (A × List ℕ)) (s : A → List ℕ) (F : A → Type 0) → IsReader r s F
     → (xs : List A) (rest : List ℕ) → AllByRecursion F xs → many_at r (length xs) (flat_map s xs ++ rest) ≡ Some (xs, rest)
@@ -146,7 +148,7 @@ u1_reader = record {
     byte_takes (b ∷ bytes) x fits e =
         let made : ℕ × List ℕ = (b, bytes) in
         let P : ℕ × List ℕ → Type 0 = λ y. Takes (b ∷ bytes) (u1 y.0) y.1 × IsU1 y.0 in
-        subst P (some_is made x e) (record { parts = refl; rest_fits = λ i. fits (suc i) }, fits 0)
+        subst P (same_Some made x e) (record { parts = refl; rest_fits = λ i. fits (suc i) }, fits 0)
 
 pub number_reader : (w : Width) (limit : ℕ) → IsWide w limit → IsReader (number_at w) (to_be_bytes w) (λ n. n < limit)
 number_reader w limit wide = record {
@@ -189,6 +191,11 @@ one_u8 = one_reading (number_at w64) u8 IsU8 u8_reader
 abbrev pub itself : List ℕ → List ℕ
 itself bytes = bytes
 
+pub bytes_again : (n : ℕ) (front rest : List ℕ) → length front ≡ n → bytes_at n (front ++ rest) ≡ Some (front, rest)
+bytes_again n front rest len =
+    let long : ltb (length (front ++ rest)) n ≡ false = le-ltb _ _ (omega (arith, length-append front rest)) in
+    rw (long, take_at front rest n len, drop_at front rest n len) refl
+
 pub bytes_reader : (n : ℕ) → IsReader (bytes_at n) itself (AreBytesOf n)
 bytes_reader n = record {
   takes = λ bytes x fits e.
@@ -199,10 +206,7 @@ bytes_reader n = record {
       let P : List ℕ × List ℕ → Type 0 = λ y. Takes bytes y.0 y.1 × AreBytesOf n y.0 in
       let took : Takes bytes (take n bytes) (drop n bytes) = record { parts = sym (take-append-drop n bytes); rest_fits = IsBytes-drop n bytes fits } in
       subst P g.1 (took, (len, are_bytes (take n bytes) (IsBytes-take n bytes fits)));
-  again = λ t rest fits.
-      let len = fits.0 in
-      let long : ltb (length (t ++ rest)) n ≡ false = le-ltb _ _ (omega (arith, length-append t rest)) in
-      rw (long, take_at t rest n len, drop_at t rest n len) refl;
+  again = λ t rest fits. bytes_again n t rest fits.0;
 }
 
 -- ---- Two numbers of two bytes.
@@ -227,8 +231,7 @@ block_reader w limit wide =
     let P : ℕ × List ℕ → Type 0 = λ p. below p.0 × AreBytesOf p.0 p.1 in
     let S : ℕ × List ℕ → List ℕ = λ p. to_be_bytes w p.0 ++ p.1 in
     let back = λ (p : ℕ × List ℕ) (h : P p). ap (λ (n : ℕ). let made : ℕ × List ℕ = (n, p.1) in made) h.1.0 in
-    let mapped = mapped_reader (second {A = ℕ} {B = List ℕ}) with_length (then_at (number_at w) bytes_at) S P (λ t. refl) back both in
-    refitted (block_at w) (λ t. S (with_length t)) (block_bytes w) (λ t. P (with_length t)) (IsBlock limit) mapped
+    made_reader (second {A = ℕ} {B = List ℕ}) with_length (then_at (number_at w) bytes_at) S P (block_bytes w) (IsBlock limit) (λ t. refl) back both
     (λ t h. (h.0, h.1.1)) (λ t h. (h.0, (refl, h.1))) (λ t. refl)
 
 pub counted_reader : {A : Type 0} (r : List ℕ → Option (A × List ℕ)) (s : A → List ℕ) (F : A → Type 0) → IsReader r s F
@@ -239,6 +242,5 @@ counted_reader {A = A} r s F p =
     let P : ℕ × List A → Type 0 = λ p. IsU2 p.0 × AreMany F p.0 p.1 in
     let S : ℕ × List A → List ℕ = λ p. u2 p.0 ++ flat_map s p.1 in
     let back = λ (p : ℕ × List A) (h : P p). ap (λ (n : ℕ). let made : ℕ × List A = (n, p.1) in made) h.1.0 in
-    let mapped = mapped_reader (second {A = ℕ} {B = List A}) with_length (then_at (number_at w16) (many_at r)) S P (λ t. refl) back both in
-    refitted (counted_at r) (λ t. S (with_length t)) (counted_bytes s) (λ t. P (with_length t)) (AreCounted F) mapped
+    made_reader (second {A = ℕ} {B = List A}) with_length (then_at (number_at w16) (many_at r)) S P (counted_bytes s) (AreCounted F) (λ t. refl) back both
     (λ t h. (h.0, h.1.1)) (λ t h. (h.0, (refl, h.1))) (λ t. refl)

@@ -28,10 +28,7 @@ pub fn u2_of(bytes: &[u8]) -> Result<(u16, &[u8]), EndsEarly>
     ensures layout { IfOk result (λ x. bytes.now ≡ u2 x.0 ++ x.1.now) }
     ensures early { IsErr result ↔ (length bytes.now < 2) }
 {
-    if bytes.len() < 2 {
-        return Err(EndsEarly);
-    }
-    let (front, rest) = bytes.split_at(2);
+    let (front, rest) = bytes_of(2, bytes)?;
     Ok((BigEndian::read_u16(front), rest))
 }
 
@@ -41,10 +38,7 @@ pub fn u4_of(bytes: &[u8]) -> Result<(u32, &[u8]), EndsEarly>
     ensures layout { IfOk result (λ x. bytes.now ≡ u4 x.0 ++ x.1.now) }
     ensures early { IsErr result ↔ (length bytes.now < 4) }
 {
-    if bytes.len() < 4 {
-        return Err(EndsEarly);
-    }
-    let (front, rest) = bytes.split_at(4);
+    let (front, rest) = bytes_of(4, bytes)?;
     Ok((BigEndian::read_u32(front), rest))
 }
 
@@ -54,10 +48,7 @@ pub fn u8_of(bytes: &[u8]) -> Result<(u64, &[u8]), EndsEarly>
     ensures layout { IfOk result (λ x. bytes.now ≡ u8 x.0 ++ x.1.now) }
     ensures early { IsErr result ↔ (length bytes.now < 8) }
 {
-    if bytes.len() < 8 {
-        return Err(EndsEarly);
-    }
-    let (front, rest) = bytes.split_at(8);
+    let (front, rest) = bytes_of(8, bytes)?;
     Ok((BigEndian::read_u64(front), rest))
 }
 

@@ -1,5 +1,6 @@
 -- Where one range alone passes a test, it is the one that is found, and a change of all that pass goes to it alone.
 use Rattle.std.proofs.Common.{◌≡◌, ℕ, zero, suc, ◌<◌, Bool, true, false, cond, List, [], ◌∷◌, ◌++◌, length, set, get_or, find, Option, Some, None, MatchOption, refl, sym, ◌∙◌, ap, subst, arith}
+use Rattle.std.proofs.lemmas.List.Folds.{find-append}
 use Rattle.jk_model.specs.Capabilities.{Range, changed}
 use Rattle.capability_table.specs.Places.{IsOnlyAt}
 
@@ -40,10 +41,7 @@ only-find test (x ∷ xs) zero r h = rw (h.1, h.0) refl
 only-find test (x ∷ xs) (suc i) r h = rw (h.0) (only-find test xs i r h.1)
 
 pub none-push : (test : Range → Bool) (xs : List Range) (r : Range) → find test xs ≡ None → test r ≡ false → find test (xs ++ r ∷ []) ≡ None
-none-push test [] r h e = rw e refl
-none-push test (x ∷ xs) r h e =
-    let head = head_passes (test x) x (find test xs) h in
-    rw (head.0) (none-push test xs r head.1 e)
+none-push test xs r h e = rw (find-append test xs (r ∷ []), h, e) refl
 
 none-changed : (test : Range → Bool) (f : Range → Range) (xs : List Range) → find test xs ≡ None → changed test f xs ≡ xs
 none-changed test f [] h = refl

@@ -5,7 +5,7 @@ use Rattle.std.proofs.lemmas.Bool.{or_cases, eqb-true}
 use Rattle.std.proofs.lemmas.Cmp.{nat_eq_equiv}
 use Rattle.std.proofs.lemmas.Map.Keys.{IsDistinct-push}
 use Rattle.std.proofs.lemmas.Map.Steps.{length-le_from_distinct_below}
-use Rattle.std.proofs.lemmas.List.{length-map, length_push, map_push}
+use Rattle.std.proofs.lemmas.List.{length-map, length_push, map_push, set-get_or}
 use Rattle.jk_model.proofs.EachItem.{all_push}
 use Rattle.std.proofs.lemmas.List.Sums.{sum_by-cons, sum_by-append}
 use Rattle.indexmap.specs.IndexSet.{insert_key}
@@ -13,7 +13,7 @@ use Rattle.jk_model.specs.declared.identifiers.DomainId.{DomainId}
 use Rattle.jk_model.specs.declared.identifiers.CapId.{CapId}
 use Rattle.jk_model.specs.Capabilities.{Range, Creation, last_number, numbers, is_owned_by, range_of, next_in, next_number, created, with_creation}
 use Rattle.capability_table.specs.Places.{IsOnlyAt, AreChained, places_from, owner_number, IsTable}
-use Rattle.capability_table.proofs.OneRangePasses.{only-changed, only-find, head_passes}
+use Rattle.capability_table.proofs.OneRangePasses.{only-changed, only-find, only-get_or, head_passes}
 use Rattle.capability_table.proofs.PlaceOfAnOwner.{eq_sym}
 use Rattle.capability_table.proofs.PlaceOfANumber.{length-places_from}
 
@@ -144,9 +144,7 @@ few_ranges owners places xs owner t fits none =
 -- ---- What the calls answer, where the one range that they touch is known.
 
 set-same : (test : Range → Bool) (xs : List Range) (i : ℕ) (r : Range) → IsOnlyAt test xs i r → set xs i r ≡ xs
-set-same test [] i r h = absurd h
-set-same test (x ∷ xs) zero r h = rw (h.0) refl
-set-same test (x ∷ xs) (suc i) r h = rw (set-same test xs i r h.1) refl
+set-same test xs i r h = ap (set xs i) (sym (only-get_or test xs i r r h)) ∙ set-get_or xs i r
 
 pub next-only : (owner : DomainId) (xs : List Range) (i : ℕ) (r : Range) → IsOnlyAt (is_owned_by owner) xs i r → next_number xs owner ≡ next_in r
 next-only owner xs i r h = rw (only-find (is_owned_by owner) xs i r h) refl

@@ -1,27 +1,27 @@
 -- What the steps of reading answer is the class file, or the first fault of the bytes.
-use Rattle.std.proofs.Common.{◌≡◌, ◌≢◌, ℕ, ◌+◌, ◌-◌, ◌<◌, inl, inr, List, [], ◌∷◌, ◌++◌, length, take, drop, Some, None, Ok, Err, refl, sym, ap, subst, ◌∙◌, append_assoc, append-nil, arith}
+use Rattle.std.proofs.Common.{◌≡◌, ℕ, ◌+◌, ◌<◌, inl, inr, List, [], ◌∷◌, ◌++◌, length, drop, Some, None, Ok, Err, refl, sym, ap, subst, ◌∙◌, append_assoc, append-nil, arith}
 use Rattle.std.specs.List.{AllByRecursion}
-use Rattle.std.proofs.lemmas.List.{length-append, take_at, drop_at}
-use Rattle.jk_model.specs.declared.class_file.ClassFile.{ClassFile}
+use Rattle.std.proofs.lemmas.List.{length-append, drop_at}
 use Rattle.jk_model.specs.declared.class_file.PoolEntry.{PoolEntry}
 use Rattle.jk_model.specs.declared.class_file.PoolEntry.TheVariants.{Unusable}
 use Rattle.jk_model.specs.ClassFile.{u2, u4, pool_bytes, IsPool, IsGoodEntry, IsVersion, IsClass}
 use Rattle.jk_model.specs.ConstantPool.{HasPool, IsCutPool, StopsAtTag, HasBadText, HasBadIndex}
-use Rattle.jk_model.specs.ReadFaults.{MAGIC, BeginsWithVersion, HasBadVersion, HasBadPool, IsTruncated, TrailsClass}
+use Rattle.jk_model.proofs.EmptyByLength.{not_nil_front, length_from_not_nil}
+use Rattle.jk_model.specs.ReadFaults.{MAGIC, BeginsWithVersion, HasBadPool, IsTruncated}
 use Rattle.const_pool.specs.declared.pool.Pool.{Pool}
 use Rattle.const_pool.specs.declared.pool.PoolError.{PoolError}
 use Rattle.const_pool.specs.declared.pool.PoolError.TheVariants as faults
 use Rattle.byte_fields.specs.Reading.{pair_at}
 use Rattle.byte_fields.specs.Layouts.{IsBytes}
 use Rattle.byte_fields.specs.PartsAreBytes.{IsBytes-drop, IsBytes-after}
-use Rattle.byte_fields.specs.CutIsBeginning.{pair_cut, not_empty}
+use Rattle.byte_fields.specs.CutIsBeginning.{pair_cut}
 use Rattle.class_reader.specs.declared.class.ReadRefusal.{ReadRefusal}
 use Rattle.class_reader.specs.declared.class.ReadRefusal.TheVariants.{BadMagic, BadVersion, Truncated, Trailing, BadPool, OutOfMemory}
 use Rattle.class_reader.specs.Reading.{Sections, sections_at}
 use Rattle.class_reader.specs.SectionLaws.{section_bytes, AreSections, section_reader, section_cut}
-use Rattle.class_reader.specs.Answers.{HasVersion, HasPoolFault, IsPoolAnswer, pool_refusal, IsClassAnswer}
+use Rattle.class_reader.specs.Answers.{HasVersion, HasPoolFault, IsPoolAnswer, pool_refusal, IsClassAnswer, BeginsWith}
 use Rattle.class_reader.proofs.OnePoolFault.{good_no_fault, fault_not_cut}
-use Rattle.class_reader.proofs.OneClassFile.{version_bytes, one_version, version_long, class_of, body_bytes, made_layout}
+use Rattle.class_reader.proofs.OneClassFile.{version_bytes, one_version, version_good, version_long, class_of, body_bytes, made_layout}
 
 -- ---- In the magic number and the version.
 
@@ -46,7 +46,7 @@ pub version_cut : (bytes rest : List ℕ) → IsBytes bytes → bytes ≡ u4 MAG
 version_cut bytes rest fits e none =
     let h = pair_cut.cut rest (IsBytes-after bytes (u4 MAGIC) rest e fits) none in
     let len : length rest + length h.more ≡ 4 = sym (length-append rest h.more) ∙ ap length h.spelled in
-    let more_long : 0 < length h.more = positive h.more h.some in
+    let more_long : 0 < length h.more = length_from_not_nil h.more h.some in
     let long : length bytes ≡ 4 + length rest = ap length e ∙ length-append (u4 MAGIC) rest in
     let body = body_bytes no_pool some_sections in
     let minor = h.value.0 in
@@ -57,15 +57,11 @@ version_cut bytes rest fits e none =
     let c = class_of major minor no_pool some_sections in
     let layout = made_layout (bytes ++ (h.more ++ body)) major minor no_pool some_sections h.fits.0 h.fits.1 no_pool_is some_sections_fit whole in
     record {
-      early = inr (c, h.more ++ body, not_empty h.more body h.some, layout);
+      early = inr (c, h.more ++ body, not_nil_front h.more body h.some, layout);
       version = λ v. omega (arith, len, more_long, long, version_long bytes v.0 v.1 v.2 v.3);
       pool = λ i v. omega (arith, len, more_long, long, version_long bytes v.0 v.1 v.2 v.3);
     }
   where
-    positive : (a : List ℕ) → a ≢ [] → 0 < length a
-    positive [] h = absurd (h refl)
-    positive (x ∷ a) h = omega arith
-
     pair_split : (a b c d : List ℕ) → a ++ ((b ++ c) ++ d) ≡ (a ++ b ++ c) ++ d
     pair_split a b c d = simp append_assoc
 
@@ -84,12 +80,6 @@ pool_fault len bytes faults.OutOfMemory tag index text cut = tt
 -- what stands after the version
 version_drop : (bytes : List ℕ) (major minor : ℕ) (rest : List ℕ) → BeginsWithVersion bytes major minor rest → drop 8 bytes ≡ rest
 version_drop bytes major minor rest h = ap (λ (w : List ℕ). drop 8 w) h.sections ∙ drop_at (version_bytes major minor) rest 8 refl
-
--- bytes with an accepted version have no bad one
-good_version : (bytes : List ℕ) (major minor : ℕ) → HasVersion bytes major minor → HasBadVersion bytes → ⊥
-good_version bytes major minor ((rest, h), good) (n, m, other, k, bad) =
-    let same = one_version bytes major minor n m rest other h k in
-    bad (subst (λ (x : ℕ). IsVersion x m) same.same_major (subst (λ (x : ℕ). IsVersion major x) same.same_minor good))
 
 -- a fault of the pool stands after the version
 fault_there : (bytes : List ℕ) (major minor : ℕ) (rest : List ℕ) → BeginsWithVersion bytes major minor rest → (i : ℕ) → HasBadPool bytes i → HasPoolFault rest i
@@ -111,8 +101,8 @@ pool_cut bytes rest major minor g cut =
     ∙ ap (λ (w : List ℕ). version ++ (w ++ sections)) cut.4 in
     let layout = made_layout (bytes ++ (more ++ sections)) major minor pool some_sections g.begins.numbers.0 g.begins.numbers.1 cut.3 some_sections_fit whole in
     record {
-      early = inr (class_of major minor pool some_sections, more ++ sections, not_empty more sections cut.2, layout);
-      version = good_version bytes major minor ((rest, g.begins), g.version);
+      early = inr (class_of major minor pool some_sections, more ++ sections, not_nil_front more sections cut.2, layout);
+      version = version_good bytes major minor rest g.begins g.version;
       pool = λ i v. fault_not_cut rest i (fault_there bytes major minor rest g.begins i v) cut;
     }
 
@@ -183,21 +173,15 @@ sections_end bytes major minor pool end fits h none =
     let layout = made_layout (bytes ++ cut.more) major minor pool cut.value numbers.0 numbers.1 h.is cut.fits spelled in
     record {
       early = inr (class_of major minor pool cut.value, cut.more, cut.some, layout);
-      version = good_version bytes major minor ((drop 8 bytes, h.goes.begins), h.goes.version);
+      version = version_good bytes major minor (drop 8 bytes) h.goes.begins h.goes.version;
       pool = λ i v.
           let there = fault_there bytes major minor (drop 8 bytes) h.goes.begins i v in
           good_no_fault (drop 8 bytes) pool (drop end bytes) (h.is, h.after) h.good i there;
     }
 
--- the class file in front, and what stands after it
-pub record Found (bytes : List ℕ) (c : ClassFile) (rest : List ℕ) : Type 0 where
-  pub front : List ℕ
-  pub class : IsClass front c
-  pub parts : bytes ≡ front ++ rest
-  pub long : length bytes ≡ length front + length rest
-
 sections_found : (bytes : List ℕ) (major minor : ℕ) (pool : List PoolEntry) (end : ℕ) (s : Sections) (rest : List ℕ) → IsBytes (drop end bytes)
-    → AfterPool bytes major minor pool end → sections_at (drop end bytes) ≡ Some (s, rest) → Found bytes (class_of major minor pool s) rest
+    → AfterPool bytes major minor pool end → sections_at (drop end bytes) ≡ Some (s, rest)
+    → BeginsWith (λ w. IsClass w (class_of major minor pool s)) bytes rest
 sections_found bytes major minor pool end s rest fits h e =
     let t = section_reader.takes (drop end bytes) (s, rest) fits e in
     let front = version_bytes major minor ++ body_bytes pool s in
@@ -206,9 +190,8 @@ sections_found bytes major minor pool end s rest fits h e =
     let layout = made_layout front major minor pool s numbers.0 numbers.1 h.is t.1 refl in
     record {
       front = front;
-      class = record { layout = layout; version = h.goes.version; entries = h.good };
+      is = record { layout = layout; version = h.goes.version; entries = h.good };
       parts = whole;
-      long = ap length whole ∙ length-append front rest;
     }
 
 -- the same, of what the steps before answered
@@ -224,19 +207,6 @@ answered_cut bytes major minor p fits h none =
     sections_end bytes major minor p.entries p.end (IsBytes-drop p.end bytes fits) (answered_after bytes major minor p h) none
 
 pub answered_found : (bytes : List ℕ) (major minor : ℕ) (p : Pool) (s : Sections) (rest : List ℕ) → IsBytes bytes → IsAnswered bytes major minor p
-    → sections_at (drop p.end bytes) ≡ Some (s, rest) → Found bytes (class_of major minor p.entries s) rest
+    → sections_at (drop p.end bytes) ≡ Some (s, rest) → BeginsWith (λ w. IsClass w (class_of major minor p.entries s)) bytes rest
 answered_found bytes major minor p s rest fits h given =
     sections_found bytes major minor p.entries p.end s rest (IsBytes-drop p.end bytes fits) (answered_after bytes major minor p h) given
-
-pub all_found : (bytes : List ℕ) (c : ClassFile) (rest : List ℕ) → Found bytes c rest → rest ≡ [] → IsClass bytes c
-all_found bytes c rest f nothing =
-    let whole : bytes ≡ f.front = f.parts ∙ ap (λ (w : List ℕ). f.front ++ w) nothing ∙ append-nil f.front in
-    subst (λ (w : List ℕ). IsClass w c) (sym whole) f.class
-
-pub more_found : (bytes : List ℕ) (c : ClassFile) (rest : List ℕ) → Found bytes c rest → (rest ≡ [] → ⊥) → TrailsClass bytes (length bytes - length rest)
-more_found bytes c [] f some = absurd (some refl)
-more_found bytes c (b ∷ rest) f some =
-    let n = length bytes - length (b ∷ rest) in
-    let place : n ≡ length f.front = omega (arith, f.long) in
-    let front : f.front ≡ take n bytes = sym (ap (take n) f.parts ∙ take_at f.front (b ∷ rest) n (sym place)) in
-    (c, omega (arith, f.long, place), subst (λ (w : List ℕ). IsClass w c) front f.class)

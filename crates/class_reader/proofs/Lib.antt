@@ -1,5 +1,5 @@
 pub mod FirstFaultFound
-pub mod NothingFollows
+pub mod FrontAndRest
 pub mod OneClassFile
 pub mod OneCodeBody
 pub mod OneFault

@@ -1,11 +1,11 @@
 -- Bytes begin with one version and with one class file. A class file is its version, its pool and the
 -- sections after it, one after another.
-use Rattle.std.proofs.Common.{◌≡◌, ℕ, ◌+◌, List, ◌++◌, length, refl, sym, ap, ◌∙◌, append_assoc, arith}
+use Rattle.std.proofs.Common.{◌≡◌, ℕ, ◌+◌, List, ◌++◌, length, refl, sym, ap, subst, ◌∙◌, append_assoc, arith}
 use Rattle.std.proofs.lemmas.List.{length-append}
 use Rattle.jk_model.specs.declared.class_file.ClassFile.{ClassFile}
 use Rattle.jk_model.specs.declared.class_file.PoolEntry.{PoolEntry}
-use Rattle.jk_model.specs.ClassFile.{u2, u4, IsU2, pool_bytes, IsPool, interfaces_bytes, members_bytes, attributes_bytes, class_bytes, Layout}
-use Rattle.jk_model.specs.ReadFaults.{MAGIC, BeginsWithVersion}
+use Rattle.jk_model.specs.ClassFile.{u2, u4, IsU2, IsVersion, pool_bytes, IsPool, interfaces_bytes, members_bytes, attributes_bytes, class_bytes, Layout}
+use Rattle.jk_model.specs.ReadFaults.{MAGIC, BeginsWithVersion, HasBadVersion}
 use Rattle.const_pool.proofs.OnePool.{one_pool}
 use Rattle.byte_fields.specs.OneReading.{one_u2, one_u4, one_reading}
 use Rattle.class_reader.specs.Reading.{Sections, sections_at}
@@ -16,7 +16,7 @@ use Rattle.class_reader.specs.SectionLaws.{section_bytes, AreSections, section_r
 abbrev pub version_bytes : ℕ → ℕ → List ℕ
 version_bytes major minor = u4 MAGIC ++ u2 minor ++ u2 major
 
-version_split : (a b c d : List ℕ) → (a ++ b ++ c) ++ d ≡ a ++ (b ++ (c ++ d))
+pub version_split : (a b c d : List ℕ) → (a ++ b ++ c) ++ d ≡ a ++ (b ++ (c ++ d))
 version_split a b c d = simp append_assoc
 
 pub record SameVersion (major minor n m : ℕ) (r s : List ℕ) : Type 0 where
@@ -33,6 +33,13 @@ one_version bytes major minor n m r s h k =
     let two = one_u2 minor m (u2 major ++ r) (u2 n ++ s) h.numbers.0 k.numbers.0 one.1 in
     let three = one_u2 major n r s h.numbers.1 k.numbers.1 two.1 in
     record { same_major = three.0; same_minor = two.0; same_rest = three.1 }
+
+-- bytes with an accepted version have no bad one
+pub version_good : (bytes : List ℕ) (major minor : ℕ) (rest : List ℕ) → BeginsWithVersion bytes major minor rest → IsVersion major minor
+    → HasBadVersion bytes → ⊥
+version_good bytes major minor rest h good (n, m, other, k, bad) =
+    let same = one_version bytes major minor n m rest other h k in
+    bad (subst (λ (x : ℕ). IsVersion x m) same.same_major (subst (λ (x : ℕ). IsVersion major x) same.same_minor good))
 
 pub version_long : (bytes : List ℕ) (major minor : ℕ) (rest : List ℕ) → BeginsWithVersion bytes major minor rest → length bytes ≡ 8 + length rest
 version_long bytes major minor rest h = ap length h.sections ∙ length-append (version_bytes major minor) rest

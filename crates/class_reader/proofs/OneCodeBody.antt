@@ -1,21 +1,22 @@
 -- Bytes are the body of one Code attribute, or have one fault: what reading answers is the body or its fault,
 -- and each answer rules out the others.
-use Rattle.std.proofs.Common.{◌≡◌, ◌≢◌, ℕ, ◌+◌, ◌-◌, ◌^◌, ◌<◌, ◌≤◌, ◌⊎◌, inl, inr, List, [], ◌∷◌, ◌++◌, length, take, drop, Some, None, Result, Ok, Err, refl, sym, ap, subst, ◌∙◌, append_assoc, append-nil, arith}
+use Rattle.std.proofs.Common.{◌≡◌, ℕ, ◌+◌, ◌^◌, ◌<◌, ◌≤◌, ◌⊎◌, inl, inr, List, [], ◌++◌, length, take, drop, Some, None, Result, Ok, Err, refl, sym, ap, subst, ◌∙◌, append_assoc, append-nil, arith}
 use Rattle.std.specs.Prelude.{MatchResult}
 use Rattle.std.specs.Int.{w32}
-use Rattle.std.proofs.lemmas.List.{length-append, length-drop, take_at, drop_at, take-append-drop}
+use Rattle.std.proofs.lemmas.List.{length-append, length-drop, drop_at, take-append-drop}
 use Rattle.jk_model.specs.declared.class_file.Code.{Code}
 use Rattle.jk_model.specs.ClassFile.{u2, u4, IsU4, handlers_bytes, attributes_bytes, code_bytes, CodeLayout, IsCutCode, TrailsCode, HasBadCodeLength}
+use Rattle.jk_model.proofs.EmptyByLength.{not_nil_back, length_from_not_nil}
 use Rattle.byte_fields.specs.Reading.{number_at, pair_at}
 use Rattle.byte_fields.specs.Layouts.{IsBytes, FailsWithin, pair_bytes, IsPair}
 use Rattle.byte_fields.specs.PartsAreBytes.{IsBytes-after}
 use Rattle.byte_fields.specs.OneReading.{one_reading, one_u4, pair_reader}
-use Rattle.byte_fields.specs.CutIsBeginning.{not_empty_either, then_cut, pair_cut, u4_cut}
+use Rattle.byte_fields.specs.CutIsBeginning.{then_cut, pair_cut, u4_cut}
 use Rattle.class_reader.specs.declared.code.CodeRefusal.{CodeRefusal}
 use Rattle.class_reader.specs.declared.code.CodeRefusal.TheVariants.{Cut, Trailing, CodeLength, OutOfMemory}
 use Rattle.class_reader.specs.Reading.{front_at, tables_at}
 use Rattle.class_reader.specs.SectionLaws.{Front, front_bytes, IsFront, front_reader, Tables, table_bytes, AreTables, tables_reader, tables_cut}
-use Rattle.class_reader.specs.Answers.{IsRefused, IsCodeAnswer}
+use Rattle.class_reader.specs.Answers.{IsRefused, BeginsWith, IsCodeAnswer}
 
 -- ---- A body by its parts.
 
@@ -91,15 +92,11 @@ front_cut : FailsWithin front_at front_bytes IsFront
 unfolding front_at
 front_cut = then_cut pair_at (λ _. number_at w32) pair_bytes (λ _. u4) IsPair (λ _. IsU4) pair_reader pair_cut (λ _. u4_cut)
 
-positive : (a : List ℕ) → a ≢ [] → 0 < length a
-positive [] h = absurd (h refl)
-positive (x ∷ a) h = omega arith
-
 pub front_ends : (body : List ℕ) → IsBytes body → front_at body ≡ None → IsCutCode body
 front_ends body fits none =
     let h = front_cut.cut body fits none in
     let len : length body + length h.more ≡ 8 = sym (length-append body h.more) ∙ ap length h.spelled in
-    inl (omega (arith, len, positive h.more h.some))
+    inl (omega (arith, len, length_from_not_nil h.more h.some))
 
 front_found : (body : List ℕ) (p : Front) (rest : List ℕ) → IsBytes body → front_at body ≡ Some (p, rest) → GoesOn body p rest
 front_found body p rest fits e = let t = front_reader.takes body (p, rest) fits e in record { fits = t.1; parts = t.0.parts }
@@ -122,40 +119,15 @@ tables_end body p rest fits e some few none =
     ap (λ (w : List ℕ). w ++ cut.more) h.parts ∙ append_assoc (front_bytes p) rest cut.more ∙ ap (λ (w : List ℕ). front_bytes p ++ w) cut.spelled in
     inr (code_of p cut.value, cut.more, cut.some, made_layout (body ++ cut.more) p cut.value h.fits some few cut.fits whole)
 
--- the body in front, and what stands after it
-pub record Found (body : List ℕ) (c : Code) (rest : List ℕ) : Type 0 where
-  pub front : List ℕ
-  pub layout : CodeLayout front c
-  pub parts : body ≡ front ++ rest
-  pub long : length body ≡ length front + length rest
-
 pub tables_found : (body : List ℕ) (p : Front) (rest : List ℕ) (t : Tables) (after : List ℕ) → IsBytes body → front_at body ≡ Some (p, rest)
-    → 0 < p.1 → p.1 < 2 ^ 16 → tables_at p.1 rest ≡ Some (t, after) → Found body (code_of p t) after
+    → 0 < p.1 → p.1 < 2 ^ 16 → tables_at p.1 rest ≡ Some (t, after) → BeginsWith (λ w. CodeLayout w (code_of p t)) body after
 tables_found body p rest t after fits e some few f =
     let h = front_found body p rest fits e in
     let took = (tables_reader p.1).takes rest (t, after) (rest_fits body p rest fits h) f in
     let front = front_bytes p ++ table_bytes t in
     let whole : body ≡ front ++ after =
     h.parts ∙ ap (λ (w : List ℕ). front_bytes p ++ w) took.0.parts ∙ sym (append_assoc (front_bytes p) (table_bytes t) after) in
-    record {
-      front = front;
-      layout = made_layout front p t h.fits some few took.1 refl;
-      parts = whole;
-      long = ap length whole ∙ length-append front after;
-    }
-
-pub all_found : (body : List ℕ) (c : Code) (rest : List ℕ) → Found body c rest → rest ≡ [] → CodeLayout body c
-all_found body c rest f nothing =
-    let whole : body ≡ f.front = f.parts ∙ ap (λ (w : List ℕ). f.front ++ w) nothing ∙ append-nil f.front in
-    subst (λ (w : List ℕ). CodeLayout w c) (sym whole) f.layout
-
-pub more_found : (body : List ℕ) (c : Code) (rest : List ℕ) → Found body c rest → (rest ≡ [] → ⊥) → TrailsCode body (length body - length rest)
-more_found body c [] f some = absurd (some refl)
-more_found body c (b ∷ rest) f some =
-    let n = length body - length (b ∷ rest) in
-    let place : n ≡ length f.front = omega (arith, f.long) in
-    let front : f.front ≡ take n body = sym (ap (take n) f.parts ∙ take_at f.front (b ∷ rest) n (sym place)) in
-    (c, omega (arith, f.long, place), subst (λ (w : List ℕ). CodeLayout w c) front f.layout)
+    record { front = front; is = made_layout front p t h.fits some few took.1 refl; parts = whole }
 
 -- ---- Each answer rules out the others.
 
@@ -167,7 +139,7 @@ not_cut front c body rest l e (inl short) =
 not_cut front c body rest l e (inr (d, more, some, k)) =
     let whole = body ++ more in
     let left : whole ≡ front ++ (rest ++ more) = ap (λ (w : List ℕ). w ++ more) e ∙ append_assoc front rest more in
-    not_empty_either rest more some (one_code front whole c d whole (rest ++ more) [] l k left (sym (append-nil whole))).1
+    not_nil_back rest more some (one_code front whole c d whole (rest ++ more) [] l k left (sym (append-nil whole))).1
 
 -- the number that stands at the length's place
 one_length : (body : List ℕ) (p : Front) (rest : List ℕ) (n : ℕ) → GoesOn body p rest → HasBadCodeLength body n → p.1 ≡ n
@@ -202,12 +174,11 @@ one_bad_length body n m (front, more, four, small, parts, bad) (other, rest, fou
     let right : drop 4 body ≡ u4 m ++ rest = ap (λ (w : List ℕ). drop 4 w) (parts2 ∙ append_assoc other (u4 m) rest) ∙ drop_at other (u4 m ++ rest) 4 four2 in
     (one_u4 n m more rest small small2 (sym left ∙ right)).0
 
-left_over : (body : List ℕ) (n : ℕ) → n < length body → drop n body ≡ [] → ⊥
-left_over body n less nothing = omega (arith, ap length nothing, length-drop n body)
-
 layout_not_trails : (body : List ℕ) (c : Code) (n : ℕ) → CodeLayout body c → TrailsCode body n → ⊥
 layout_not_trails body c n l t =
-    left_over body n t.1 (one_code (take n body) body t.0 c body (drop n body) [] t.2 l (sym (take-append-drop n body)) (sym (append-nil body))).1
+    let none : drop n body ≡ [] =
+    (one_code (take n body) body t.0 c body (drop n body) [] t.2 l (sym (take-append-drop n body)) (sym (append-nil body))).1 in
+    omega (arith, t.1, ap length none, length-drop n body)
 
 one_trails : (body : List ℕ) (n m : ℕ) → TrailsCode body n → TrailsCode body m → n ≡ m
 one_trails body n m h k =

@@ -1,46 +1,41 @@
 -- Bytes are one class file or have one fault: each answer rules out the others.
-use Rattle.std.proofs.Common.{◌≡◌, ℕ, ◌<◌, ◌≤◌, inl, inr, List, [], ◌++◌, length, take, drop, Result, Ok, Err, refl, sym, ap, subst, ◌∙◌, append_assoc, append-nil, arith}
+use Rattle.std.proofs.Common.{◌≡◌, ℕ, ◌≤◌, inl, inr, List, [], ◌++◌, length, take, drop, Result, Ok, Err, refl, sym, ap, subst, ◌∙◌, append_assoc, append-nil, arith}
 use Rattle.std.specs.Prelude.{◌↔◌, MatchResult}
 use Rattle.std.proofs.lemmas.List.{length-drop, take_at, take-append-drop, take-append-le}
 use Rattle.jk_model.specs.declared.class_file.ClassFile.{ClassFile}
-use Rattle.jk_model.specs.ClassFile.{u2, u4, IsVersion, IsClass}
+use Rattle.jk_model.specs.ClassFile.{u2, u4, IsClass}
 use Rattle.jk_model.specs.ReadFaults.{MAGIC, BeginsWithVersion, HasBadMagic, HasBadVersion, HasBadPool, IsTruncated, TrailsClass}
-use Rattle.byte_fields.specs.CutIsBeginning.{not_empty_either}
+use Rattle.jk_model.proofs.EmptyByLength.{not_nil_back}
 use Rattle.class_reader.specs.declared.class.ReadRefusal.{ReadRefusal}
 use Rattle.class_reader.specs.declared.class.ReadRefusal.TheVariants.{BadMagic, BadVersion, Truncated, Trailing, BadPool, OutOfMemory}
 use Rattle.class_reader.specs.SectionLaws.{section_bytes}
-use Rattle.class_reader.specs.Answers.{IsRefused, HasPoolFault, IsClassAnswer}
+use Rattle.class_reader.specs.Answers.{IsRefused, BeginsWith, HasPoolFault, IsClassAnswer}
 use Rattle.class_reader.proofs.OnePoolFault.{good_no_fault, one_pool_fault}
-use Rattle.class_reader.proofs.OneClassFile.{one_version, version_long, after_pool, after_version, layout_version, one_class}
+use Rattle.class_reader.proofs.OneClassFile.{version_split, one_version, version_good, version_long, after_pool, after_version, layout_version, one_class}
 
 -- ---- Bytes that begin with a class file.
 
-record Begins (bytes : List ℕ) (c : ClassFile) (rest : List ℕ) : Type 0 where
-  pub front : List ℕ
-  pub class : IsClass front c
-  pub parts : bytes ≡ front ++ rest
+abbrev Begins : List ℕ → ClassFile → List ℕ → Type 0
+Begins bytes c rest = BeginsWith (λ w. IsClass w c) bytes rest
 
 class_begins : (bytes : List ℕ) (c : ClassFile) → IsClass bytes c → Begins bytes c []
-class_begins bytes c h = record { front = bytes; class = h; parts = sym (append-nil bytes) }
+class_begins bytes c h = record { front = bytes; is = h; parts = sym (append-nil bytes) }
 
 trails_begins : (bytes : List ℕ) (n : ℕ) → (h : TrailsClass bytes n) → Begins bytes h.0 (drop n bytes)
-trails_begins bytes n h = record { front = take n bytes; class = h.2; parts = sym (take-append-drop n bytes) }
+trails_begins bytes n h = record { front = take n bytes; is = h.2; parts = sym (take-append-drop n bytes) }
 
 version_there : (bytes : List ℕ) (c : ClassFile) (rest : List ℕ) → Begins bytes c rest → BeginsWithVersion bytes c.major c.minor (after_version c rest)
-version_there bytes c rest b = layout_version b.front c bytes rest b.class.layout b.parts
+version_there bytes c rest b = layout_version b.front c bytes rest b.is.layout b.parts
 
 one_begins : (bytes : List ℕ) (c d : ClassFile) (x y : List ℕ) → Begins bytes c x → Begins bytes d y → (c ≡ d) × (x ≡ y)
-one_begins bytes c d x y a b = one_class a.front b.front c d bytes x y a.class.layout b.class.layout a.parts b.parts
+one_begins bytes c d x y a b = one_class a.front b.front c d bytes x y a.is.layout b.is.layout a.parts b.parts
 
 -- ---- The magic number.
 
 four_at : (bytes : List ℕ) (major minor : ℕ) (rest : List ℕ) → BeginsWithVersion bytes major minor rest → take 4 bytes ≡ u4 MAGIC
 four_at bytes major minor rest h =
-    let parts : bytes ≡ u4 MAGIC ++ (u2 minor ++ (u2 major ++ rest)) = h.sections ∙ split (u4 MAGIC) (u2 minor) (u2 major) rest in
+    let parts : bytes ≡ u4 MAGIC ++ (u2 minor ++ (u2 major ++ rest)) = h.sections ∙ version_split (u4 MAGIC) (u2 minor) (u2 major) rest in
     ap (λ (w : List ℕ). take 4 w) parts ∙ take_at (u4 MAGIC) (u2 minor ++ (u2 major ++ rest)) 4 refl
-  where
-    split : (a b c d : List ℕ) → (a ++ b ++ c) ++ d ≡ a ++ (b ++ (c ++ d))
-    split a b c d = simp append_assoc
 
 magic_there : (bytes : List ℕ) (major minor : ℕ) (rest : List ℕ) → BeginsWithVersion bytes major minor rest → HasBadMagic bytes → ⊥
 magic_there bytes major minor rest h bad = bad.1 (four_at bytes major minor rest h)
@@ -55,20 +50,13 @@ truncated_magic bytes t bad =
           bad.1 (sym (take-append-le 4 bytes more bad.0) ∙ four_at whole c.major c.minor (after_version c []) version)
     ]
 
--- ---- The version.
-
-version_good : (bytes : List ℕ) (major minor : ℕ) (rest : List ℕ) → BeginsWithVersion bytes major minor rest → IsVersion major minor → HasBadVersion bytes → ⊥
-version_good bytes major minor rest h good (n, m, other, k, bad) =
-    let same = one_version bytes major minor n m rest other h k in
-    bad (subst (λ (x : ℕ). IsVersion x m) same.same_major (subst (λ (x : ℕ). IsVersion major x) same.same_minor good))
-
 -- ---- The pool.
 
 pool_there : (bytes : List ℕ) (c : ClassFile) (rest : List ℕ) → Begins bytes c rest → (i : ℕ) → HasBadPool bytes i → ⊥
 pool_there bytes c rest b i (major, minor, other, k, good, fault) =
     let same = one_version bytes major minor c.major c.minor other (after_version c rest) k (version_there bytes c rest b) in
     let there = subst (λ (w : List ℕ). HasPoolFault w i) same.same_rest fault in
-    good_no_fault (after_version c rest) c.pool (section_bytes (after_pool c) ++ rest) (b.class.layout.pool, refl) b.class.entries i there
+    good_no_fault (after_version c rest) c.pool (section_bytes (after_pool c) ++ rest) (b.is.layout.pool, refl) b.is.entries i there
 
 one_bad_pool : (bytes : List ℕ) (i j : ℕ) → HasBadPool bytes i → HasBadPool bytes j → i ≡ j
 one_bad_pool bytes i j (major, minor, rest, h, good, fault) (n, m, other, k, fine, bad) =
@@ -90,16 +78,15 @@ not_truncated bytes c rest b t =
       | inr (d, more, some, layout) ↦
           let whole = bytes ++ more in
           let left : whole ≡ b.front ++ (rest ++ more) = ap (λ (w : List ℕ). w ++ more) b.parts ∙ append_assoc b.front rest more in
-          not_empty_either rest more some (one_class b.front whole c d whole (rest ++ more) [] b.class.layout layout left (sym (append-nil whole))).1
+          not_nil_back rest more some (one_class b.front whole c d whole (rest ++ more) [] b.is.layout layout left (sym (append-nil whole))).1
     ]
 
 -- ---- What follows.
 
-left_over : (bytes : List ℕ) (n : ℕ) → n < length bytes → drop n bytes ≡ [] → ⊥
-left_over bytes n less nothing = omega (arith, ap length nothing, length-drop n bytes)
-
 class_not_trails : (bytes : List ℕ) (c : ClassFile) (n : ℕ) → IsClass bytes c → TrailsClass bytes n → ⊥
-class_not_trails bytes c n h t = left_over bytes n t.1 (one_begins bytes t.0 c (drop n bytes) [] (trails_begins bytes n t) (class_begins bytes c h)).1
+class_not_trails bytes c n h t =
+    let none : drop n bytes ≡ [] = (one_begins bytes t.0 c (drop n bytes) [] (trails_begins bytes n t) (class_begins bytes c h)).1 in
+    omega (arith, t.1, ap length none, length-drop n bytes)
 
 one_trails : (bytes : List ℕ) (n m : ℕ) → TrailsClass bytes n → TrailsClass bytes m → n ≡ m
 one_trails bytes n m h k =
@@ -120,9 +107,6 @@ only bytes (Err (Truncated n)) c a h = absurd (not_truncated bytes c [] (class_b
 only bytes (Err (Trailing n)) c a h = absurd (class_not_trails bytes c n h a)
 only bytes (Err (BadPool i)) c a h = absurd (pool_there bytes c [] (class_begins bytes c h) i a)
 only bytes (Err OutOfMemory) c a h = refl
-
-err_is : (d e : ReadRefusal) → (let r : Answer = Err d in r ≡ Err e) → d ≡ e
-err_is d e h = cc
 
 magic_told : (bytes : List ℕ) (r : Answer) → IsClassAnswer bytes r → r ≡ Err BadMagic → HasBadMagic bytes
 magic_told bytes r a e = subst (IsClassAnswer bytes) e a

@@ -1,5 +1,5 @@
 -- What the steps of reading answer, by cases.
-use Rattle.std.specs.Prelude.{◌≡◌, ℕ, ◌+◌, ◌⊎◌, List, length, Result, Ok, Err, MatchResult}
+use Rattle.std.specs.Prelude.{◌≡◌, ℕ, ◌+◌, ◌⊎◌, List, ◌++◌, length, Result, Ok, Err, MatchResult}
 use Rattle.jk_model.specs.declared.class_file.ClassFile.{ClassFile}
 use Rattle.jk_model.specs.declared.class_file.Code.{Code}
 use Rattle.jk_model.specs.ClassFile.{pool_bytes, IsClass, IsVersion, CodeLayout, IsCutCode, TrailsCode, HasBadCodeLength}
@@ -16,6 +16,12 @@ use Rattle.class_reader.specs.declared.code.CodeRefusal.TheVariants as code
 -- it is this refusal, unless it is the other, that memory ran out
 abbrev pub IsRefused : {T E : Type 0} → Result T E → E → E → Type 0
 IsRefused r e memory = MatchResult r (λ _. ⊥) (λ d. (d ≡ e) ⊎ (d ≡ memory))
+
+-- the bytes begin with such a front, and go on with this rest
+pub record BeginsWith (Is : List ℕ → Type 0) (bytes rest : List ℕ) : Type 0 where
+  pub front : List ℕ
+  pub is : Is front
+  pub parts : bytes ≡ front ++ rest
 
 -- ---- A class file.
 
@@ -68,6 +74,11 @@ IsClassAnswer bytes (Err (Trailing n)) = TrailsClass bytes n
 IsClassAnswer bytes (Err (BadPool i)) = HasBadPool bytes i
 IsClassAnswer bytes (Err OutOfMemory) = HasSomeVersion bytes
 
+-- what is answered of the class file in front, and of the bytes after it
+abbrev pub IsClassFront : List ℕ → Result (ClassFile × List ℕ) ReadRefusal → Type 0
+IsClassFront bytes (Ok (c, rest)) = BeginsWith (λ w. IsClass w c) bytes rest
+IsClassFront bytes (Err e) = IsClassAnswer bytes (Err e)
+
 -- ---- The body of a Code attribute.
 
 abbrev pub IsCodeAnswer : List ℕ → Result Code CodeRefusal → Type 0
@@ -76,3 +87,8 @@ IsCodeAnswer body (Err code.Cut) = IsCutCode body
 IsCodeAnswer body (Err (code.Trailing n)) = TrailsCode body n
 IsCodeAnswer body (Err (code.CodeLength n)) = HasBadCodeLength body n
 IsCodeAnswer body (Err code.OutOfMemory) = Unit {0}
+
+-- what is answered of the body in front, and of the bytes after it
+abbrev pub IsCodeFront : List ℕ → Result (Code × List ℕ) CodeRefusal → Type 0
+IsCodeFront body (Ok (c, rest)) = BeginsWith (λ w. CodeLayout w c) body rest
+IsCodeFront body (Err e) = IsCodeAnswer body (Err e)

@@ -10,8 +10,8 @@ use Rattle.jk_model.specs.ClassFile.{u2, u4, IsU2, IsU4, attribute_bytes, IsAttr
 use Rattle.byte_fields.specs.Reading.{then_at, number_at, bytes_at, pair_at, block_at, counted_at}
 use Rattle.byte_fields.specs.Layouts.{IsReader, FailsWithin, pair_bytes, IsPair, AreBytesOf, block_bytes, IsBlock}
 use Rattle.byte_fields.specs.OneNumber.{wide32}
-use Rattle.byte_fields.specs.OneReading.{refitted, next_reader, mapped_reader, u2_reader, u4_reader, itself, bytes_reader, pair_reader, block_reader, counted_reader}
-use Rattle.byte_fields.specs.CutIsBeginning.{refitted_cut, next_cut, mapped_cut, u2_cut, bytes_cut, pair_cut, block_cut, counted_cut}
+use Rattle.byte_fields.specs.OneReading.{next_reader, made_reader, u2_reader, u4_reader, itself, bytes_reader, pair_reader, block_reader, counted_reader}
+use Rattle.byte_fields.specs.CutIsBeginning.{next_cut, made_cut, u2_cut, bytes_cut, pair_cut, block_cut, counted_cut}
 use Rattle.class_reader.specs.Reading.{attribute_at, attributes_at, member_at, handler_at, header_at, Parts, parts_at, Sections, sections_at, front_at, tables_at}
 
 -- ---- Attributes.
@@ -33,19 +33,16 @@ unfolding attribute_at
 attribute_reader =
     let block = block_reader w32 (2 ^ 32) wide32 in
     let both = next_reader (number_at w16) (block_at w32) u2 (block_bytes w32) IsU2 (IsBlock (2 ^ 32)) u2_reader block in
-    let mapped = mapped_reader attribute_of attribute_parts (then_at (number_at w16) (λ _. block_at w32)) attribute_text IsAttributeText
-    (λ _. refl) (λ _ _. refl) both in
-    refitted attribute_at (λ a. attribute_text (attribute_parts a)) attribute_bytes (λ a. IsAttributeText (attribute_parts a)) IsAttribute mapped
-    (λ a h. (h.0, h.1.0, h.1.1)) (λ a h. (h.0, (h.1, h.2))) (λ a. simp append_assoc)
+    made_reader attribute_of attribute_parts (then_at (number_at w16) (λ _. block_at w32)) attribute_text IsAttributeText attribute_bytes IsAttribute
+    (λ _. refl) (λ _ _. refl) both (λ a h. (h.0, h.1.0, h.1.1)) (λ a h. (h.0, (h.1, h.2))) (λ a. simp append_assoc)
 
 pub attribute_cut : FailsWithin attribute_at attribute_bytes IsAttribute
 unfolding attribute_at
 attribute_cut =
     let block = block_cut w32 (2 ^ 32) wide32 (omega arith) in
     let both = next_cut (number_at w16) (block_at w32) u2 (block_bytes w32) IsU2 (IsBlock (2 ^ 32)) u2_reader u2_cut block in
-    let mapped = mapped_cut attribute_of attribute_parts (then_at (number_at w16) (λ _. block_at w32)) attribute_text IsAttributeText (λ _ _. refl) both in
-    refitted_cut attribute_at (λ a. attribute_text (attribute_parts a)) attribute_bytes (λ a. IsAttributeText (attribute_parts a)) IsAttribute mapped
-    (λ a h. (h.0, h.1.0, h.1.1)) (λ a. simp append_assoc)
+    made_cut attribute_of attribute_parts (then_at (number_at w16) (λ _. block_at w32)) attribute_text IsAttributeText attribute_bytes IsAttribute
+    (λ _ _. refl) both (λ a h. (h.0, h.1.0, h.1.1)) (λ a. simp append_assoc)
 
 pub attributes_reader : IsReader attributes_at attributes_bytes AreAttributes
 attributes_reader = counted_reader attribute_at attribute_bytes IsAttribute attribute_reader
@@ -94,17 +91,15 @@ pub member_reader : IsReader member_at member_bytes IsMember
 unfolding member_at
 member_reader =
     let both = next_reader triple_at attributes_at triple_bytes attributes_bytes IsTriple AreAttributes triple_reader attributes_reader in
-    let mapped = mapped_reader member_of member_parts (then_at triple_at (λ _. attributes_at)) member_text IsMemberText (λ _. refl) (λ _ _. refl) both in
-    refitted member_at (λ m. member_text (member_parts m)) member_bytes (λ m. IsMemberText (member_parts m)) IsMember mapped
-    (λ m h. (h.0.0, h.0.1.0, h.0.1.1, h.1)) (λ m h. ((h.0, (h.1, h.2)), h.3)) (λ m. simp append_assoc)
+    made_reader member_of member_parts (then_at triple_at (λ _. attributes_at)) member_text IsMemberText member_bytes IsMember
+    (λ _. refl) (λ _ _. refl) both (λ m h. (h.0.0, h.0.1.0, h.0.1.1, h.1)) (λ m h. ((h.0, (h.1, h.2)), h.3)) (λ m. simp append_assoc)
 
 pub member_cut : FailsWithin member_at member_bytes IsMember
 unfolding member_at
 member_cut =
     let both = next_cut triple_at attributes_at triple_bytes attributes_bytes IsTriple AreAttributes triple_reader triple_cut attributes_cut in
-    let mapped = mapped_cut member_of member_parts (then_at triple_at (λ _. attributes_at)) member_text IsMemberText (λ _ _. refl) both in
-    refitted_cut member_at (λ m. member_text (member_parts m)) member_bytes (λ m. IsMemberText (member_parts m)) IsMember mapped
-    (λ m h. (h.0.0, h.0.1.0, h.0.1.1, h.1)) (λ m. simp append_assoc)
+    made_cut member_of member_parts (then_at triple_at (λ _. attributes_at)) member_text IsMemberText member_bytes IsMember
+    (λ _ _. refl) both (λ m h. (h.0.0, h.0.1.0, h.0.1.1, h.1)) (λ m. simp append_assoc)
 
 pub members_reader : IsReader (counted_at member_at) members_bytes AreMembers
 members_reader = counted_reader member_at member_bytes IsMember member_reader
@@ -133,17 +128,15 @@ pub handler_reader : IsReader handler_at handler_bytes IsHandler
 unfolding handler_at
 handler_reader =
     let both = next_reader pair_at pair_at pair_bytes pair_bytes IsPair IsPair pair_reader pair_reader in
-    let mapped = mapped_reader handler_of handler_parts (then_at pair_at (λ _. pair_at)) handler_text IsHandlerText (λ _. refl) (λ _ _. refl) both in
-    refitted handler_at (λ h. handler_text (handler_parts h)) handler_bytes (λ h. IsHandlerText (handler_parts h)) IsHandler mapped
-    (λ m h. (h.0.0, h.0.1, h.1.0, h.1.1)) (λ m h. ((h.0, h.1), (h.2, h.3))) (λ m. simp append_assoc)
+    made_reader handler_of handler_parts (then_at pair_at (λ _. pair_at)) handler_text IsHandlerText handler_bytes IsHandler
+    (λ _. refl) (λ _ _. refl) both (λ m h. (h.0.0, h.0.1, h.1.0, h.1.1)) (λ m h. ((h.0, h.1), (h.2, h.3))) (λ m. simp append_assoc)
 
 pub handler_cut : FailsWithin handler_at handler_bytes IsHandler
 unfolding handler_at
 handler_cut =
     let both = next_cut pair_at pair_at pair_bytes pair_bytes IsPair IsPair pair_reader pair_cut pair_cut in
-    let mapped = mapped_cut handler_of handler_parts (then_at pair_at (λ _. pair_at)) handler_text IsHandlerText (λ _ _. refl) both in
-    refitted_cut handler_at (λ h. handler_text (handler_parts h)) handler_bytes (λ h. IsHandlerText (handler_parts h)) IsHandler mapped
-    (λ m h. (h.0.0, h.0.1, h.1.0, h.1.1)) (λ m. simp append_assoc)
+    made_cut handler_of handler_parts (then_at pair_at (λ _. pair_at)) handler_text IsHandlerText handler_bytes IsHandler
+    (λ _ _. refl) both (λ m h. (h.0.0, h.0.1, h.1.0, h.1.1)) (λ m. simp append_assoc)
 
 abbrev pub AreHandlers : List Handler → Type 0
 AreHandlers hs = IsU2 (length hs) × AllByRecursion IsHandler hs

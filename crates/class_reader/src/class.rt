@@ -3,7 +3,8 @@
 ghost use Rattle.std.specs.Prelude.{◌≡◌, ◌↔◌, ℕ, ◌<◌, ◌^◌, length, drop, IsTrue, IfOk, MatchResult, Err};
 ghost use Rattle.jk_model.specs.ClassFile.{IsClass, IsVersion};
 ghost use Rattle.jk_model.specs.ReadFaults.{HasBadMagic, HasBadVersion, HasBadPool, IsTruncated, TrailsClass};
-ghost use Rattle.class_reader.specs.Answers.{IsVersionAnswer, IsPoolAnswer, IsClassAnswer, IsRefused, pool_refusal};
+ghost use Rattle.const_pool.specs.Reading.{seen};
+ghost use Rattle.class_reader.specs.Answers.{IsVersionAnswer, IsPoolAnswer, IsClassAnswer, IsClassFront, IsRefused, pool_refusal};
 
 use crate::sections::sections_of;
 use byte_fields::{ReadError, pair_of, u4_of};
@@ -97,10 +98,10 @@ fn pool_of(alloc: Global, bytes: &[u8]) -> Result<Pool, ReadRefusal>
     }
 }
 
-/// What `read_class` answers, as one relation.
-fn answered(alloc: Global, bytes: &[u8]) -> Result<ClassFile, ReadRefusal>
+/// The class file in front, and the bytes after it.
+fn class_in_front(alloc: Global, bytes: &[u8]) -> Result<(ClassFile, &[u8]), ReadRefusal>
     requires { length bytes.now < 2 ^ 31 }
-    ensures { IsClassAnswer bytes.now result }
+    ensures { IsClassFront bytes.now (seen (λ x. (x.0, x.1.now)) result) }
 {
     let (minor, major) = version_of(bytes)?;
     let pool = pool_of(alloc, bytes)?;
@@ -110,11 +111,8 @@ fn answered(alloc: Global, bytes: &[u8]) -> Result<ClassFile, ReadRefusal>
         Err(ReadError::EndsEarly) => return Err(truncated(bytes)),
         Err(ReadError::OutOfMemory) => return Err(ReadRefusal::OutOfMemory),
     };
-    if !rest.is_empty() {
-        return Err(ReadRefusal::Trailing((bytes.len() - rest.len()) as u32));
-    }
     let ((flags, (this_class, super_class)), parts) = sections;
-    Ok(ClassFile {
+    let class = ClassFile {
         minor,
         major,
         pool: pool.entries,
@@ -125,7 +123,20 @@ fn answered(alloc: Global, bytes: &[u8]) -> Result<ClassFile, ReadRefusal>
         fields: parts.fields,
         methods: parts.methods,
         attributes: parts.attributes,
-    })
+    };
+    Ok((class, rest))
+}
+
+/// What `read_class` answers, as one relation.
+fn answered(alloc: Global, bytes: &[u8]) -> Result<ClassFile, ReadRefusal>
+    requires { length bytes.now < 2 ^ 31 }
+    ensures { IsClassAnswer bytes.now result }
+{
+    let (class, rest) = class_in_front(alloc, bytes)?;
+    if !rest.is_empty() {
+        return Err(ReadRefusal::Trailing((bytes.len() - rest.len()) as u32));
+    }
+    Ok(class)
 }
 
 /// The class file that the bytes are, in time linear in them (the Java Virtual Machine

@@ -4,7 +4,8 @@ ghost use Rattle.std.specs.Prelude.{◌≡◌, ℕ, ◌<◌, ◌^◌, length, If
 ghost use Rattle.jk_model.specs.ClassFile.{CodeLayout, IsCutCode, TrailsCode, HasBadCodeLength};
 ghost use Rattle.byte_fields.specs.Reading.{Gives, GivesInMemory};
 ghost use Rattle.class_reader.specs.Reading.{front_at, tables_at};
-ghost use Rattle.class_reader.specs.Answers.{IsCodeAnswer, IsRefused};
+ghost use Rattle.const_pool.specs.Reading.{seen};
+ghost use Rattle.class_reader.specs.Answers.{IsCodeAnswer, IsCodeFront, IsRefused};
 
 use crate::sections::{AttributeField, HandlerField};
 use byte_fields::{EndsEarly, ReadError, bytes_of, counted_of, pair_of, u4_of};
@@ -63,10 +64,10 @@ fn tables_of(alloc: Global, len: u32, bytes: &[u8]) -> Result<(Tables, &[u8]), R
     Ok((tables, rest))
 }
 
-/// What `read_code` answers, as one relation. The length of the code is tested as it is read.
-fn answered(alloc: Global, body: &[u8]) -> Result<Code, CodeRefusal>
+/// The body in front, and the bytes after it. The length of the code is tested as it is read.
+fn code_in_front(alloc: Global, body: &[u8]) -> Result<(Code, &[u8]), CodeRefusal>
     requires { length body.now < 2 ^ 31 }
-    ensures { IsCodeAnswer body.now result }
+    ensures { IsCodeFront body.now (seen (λ x. (x.0, x.1.now)) result) }
 {
     let Ok((((max_stack, max_locals), len), rest)) = front_of(body) else {
         return Err(CodeRefusal::Cut);
@@ -79,16 +80,26 @@ fn answered(alloc: Global, body: &[u8]) -> Result<Code, CodeRefusal>
         Err(ReadError::EndsEarly) => return Err(CodeRefusal::Cut),
         Err(ReadError::OutOfMemory) => return Err(CodeRefusal::OutOfMemory),
     };
-    if !rest.is_empty() {
-        return Err(CodeRefusal::Trailing((body.len() - rest.len()) as u32));
-    }
-    Ok(Code {
+    let code = Code {
         max_stack,
         max_locals,
         code: tables.code,
         handlers: tables.handlers,
         attributes: tables.attributes,
-    })
+    };
+    Ok((code, rest))
+}
+
+/// What `read_code` answers, as one relation.
+fn answered(alloc: Global, body: &[u8]) -> Result<Code, CodeRefusal>
+    requires { length body.now < 2 ^ 31 }
+    ensures { IsCodeAnswer body.now result }
+{
+    let (code, rest) = code_in_front(alloc, body)?;
+    if !rest.is_empty() {
+        return Err(CodeRefusal::Trailing((body.len() - rest.len()) as u32));
+    }
+    Ok(code)
 }
 
 /// What the body of a Code attribute says.

@@ -10,6 +10,8 @@ use Rattle.jk_model.specs.declared.class_file.PoolEntry.{PoolEntry}
 use Rattle.jk_model.specs.declared.class_file.PoolEntry.TheVariants.{Unusable, Utf8, Integer, Float, Long, Double, Class, Str, FieldRef, MethodRef, InterfaceMethodRef, NameAndType}
 use Rattle.jk_model.specs.ClassFile.{u2, entry_bytes, IsEntry, AreSlots}
 use Rattle.jk_model.specs.ConstantPool.{BeginsWithPool, IsCutPool, AreFirstEntries, IsTag, IsWideTag}
+use Rattle.jk_model.proofs.EachItem.{all_append}
+use Rattle.jk_model.proofs.EmptyByLength.{not_nil_front}
 use Rattle.const_pool.specs.declared.tags.Tag.{Tag}
 use Rattle.const_pool.specs.declared.pool.PoolError.{PoolError}
 use Rattle.const_pool.specs.declared.pool.PoolError.TheVariants.{BadTag, BadIndex, BadUtf, Truncated, OutOfMemory}
@@ -17,73 +19,46 @@ use Rattle.byte_fields.specs.declared.errors.ReadError.{ReadError}
 use Rattle.byte_fields.specs.declared.errors.ReadError.TheVariants as reads
 use Rattle.byte_fields.specs.Layouts.{IsBytes}
 use Rattle.byte_fields.specs.Reading.{FailsInMemory, number_at}
-use Rattle.byte_fields.specs.PartsAreBytes.{IsBytes-take, IsBytes-drop}
+use Rattle.byte_fields.specs.PartsAreBytes.{IsBytes-after}
 use Rattle.byte_fields.specs.OneReading.{u2_reader}
-use Rattle.byte_fields.specs.CutIsBeginning.{not_empty, guard_none}
+use Rattle.byte_fields.specs.CutIsBeginning.{guard_none}
 use Rattle.const_pool.specs.Reading.{read_error, tag_number, is_wide, body_at}
-use Rattle.const_pool.specs.Answer.{second_index, group, IsSlot, IsEntryAnswer, IsPoolAnswer}
+use Rattle.const_pool.specs.Answer.{second_index, group, IsSlot, IsTagAnswer, IsEntryAnswer, IsPoolAnswer}
 use Rattle.const_pool.proofs.EntryReadsBack.{bodies}
 
 -- ---- One entry.
 
-pub front_at : (bytes : List ℕ) → 1 ≤ length bytes → bytes ≡ slice_index_or bytes 0 0 ∷ take (length bytes - 1) (drop 1 bytes)
-front_at [] len = absurd (omega arith)
-front_at (a ∷ rest) len = ap (λ xs. a ∷ xs) (sym (take_all (length (a ∷ rest) - 1) rest (omega arith)))
+pub front_is : (bytes : List ℕ) (n : ℕ) → 1 ≤ length bytes → slice_index_or bytes 0 0 ≡ n → bytes ≡ n ∷ take (length bytes - 1) (drop 1 bytes)
+front_is [] n len e = absurd (omega arith)
+front_is (a ∷ rest) n len e =
+    let all : rest ≡ take (length (a ∷ rest) - 1) rest = sym (take_all (length (a ∷ rest) - 1) rest (omega arith)) in
+    ap (λ (m : ℕ). m ∷ rest) e ∙ ap (λ (xs : List ℕ). n ∷ xs) all
 
--- the index after an entry of this tag
-abbrev pub room : Tag → List PoolEntry
-room t = cond (is_wide t) (Unusable ∷ []) []
-
--- what is read of a body is read of the entry
-entry_read : (index count : ℕ) (t : Tag) (rest : List ℕ) (x : PoolEntry × List ℕ) → IsBytes rest → index + suc (length (room t)) ≤ count
-    → body_at t rest ≡ Some x → IsEntryAnswer index count (tag_number t ∷ rest) (Ok x)
-entry_read index count t rest x fits long h =
-    let read = (bodies t).takes rest x fits h in
-    (read.1.slot, read.0.parts, rw read.1.wide long)
-
--- why a body isn't read is why the entry isn't
-entry_fails : (index count : ℕ) (t : Tag) (rest : List ℕ) (e : ReadError) → IsBytes rest → index + suc (length (room t)) ≤ count
-    → FailsInMemory e (body_at t rest) → IsEntryAnswer index count (tag_number t ∷ rest) (Err (read_error e))
-entry_fails index count t rest reads.EndsEarly fits long h =
-    let cut = (bodies t).cut rest fits h in
-    (cut.value, cut.more, cut.some, cut.fits.slot, cut.spelled, rw cut.fits.wide long)
-entry_fails index count t rest reads.OutOfMemory fits long h = tt
-
-room_fits : (b : Bool) (index count : ℕ) → index < count → (b ≡ true → index + 1 ≢ count)
-    → index + suc (length (cond b (Unusable ∷ []) [])) ≤ count
+room_fits : (wide : Bool) (index count : ℕ) → index < count → (wide ≡ true → index + 1 ≢ count)
+    → index + suc (length (cond wide (Unusable ∷ []) [])) ≤ count
 room_fits true index count less h = let other = h refl in omega arith
 room_fits false index count less h = omega arith
 
--- a tag in front, for which there is room
-pub record Tagged (index count : ℕ) (bytes : List ℕ) (t : Tag) : Type 0 where
-  pub fits : IsBytes bytes
-  pub some : 1 ≤ length bytes
-  pub first : slice_index_or bytes 0 0 ≡ tag_number t
-  pub less : index < count
-  pub last : is_wide t ≡ true → index + 1 ≢ count
+-- what is read after a tag is read of the entry
+pub entry_read : (index count : ℕ) (bytes : List ℕ) (t : Tag) (rest : List ℕ) (x : PoolEntry × List ℕ) → IsBytes bytes → index < count
+    → IsTagAnswer index count bytes (Ok (t, rest)) → body_at t rest ≡ Some x → IsEntryAnswer index count bytes (Ok x)
+entry_read index count bytes t rest x fits less (front, last) h =
+    let read = (bodies t).takes rest x (IsBytes-after bytes (tag_number t ∷ []) rest front fits) h in
+    (read.1.slot, front ∙ read.0.parts, rw read.1.wide (room_fits (is_wide t) index count less last))
 
-abbrev pub after_tag : List ℕ → List ℕ
-after_tag bytes = take (length bytes - 1) (drop 1 bytes)
-
-after_fits : (bytes : List ℕ) → IsBytes bytes → IsBytes (after_tag bytes)
-after_fits bytes fits = IsBytes-take (length bytes - 1) (drop 1 bytes) (IsBytes-drop 1 bytes fits)
-
-tag_first : (index count : ℕ) (bytes : List ℕ) (t : Tag) → Tagged index count bytes t → bytes ≡ tag_number t ∷ after_tag bytes
-tag_first index count bytes t h = front_at bytes h.some ∙ ap (λ (n : ℕ). n ∷ after_tag bytes) h.first
-
-pub front_read : (index count : ℕ) (bytes : List ℕ) (t : Tag) (x : PoolEntry × List ℕ) → Tagged index count bytes t
-    → body_at t (after_tag bytes) ≡ Some x → IsEntryAnswer index count bytes (Ok x)
-front_read index count bytes t x h read =
-    let room = room_fits (is_wide t) index count h.less h.last in
-    let answer = entry_read index count t (after_tag bytes) x (after_fits bytes h.fits) room read in
-    subst (λ (w : List ℕ). IsEntryAnswer index count w (Ok x)) (sym (tag_first index count bytes t h)) answer
-
-pub front_fails : (index count : ℕ) (bytes : List ℕ) (t : Tag) (e : ReadError) → Tagged index count bytes t
-    → FailsInMemory e (body_at t (after_tag bytes)) → IsEntryAnswer index count bytes (Err (read_error e))
-front_fails index count bytes t e h fails =
-    let room = room_fits (is_wide t) index count h.less h.last in
-    let answer = entry_fails index count t (after_tag bytes) e (after_fits bytes h.fits) room fails in
-    subst (λ (w : List ℕ). IsEntryAnswer index count w (Err (read_error e))) (sym (tag_first index count bytes t h)) answer
+-- why nothing is read after a tag is why the entry isn't read
+pub entry_fails : (index count : ℕ) (bytes : List ℕ) (t : Tag) (rest : List ℕ) (e : ReadError) → IsBytes bytes → index < count
+    → IsTagAnswer index count bytes (Ok (t, rest)) → FailsInMemory e (body_at t rest) → IsEntryAnswer index count bytes (Err (read_error e))
+entry_fails index count bytes t rest reads.EndsEarly fits less (front, last) h =
+    let cut = (bodies t).cut rest (IsBytes-after bytes (tag_number t ∷ []) rest front fits) h in (
+      cut.value,
+      cut.more,
+      cut.some,
+      cut.fits.slot,
+      ap (λ (w : List ℕ). w ++ cut.more) front ∙ cut.spelled,
+      rw cut.fits.wide (room_fits (is_wide t) index count less last),
+    )
+entry_fails index count bytes t rest reads.OutOfMemory fits less tag h = tt
 
 -- no bytes at all go on as an entry
 pub nothing_read : (index count : ℕ) (bytes : List ℕ) → index < count → length bytes < 1 → IsEntryAnswer index count bytes (Err Truncated)
@@ -181,17 +156,13 @@ begins count bytes entries some e = record { heads = []; slots = tt; same = e; p
 abbrev pub AllSlots : List PoolEntry → Type 0
 AllSlots es = AllByRecursion IsSlot es
 
-pub slots-append : (hs ks : List PoolEntry) → AllSlots hs → AllSlots ks → AllSlots (hs ++ ks)
-slots-append [] ks h k = k
-slots-append (e ∷ hs) ks h k = (h.0, slots-append hs ks h.1 k)
-
 pub goes_on : (count : ℕ) (bytes : List ℕ) (entries : List PoolEntry) (left : List ℕ) (e : PoolEntry) (after : List ℕ)
     → IsSoFar count bytes entries left
     → IsSlot e → left ≡ entry_bytes e ++ after → length entries + length (group e) ≤ count
     → IsSoFar count bytes (entries ++ group e) after
 goes_on count bytes entries left e after h slot read fits = record {
   heads = h.heads ++ e ∷ [];
-  slots = slots-append h.heads (e ∷ []) h.slots (slot, tt);
+  slots = all_append IsSlot h.heads (e ∷ []) h.slots (slot, tt);
   same = ap (λ (xs : List PoolEntry). xs ++ group e) h.same
       ∙ ap (λ (xs : List PoolEntry). Unusable ∷ (flat_map group h.heads ++ xs)) (sym (append-nil (group e)))
       ∙ ap (λ (xs : List PoolEntry). Unusable ∷ xs) (sym (flat_map-append group h.heads (e ∷ [])));
@@ -245,7 +216,7 @@ cut_pool count bytes entries left e more h short some slot spelled fits =
     let tail = fillers k in
     let all = h.heads ++ e ∷ tail in
     let pool = from_heads all in
-    let slots = slots-append h.heads (e ∷ tail) h.slots (slot, fillers_fit k) in
+    let slots = all_append IsSlot h.heads (e ∷ tail) h.slots (slot, fillers_fit k) in
     let first = heads_first all slots in
     let grouped : flat_map group all ≡ flat_map group h.heads ++ (group e ++ flat_map group tail) = flat_map-append group h.heads (e ∷ tail) in
     let entries_len : length entries ≡ suc (length (flat_map group h.heads)) = ap length h.same in
@@ -267,7 +238,7 @@ cut_pool count bytes entries left e more h short some slot spelled fits =
     let whole : (u2 count ++ bytes) ++ rest ≡ u2 (length pool) ++ flat_map entry_bytes pool =
     append_assoc (u2 count) bytes rest ∙ ap (λ (w : List ℕ). u2 count ++ w) (parts ∙ sym (heads_bytes all))
     ∙ ap (λ (n : ℕ). u2 n ++ flat_map entry_bytes pool) (sym len) in
-    (pool, rest, not_empty more (flat_map entry_bytes tail) some, (first.0, omega arith, first.1), whole)
+    (pool, rest, not_nil_front more (flat_map entry_bytes tail) some, (first.0, omega arith, first.1), whole)
 
 -- why no entry is read at an index is why no pool is read
 pub stops : (count : ℕ) (bytes : List ℕ) (entries : List PoolEntry) (left : List ℕ) (x : PoolError)

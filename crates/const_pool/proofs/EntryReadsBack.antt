@@ -2,11 +2,12 @@
 -- that end early in it are the beginning of an entry.
 use Rattle.std.proofs.Common.{◌≡◌, ℕ, ◌^◌, ◌≤◌, ◌⊎◌, inl, inr, true, cond, eqb, List, [], ◌∷◌, ◌++◌, Option, Some, None, refl, sym, ap, subst, ◌∙◌, arith}
 use Rattle.std.specs.Int.{w16, w32, w64}
+use Rattle.std.proofs.lemmas.Option.{none-some, same_Some}
 use Rattle.byte_fields.specs.Layouts.{IsBytes, Takes, IsReader, FailsWithin, Completes, IsPair, pair_bytes, IsBlock, block_bytes}
 use Rattle.byte_fields.specs.Reading.{mapped_at, number_at, pair_at, block_at}
 use Rattle.byte_fields.specs.OneNumber.{wide16}
-use Rattle.byte_fields.specs.OneReading.{bind_some, some_is, found_is, u2_reader, u4_reader, u8_reader, pair_reader, block_reader}
-use Rattle.byte_fields.specs.CutIsBeginning.{bind_none, some_not_none, u2_cut, u4_cut, u8_cut, pair_cut, block_cut}
+use Rattle.byte_fields.specs.OneReading.{bind_some, found_is, u2_reader, u4_reader, u8_reader, pair_reader, block_reader}
+use Rattle.byte_fields.specs.CutIsBeginning.{bind_none, u2_cut, u4_cut, u8_cut, pair_cut, block_cut}
 use Rattle.jk_model.specs.declared.class_file.PoolEntry.{PoolEntry}
 use Rattle.jk_model.specs.declared.class_file.PoolEntry.TheVariants.{Unusable, Utf8, Integer, Float, Long, Double, Class, Str, FieldRef, MethodRef, InterfaceMethodRef, NameAndType}
 use Rattle.jk_model.specs.ClassFile.{entry_bytes, u2, u4, u8, IsU2, IsU4, IsU8}
@@ -59,7 +60,7 @@ body_of_value {A = A} f r s F t p c spelled fit = record {
       let made : PoolEntry × List ℕ = (f a.0.0, a.0.1) in
       let parts : tag_number t ∷ bytes ≡ entry_bytes (f a.0.0) ++ a.0.1 =
       ap (λ (w : List ℕ). tag_number t ∷ w) h.0.parts ∙ ap (λ (w : List ℕ). w ++ a.0.1) (sym (spelled a.0.0)) in
-      subst (BodyTakes t bytes) (some_is made x a.2) (record { parts = parts; rest_fits = h.0.rest_fits }, fit a.0.0 h.1);
+      subst (BodyTakes t bytes) (same_Some made x a.2) (record { parts = parts; rest_fits = h.0.rest_fits }, fit a.0.0 h.1);
   cut = λ bytes fits e.
       elim (bind_none (r bytes) (λ x. Some (f x.0, x.1)) e) [
         | inl e1 ↦
@@ -71,7 +72,7 @@ body_of_value {A = A} f r s F t p c spelled fit = record {
               some = h.some;
               spelled = ap (λ (w : List ℕ). tag_number t ∷ w) h.spelled ∙ sym (spelled h.value);
             }
-        | inr w ↦ absurd (some_not_none (f w.0.0, w.0.1) w.2)
+        | inr w ↦ absurd (none-some (f w.0.0, w.0.1) (sym w.2))
       ];
 }
 

@@ -4,14 +4,16 @@ use Rattle.std.specs.Prelude.{slice_get}
 use Rattle.std.specs.List.{flat_map, AllByRecursion}
 use Rattle.std.proofs.lemmas.Bool.{cases_lt}
 use Rattle.std.proofs.lemmas.Grind.{flat_map-append}
+use Rattle.std.proofs.lemmas.Option.{same_Some}
 use Rattle.jk_model.specs.declared.class_file.PoolEntry.{PoolEntry}
 use Rattle.jk_model.specs.ClassFile.{u2, entry_bytes, IsPool, pool_bytes, IsUtf8Entry, IsGoodEntry}
 use Rattle.jk_model.specs.ConstantPool.{BeginsWithPool, HasPool, IsCutPool, IsTag, IsWideTag, HasBadTag, HasNoIndex, StopsAtTag, IsFirstBadEntry, HasBadIndex, HasBadText}
+use Rattle.jk_model.proofs.EachItem.{all_at}
+use Rattle.jk_model.proofs.EmptyByLength.{not_nil_back}
 use Rattle.const_pool.specs.declared.pool.PoolError.{PoolError}
 use Rattle.const_pool.specs.declared.pool.PoolError.TheVariants.{BadTag, BadIndex, BadUtf, Truncated, OutOfMemory}
 use Rattle.const_pool.specs.Answer.{second_index, group, IsAnswer}
-use Rattle.byte_fields.specs.OneReading.{some_is, one_u2}
-use Rattle.byte_fields.specs.CutIsBeginning.{not_empty_either}
+use Rattle.byte_fields.specs.OneReading.{one_u2}
 use Rattle.const_pool.proofs.EntryReadsBack.{front_is_tag, same_entry}
 use Rattle.const_pool.proofs.EntriesMakePool.{AllSlots, from_heads, first_heads, heads_bytes}
 
@@ -229,29 +231,24 @@ all_of bytes pool h e = (h, e ∙ sym (append-nil (pool_bytes pool)))
 pub pool_not_cut : (bytes : List ℕ) (pool : List PoolEntry) (rest : List ℕ) → BeginsWithPool bytes pool rest → IsCutPool bytes → ⊥
 pool_not_cut bytes pool rest h (q, more, some, is, whole) =
     let same = one_pool (bytes ++ more) pool q (rest ++ more) [] (pool_more bytes pool rest more h) (all_of (bytes ++ more) q is whole) in
-    not_empty_either rest more some same.1
+    not_nil_back rest more some same.1
 
 pub stop_not_cut : (bytes : List ℕ) (i : ℕ) → StopsAtTag bytes i → IsCutPool bytes → ⊥
 stop_not_cut bytes i h (q, more, some, is, whole) = pool_not_stop (bytes ++ more) q [] i (all_of (bytes ++ more) q is whole) (stop_more bytes i more h)
 
 -- ---- One entry is the first that isn't good.
 
-all_front : {A : Type 0} (P : A → Type 0) (xs : List A) (n i : ℕ) (x : A) → AllByRecursion P (take n xs) → slice_get xs i ≡ Some x → i < n → P x
-all_front P [] n i x h e less = absurd cc
-all_front P (y ∷ xs) zero i x h e less = absurd (omega arith)
-all_front P (y ∷ xs) (suc n) zero x h e less = subst P (some_is y x e) h.0
-all_front P (y ∷ xs) (suc n) (suc i) x h e less = all_front P xs n i x h.1 e (omega arith)
-
-all_there : {A : Type 0} (P : A → Type 0) (xs : List A) (i : ℕ) (x : A) → AllByRecursion P xs → slice_get xs i ≡ Some x → P x
-all_there P [] i x h e = absurd cc
-all_there P (y ∷ xs) zero x h e = subst P (some_is y x e) h.0
-all_there P (y ∷ xs) (suc i) x h e = all_there P xs i x h.1 e
+all_below : {A : Type 0} (P : A → Type 0) (xs : List A) (n i : ℕ) (x : A) → AllByRecursion P (take n xs) → slice_get xs i ≡ Some x → i < n → P x
+all_below P [] n i x h e less = absurd cc
+all_below P (y ∷ xs) zero i x h e less = absurd (omega arith)
+all_below P (y ∷ xs) (suc n) zero x h e less = subst P (same_Some y x e) h.0
+all_below P (y ∷ xs) (suc n) (suc i) x h e less = all_below P xs n i x h.1 e (omega arith)
 
 good_not_bad : (pool : List PoolEntry) (i : ℕ) (e : PoolEntry) → AllByRecursion (IsGoodEntry pool) pool → IsFirstBadEntry pool i e → ⊥
-good_not_bad pool i e h k = k.2 (all_there (IsGoodEntry pool) pool i e h k.0)
+good_not_bad pool i e h k = k.2 (all_at (IsGoodEntry pool) pool i e h k.0)
 
 not_below : (pool : List PoolEntry) (i j : ℕ) (e f : PoolEntry) → IsFirstBadEntry pool i e → IsFirstBadEntry pool j f → i < j → ⊥
-not_below pool i j e f h k less = h.2 (all_front (IsGoodEntry pool) pool j i e k.1 h.0 less)
+not_below pool i j e f h k less = h.2 (all_below (IsGoodEntry pool) pool j i e k.1 h.0 less)
 
 one_bad : (pool : List PoolEntry) (i j : ℕ) (e f : PoolEntry) → IsFirstBadEntry pool i e → IsFirstBadEntry pool j f → (i ≡ j) × (e ≡ f)
 one_bad pool i j e f h k =
@@ -264,7 +261,7 @@ one_bad pool i j e f h k =
             | inr under ↦ omega arith
           ]
     ] in
-    (same, some_is e f (sym h.0 ∙ ap (slice_get pool) same ∙ k.0))
+    (same, same_Some e f (sym h.0 ∙ ap (slice_get pool) same ∙ k.0))
 
 -- the first entry that isn't good, and its index, are those of the bytes
 same_bad : (bytes : List ℕ) (p r : List PoolEntry × List ℕ) (i j : ℕ) (e f : PoolEntry) → BeginsWithPool bytes p.0 p.1 → BeginsWithPool bytes r.0 r.1

@@ -1,14 +1,16 @@
 -- What each pass answers.
-use Rattle.std.specs.Prelude.{◌≡◌, ◌≢◌, ℕ, ◌+◌, ◌≤◌, ◌⊎◌, List, [], ◌∷◌, ◌++◌, length, Result, Ok, Err}
+use Rattle.std.specs.Prelude.{◌≡◌, ◌≢◌, ℕ, ◌+◌, ◌≤◌, ◌⊎◌, IsTrue, List, [], ◌∷◌, ◌++◌, length, Result, Ok, Err}
 use Rattle.std.specs.List.{AllByRecursion}
 use Rattle.jk_model.specs.declared.class_file.PoolEntry.{PoolEntry}
 use Rattle.jk_model.specs.declared.class_file.PoolEntry.TheVariants.{Unusable, Long, Double}
 use Rattle.jk_model.specs.ClassFile.{IsEntry, entry_bytes, IsUtf8Entry, IsGoodEntry}
 use Rattle.jk_model.specs.ConstantPool.{BeginsWithPool, IsCutPool, IsTag, IsWideTag, StopsAtTag, IsFirstBadEntry, HasBadIndex, HasBadText}
+use Rattle.const_pool.specs.declared.tags.Tag.{Tag}
 use Rattle.const_pool.specs.declared.judge.EntryFault.{EntryFault}
 use Rattle.const_pool.specs.declared.judge.EntryFault.TheVariants as faults
 use Rattle.const_pool.specs.declared.pool.PoolError.{PoolError}
 use Rattle.const_pool.specs.declared.pool.PoolError.TheVariants.{BadTag, BadIndex, BadUtf, Truncated, OutOfMemory}
+use Rattle.const_pool.specs.Reading.{tag_number, is_wide}
 
 -- ---- The first pass.
 
@@ -37,6 +39,11 @@ IsEntryAnswer index count bytes (Err Truncated) =
 IsEntryAnswer index count bytes (Err (BadIndex i)) = ⊥
 IsEntryAnswer index count bytes (Err (BadUtf i)) = ⊥
 IsEntryAnswer index count bytes (Err OutOfMemory) = Unit {0}
+
+-- what is answered of the tag in front of such an entry, and of the bytes after it
+abbrev pub IsTagAnswer : ℕ → ℕ → List ℕ → Result (Tag × List ℕ) PoolError → Type 0
+IsTagAnswer index count bytes (Ok (t, after)) = (bytes ≡ tag_number t ∷ after) × (IsTrue (is_wide t) → index + 1 ≢ count)
+IsTagAnswer index count bytes (Err e) = IsEntryAnswer index count bytes (Err e)
 
 -- what is answered of the front of a pool's bytes
 abbrev pub IsPoolAnswer : List ℕ → Result (List PoolEntry × List ℕ) PoolError → Type 0

@@ -6,7 +6,7 @@ ghost use Rattle.byte_fields.specs.Reading.{Gives, GivesInMemory, block_at};
 ghost use Rattle.jk_model.specs.declared.class_file.PoolEntry.TheVariants.{Unusable};
 ghost use Rattle.jk_model.specs.ClassFile.{u2};
 ghost use Rattle.const_pool.specs.Reading.{seen, is_wide, body_at};
-ghost use Rattle.const_pool.specs.Answer.{second_index, group, IsEntryAnswer, IsPoolAnswer};
+ghost use Rattle.const_pool.specs.Answer.{second_index, group, IsTagAnswer, IsEntryAnswer, IsPoolAnswer};
 
 use crate::pool::PoolError;
 use crate::tags::{Tag, tag_of};
@@ -78,15 +78,11 @@ fn has_room(tag: Tag, index: u16, count: u16) -> bool
     !(tag.is_wide() && index + 1 == count)
 }
 
-/// The entry at an index of a pool of so many. There is no room for a wide one at the last index.
-fn entry_of(
-    alloc: Global,
-    index: u16,
-    count: u16,
-    bytes: &[u8],
-) -> Result<(PoolEntry, &[u8]), PoolError>
+/// The tag in front of the entry at an index of a pool of so many, and the bytes after it. There is no
+/// room for a wide entry at the last index.
+fn tag_in_front(index: u16, count: u16, bytes: &[u8]) -> Result<(Tag, &[u8]), PoolError>
     requires { index < count }
-    ensures { IsEntryAnswer index count bytes.now (seen (λ x. (x.0, x.1.now)) result) }
+    ensures { IsTagAnswer index count bytes.now (seen (λ x. (x.0, x.1.now)) result) }
 {
     let [byte, rest @ ..] = bytes else {
         return Err(PoolError::Truncated);
@@ -97,6 +93,20 @@ fn entry_of(
     if !has_room(tag, index, count) {
         return Err(PoolError::BadTag(index));
     }
+    Ok((tag, rest))
+}
+
+/// The entry at an index of a pool of so many.
+fn entry_of(
+    alloc: Global,
+    index: u16,
+    count: u16,
+    bytes: &[u8],
+) -> Result<(PoolEntry, &[u8]), PoolError>
+    requires { index < count }
+    ensures { IsEntryAnswer index count bytes.now (seen (λ x. (x.0, x.1.now)) result) }
+{
+    let (tag, rest) = tag_in_front(index, count, bytes)?;
     Ok(body_of(alloc, tag, rest)?)
 }
 

@@ -1,6 +1,5 @@
 -- Instructions one after another have one reading, and stop being any at one place: each answer rules out the others.
-use Rattle.std.proofs.Common.{◌≡◌, ◌≢◌, ℕ, ◌+◌, ◌-◌, ◌<◌, ◌⊎◌, inl, inr, Bool, false, List, [], ◌∷◌, ◌++◌, length, refl, sym, ◌∙◌, ap, subst, arith, length-append, append-nil, append_assoc, Result, Ok, Err, MatchResult}
-use Rattle.std.specs.Prelude.{◌==◌}
+use Rattle.std.proofs.Common.{◌≡◌, ◌≢◌, ℕ, ◌+◌, ◌-◌, ◌<◌, ◌⊎◌, inl, inr, List, [], ◌∷◌, ◌++◌, length, refl, sym, ◌∙◌, ap, subst, arith, length-append, append-nil, append_assoc, Result, Ok, Err, MatchResult}
 use Rattle.jk_model.specs.declared.instructions.Instr.{Instr}
 use Rattle.jk_model.specs.Instructions.{IsInstr, AreInstrs, Decodes, Fault, Shows, BeginsWithInstr, GoesOn, HasFault, IsCutAt}
 use Rattle.jk_opcodes.specs.declared.errors.CodeError.{CodeError}
@@ -75,10 +74,6 @@ all_read code rest instrs (front, e, h) none =
     rw whole h
 
 -- ---- Where reading stops.
-
-pub not_empty : (r : Bool) (rest : List ℕ) → r ≡ (length rest == 0) → r ≡ false → rest ≢ []
-not_empty r [] e h = absurd cc
-not_empty r (b ∷ rest) e h = λ none. absurd cc
 
 pub record Stopped (code : List ℕ) (error : CodeError) : Type 0 where
   pub place : ℕ

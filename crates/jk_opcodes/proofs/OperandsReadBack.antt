@@ -1,8 +1,7 @@
 -- Operands are read back: what is read stands in front, and what stands in front is read.
-use Rattle.std.proofs.Common.{◌≡◌, ℕ, ◌⊎◌, inl, inr, false, List, [], ◌∷◌, ◌++◌, length, Option, Some, None, Ok, Err, refl, arith, ltb}
+use Rattle.std.proofs.Common.{◌≡◌, ℕ, ◌⊎◌, inl, inr, List, [], ◌∷◌, ◌++◌, length, Option, Some, None, Ok, Err, refl, arith}
 use Rattle.std.specs.Int.{w32, from_be_bytes}
 use Rattle.std.proofs.lemmas.Bool.{le-ltb}
-use Rattle.std.proofs.lemmas.List.{take_at, drop_at, length-append}
 use Rattle.byte_fields.specs.Layouts.{IsBytes}
 use Rattle.byte_fields.specs.Reading.{number_at, bytes_at}
 use Rattle.byte_fields.specs.OneReading.{u4_reader, bytes_reader}
@@ -63,8 +62,3 @@ bytes_cases_of k bytes (Some x) e fits =
 
 pub bytes_cases : (k : ℕ) (bytes : List ℕ) → IsBytes bytes → Taken k bytes ⊎ (bytes_at k bytes ≡ None)
 bytes_cases k bytes fits = bytes_cases_of k bytes (bytes_at k bytes) refl fits
-
-pub bytes_again : (k : ℕ) (front rest : List ℕ) → length front ≡ k → bytes_at k (front ++ rest) ≡ Some (front, rest)
-bytes_again k front rest long =
-    let enough : ltb (length (front ++ rest)) k ≡ false = le-ltb _ _ (omega (arith, length-append front rest)) in
-    rw (enough, take_at front rest k long, drop_at front rest k long) refl

@@ -1,7 +1,7 @@
 -- An instruction without cases is read as its bytes mean: what is read is what they mean, and what they mean is read.
-use Rattle.std.proofs.Common.{◌≡◌, ◌≢◌, ℕ, ◌⊎◌, inl, inr, Bool, true, false, List, [], ◌∷◌, ◌++◌, Ok, Err, refl, sym, ap, ◌∙◌, arith, eqb}
-use Rattle.std.proofs.lemmas.Bool.{false≢true}
-use Rattle.std.proofs.lemmas.Bool.Decides.{nat_tests, Decides-eqb}
+use Rattle.std.proofs.Common.{◌≡◌, ℕ, ◌⊎◌, inl, inr, true, false, List, [], ◌∷◌, ◌++◌, Ok, Err, refl, sym, ap, ◌∙◌, arith}
+use Rattle.std.proofs.lemmas.Bool.{false≢true, cases_Bool, eq-eqb, ne_eqb}
+use Rattle.std.proofs.lemmas.Bool.Decides.{nat_tests, eqb_tells}
 use Rattle.jk_model.specs.declared.instructions.Instr.{Instr}
 use Rattle.jk_model.specs.Instructions as def
 use Rattle.jk_model.specs.Instructions.{Format, Means, Refuses, plain, IsKind, IsFloatKind, WideFormat, WideMeans, WideRefuses, wide_format_of}
@@ -140,26 +140,15 @@ far_jump_again at op (k ∷ l ∷ m ∷ n ∷ other ∷ more) rest i h = absurd 
 
 -- ---- Operands that are judged.
 
-pub of_bool : (b : Bool) → (b ≡ true) ⊎ (b ≡ false)
-of_bool true = inl refl
-of_bool false = inr refl
-
-pub eq_cases : (a b : ℕ) → ((a ≡ b) × (eqb a b ≡ true)) ⊎ ((a ≢ b) × (eqb a b ≡ false))
-eq_cases a b =
-    elim (of_bool (eqb a b)) [
-      | inl holds ↦ inl ((Decides-eqb a b).0 holds, holds)
-      | inr fails ↦ inr (λ e. false≢true (sym fails ∙ (Decides-eqb a b).1 e), fails)
-    ]
-
 interface_call_long : (at op m n count last : ℕ) (more : List ℕ)
     → Sound Format.InterfaceCall at op (m ∷ n ∷ count ∷ last ∷ more) (interface_call_at at op (m ∷ n ∷ count ∷ last ∷ more))
 unfolding interface_call_at
 interface_call_long at op m n count last more =
-    elim (eq_cases count 0) [
-      | inl none ↦ rw (u2_again m n (count ∷ last ∷ more), none.1) (inl none.0, refl)
-      | inr some ↦ elim (eq_cases last 0) [
-        | inl zero ↦ rw (u2_again m n (count ∷ last ∷ more), some.1, zero.1) (m ∷ n ∷ count ∷ last ∷ [], (some.0, zero.0, refl), refl)
-        | inr other ↦ rw (u2_again m n (count ∷ last ∷ more), some.1, other.1) (inr other.0, refl)
+    elim (eqb_tells count 0) [
+      | inl none ↦ rw (u2_again m n (count ∷ last ∷ more), none.0) (inl none.1, refl)
+      | inr some ↦ elim (eqb_tells last 0) [
+        | inl zero ↦ rw (u2_again m n (count ∷ last ∷ more), some.0, zero.0) (m ∷ n ∷ count ∷ last ∷ [], (some.1, zero.1, refl), refl)
+        | inr other ↦ rw (u2_again m n (count ∷ last ∷ more), some.0, other.0) (inr other.1, refl)
       ]
     ]
 
@@ -169,17 +158,11 @@ interface_call_sound at op [] = tt
 interface_call_sound at op (m ∷ []) = tt
 interface_call_sound at op (m ∷ n ∷ []) = tt
 interface_call_sound at op (m ∷ n ∷ count ∷ []) =
-    elim (eq_cases count 0) [
-      | inl none ↦ rw none.1 (none.0, refl)
-      | inr some ↦ rw some.1 tt
+    elim (eqb_tells count 0) [
+      | inl none ↦ rw none.0 (none.1, refl)
+      | inr some ↦ rw some.0 tt
     ]
 interface_call_sound at op (m ∷ n ∷ count ∷ last ∷ more) = interface_call_long at op m n count last more
-
-is_not : (a : ℕ) → (a ≢ 0) → eqb a 0 ≡ false
-is_not a h = elim (eq_cases a 0) [ inl e ↦ absurd (h e.0) | inr e ↦ e.1 ]
-
-is_zero : (a : ℕ) → a ≡ 0 → eqb a 0 ≡ true
-is_zero a h = elim (eq_cases a 0) [ inl e ↦ e.1 | inr e ↦ absurd (e.0 h) ]
 
 pub interface_call_again : (at op : ℕ) (front rest : List ℕ) (i : Instr) → Means Format.InterfaceCall at op front i
     → interface_call_at at op (front ++ rest) ≡ Ok (i, rest)
@@ -189,7 +172,7 @@ interface_call_again at op (m ∷ []) rest i h = absurd h
 interface_call_again at op (m ∷ n ∷ []) rest i h = absurd h
 interface_call_again at op (m ∷ n ∷ count ∷ []) rest i h = absurd h
 interface_call_again at op (m ∷ n ∷ count ∷ last ∷ []) rest i h =
-    rw (u2_again m n (count ∷ last ∷ rest), is_not count h.0, is_zero last h.1, h.2) refl
+    rw (u2_again m n (count ∷ last ∷ rest), ne_eqb count 0 h.0, eq-eqb last 0 h.1, h.2) refl
 interface_call_again at op (m ∷ n ∷ count ∷ last ∷ other ∷ more) rest i h = absurd h
 
 pub interface_call_refused : (at op : ℕ) (after : List ℕ) (f : def.Fault) → Refuses Format.InterfaceCall at after f
@@ -198,13 +181,13 @@ unfolding interface_call_at
 interface_call_refused at op [] f h = absurd h
 interface_call_refused at op (m ∷ []) f h = absurd h
 interface_call_refused at op (m ∷ n ∷ []) f h = absurd h
-interface_call_refused at op (m ∷ n ∷ count ∷ []) f h = rw (is_zero count h.0, h.1) refl
+interface_call_refused at op (m ∷ n ∷ count ∷ []) f h = rw (eq-eqb count 0 h.0, h.1) refl
 interface_call_refused at op (m ∷ n ∷ count ∷ last ∷ more) f h =
-    elim (eq_cases count 0) [
-      | inl none ↦ rw (u2_again m n (count ∷ last ∷ more), none.1, h.1) refl
+    elim (eqb_tells count 0) [
+      | inl none ↦ rw (u2_again m n (count ∷ last ∷ more), none.0, h.1) refl
       | inr some ↦ elim (h.0) [
-        | inl none ↦ absurd (some.0 none)
-        | inr other ↦ rw (u2_again m n (count ∷ last ∷ more), some.1, is_not last other, h.1) refl
+        | inl none ↦ absurd (some.1 none)
+        | inr other ↦ rw (u2_again m n (count ∷ last ∷ more), some.0, ne_eqb last 0 other, h.1) refl
       ]
     ]
 
@@ -214,9 +197,9 @@ many_dimensions_sound at op [] = tt
 many_dimensions_sound at op (m ∷ []) = tt
 many_dimensions_sound at op (m ∷ n ∷ []) = tt
 many_dimensions_sound at op (m ∷ n ∷ dims ∷ rest) =
-    elim (eq_cases dims 0) [
-      | inl none ↦ rw (u2_again m n (dims ∷ rest), none.1) (none.0, refl)
-      | inr some ↦ rw (u2_again m n (dims ∷ rest), some.1) (m ∷ n ∷ dims ∷ [], (some.0, refl), refl)
+    elim (eqb_tells dims 0) [
+      | inl none ↦ rw (u2_again m n (dims ∷ rest), none.0) (none.1, refl)
+      | inr some ↦ rw (u2_again m n (dims ∷ rest), some.0) (m ∷ n ∷ dims ∷ [], (some.1, refl), refl)
     ]
 
 pub many_dimensions_again : (at op : ℕ) (front rest : List ℕ) (i : Instr) → Means Format.ManyDimensions at op front i
@@ -225,7 +208,7 @@ unfolding many_dimensions_at
 many_dimensions_again at op [] rest i h = absurd h
 many_dimensions_again at op (m ∷ []) rest i h = absurd h
 many_dimensions_again at op (m ∷ n ∷ []) rest i h = absurd h
-many_dimensions_again at op (m ∷ n ∷ dims ∷ []) rest i h = rw (u2_again m n (dims ∷ rest), is_not dims h.0, h.1) refl
+many_dimensions_again at op (m ∷ n ∷ dims ∷ []) rest i h = rw (u2_again m n (dims ∷ rest), ne_eqb dims 0 h.0, h.1) refl
 many_dimensions_again at op (m ∷ n ∷ dims ∷ other ∷ more) rest i h = absurd h
 
 pub many_dimensions_refused : (at op : ℕ) (after : List ℕ) (f : def.Fault) → Refuses Format.ManyDimensions at after f
@@ -234,7 +217,7 @@ unfolding many_dimensions_at
 many_dimensions_refused at op [] f h = absurd h
 many_dimensions_refused at op (m ∷ []) f h = absurd h
 many_dimensions_refused at op (m ∷ n ∷ []) f h = absurd h
-many_dimensions_refused at op (m ∷ n ∷ dims ∷ more) f h = rw (u2_again m n (dims ∷ more), is_zero dims h.0, h.1) refl
+many_dimensions_refused at op (m ∷ n ∷ dims ∷ more) f h = rw (u2_again m n (dims ∷ more), eq-eqb dims 0 h.0, h.1) refl
 
 -- ---- Kinds of arrays.
 
@@ -270,9 +253,9 @@ not_both k h = grind (arith, nat_tests)
 
 kind_cases : (k : ℕ) → AllowedKind k ⊎ (FloatKind k ⊎ NoKind k)
 kind_cases k =
-    elim (of_bool (is_kind k)) [
+    elim (cases_Bool (is_kind k)) [
       | inl holds ↦ inl record { kind = is_kind_says k holds; tested = holds }
-      | inr fails ↦ elim (of_bool (is_float_kind k)) [
+      | inr fails ↦ elim (cases_Bool (is_float_kind k)) [
         | inl holds ↦ inr (inl record { kind = is_float_kind_says k holds; other = fails; tested = holds })
         | inr none ↦ inr (inr record {
           kind = λ h. false≢true (sym fails ∙ is_kind_yes k h);
@@ -314,7 +297,7 @@ array_of_kind_refused at op (k ∷ more) f h =
       ]
     ]
 
--- ---- Behind wide.
+-- ---- After wide.
 
 abbrev WideStops : WideFormat → Stop → Type 0
 WideStops format stops.CutInstruction = Unit {0}

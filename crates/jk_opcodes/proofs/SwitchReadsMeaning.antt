@@ -2,7 +2,7 @@
 use Rattle.std.proofs.Common.{◌≡◌, ℕ, zero, suc, ◌-◌, ◌^◌, ◌<◌, ◌⊎◌, inl, inr, true, false, List, [], ◌∷◌, ◌++◌, length, map, Option, Some, None, Ok, Err, refl, sym, ap, subst, ◌∙◌, append_assoc, arith}
 use Rattle.std.specs.Prelude.{ℤ, pos, negsuc, ◌+ℤ◌, ◌-ℤ◌, ◌≤ℤ◌, ◌<ℤ◌, int_lt}
 use Rattle.std.specs.List.{flat_map, AllByRecursion}
-use Rattle.std.proofs.lemmas.Bool.{false≢true, cases_lt, le-ltb}
+use Rattle.std.proofs.lemmas.Bool.{false≢true, cases_Bool, cases_lt, le-ltb}
 use Rattle.std.proofs.lemmas.Int.{ints, by_lt_z, to_z_pos}
 use Rattle.std.specs.Int.{w32}
 use Rattle.jk_model.specs.declared.instructions.Instr.{Instr}
@@ -16,9 +16,10 @@ use Rattle.jk_opcodes.specs.Errors.{stop_of}
 use Rattle.jk_opcodes.specs.Reading.{◌>>=◌}
 use Rattle.jk_opcodes.specs.Switches.{Cases, filling_at, key_case_at, table_cases_at, nat_of, span, switch_of, table_head_at, table_switch_at, is_above, pair_at, lookup_cases_at, count_at, lookup_head_at, lookup_switch_at}
 use Rattle.byte_fields.specs.Layouts.{IsBytes}
-use Rattle.jk_opcodes.proofs.OperandsReadBack.{bytes_again, bytes_cases, int_again, int_cases}
+use Rattle.byte_fields.specs.OneReading.{bytes_again}
+use Rattle.jk_opcodes.proofs.OperandsReadBack.{bytes_cases, int_again, int_cases}
 use Rattle.jk_opcodes.proofs.LoopReadsCases.{nat_of_is}
-use Rattle.jk_opcodes.proofs.PlainReadsMeaning.{Sound, of_bool}
+use Rattle.jk_opcodes.proofs.PlainReadsMeaning.{Sound}
 
 -- ---- The filling.
 
@@ -286,7 +287,7 @@ lookup_sound at (Some k) zero bytes fits = ([], refl, refl, tt, tt, refl)
 lookup_sound at before (suc n) bytes fits =
     elim (int_cases bytes fits) [
       | inr cut ↦ rw cut tt
-      | inl k ↦ elim (of_bool (is_above before (signed_int k.number))) [
+      | inl k ↦ elim (cases_Bool (is_above before (signed_int k.number))) [
         | inr fails ↦ rw (k.gives, fails)
             record {
               pairs = [];
@@ -343,7 +344,7 @@ lookup_refused : (at : ℕ) (before : Option ℤ) (n : ℕ) (pairs : List (ℕ �
 unfolding lookup_cases_at
 lookup_refused at before zero pairs key more all fits within falls = absurd (omega arith)
 lookup_refused at before (suc n) [] key more all fits within falls =
-    elim (of_bool (is_above before (signed_int key))) [
+    elim (cases_Bool (is_above before (signed_int key))) [
       | inl above ↦ absurd (falls (rises_more before (signed_int key) [] above tt))
       | inr fails ↦ rw (key_refused at before key more fits fails) refl
     ]
@@ -351,7 +352,7 @@ lookup_refused at before (suc n) (p ∷ pairs) key more all fits within falls =
     let whole : flat_map pair_bytes (p ∷ pairs) ++ (u4 key ++ more) ≡ u4 p.0 ++ (u4 p.1 ++ (flat_map pair_bytes pairs ++ (u4 key ++ more))) =
     simp append_assoc in
     ap (lookup_cases_at at before (suc n)) whole
-    ∙ elim (of_bool (is_above before (signed_int p.0))) [
+    ∙ elim (cases_Bool (is_above before (signed_int p.0))) [
       | inr fails ↦ rw (key_refused at before p.0 (u4 p.1 ++ (flat_map pair_bytes pairs ++ (u4 key ++ more))) all.0.0 fails) refl
       | inl above ↦ rw (
         pair_again at before p.0 p.1 (flat_map pair_bytes pairs ++ (u4 key ++ more)) above all.0.0 all.0.1,

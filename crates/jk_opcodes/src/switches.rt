@@ -3,7 +3,7 @@
 ghost use Rattle.std.specs.Prelude.{◌≡◌, ◌<◌, ◌≤ℤ◌, ◌^◌, IfOk, IsOk, Err};
 ghost use Rattle.jk_model.specs.Instructions.{target};
 ghost use Rattle.jk_opcodes.specs.Reading.{Gives, GivesInMemory};
-ghost use Rattle.jk_opcodes.specs.Switches.{filling_at, key_case_at, table_cases_at, table_head_at, table_switch_at, is_above, pair_at, count_at, lookup_cases_at, lookup_head_at, lookup_switch_at, span};
+ghost use Rattle.jk_opcodes.specs.Switches.{filling_at, key_case_at, table_cases_at, table_head_at, table_switch_at, is_above, pair_at, count_at, lookup_cases_at, lookup_head_at, lookup_switch_at, span, switch_of};
 
 use crate::errors::{StepError, Stop};
 use crate::operands::int_of;
@@ -33,6 +33,20 @@ fn case_of(at: u32, key: i32, bytes: &[u8]) -> Result<(SwitchCase, &[u8]), Stop>
         target: target(at, offset),
     };
     Ok((case, rest))
+}
+
+/// A switch with this offset of the default, and these cases.
+fn switch_of(at: u32, op: u8, default: i32, cases: List<SwitchCase>) -> Instr
+    requires { at < 2 ^ 16 }
+    ensures { result ≡ switch_of at op default cases }
+{
+    Instr {
+        at,
+        op,
+        a: target(at, default),
+        b: 0,
+        cases,
+    }
 }
 
 /// An offset for each key from the lowest to the highest.
@@ -100,14 +114,7 @@ pub fn table_switch(
 {
     let (head, rest) = table_head(at, after)?;
     let (cases, rest) = table_cases(alloc, at, head.low, head.high, rest)?;
-    let instr = Instr {
-        at,
-        op,
-        a: target(at, head.default),
-        b: 0,
-        cases,
-    };
-    Ok((instr, rest))
+    Ok((switch_of(at, op, head.default, cases), rest))
 }
 
 /// Whether a key is above the one before it, where there is one.
@@ -191,12 +198,5 @@ pub fn lookup_switch(
 {
     let ((default, count), rest) = lookup_head(at, after)?;
     let (cases, rest) = lookup_cases(alloc, at, count, rest)?;
-    let instr = Instr {
-        at,
-        op,
-        a: target(at, default),
-        b: 0,
-        cases,
-    };
-    Ok((instr, rest))
+    Ok((switch_of(at, op, default, cases), rest))
 }

@@ -3,7 +3,7 @@ use Rattle.std.proofs.Common.{arith}
 use Rattle.std.specs.List.{flat_map}
 use Rattle.std.proofs.lemmas.Result.{err_from_is_err_and}
 use Rattle.byte_fields.specs.Reading.{many_at}
-use Rattle.byte_fields.specs.Layouts.{AreMany}
+use Rattle.byte_fields.specs.Layouts.{IsBytes, AreMany}
 use Rattle.byte_fields.specs.OneReading.{many_reader}
 use Rattle.byte_fields.specs.CutIsBeginning.{never_both, many_cut}
 use Rattle.byte_fields.proofs.OneAfterAnother.{goes_on, ends, is_done}
@@ -31,27 +31,22 @@ returns-in_err-value-clause-early g c =
     early_is_cut (many_at r c.args.count) (flat_map g.F.Field.value_bytes) (AreMany g.F.Field.is_value c.args.count) cut bytes e
     (λ i. omega (arith, c.type_inv.bytes i)) fails (err_is e _ same))
 
-pub returns-clause-layout : goal.returns-clause-layout
-returns-clause-layout g c =
+pub returns : goal.returns
+returns g c =
+    let f = g.met.F.Field in
     let r = g.F.Field.read_at in
+    let s = g.F.Field.value_bytes in
+    let is = g.F.Field.is_value in
     let bytes = c.args.bytes.now in
+    let fits : IsBytes bytes = λ i. omega (arith, c.type_inv.bytes i) in
+    let reads = many_reader r s is f.reads c.args.count in
     let given = is_done r c.loop.values c.args.count c.loop.counter c.loop.rest.now (many_at r c.args.count bytes) c.loop-test.false c.loop.invariant in
-    let reads = many_reader r g.F.Field.value_bytes g.F.Field.is_value g.met.F.Field.reads c.args.count in
-    (reads.takes bytes (c.loop.values, c.loop.rest.now) (λ i. omega (arith, c.type_inv.bytes i)) given).0.parts
-
-pub returns-clause-values : goal.returns-clause-values
-returns-clause-values g c =
-    let r = g.F.Field.read_at in
-    let bytes = c.args.bytes.now in
-    let given = is_done r c.loop.values c.args.count c.loop.counter c.loop.rest.now (many_at r c.args.count bytes) c.loop-test.false c.loop.invariant in
-    let reads = many_reader r g.F.Field.value_bytes g.F.Field.is_value g.met.F.Field.reads c.args.count in
-    (reads.takes bytes (c.loop.values, c.loop.rest.now) (λ i. omega (arith, c.type_inv.bytes i)) given).1
-
-pub returns-clause-only_early : goal.returns-clause-only_early
-returns-clause-only_early g c = λ cut.
-    let r = g.F.Field.read_at in
-    let bytes = c.args.bytes.now in
-    let given = is_done r c.loop.values c.args.count c.loop.counter c.loop.rest.now (many_at r c.args.count bytes) c.loop-test.false c.loop.invariant in
-    let reads = many_reader r g.F.Field.value_bytes g.F.Field.is_value g.met.F.Field.reads c.args.count in
-    absurd (never_both (many_at r c.args.count) (flat_map g.F.Field.value_bytes) (AreMany g.F.Field.is_value c.args.count) reads bytes
-    (c.loop.values, c.loop.rest.now) (λ i. omega (arith, c.type_inv.bytes i)) given cut)
+    let took = reads.takes bytes (c.loop.values, c.loop.rest.now) fits given in
+    record {
+      gives = given;
+      layout = took.0.parts;
+      values = took.1;
+      early = λ same. absurd cc;
+      only_early = λ cut.
+          absurd (never_both (many_at r c.args.count) (flat_map s) (AreMany is c.args.count) reads bytes (c.loop.values, c.loop.rest.now) fits given cut);
+    }

@@ -1,56 +1,18 @@
--- What the steps answer is the answer of the whole.
-use Rattle.std.proofs.Common.{refl, arith}
-use Rattle.std.proofs.lemmas.Result.{err_from_is_err_and}
-use Rattle.class_reader.specs.Reading.{Sections}
-use Rattle.class_reader.proofs.NothingFollows.{nothing, something}
-use Rattle.class_reader.proofs.OneClassFile.{class_of}
-use Rattle.class_reader.proofs.FirstFaultFound.{pool_refused, answered_cut, answered_found, all_found, more_found}
+-- What is in front is all of the bytes, or bytes follow it.
+use Rattle.std.proofs.Common.{refl, sym, arith}
+use Rattle.std.proofs.lemmas.Bool.{eqb-true}
+use Rattle.std.proofs.lemmas.List.{nil_from_length}
+use Rattle.jk_model.proofs.EmptyByLength.{not_nil_from_test}
+use Rattle.class_reader.proofs.FrontAndRest.{front_long, is_all, ends_within}
 use Rattle.class_reader.proofs.class.answered.Goals as goal
 
-pub returns-in_err-pool : goal.returns-in_err-pool
-returns-in_err-pool c =
-    let v = c.in_ok-minor in
-    let p = err_from_is_err_and c.from_residual-in_err-pool.result c.from_residual-in_err-pool.ensures.1 in
-    rw (p.1, p.2) (pool_refused c.args.bytes.now v.major v.minor c.in_err-pool.field-0.0 v.ensures c.in_err-pool.ensures)
-
-pub returns-in-Err-EndsEarly : goal.returns-in-Err-EndsEarly
-returns-in-Err-EndsEarly c =
-    let bytes = c.args.bytes.now in
-    let v = c.in_ok-minor in
-    let fails = rw c.in-Err-EndsEarly.field-0-is at c.in-Err-EndsEarly.ensures in
-    let none = rw c.split_at.ensures.back at fails in
-    let cut = answered_cut bytes v.major v.minor c.in_ok-pool.pool (λ i. omega (arith, c.type_inv.bytes i)) (v.ensures, c.in_ok-pool.ensures) none in
-    rw c.truncated.ensures (cut, refl)
-
 pub overflow_sub-result : goal.overflow_sub-result
-overflow_sub-result c =
-    let bytes = c.args.bytes.now in
-    let v = c.in_ok-minor in
-    let x = c.in-Ok.read in
-    let s : Sections = (x.0.0, (x.0.1.interfaces, (x.0.1.fields, (x.0.1.methods, x.0.1.attributes)))) in
-    let given = rw c.split_at.ensures.back at c.in-Ok.ensures in
-    let found = answered_found bytes v.major v.minor c.in_ok-pool.pool s x.1.now (λ i. omega (arith, c.type_inv.bytes i))
-    (v.ensures, c.in_ok-pool.ensures) given in
-    omega (arith, found.long)
+overflow_sub-result c = omega (arith, front_long c.in_ok-class.ensures)
 
 pub returns-then-not-is_empty : goal.returns-then-not-is_empty
 returns-then-not-is_empty c =
-    let bytes = c.args.bytes.now in
-    let v = c.in_ok-minor in
-    let p = c.in_ok-pool.pool in
-    let x = c.in-Ok.read in
-    let s : Sections = (x.0.0, (x.0.1.interfaces, (x.0.1.fields, (x.0.1.methods, x.0.1.attributes)))) in
-    let given = rw c.split_at.ensures.back at c.in-Ok.ensures in
-    let found = answered_found bytes v.major v.minor p s x.1.now (λ i. omega (arith, c.type_inv.bytes i)) (v.ensures, c.in_ok-pool.ensures) given in
-    more_found bytes (class_of v.major v.minor p.entries s) x.1.now found (something x.1.now c.if-not-is_empty.ensures)
+    let ends = ends_within c.in_ok-class.ensures (not_nil_from_test c.in_ok-class.rest.now _ c.if-not-is_empty.ensures refl) in
+    (c.in_ok-class.class, ends.0, ends.1)
 
 pub returns : goal.returns
-returns c =
-    let bytes = c.args.bytes.now in
-    let v = c.in_ok-minor in
-    let p = c.in_ok-pool.pool in
-    let x = c.in-Ok.read in
-    let s : Sections = (x.0.0, (x.0.1.interfaces, (x.0.1.fields, (x.0.1.methods, x.0.1.attributes)))) in
-    let given = rw c.split_at.ensures.back at c.in-Ok.ensures in
-    let found = answered_found bytes v.major v.minor p s x.1.now (λ i. omega (arith, c.type_inv.bytes i)) (v.ensures, c.in_ok-pool.ensures) given in
-    all_found bytes (class_of v.major v.minor p.entries s) x.1.now found (nothing x.1.now c.if-not-is_empty.ensures)
+returns c = is_all c.in_ok-class.ensures (nil_from_length c.in_ok-class.rest.now (eqb-true _ _ (sym c.if-not-is_empty.ensures)))

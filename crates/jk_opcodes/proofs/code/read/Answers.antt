@@ -1,7 +1,8 @@
 -- A step goes on with the code, or there is none.
 use Rattle.std.proofs.Common.{◌-◌, length, arith}
+use Rattle.jk_model.proofs.EmptyByLength.{not_nil_from_test}
 use Rattle.byte_fields.specs.Layouts.{IsBytes}
-use Rattle.jk_opcodes.proofs.OneReading.{after_instr, shorter, at_stop, not_empty}
+use Rattle.jk_opcodes.proofs.OneReading.{after_instr, shorter, at_stop}
 use Rattle.jk_opcodes.proofs.code.read.Goals as goal
 
 pub loop-rest-smaller : goal.loop-rest-smaller
@@ -20,4 +21,4 @@ pub returns-in-Err : goal.returns-in-Err
 returns-in-Err c =
     let fits : IsBytes c.args.code.now = λ i. omega (arith, c.type_inv.code i) in
     rw c.at.ensures (at_stop c.args.code.now c.loop-rest.rest.now c.loop-rest.instrs c.in-Err.e fits c.loop-rest.invariant
-    (not_empty c.is_empty.result c.loop-rest.rest.now c.is_empty.ensures c.loop-rest-test.true) c.in-Err.ensures.gives)
+    (not_nil_from_test c.loop-rest.rest.now c.is_empty.result c.is_empty.ensures c.loop-rest-test.true) c.in-Err.ensures.gives)
