@@ -37,11 +37,11 @@ pub enum ReadRefusal {
 }
 
 /// The number that each class file begins with.
-const MAGIC: u32 = 0xcafe_babe;
+pub const MAGIC: u32 = 0xcafe_babe;
 
 /// Whether the version is one from 45.3 to 50.0.
-fn is_version(major: u16, minor: u16) -> bool
-    ensures { IsTrue result ↔ IsVersion major minor }
+pub fn is_version(major: u16, minor: u16) -> bool
+    ensures accepted { IsTrue result ↔ IsVersion major minor }
 {
     (45 < major || major == 45 && 3 <= minor) && (major < 50 || major == 50 && minor == 0)
 }

@@ -6,7 +6,7 @@ mod class;
 mod code;
 mod sections;
 
-pub use class::{ReadRefusal, read_class};
+pub use class::{MAGIC, ReadRefusal, is_version, read_class};
 pub use code::{CodeRefusal, read_code};
 
 #[cfg(test)]

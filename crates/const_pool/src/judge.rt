@@ -90,3 +90,13 @@ pub fn judge_pool(pool: &[PoolEntry]) -> Result<(), EntryFault>
     }
     Ok(())
 }
+
+/// Whether all entries are good: their texts are modified UTF-8, and each names entries of the kinds
+/// that it needs. It takes no memory, and time linear in the entries and their texts.
+pub fn is_good_pool(pool: &[PoolEntry]) -> bool
+    requires few { length pool.now < 2 ^ 16 }
+    requires entries { AllByRecursion IsEntry pool.now }
+    ensures good { IsTrue result ↔ AllByRecursion (IsGoodEntry pool.now) pool.now }
+{
+    judge_pool(pool).is_ok()
+}

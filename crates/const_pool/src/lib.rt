@@ -6,6 +6,7 @@ mod judge;
 mod pool;
 mod tags;
 
+pub use judge::is_good_pool;
 pub use pool::{Pool, PoolError, read_pool};
 
 #[cfg(test)]

@@ -1,0 +1,4 @@
+pub mod ClassIsItsParts
+pub mod OneRecord
+pub mod RoomIsLeft
+pub mod SlotsInTurn

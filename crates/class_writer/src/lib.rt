@@ -1,0 +1,16 @@
+//! Writes class files: which records are the record of one, and its bytes.
+#![tactic(auto)]
+
+mod class;
+mod entries;
+pub mod laws;
+mod lists;
+mod numbers;
+mod parts;
+mod room;
+mod slots;
+
+pub use class::{is_writable, write_class};
+
+#[cfg(test)]
+mod tests;
