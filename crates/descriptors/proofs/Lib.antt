@@ -1,5 +1,5 @@
--- Lemmas on descriptors: how they are read, and where other units stop.
+-- Lemmas on descriptors: how they are read, and where other units stop. `NoTextBeginsAnother` is for callers too.
 mod NamesAreWalks
-mod NoTextBeginsAnother
+pub mod NoTextBeginsAnother
 mod OneTypeOrPlace
 mod PartStopsTheWhole

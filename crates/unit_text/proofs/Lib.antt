@@ -1,3 +1,3 @@
--- Lemmas on texts and the units that they spell.
+-- Lemmas on texts and the units that they spell. `OneReading` is for callers too.
 mod OneJudgment
-mod OneReading
+pub mod OneReading

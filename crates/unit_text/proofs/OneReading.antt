@@ -34,12 +34,12 @@ at_bad_encoding bytes rest units (front, e, h) some never =
 -- ---- There is one reading.
 
 -- no encoding is the beginning of another
-record Same (f g : List ℕ) (u v : ℕ) (r s : List ℕ) : Type 0 where
+pub record Same (f g : List ℕ) (u v : ℕ) (r s : List ℕ) : Type 0 where
   pub unit : u ≡ v
   pub long : length f ≡ length g
   pub rests : r ≡ s
 
-same_encoding : (f g : List ℕ) (u v : ℕ) (r s : List ℕ) → IsUnit f u → IsUnit g v → f ++ r ≡ g ++ s → Same f g u v r s
+pub same_encoding : (f g : List ℕ) (u v : ℕ) (r s : List ℕ) → IsUnit f u → IsUnit g v → f ++ r ≡ g ++ s → Same f g u v r s
 same_encoding [] g u v r s hf hg e = absurd hf
 same_encoding (a ∷ []) [] u v r s hf hg e = absurd hg
 same_encoding (a ∷ []) (b ∷ []) u v r s hf hg e =
@@ -94,7 +94,7 @@ some_bytes (a ∷ encoding) after u h e =
     let whole : a ∷ (encoding ++ after) ≡ [] = e in
     absurd cc
 
-one_reading : (bytes us vs : List ℕ) → Spells bytes us → Spells bytes vs → us ≡ vs
+pub one_reading : (bytes us vs : List ℕ) → Spells bytes us → Spells bytes vs → us ≡ vs
 one_reading bytes [] [] h k = refl
 one_reading bytes [] (v ∷ vs) h (g, s, one, e, others) = absurd (some_bytes g s v one (sym e ∙ h))
 one_reading bytes (u ∷ us) [] (f, r, one, e, others) k = absurd (some_bytes f r u one (sym e ∙ k))
