@@ -1,7 +1,7 @@
 //! The whole of a class file.
 
 ghost use Rattle.std.specs.Prelude.{◌≡◌, ◌↔◌, length, IsTrue, IfOk};
-ghost use Rattle.jk_model.specs.ClassFile.{class_bytes};
+ghost use Rattle.jk_model.specs.ClassFile.{class_bytes, IsClass};
 ghost use Rattle.jk_model.specs.ReadFaults.{IsWritable};
 ghost use Rattle.class_writer.specs.Room.{Leaves, HasParts, IsShort};
 
@@ -55,9 +55,9 @@ pub fn is_writable(c: &ClassFile) -> bool
 }
 
 /// The bytes of a class file, in time linear in them (the Java Virtual Machine Specification, 4.1).
-/// `is_writable` says which records have them.
+/// `is_writable` says which records have them. A file may also be longer than that allows.
 pub fn write_class(alloc: Global, c: &ClassFile) -> Result<Bytes, OutOfMemory>
-    requires { IsWritable c.now }
+    requires { IsClass (class_bytes c.now) c.now }
     ensures written { IfOk result (λ bytes. bytes ≡ class_bytes c.now) }
 {
     let mut out = Bytes::new(alloc);

@@ -11,6 +11,9 @@ mod room;
 mod slots;
 
 pub use class::{is_writable, write_class};
+pub use lists::append_list;
+pub use numbers::{append_u2, append_u4};
+pub use parts::Part;
 
 #[cfg(test)]
 mod tests;
