@@ -1,7 +1,8 @@
-//! Writes class files: which records are the record of one, and its bytes.
+//! Writes class files: which records are the record of one, and its bytes; and the bodies of Code attributes.
 #![tactic(auto)]
 
 mod class;
+mod code;
 mod entries;
 pub mod laws;
 mod lists;
@@ -11,6 +12,7 @@ mod room;
 mod slots;
 
 pub use class::{is_writable, write_class};
+pub use code::write_code;
 pub use lists::append_list;
 pub use numbers::{append_u2, append_u4};
 pub use parts::Part;

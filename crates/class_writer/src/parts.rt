@@ -1,4 +1,5 @@
-//! The parts that a class file's lists are made of: attributes, members and indices.
+//! The parts that the lists of a class file and of a Code attribute are made of: attributes, members, indices
+//! and handlers.
 
 ghost use Rattle.std.specs.Prelude.{◌≡◌, ℕ, ◌++◌, List, length, OnOk};
 ghost use Rattle.class_writer.specs.Room.{Leaves};
@@ -6,7 +7,7 @@ ghost use Rattle.class_writer.specs.Room.{Leaves};
 use crate::lists::{append_list, room_after_list};
 use crate::numbers::{append_u2, append_u4};
 use crate::room::{room_after, room_after_u2, room_after_u4};
-use jk_model::{Attribute, Bytes, MemberInfo, OutOfMemory};
+use jk_model::{Attribute, Bytes, Handler, MemberInfo, OutOfMemory};
 
 /// A kind of part, such as an attribute.
 pub trait Part {
@@ -86,5 +87,28 @@ impl Part for MemberInfo {
         append_u2(out, self.name)?;
         append_u2(out, self.descriptor)?;
         append_list(out, self.attributes.as_slice())
+    }
+}
+
+/// An exception handler: three places, and the class that is caught.
+impl Part for Handler {
+    ghost use Rattle.jk_model.specs.ClassFile.{handler_bytes, IsHandler};
+
+    ghost part_bytes = { handler_bytes };
+
+    ghost is_part = { IsHandler };
+
+    fn room_after(&self, room: u32) -> Option<u32> {
+        let room = room_after_u2(self.start, room)?;
+        let room = room_after_u2(self.end, room)?;
+        let room = room_after_u2(self.handler, room)?;
+        room_after_u2(self.catch, room)
+    }
+
+    fn append(&self, out: &mut Bytes) -> Result<(), OutOfMemory> {
+        append_u2(out, self.start)?;
+        append_u2(out, self.end)?;
+        append_u2(out, self.handler)?;
+        append_u2(out, self.catch)
     }
 }

@@ -1,8 +1,13 @@
 //! Class files by hand, each beside its bytes, and records that are none.
 
+ghost use Rattle.std.specs.Prelude.{IfOk};
+ghost use Rattle.jk_model.specs.ClassFile.{code_bytes, CodeLayout};
+
 use super::*;
 use class_reader::read_class;
-use jk_model::{Attribute, Bytes, ClassFile, List, MemberInfo, OutOfMemory, PoolEntry};
+use jk_model::{
+    Attribute, Bytes, ClassFile, Code, Handler, List, MemberInfo, OutOfMemory, PoolEntry,
+};
 use std::alloc::Global;
 use std::test::*;
 
@@ -236,5 +241,43 @@ fn long_lists(rt: HostRuntime) -> Result<(), Fail> {
         class.interfaces = List::from_slice(alloc, vec![in alloc; 3u16; len]?.as_slice())?;
         assert_eq!(rt; is_writable(&class), accepted, "of {len} interfaces");
     }
+    Ok(())
+}
+
+/// A code with a handler, and an attribute in it.
+fn code_with_all_parts(alloc: Global) -> Result<Code, OutOfMemory>
+    ensures { IfOk result (λ c. CodeLayout (code_bytes c) c) }
+{
+    let mut handlers = List::new(alloc);
+    handlers.push(Handler {
+        start: 0,
+        end: 1,
+        handler: 2,
+        catch: 0x0304,
+    })?;
+    let mut attributes = List::new(alloc);
+    attributes.push(Attribute {
+        name: 9,
+        body: Bytes::from_slice(alloc, &[0xee])?,
+    })?;
+    Ok(Code {
+        max_stack: 2,
+        max_locals: 0x0103,
+        code: Bytes::from_slice(alloc, &[0x00, 0x01, 0xb1])?,
+        handlers,
+        attributes,
+    })
+}
+
+#[test]
+fn writes_a_code(rt: HostRuntime) -> Result<(), Fail> {
+    let body = write_code(rt.alloc(), &code_with_all_parts(rt.alloc())?)?;
+    let expected: [u8; 30] = [
+        0, 2, 1, 3, // The most slots of the stack, and the locals.
+        0, 0, 0, 3, 0x00, 0x01, 0xb1, // The code.
+        0, 1, 0, 0, 0, 1, 0, 2, 3, 4, // A handler.
+        0, 1, 0, 9, 0, 0, 0, 1, 0xee, // An attribute.
+    ];
+    assert_eq!(rt; body.as_slice(), expected.as_slice());
     Ok(())
 }
