@@ -1,0 +1,7 @@
+-- The assembler's text: its lines and words, and which item a line is.
+pub mod Items
+pub mod Mnemonics
+pub mod Numbers
+pub mod Readings
+pub mod Statements
+pub mod Words

@@ -1,0 +1,15 @@
+//! Reads the lines of an assembler's text: which item each line is. `docs/FORMATS.md` has the grammar.
+#![tactic(auto)]
+
+mod items;
+mod lines;
+mod mnemonics;
+mod numbers;
+mod statements;
+mod words;
+
+pub use items::{
+    CatchLine, ClassLine, CodeLine, Constant, FieldLine, Item, LineReading, MemberKind, MethodLine,
+    Statement, SwitchLine,
+};
+pub use lines::read_lines;

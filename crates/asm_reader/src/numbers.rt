@@ -1,0 +1,19 @@
+//! Numbers as a text writes them: decimal ones with a sign, and hexadecimal ones.
+
+ghost use Rattle.std.specs.Prelude.{◌≡◌, ℕ, ℤ, MatchOption};
+ghost use Rattle.asm_reader.specs.Numbers.{decimal_of, IsLongNumber, IsHex};
+
+/// The number of eight bytes that a word writes, or `None` where it writes none.
+pub(crate) fn decimal(word: &[u8]) -> Option<i64>
+    ensures { MatchOption result ((n : ℤ) → IsLongNumber n → word.now ≡ decimal_of n → ⊥)
+        (λ n. IsLongNumber n × (word.now ≡ decimal_of n)) }
+{
+    None
+}
+
+/// The number that one to four hexadecimal digits write, or `None` where a word is not these.
+pub(crate) fn hexadecimal(word: &[u8]) -> Option<u16>
+    ensures { MatchOption result ((n : ℕ) → IsHex word.now n → ⊥) (λ n. IsHex word.now n) }
+{
+    None
+}
