@@ -1,6 +1,7 @@
 //! Reads the lines of an assembler's text: which item each line is. `docs/FORMATS.md` has the grammar.
 #![tactic(auto)]
 
+mod item_lines;
 mod items;
 mod lines;
 mod mnemonics;

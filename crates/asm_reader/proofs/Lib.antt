@@ -1,0 +1,2 @@
+pub mod CodeLines
+pub mod ItemsByKeyword
