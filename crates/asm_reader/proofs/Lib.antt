@@ -1,2 +1,4 @@
 pub mod CodeLines
+pub mod FirstLineAndRest
 pub mod ItemsByKeyword
+pub mod LinesInTurn
