@@ -8,9 +8,7 @@ use Rattle.asm_reader.specs.declared.words.Word.{Word}
 use Rattle.asm_reader.specs.Items.{IsItem}
 use Rattle.asm_reader.specs.Readings.{AreReadings, IsReading}
 use Rattle.asm_reader.specs.Words.{HasWords, IsEmptyLine, text_lines}
-
-one_words : (line : List ℕ) (a b : List Word) → HasWords line a → HasWords line b → a ≡ b
-one_words = ?
+use Rattle.asm_reader.proofs.OneSplitIntoWords.{one_words}
 
 -- words that are no item
 pub no_item : (line : List ℕ) (words : List Word) → (IsEmptyLine line → ⊥) → HasWords line words

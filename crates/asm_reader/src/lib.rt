@@ -3,6 +3,7 @@
 
 mod item_lines;
 mod items;
+pub mod laws;
 mod lines;
 mod mnemonics;
 mod numbers;
