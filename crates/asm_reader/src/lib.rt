@@ -15,3 +15,6 @@ pub use items::{
     Statement, SwitchLine,
 };
 pub use lines::read_lines;
+
+#[cfg(test)]
+mod tests;
