@@ -3,5 +3,6 @@ pub mod Items
 pub mod Mnemonics
 pub mod Numbers
 pub mod Readings
+pub mod Rows
 pub mod Statements
 pub mod Words

@@ -1,0 +1,2 @@
+-- Lemmas on the words and lines of an assembler's text.
+pub mod RowsAreFound
