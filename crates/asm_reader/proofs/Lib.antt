@@ -1,2 +1,5 @@
 -- Lemmas on the words and lines of an assembler's text.
+pub mod CasesAreWrittenOnce
+pub mod CasesRiseInTurn
+pub mod OneNumber
 pub mod RowsAreFound

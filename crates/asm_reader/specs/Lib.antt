@@ -1,4 +1,5 @@
 -- The assembler's text: its lines and words, and which item a line is.
+pub mod Finds
 pub mod Items
 pub mod Mnemonics
 pub mod Numbers
