@@ -1,9 +1,13 @@
 -- What the proofs of the functions cite.
+pub mod CasesAreWrittenOnce
+pub mod CasesRiseInTurn
 pub mod CodeLines
 pub mod FirstLineAndRest
 pub mod ItemsByKeyword
 pub mod LinesInTurn
 pub mod OneItem
+pub mod OneNumber
 pub mod OneReading
 pub mod OneSplitIntoWords
+pub mod RowsAreFound
 pub mod WhatALineBeginsWith

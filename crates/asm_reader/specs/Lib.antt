@@ -1,4 +1,5 @@
 -- The assembler's text: its lines and words, and which item a line is.
+pub mod Finds
 pub mod ItemParts
 pub mod Items
 pub mod LineFronts
@@ -6,5 +7,6 @@ pub mod Mnemonics
 pub mod NumberForms
 pub mod Numbers
 pub mod Readings
+pub mod Rows
 pub mod Statements
 pub mod Words

@@ -1,5 +1,9 @@
 //! The names of instructions, and which operands they have.
 
+ghost use Rattle.std.specs.Prelude.{◌≡◌, map, option_map};
+ghost use Rattle.asm_reader.specs.Mnemonics.{mnemonics, mnemonic_named};
+ghost use Rattle.asm_reader.specs.Rows.{row_of};
+
 use crate::items::MemberKind;
 
 /// Which operands an instruction has.
@@ -39,7 +43,7 @@ pub(crate) struct Mnemonic {
     pub operands: Operands,
 }
 
-const MNEMONICS: [Mnemonic; 103] = [
+static MNEMONICS: [Mnemonic; 103] = [
     Mnemonic {
         name: "nop",
         op: 0x00,
@@ -556,3 +560,20 @@ const MNEMONICS: [Mnemonic; 103] = [
         operands: Operands::Label,
     },
 ];
+
+/// The table, in the order of the opcodes.
+fn table() -> &'static [Mnemonic]
+    ensures { map row_of result.now ≡ mnemonics }
+{
+    &MNEMONICS
+}
+
+/// The instruction of this name.
+pub(crate) fn mnemonic_named(name: &[u8]) -> Option<Mnemonic>
+    ensures { option_map row_of result ≡ mnemonic_named name.now }
+{
+    table()
+        .iter()
+        .find(|mnemonic| mnemonic.name.as_bytes() == name)
+        .copied()
+}
