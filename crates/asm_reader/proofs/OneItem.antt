@@ -19,12 +19,7 @@ use Rattle.asm_reader.specs.Numbers.{decimal_of, IsHex, IsIntNumber, IsLongNumbe
 use Rattle.asm_reader.specs.Statements.{IsStatement}
 use Rattle.asm_reader.proofs.CodeLines.{marked_is_no_statement}
 use Rattle.asm_reader.proofs.ItemsByKeyword.{by_keyword}
-
-one_count : (word : List ℕ) (m n : ℕ) → m ≤ 65535 → n ≤ 65535 → word ≡ decimal m → word ≡ decimal n → m ≡ n
-one_count = ?
-
-one_decimal : (m n : ℤ) → IsLongNumber m → IsLongNumber n → decimal_of m ≡ decimal_of n → m ≡ n
-one_decimal = ?
+use Rattle.asm_reader.proofs.OneNumber.{one_count, one_decimal}
 
 one_statement : (words : List Word) (s t : Statement) → IsStatement words s → IsStatement words t → s ≡ t
 one_statement = ?
