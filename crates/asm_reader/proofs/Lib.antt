@@ -2,4 +2,5 @@
 pub mod CasesAreWrittenOnce
 pub mod CasesRiseInTurn
 pub mod OneNumber
+pub mod OneStatement
 pub mod RowsAreFound
