@@ -1,6 +1,7 @@
 -- Lemmas on the words and lines of an assembler's text.
 pub mod CasesAreWrittenOnce
 pub mod CasesRiseInTurn
+pub mod NoMnemonicIsALabel
 pub mod OneNumber
 pub mod OneStatement
 pub mod RowsAreFound
