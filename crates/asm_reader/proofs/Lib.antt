@@ -3,5 +3,7 @@ pub mod CasesAreWrittenOnce
 pub mod CasesRiseInTurn
 pub mod NoMnemonicIsALabel
 pub mod OneNumber
+pub mod OneSplitIntoWords
 pub mod OneStatement
 pub mod RowsAreFound
+pub mod WhatALineBeginsWith

@@ -1,7 +1,9 @@
 -- The assembler's text: its lines and words, and which item a line is.
 pub mod Finds
 pub mod Items
+pub mod LineFronts
 pub mod Mnemonics
+pub mod NumberForms
 pub mod Numbers
 pub mod Readings
 pub mod Rows
