@@ -5,9 +5,11 @@ pub mod CodeLines
 pub mod FirstLineAndRest
 pub mod ItemsByKeyword
 pub mod LinesInTurn
+pub mod NoMnemonicIsALabel
 pub mod OneItem
 pub mod OneNumber
 pub mod OneReading
 pub mod OneSplitIntoWords
+pub mod OneStatement
 pub mod RowsAreFound
 pub mod WhatALineBeginsWith

@@ -6,7 +6,7 @@ use Rattle.std.proofs.lemmas.Bool.{ne_eqb}
 use Rattle.std.proofs.lemmas.List.Folds.{list_all-append}
 use Rattle.std.proofs.lemmas.Fmt.{decimal_injective, decimal_digit, first_decimal, decimal_by_steps}
 use Rattle.jk_model.specs.Instructions.{IsKind}
-use Rattle.asm_reader.specs.Numbers.{decimal_of, IsIntNumber, IsLongNumber}
+use Rattle.asm_reader.specs.Numbers.{decimal_of, IsShortNumber, IsIntNumber, IsLongNumber}
 
 pub one_count : (word : List ℕ) (m n : ℕ) → m ≤ 65535 → n ≤ 65535 → word ≡ decimal m → word ≡ decimal n → m ≡ n
 one_count word m n small little e f = decimal_injective m n (omega arith) (omega arith) (sym e ∙ f)
@@ -60,7 +60,7 @@ decimal_no_equals (negsuc n) h = digits_no_equals (suc n) (below_negative n h.0)
 
 -- ---- Of a word that writes another number, what is asked of a number doesn't hold.
 
-kind_small : (kind : ℕ) → IsKind kind → kind ≤ 65535
+pub kind_small : (kind : ℕ) → IsKind kind → kind ≤ 65535
 kind_small kind (inl four) = omega (arith, four)
 kind_small kind (inr (inl five)) = omega (arith, five)
 kind_small kind (inr (inr range)) = omega (arith, range.1)
@@ -76,3 +76,9 @@ no_dimensions word n small e never dims low high f =
 
 pub int_is_long : (n : ℤ) → IsIntNumber n → IsLongNumber n
 int_is_long n h = (omega (arith, ints), omega (arith, ints))
+
+pub short_is_long : (n : ℤ) → IsShortNumber n → IsLongNumber n
+short_is_long n h = (omega (arith, ints), omega (arith, ints))
+
+pub count_is_long : (n : ℕ) → n ≤ 65535 → IsLongNumber (pos n)
+count_is_long n h = (omega (arith, ints), omega (arith, ints))

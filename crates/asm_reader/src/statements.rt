@@ -5,6 +5,7 @@ ghost use Rattle.std.specs.List.{list_all};
 ghost use Rattle.jk_model.specs.Instructions.{IsKind};
 ghost use Rattle.asm_reader.specs.declared.items.Statement.{Statement};
 ghost use Rattle.asm_reader.specs.declared.mnemonics.Operands.{Operands};
+ghost use Rattle.asm_reader.specs.declared.words.Word.{Word};
 ghost use Rattle.asm_reader.specs.declared.words.Word.TheVariants.{Plain};
 ghost use Rattle.asm_reader.specs.Finds.{Finds, FindsCase, FindsCases, IsAbove, IsIntConstant, IsLongConstant, IsTextConstant};
 ghost use Rattle.asm_reader.specs.Numbers.{decimal_of, IsIntNumber, IsLongNumber};
@@ -294,20 +295,31 @@ fn cases_of(alloc: Global, words: &[Word]) -> Result<Option<List<SwitchLine>>, O
     Ok(Some(cases))
 }
 
+/// The first word, where it has no quotes, and the words after it.
+fn first_plain(words: &[Word]) -> Option<(&[u8], &[Word])>
+    ensures { MatchOption result ((first : List ℕ) (rest : List Word) → words.now ≡ Plain first ∷ rest → ⊥)
+        (λ found. words.now ≡ Plain found.0.now ∷ found.1.now) }
+{
+    match words {
+        [Word::Plain(first), rest @ ..] => Some((first.as_slice(), rest)),
+        _ => None,
+    }
+}
+
 /// `lookupswitch`: the label of the default, and cases.
 fn switch_of(alloc: Global, words: &[Word]) -> Result<Option<Statement>, OutOfMemory>
     ensures { IfOk result (λ found. (op : ℕ) → Finds op Operands.Cases words.now found) }
 {
-    let [Word::Plain(default), cases @ ..] = words else {
+    let Some((default, cases)) = first_plain(words) else {
         return Ok(None);
     };
-    if !is_label(default.as_slice()) {
+    if !is_label(default) {
         return Ok(None);
     }
     let Some(cases) = cases_of(alloc, cases)? else {
         return Ok(None);
     };
-    let default = List::from_slice(alloc, default.as_slice())?;
+    let default = List::from_slice(alloc, default)?;
     Ok(Some(Statement::Switch(default, cases)))
 }
 
@@ -341,10 +353,10 @@ pub(crate) fn statement_of(alloc: Global, words: &[Word]) -> Result<Option<State
     ensures { IfOk result (λ found. MatchOption found ((s : Statement) → IsStatement words.now s → ⊥)
         (λ s. IsStatement words.now s)) }
 {
-    let [Word::Plain(name), operands @ ..] = words else {
+    let Some((name, operands)) = first_plain(words) else {
         return Ok(None);
     };
-    let Some(mnemonic) = mnemonic_named(name.as_slice()) else {
+    let Some(mnemonic) = mnemonic_named(name) else {
         return Ok(None);
     };
     with_operands(alloc, mnemonic, operands)
