@@ -7,11 +7,8 @@ use Rattle.asm_reader.specs.declared.words.Word.{Word}
 use Rattle.asm_reader.specs.declared.words.Word.TheVariants.{Plain}
 use Rattle.asm_reader.specs.ItemParts.{IsMarked}
 use Rattle.asm_reader.specs.Items.{IsAfterLabel, IsCodeLine}
-use Rattle.asm_reader.specs.Mnemonics.{mnemonic_named}
 use Rattle.asm_reader.specs.Statements.{IsStatement, IsLabel}
-
-label_is_no_mnemonic : (label : List ℕ) → mnemonic_named (label ++ 58 ∷ []) ≡ None
-label_is_no_mnemonic label = ?
+use Rattle.asm_reader.proofs.NoMnemonicIsALabel.{label_is_no_mnemonic}
 
 -- words that begin with a label and a `:` are no instruction
 pub marked_is_no_statement : (words : List Word) (label : List ℕ) (rest : List Word) (s : Statement)
@@ -19,8 +16,7 @@ pub marked_is_no_statement : (words : List Word) (label : List ℕ) (rest : List
 marked_is_no_statement words label rest s m h =
     let same : Plain (label ++ 58 ∷ []) ∷ rest ≡ Plain h.1 ∷ h.2 = sym m.1 ∙ h.3 in
     let name : h.1 ≡ label ++ 58 ∷ [] = cc in
-    let none : mnemonic_named h.1 ≡ None = rw name (label_is_no_mnemonic label) in
-    cc
+    label_is_no_mnemonic label h.0 (rw name at h.4)
 
 -- after a label
 pub nothing_after : (words : List Word) → words ≢ [] → ((s : Statement) → IsStatement words s → ⊥)

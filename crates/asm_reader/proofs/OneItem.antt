@@ -20,9 +20,7 @@ use Rattle.asm_reader.specs.Statements.{IsStatement}
 use Rattle.asm_reader.proofs.CodeLines.{marked_is_no_statement}
 use Rattle.asm_reader.proofs.ItemsByKeyword.{by_keyword}
 use Rattle.asm_reader.proofs.OneNumber.{one_count, one_decimal}
-
-one_statement : (words : List Word) (s t : Statement) → IsStatement words s → IsStatement words t → s ≡ t
-one_statement = ?
+use Rattle.asm_reader.proofs.OneStatement.{one_statement}
 
 one_hex : (word : List ℕ) (m n : ℕ) → IsHex word m → IsHex word n → m ≡ n
 one_hex word m n h k = h.3 ∙ sym k.3
