@@ -1,5 +1,5 @@
 -- A number is written one way, and only where nothing in the word is needless.
-use Rattle.std.proofs.Common.{◌≡◌, ◌≢◌, ℕ, ◌+◌, ◌-◌, ◌*◌, ◌^◌, ◌<◌, ◌≤◌, zero, suc, ℤ, pos, negsuc, ◌≤ℤ◌, Bool, true, false, ◌&&◌, ◌||◌, ◌==◌, not, nat_le, IsTrue, List, [], ◌∷◌, ◌++◌, length, drop, get_or, refl, sym, ap, ◌∙◌, arith, lit<, Option, Some, None, Result, Ok, Err, MatchOption, inl, inr}
+use Rattle.std.proofs.Common.{◌≡◌, ◌≢◌, ℕ, ◌+◌, ◌-◌, ◌^◌, ◌<◌, ◌≤◌, zero, suc, ℤ, pos, negsuc, Bool, ◌&&◌, ◌||◌, ◌==◌, nat_le, IsTrue, List, [], ◌∷◌, ◌++◌, length, drop, get_or, refl, sym, ap, ◌∙◌, arith, lit<, Option, Result, Ok, Err, MatchOption, inl, inr}
 use Rattle.std.specs.List.{list_all}
 use Rattle.std.specs.Fmt.{decimal, signed_decimal}
 use Rattle.std.specs.Int.{IsInRange}
@@ -10,7 +10,7 @@ use Rattle.std.specs.Result.{OkIff, result_ok}
 use Rattle.std.specs.Str.{IsUtf8}
 use Rattle.std.specs.Str.Parse.{AllDigits, digits_value, ParsesSigned}
 use Rattle.std.proofs.Math.IntN.{neg_ℤ, nat_abs}
-use Rattle.std.proofs.lemmas.Bool.{and_from, or_from, or_left, or_right, le-leb, cases_eq}
+use Rattle.std.proofs.lemmas.Bool.{and_from, or_right, le-leb, cases_eq}
 use Rattle.std.proofs.lemmas.Int.{ints}
 use Rattle.std.proofs.lemmas.Str.{IsUtf8-from_ascii}
 use Rattle.std.proofs.lemmas.Str.Parse.{IsNumeralModel, numerals_by_value, tells_digits, digit_at, digit_from_value, parse_signed_plain, parse_signed_minus}

@@ -10,6 +10,6 @@ pub returns-in_err-text : goal.returns-in_err-text
 returns-in_err-text c = rw c.from_residual.ensures (no_text c.args.word.now (search rules))
 
 pub returns : goal.returns
-returns c = 
+returns c =
     let same : c.in_ok-text.text.now ≡ c.args.word.now = search rules in
     parsed c.args.word.now c.parse.result c.ok-2.result (rw (← same) c.parse.ensures.value.0) c.ok-2.ensures.value c.if-not-has_no_needless.ensures
