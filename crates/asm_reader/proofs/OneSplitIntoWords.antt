@@ -1,5 +1,5 @@
 -- A line is spaces and words one way only.
-use Rattle.std.proofs.Common.{◌≡◌, ℕ, ◌+◌, ◌<◌, Bool, true, false, ◌&&◌, IsTrue, List, [], ◌∷◌, ◌++◌, length, take, drop, refl, sym, ap, ◌∙◌, one-add, append_assoc, length-append, arith, inl, inr}
+use Rattle.std.proofs.Common.{◌≡◌, ℕ, ◌+◌, ◌<◌, Bool, true, false, IsTrue, List, [], ◌∷◌, ◌++◌, length, take, drop, refl, sym, ap, ◌∙◌, one-add, append_assoc, length-append, arith, inl, inr}
 use Rattle.std.specs.List.{list_all, prefix_len}
 use Rattle.std.proofs.lemmas.List.{append-nil}
 use Rattle.std.proofs.lemmas.Bool.{and_parts, both_ways, ne_eqb}
@@ -122,9 +122,15 @@ first_of_words line word words h =
 
 pub words_after : (line : List ℕ) (word : Word) (words : List Word) (rest : List ℕ) → BeginsWith line word rest → HasWords rest words
     → HasWords line (word ∷ words)
-words_after line word words rest f h =
-    (f.spaces, rest, f.are_spaces, f.then.is_word,
-    f.parts ∙ ap (λ text. f.spaces ++ text) f.then.parts ∙ sym (append_assoc f.spaces (word_bytes word) rest), f.then.ends, h)
+words_after line word words rest f h = (
+  f.spaces,
+  rest,
+  f.are_spaces,
+  f.then.is_word,
+  f.parts ∙ ap (λ text. f.spaces ++ text) f.then.parts ∙ sym (append_assoc f.spaces (word_bytes word) rest),
+  f.then.ends,
+  h,
+)
 
 pub one_words : (line : List ℕ) (a b : List Word) → HasWords line a → HasWords line b → a ≡ b
 one_words line [] [] f g = refl

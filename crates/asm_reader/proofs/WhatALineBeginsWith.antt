@@ -1,13 +1,13 @@
 -- What the bytes in front of a line say of its first word.
-use Rattle.std.proofs.Common.{◌≡◌, ◌≢◌, ℕ, ◌+◌, ◌-◌, ◌<◌, ◌≤◌, ◌⊎◌, Bool, true, false, IsTrue, MatchBool, List, [], ◌∷◌, ◌++◌, length, take, drop, get_or, nat_eq, refl, sym, ap, ◌∙◌, arith, inl, inr}
+use Rattle.std.proofs.Common.{◌≡◌, ◌≢◌, ℕ, ◌+◌, ◌-◌, ◌≤◌, ◌⊎◌, Bool, true, false, IsTrue, MatchBool, List, [], ◌∷◌, ◌++◌, length, take, drop, get_or, nat_eq, refl, sym, ap, ◌∙◌, arith, inl, inr}
 use Rattle.std.specs.List.{list_all}
 use Rattle.std.proofs.lemmas.List.{append-nil, take_rest}
 use Rattle.std.proofs.lemmas.Bool.{eqb-true, eqb-false}
 use Rattle.asm_reader.specs.declared.words.Word.{Word}
 use Rattle.asm_reader.specs.declared.words.Word.TheVariants.{Plain, Quoted}
-use Rattle.asm_reader.specs.Words.{IsWord, is_plain_byte, is_quoted_byte, word_bytes, AreSpaces, EndsWord, IsEmptyLine}
+use Rattle.asm_reader.specs.Words.{is_plain_byte, is_quoted_byte, AreSpaces, EndsWord, IsEmptyLine}
 use Rattle.asm_reader.specs.LineFronts.{StopsAt, IsSpan, IsWordThen, BeginsWith, is_space}
-use Rattle.asm_reader.proofs.OneSplitIntoWords.{one_span, ends_stop, no_front, after_quote, no_plain_quote, text_begins}
+use Rattle.asm_reader.proofs.OneSplitIntoWords.{one_span, ends_stop, after_quote, no_plain_quote, text_begins}
 
 -- ---- The quote that ends a quoted text.
 
@@ -62,7 +62,8 @@ no_word_else text other never (Quoted content) rest f = other (rw f.parts refl)
 pub no_word_in_front : (line spaces text : List ℕ) → IsSpan is_space line spaces text → 1 ≤ length text
     → ((word : Word) (rest : List ℕ) → IsWordThen text word rest → ⊥)
     → (AreSpaces line → ⊥) × ((word : Word) (rest : List ℕ) → BeginsWith line word rest → ⊥)
-no_word_in_front line spaces text s some never = (not_spaces line spaces text s some, λ word rest f. never word rest (text_begins line spaces text word rest s f))
+no_word_in_front line spaces text s some never =
+    (not_spaces line spaces text s some, λ word rest f. never word rest (text_begins line spaces text word rest s f))
   where
     not_spaces : (line spaces text : List ℕ) → IsSpan is_space line spaces text → 1 ≤ length text → AreSpaces line → ⊥
     not_spaces line spaces text s some h =

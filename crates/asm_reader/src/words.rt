@@ -5,7 +5,7 @@ ghost use Rattle.std.specs.List.{list_all, prefix_len};
 ghost use Rattle.asm_reader.specs.declared.words.Word.{Word};
 ghost use Rattle.asm_reader.specs.declared.words.Word.TheVariants as word;
 ghost use Rattle.asm_reader.specs.Words as words;
-ghost use Rattle.asm_reader.specs.Words.{HasWords, IsEmptyLine, IsSplit, EndsWord, AreSpaces};
+ghost use Rattle.asm_reader.specs.Words.{HasWords, IsEmptyLine, IsSplit, EndsWord};
 ghost use Rattle.asm_reader.specs.LineFronts.{IsFront, IsSpan, IsWordThen, is_space};
 
 use jk_model::{Bytes, List, OutOfMemory};
@@ -76,7 +76,9 @@ fn plain_in_front(text: &[u8]) -> usize
 fn quoted_in_front(text: &[u8]) -> usize
     ensures { result ≡ prefix_len words.is_quoted_byte text.now }
 {
-    text.iter().take_while(|byte| is_quoted_byte(**byte)).count()
+    text.iter()
+        .take_while(|byte| is_quoted_byte(**byte))
+        .count()
 }
 
 /// A line without the spaces in front.

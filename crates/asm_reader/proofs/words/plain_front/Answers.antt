@@ -1,5 +1,4 @@
 -- The bytes in front are cut where they end.
-use Rattle.std.proofs.Common.{arith, sym}
 use Rattle.std.proofs.lemmas.List.Sums.{prefix_len-le-length}
 use Rattle.asm_reader.specs.Words.{is_plain_byte}
 use Rattle.asm_reader.proofs.OneSplitIntoWords.{span}

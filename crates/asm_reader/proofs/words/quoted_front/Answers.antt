@@ -1,5 +1,5 @@
 -- The first byte that may not be between quotes is the quote that ends the text, or the text is not ended.
-use Rattle.std.proofs.Common.{◌≡◌, rules, arith}
+use Rattle.std.proofs.Common.{rules}
 use Rattle.std.proofs.lemmas.List.Sums.{prefix_len-le-length}
 use Rattle.asm_reader.specs.Words.{is_quoted_byte}
 use Rattle.asm_reader.specs.LineFronts.{IsSpan}

@@ -1,6 +1,4 @@
 -- Each word goes after those that were read, and none is left where the line ends or has no word in front.
-use Rattle.std.proofs.Common.{◌≡◌}
-use Rattle.asm_reader.specs.LineFronts.{BeginsWith}
 use Rattle.asm_reader.specs.declared.words.Word.TheVariants.{Plain, Quoted}
 use Rattle.asm_reader.proofs.OneSplitIntoWords.{passes_more, passes_all, passes_never}
 use Rattle.asm_reader.proofs.words.read_words.Goals as goal
