@@ -3,9 +3,11 @@ pub mod CasesAreWrittenOnce
 pub mod CasesRiseInTurn
 pub mod CodeLines
 pub mod FirstLineAndRest
+pub mod HexDigitsMakeOneNumber
 pub mod ItemsByKeyword
 pub mod LinesInTurn
 pub mod NoMnemonicIsALabel
+pub mod NumbersAreWrittenOneWay
 pub mod OneItem
 pub mod OneNumber
 pub mod OneReading
@@ -13,5 +15,3 @@ pub mod OneSplitIntoWords
 pub mod OneStatement
 pub mod RowsAreFound
 pub mod WhatALineBeginsWith
-pub mod NumbersAreWrittenOneWay
-pub mod HexDigitsMakeOneNumber
