@@ -49,9 +49,9 @@ digits_no_equals n h =
     decimal_by_steps (λ n ds. list_all no_equals ds ≡ true)
     (λ n small. ap (λ b. b && true) (digit_no_equals n small))
     (λ n ds large before.
-        let last : n % 10 < 10 = omega arith in
-        list_all-append no_equals ds ((48 + n % 10) ∷ []) ∙ ap (λ b. b && (no_equals (48 + n % 10) && true)) before
-        ∙ ap (λ b. b && true) (digit_no_equals (n % 10) last))
+    let last : n % 10 < 10 = omega arith in
+    list_all-append no_equals ds ((48 + n % 10) ∷ []) ∙ ap (λ b. b && (no_equals (48 + n % 10) && true)) before
+    ∙ ap (λ b. b && true) (digit_no_equals (n % 10) last))
     n h
 
 pub decimal_no_equals : (n : ℤ) → IsLongNumber n → list_all no_equals (decimal_of n) ≡ true
