@@ -1,6 +1,6 @@
 -- The word writes one number alone.
 use Rattle.std.proofs.lemmas.Bool.{false≢true}
-use Rattle.asm_reader.proofs.OneNumber.{no_dimensions}
+use Rattle.asm_reader.proofs.OneCount.{no_dimensions}
 use Rattle.asm_reader.proofs.statements.dimensions_of.Goals as goal
 
 pub returns-then-not-is_dimensions : goal.returns-then-not-is_dimensions
