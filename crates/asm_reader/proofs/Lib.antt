@@ -9,3 +9,5 @@ pub mod OneSplitIntoWords
 pub mod OneStatement
 pub mod RowsAreFound
 pub mod WhatALineBeginsWith
+pub mod NumbersAreWrittenOneWay
+pub mod HexDigitsMakeOneNumber
