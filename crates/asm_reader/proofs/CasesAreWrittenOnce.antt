@@ -2,7 +2,7 @@
 use Rattle.std.proofs.Common.{◌≡◌, ℕ, zero, suc, ◌+◌, ◌-◌, ◌<◌, ◌≤◌, ◌==◌, ◌&&◌, ℤ, Bool, true, false, cond, not, IsTrue, List, [], ◌∷◌, ◌++◌, length, take, drop, get_or, refl, sym, ap, ◌∙◌, subst, Some, None, position, nat_lt, arith, eqb-true, take_all, length-drop}
 use Rattle.std.specs.List.{list_all, position_or_len}
 use Rattle.std.proofs.Math.Seq.{drop-cons}
-use Rattle.std.proofs.lemmas.Bool.{and_parts, and_from, both_ways, ltb-false}
+use Rattle.std.proofs.lemmas.Bool.{and_parts, and_from, both_ways, ne_eqb, ltb-false}
 use Rattle.std.proofs.lemmas.List.{take-append-drop, take_rest}
 use Rattle.std.proofs.lemmas.List.Quantifiers.{position-Some}
 use Rattle.std.proofs.lemmas.List.Sums.{fails_before_first}
@@ -12,7 +12,21 @@ use Rattle.asm_reader.specs.declared.words.Word.TheVariants.{Plain, Quoted}
 use Rattle.asm_reader.specs.Numbers.{decimal_of, IsIntNumber, IsLongNumber}
 use Rattle.asm_reader.specs.Statements.{IsLabel, IsCase, case_word}
 use Rattle.asm_reader.specs.Finds.{FindsCase}
-use Rattle.asm_reader.proofs.OneNumber.{no_equals, one_decimal, decimal_no_equals, int_is_long}
+use Rattle.asm_reader.proofs.NumbersAreWrittenOneWay.{is_number_byte, one_decimal, decimal_bytes, int_is_long}
+
+-- ---- No byte of a number is a `=`, 61.
+
+abbrev pub no_equals : ℕ → Bool
+no_equals b = not (b == 61)
+
+number_byte : (b : ℕ) → is_number_byte b ≡ true → no_equals b ≡ true
+number_byte b h = ap not (ne_eqb b 61 (λ e. both_ways (is_number_byte b) (ap is_number_byte e) h))
+
+number_bytes : (bytes : List ℕ) → list_all is_number_byte bytes ≡ true → list_all no_equals bytes ≡ true
+number_bytes [] h = refl
+number_bytes (b ∷ bytes) h =
+    let (here, after) = and_parts (is_number_byte b) (list_all is_number_byte bytes) h in
+    and_from (no_equals b) (list_all no_equals bytes) (number_byte b here) (number_bytes bytes after)
 
 -- ---- Two lists that are cut at their first `=` have the same parts.
 
@@ -34,7 +48,7 @@ one_cut (x ∷ xs) ys (u ∷ us) vs h k e =
     (same, rest.1)
 
 key_has_none : (c : SwitchLine) → IsCase c → list_all no_equals (decimal_of c.key) ≡ true
-key_has_none c h = decimal_no_equals c.key (int_is_long c.key h.0)
+key_has_none c h = number_bytes (decimal_of c.key) (decimal_bytes c.key (int_is_long c.key h.0))
 
 -- the parts of a word that is a case
 pub case_parts : (c : SwitchLine) (key label : List ℕ) → IsCase c → list_all no_equals key ≡ true

@@ -8,8 +8,8 @@ pub mod ItemsByKeyword
 pub mod LinesInTurn
 pub mod NoMnemonicIsALabel
 pub mod NumbersAreWrittenOneWay
+pub mod OneCount
 pub mod OneItem
-pub mod OneNumber
 pub mod OneReading
 pub mod OneSplitIntoWords
 pub mod OneStatement

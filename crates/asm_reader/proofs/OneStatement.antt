@@ -17,7 +17,8 @@ use Rattle.asm_reader.specs.Mnemonics.{Mnemonic, mnemonic_named}
 use Rattle.asm_reader.specs.Rows.{row_of}
 use Rattle.asm_reader.specs.Statements.{IsStatement, HasOperands, IsCase, case_word}
 use Rattle.asm_reader.proofs.CasesAreWrittenOnce.{one_case}
-use Rattle.asm_reader.proofs.OneNumber.{one_decimal, one_count, kind_small, short_is_long, int_is_long, count_is_long}
+use Rattle.asm_reader.proofs.NumbersAreWrittenOneWay.{one_decimal, short_is_long, int_is_long}
+use Rattle.asm_reader.proofs.OneCount.{one_count, kind_small}
 
 -- the operands of the instruction of a name are those of the words that it stands in front of
 its_operands : (name : List ℕ) (operands : List Word) (m : Mnemonic) (s : Statement) → mnemonic_named name ≡ Some m
@@ -62,7 +63,7 @@ same_count : (words : List Word) (m n : ℕ) → m ≤ 65535 → n ≤ 65535 →
     → words ≡ Plain (decimal_of (pos n)) ∷ [] → m ≡ n
 same_count words m n h k e f =
     let digits : decimal_of (pos m) ≡ decimal_of (pos n) = cc in
-    one_count (decimal_of (pos m)) m n h k refl digits
+    one_count m n h k digits
 
 same_second : (words : List Word) (v w : Word) (m n : ℤ) → IsLongNumber m → IsLongNumber n → words ≡ v ∷ Plain (decimal_of m) ∷ []
     → words ≡ w ∷ Plain (decimal_of n) ∷ [] → m ≡ n
@@ -86,7 +87,7 @@ one_statement_of op Local words s t (m, small, e, is) (n, short, f, also) =
     is ∙ ap (λ (k : ℕ). OnLocal op k) (same_count words m n small short e f) ∙ sym also
 one_statement_of op LocalAndStep words s t (m, step, small, fits, e, is) (n, step', short, fits', f, also) =
     let first : decimal_of (pos m) ≡ decimal_of (pos n) = cc in
-    let local : m ≡ n = one_count (decimal_of (pos m)) m n small short refl first in
+    let local : m ≡ n = one_count m n small short first in
     let by : step ≡ step' =
     same_second words (Plain (decimal_of (pos m))) (Plain (decimal_of (pos n))) step step' (short_is_long step fits) (short_is_long step' fits') e f in
     is ∙ ap (λ (k : ℕ). Increment k step) local ∙ ap (λ (z : ℤ). Increment n z) by ∙ sym also
@@ -98,7 +99,7 @@ one_statement_of op ArrayKind words s t (m, small, e, is) (n, short, f, also) =
 one_statement_of op Dimensions words s t (class, m, some, small, e, is) (other, n, some', short, f, also) =
     let names : class ≡ other = cc in
     let digits : decimal_of (pos m) ≡ decimal_of (pos n) = cc in
-    let dims : m ≡ n = one_count (decimal_of (pos m)) m n (omega arith) (omega arith) refl digits in
+    let dims : m ≡ n = one_count m n (omega arith) (omega arith) digits in
     is ∙ ap (λ (c : List ℕ). NewArrays c m) names ∙ ap (λ (k : ℕ). NewArrays other k) dims ∙ sym also
 one_statement_of op Cases words s t (default, cases, form, are, e, is) (default', cases', form', are', f, also) =
     let first : default ≡ default' = cc in

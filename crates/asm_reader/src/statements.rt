@@ -157,7 +157,12 @@ fn on_member_of(
 ) -> Result<Option<Statement>, OutOfMemory>
     ensures { IfOk result (Finds op (Operands.Member kind) words.now) }
 {
-    let [Word::Plain(class), Word::Plain(name), Word::Plain(descriptor)] = words else {
+    let [
+        Word::Plain(class),
+        Word::Plain(name),
+        Word::Plain(descriptor),
+    ] = words
+    else {
         return Ok(None);
     };
     let class = List::from_slice(alloc, class.as_slice())?;
@@ -196,13 +201,20 @@ fn kind_of(word: &[u8]) -> Option<u8>
     Some(kind as u8)
 }
 
+/// Whether a number is one of dimensions that are made.
+fn is_dimensions(dims: u16) -> bool
+    ensures { IsTrue result ↔ (1 ≤ dims) × (dims ≤ 255) }
+{
+    matches!(dims, 1..=255)
+}
+
 /// A number of dimensions.
 fn dimensions_of(word: &[u8]) -> Option<u8>
     ensures { MatchOption result ((dims : ℕ) → 1 ≤ dims → dims ≤ 255 → word.now ≡ decimal_of (pos dims) → ⊥)
         (λ dims. (1 ≤ dims) × (dims ≤ 255) × (word.now ≡ decimal_of (pos dims))) }
 {
     let dims = count_of(word)?;
-    if dims == 0 || dims > 255 {
+    if !is_dimensions(dims) {
         return None;
     }
     Some(dims as u8)
