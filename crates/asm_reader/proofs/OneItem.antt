@@ -19,11 +19,10 @@ use Rattle.asm_reader.specs.Numbers.{decimal_of, IsHex, IsIntNumber, IsLongNumbe
 use Rattle.asm_reader.specs.Statements.{IsStatement}
 use Rattle.asm_reader.proofs.CodeLines.{marked_is_no_statement}
 use Rattle.asm_reader.proofs.ItemsByKeyword.{by_keyword}
-use Rattle.asm_reader.proofs.OneNumber.{one_count, one_decimal}
+use Rattle.asm_reader.proofs.HexDigitsMakeOneNumber.{one_hex}
+use Rattle.asm_reader.proofs.NumbersAreWrittenOneWay.{one_decimal}
+use Rattle.asm_reader.proofs.OneCount.{one_count}
 use Rattle.asm_reader.proofs.OneStatement.{one_statement}
-
-one_hex : (word : List ℕ) (m n : ℕ) → IsHex word m → IsHex word n → m ≡ n
-one_hex word m n h k = h.3 ∙ sym k.3
 
 -- plain words are one list of bytes
 one_list : (a b : List (List ℕ)) → map Plain a ≡ map Plain b → a ≡ b
@@ -123,9 +122,9 @@ one_method words a b h k =
     let name : a.name ≡ b.name = cc in
     let descriptor : a.descriptor ≡ b.descriptor = cc in
     let stack_word : decimal a.stack ≡ decimal b.stack = cc in
-    let stack : a.stack ≡ b.stack = one_count (decimal a.stack) a.stack b.stack h.2 k.2 refl stack_word in
+    let stack : a.stack ≡ b.stack = one_count a.stack b.stack h.2 k.2 stack_word in
     let locals_word : decimal a.locals ≡ decimal b.locals = cc in
-    let locals : a.locals ≡ b.locals = one_count (decimal a.locals) a.locals b.locals h.3 k.3 refl locals_word in
+    let locals : a.locals ≡ b.locals = one_count a.locals b.locals h.3 k.3 locals_word in
     let plain : map Plain a.throws ≡ map Plain b.throws = cc in
     let throws : a.throws ≡ b.throws = one_list a.throws b.throws plain in
     let whole : method_line a.flags a.name a.descriptor a.stack a.locals a.throws ≡ method_line b.flags b.name b.descriptor b.stack b.locals b.throws
