@@ -9,5 +9,3 @@ pub mod OneSplitIntoWords
 pub mod OneStatement
 pub mod RowsAreFound
 pub mod WhatALineBeginsWith
-pub mod NumbersAreWrittenOneWay
-pub mod HexDigitsMakeOneNumber
