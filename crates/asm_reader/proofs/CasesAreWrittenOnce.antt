@@ -1,5 +1,5 @@
 -- A word is one case of a switch at most, and it is cut at its first `=`.
-use Rattle.std.proofs.Common.{◌≡◌, ℕ, zero, suc, ◌+◌, ◌-◌, ◌<◌, ◌≤◌, ◌==◌, ◌&&◌, ℤ, Bool, true, false, cond, not, IsTrue, List, [], ◌∷◌, ◌++◌, length, take, drop, get_or, refl, sym, ap, ◌∙◌, subst, Some, None, position, nat_lt, arith, eqb-true, take_all, length-drop}
+use Rattle.std.proofs.Common.{◌≡◌, ℕ, zero, suc, ◌+◌, ◌-◌, ◌<◌, ◌≤◌, ◌==◌, ℤ, Bool, true, false, cond, not, IsTrue, List, [], ◌∷◌, ◌++◌, length, take, drop, get_or, refl, sym, ap, ◌∙◌, subst, Some, None, position, nat_lt, arith, eqb-true, take_all}
 use Rattle.std.specs.List.{list_all, position_or_len}
 use Rattle.std.proofs.Math.Seq.{drop-cons}
 use Rattle.std.proofs.lemmas.Bool.{and_parts, and_from, both_ways, ne_eqb, ltb-false}
@@ -7,9 +7,8 @@ use Rattle.std.proofs.lemmas.List.{take-append-drop, take_rest}
 use Rattle.std.proofs.lemmas.List.Quantifiers.{position-Some}
 use Rattle.std.proofs.lemmas.List.Sums.{fails_before_first}
 use Rattle.asm_reader.specs.declared.items.SwitchLine.{SwitchLine}
-use Rattle.asm_reader.specs.declared.words.Word.{Word}
-use Rattle.asm_reader.specs.declared.words.Word.TheVariants.{Plain, Quoted}
-use Rattle.asm_reader.specs.Numbers.{decimal_of, IsIntNumber, IsLongNumber}
+use Rattle.asm_reader.specs.declared.words.Word.TheVariants.{Plain}
+use Rattle.asm_reader.specs.Numbers.{decimal_of, IsIntNumber}
 use Rattle.asm_reader.specs.Statements.{IsLabel, IsCase, case_word}
 use Rattle.asm_reader.specs.Finds.{FindsCase}
 use Rattle.asm_reader.proofs.NumbersAreWrittenOneWay.{is_number_byte, one_decimal, decimal_bytes, int_is_long}

@@ -1,5 +1,5 @@
 -- A word writes one count at most, so of a word that writes another one, what is asked of a count doesn't hold.
-use Rattle.std.proofs.Common.{◌≡◌, ℕ, ◌≤◌, ◌⊎◌, inl, inr, pos, List, refl, sym, ◌∙◌, subst, arith}
+use Rattle.std.proofs.Common.{◌≡◌, ℕ, ◌≤◌, inl, inr, pos, List, sym, ◌∙◌, subst, arith}
 use Rattle.jk_model.specs.Instructions.{IsKind}
 use Rattle.asm_reader.specs.Numbers.{decimal_of}
 use Rattle.asm_reader.proofs.NumbersAreWrittenOneWay.{one_decimal, count_is_long}

@@ -1,12 +1,12 @@
 -- Words are one instruction at most: that of their first word, with the operands after it.
-use Rattle.std.proofs.Common.{◌≡◌, ℕ, ◌≤◌, ◌⊎◌, inl, inr, ℤ, pos, codes, List, [], ◌∷◌, map, arith, refl, sym, ap, ◌∙◌, subst, Option, Some, None, Result, Ok, Err, IfOk, MatchOption}
+use Rattle.std.proofs.Common.{◌≡◌, ℕ, ◌≤◌, inl, inr, ℤ, pos, codes, List, [], ◌∷◌, map, arith, refl, sym, ap, ◌∙◌, subst, Option, Some, None, Result, Ok, Err, IfOk, MatchOption}
 use Rattle.jk_model.specs.declared.memory.OutOfMemory.{OutOfMemory}
 use Rattle.asm_reader.specs.declared.items.Statement.{Statement}
 use Rattle.asm_reader.specs.declared.mnemonics.Mnemonic as code
 use Rattle.asm_reader.specs.declared.words.Word.{Word}
-use Rattle.asm_reader.specs.declared.words.Word.TheVariants.{Plain, Quoted}
-use Rattle.asm_reader.specs.declared.items.Constant.TheVariants.{Int, Long, Text}
-use Rattle.asm_reader.specs.declared.items.Statement.TheVariants.{Push, Load, OnLocal, Increment, Jump, OnMember, OnClass, NewArray, NewArrays, Switch}
+use Rattle.asm_reader.specs.declared.words.Word.TheVariants.{Plain}
+use Rattle.asm_reader.specs.declared.items.Constant.TheVariants.{Int, Long}
+use Rattle.asm_reader.specs.declared.items.Statement.TheVariants.{Push, Load, OnLocal, Increment, NewArray, NewArrays, Switch}
 use Rattle.asm_reader.specs.declared.items.SwitchLine.{SwitchLine}
 use Rattle.asm_reader.specs.declared.mnemonics.Operands.{Operands}
 use Rattle.asm_reader.specs.declared.mnemonics.Operands.TheVariants.{Nothing, Number, SingleConstant, WideConstant, Local, LocalAndStep, Label, Member, ClassName, ArrayKind, Dimensions, Cases}

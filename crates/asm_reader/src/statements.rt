@@ -9,14 +9,13 @@ ghost use Rattle.asm_reader.specs.declared.words.Word.{Word};
 ghost use Rattle.asm_reader.specs.declared.words.Word.TheVariants.{Plain};
 ghost use Rattle.asm_reader.specs.Finds.{Finds, FindsCase, FindsCases, IsAbove, IsIntConstant, IsLongConstant, IsTextConstant};
 ghost use Rattle.asm_reader.specs.Numbers.{decimal_of, IsIntNumber, IsLongNumber};
-ghost use Rattle.asm_reader.specs.Rows.{row_of};
 ghost use Rattle.asm_reader.specs.Statements.{IsLabel, IsStatement};
 
 use crate::items::{Constant, MemberKind, Statement, SwitchLine};
 use crate::mnemonics::{Mnemonic, Operands, mnemonic_named};
 use crate::numbers::{count_of, decimal, int_number, short_number};
 use crate::words::Word;
-use jk_model::{Bytes, List, OutOfMemory};
+use jk_model::{List, OutOfMemory};
 use std::alloc::Global;
 
 /// Whether a word is without `:`.

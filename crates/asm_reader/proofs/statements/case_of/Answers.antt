@@ -1,5 +1,5 @@
 -- A word that is a case has one key and one label.
-use Rattle.std.proofs.Common.{◌≡◌, sym, ◌∙◌, subst}
+use Rattle.std.proofs.Common.{sym, ◌∙◌}
 use Rattle.std.proofs.lemmas.Bool.{false≢true}
 use Rattle.asm_reader.proofs.CasesAreWrittenOnce.{no_key, no_label}
 use Rattle.asm_reader.proofs.statements.case_of.Goals as goal

@@ -1,5 +1,4 @@
 -- The word writes one number alone.
-use Rattle.std.proofs.Common.{true, false}
 use Rattle.std.proofs.lemmas.Bool.{false≢true}
 use Rattle.asm_reader.proofs.OneCount.{no_kind}
 use Rattle.asm_reader.proofs.statements.kind_of.Goals as goal
