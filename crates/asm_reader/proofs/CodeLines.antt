@@ -1,13 +1,12 @@
 -- Words are no line of code where they are no instruction, and no label with words after it.
 use Rattle.std.proofs.Common.{◌≡◌, ◌≢◌, ℕ, List, [], ◌∷◌, ◌++◌, Option, Some, None, inl, inr, sym, subst, ◌∙◌}
-use Rattle.std.proofs.lemmas.List.{append_cancel_right}
 use Rattle.asm_reader.specs.declared.items.CodeLine.{CodeLine}
 use Rattle.asm_reader.specs.declared.items.Statement.{Statement}
 use Rattle.asm_reader.specs.declared.words.Word.{Word}
 use Rattle.asm_reader.specs.declared.words.Word.TheVariants.{Plain}
 use Rattle.asm_reader.specs.ItemParts.{IsMarked}
 use Rattle.asm_reader.specs.Items.{IsAfterLabel, IsCodeLine}
-use Rattle.asm_reader.specs.Statements.{IsStatement, IsLabel}
+use Rattle.asm_reader.specs.Statements.{IsStatement}
 use Rattle.asm_reader.proofs.NoMnemonicIsALabel.{label_is_no_mnemonic}
 
 -- words that begin with a label and a `:` are no instruction

@@ -1,6 +1,6 @@
 -- The lines of a text are its first line and the lines of what follows it.
-use Rattle.std.proofs.Common.{◌≡◌, ℕ, ◌+◌, ◌<◌, ◌≤◌, Bool, true, false, cond, List, [], ◌∷◌, length, take, drop, refl, sym, arith, Option, Some, None, length-drop, nat_eq, nat_lt}
-use Rattle.std.specs.List.{slice_split, onto_first, position_or_len, position, All}
+use Rattle.std.proofs.Common.{◌≡◌, ℕ, ◌+◌, ◌<◌, ◌≤◌, Bool, true, false, cond, List, [], ◌∷◌, length, take, drop, refl, arith, Some, None, length-drop, nat_eq, nat_lt}
+use Rattle.std.specs.List.{slice_split, position_or_len, position, All}
 use Rattle.std.proofs.lemmas.Bool.{ltb-true, ltb-false}
 use Rattle.std.proofs.lemmas.List.Splits.{slice_split_first, slice_split_none}
 use Rattle.std.proofs.lemmas.List.Sums.{fails_before_first}

@@ -1,5 +1,5 @@
 -- Words are an item as the keyword in front of them says.
-use Rattle.std.proofs.Common.{◌≡◌, ◌≢◌, ℕ, List, [], ◌∷◌, Option, Some, None, MatchOption, option_map, sym, subst, ◌∙◌}
+use Rattle.std.proofs.Common.{◌≡◌, ℕ, List, ◌∷◌, Option, Some, None, MatchOption, option_map, sym, subst, ◌∙◌}
 use Rattle.asm_reader.specs.declared.items.Item.{Item}
 use Rattle.asm_reader.specs.declared.words.Word.{Word}
 use Rattle.asm_reader.specs.declared.words.Word.TheVariants.{Plain}

@@ -1,5 +1,5 @@
 -- How lines read, one after another.
-use Rattle.std.proofs.Common.{◌≡◌, ℕ, List, [], ◌∷◌, ◌++◌, refl, sym, ◌∙◌, append_assoc}
+use Rattle.std.proofs.Common.{◌≡◌, ℕ, List, [], ◌∷◌, ◌++◌, refl, sym, append_assoc}
 use Rattle.std.proofs.lemmas.List.{append-nil}
 use Rattle.asm_reader.specs.declared.items.Item.{Item}
 use Rattle.asm_reader.specs.declared.items.LineReading.{LineReading}

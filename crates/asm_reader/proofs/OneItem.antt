@@ -1,5 +1,5 @@
 -- Words are one item.
-use Rattle.std.proofs.Common.{◌≡◌, ◌≢◌, ℕ, ◌≤◌, ℤ, pos, List, [], ◌∷◌, ◌++◌, map, decimal, Option, Some, None, codes, refl, sym, ap, ◌∙◌, arith, inl, inr}
+use Rattle.std.proofs.Common.{◌≡◌, ℕ, ℤ, List, [], ◌∷◌, ◌++◌, map, decimal, Option, Some, None, codes, refl, sym, ap, ◌∙◌, arith, inl, inr}
 use Rattle.std.proofs.lemmas.Int.{ints}
 use Rattle.std.proofs.lemmas.List.{append_cancel_right}
 use Rattle.asm_reader.specs.declared.items.ClassLine.{ClassLine}
@@ -15,8 +15,7 @@ use Rattle.asm_reader.specs.declared.items.Statement.{Statement}
 use Rattle.asm_reader.specs.declared.words.Word.{Word}
 use Rattle.asm_reader.specs.declared.words.Word.TheVariants.{Plain, Quoted}
 use Rattle.asm_reader.specs.Items.{Keyword, Class, Field, Method, Catch, End, Code, keyword_of, HasConstant, IsAfterLabel, IsCatchLine, IsCaught, IsClassLine, IsCodeLine, IsFieldLine, IsItem, IsItemOf, IsMethodLine}
-use Rattle.asm_reader.specs.Numbers.{decimal_of, IsHex, IsIntNumber, IsLongNumber}
-use Rattle.asm_reader.specs.Statements.{IsStatement}
+use Rattle.asm_reader.specs.Numbers.{decimal_of, IsIntNumber, IsLongNumber}
 use Rattle.asm_reader.proofs.CodeLines.{marked_is_no_statement}
 use Rattle.asm_reader.proofs.ItemsByKeyword.{by_keyword}
 use Rattle.asm_reader.proofs.HexDigitsMakeOneNumber.{one_hex}

@@ -4,7 +4,6 @@ use Rattle.std.specs.List.{list_all}
 use Rattle.asm_reader.specs.declared.items.Item.{Item}
 use Rattle.asm_reader.specs.declared.items.LineReading.{LineReading}
 use Rattle.asm_reader.specs.declared.items.LineReading.TheVariants.{Empty, Short, Long, Bad}
-use Rattle.asm_reader.specs.declared.words.Word.{Word}
 use Rattle.asm_reader.specs.Readings.{AreReadings, IsItemLine, IsReading}
 use Rattle.asm_reader.specs.Words.{is_short_word}
 use Rattle.asm_reader.proofs.OneItem.{one_item}

@@ -1,5 +1,5 @@
 -- The items of a text: its class, fields and methods, and the code of these.
-use Rattle.std.specs.Prelude.{◌≡◌, ◌≢◌, ℕ, ◌≤◌, ◌⊎◌, ℤ, pos, List, [], ◌∷◌, ◌++◌, map, Option, Some, None, bytes_eq, codes, if◌then◌else◌}
+use Rattle.std.specs.Prelude.{◌≡◌, ◌≢◌, ℕ, ◌≤◌, ◌⊎◌, pos, List, [], ◌∷◌, ◌++◌, map, Option, Some, None, bytes_eq, codes, if◌then◌else◌}
 use Rattle.asm_reader.specs.declared.items.ClassLine.{ClassLine}
 use Rattle.asm_reader.specs.declared.items.FieldLine.{FieldLine}
 use Rattle.asm_reader.specs.declared.items.MethodLine.{MethodLine}

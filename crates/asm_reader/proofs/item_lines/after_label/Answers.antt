@@ -1,5 +1,5 @@
 -- Words that are not none, and no instruction.
-use Rattle.std.proofs.Common.{◌≡◌, [], true, false, refl}
+use Rattle.std.proofs.Common.{◌≡◌, [], true, refl}
 use Rattle.asm_reader.proofs.CodeLines.{nothing_after}
 use Rattle.asm_reader.proofs.item_lines.after_label.Goals as goal
 
