@@ -14,4 +14,5 @@ pub mod OneReading
 pub mod OneSplitIntoWords
 pub mod OneStatement
 pub mod RowsAreFound
+pub mod TextsAndNumbers
 pub mod WhatALineBeginsWith

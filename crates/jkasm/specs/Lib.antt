@@ -1,0 +1,23 @@
+-- What a text of the assembler says: its outline, its constants and code, the class, and the first line at fault.
+pub mod Assembled
+pub mod Building
+pub mod ClassSteps
+pub mod CodeBody
+pub mod CodePlaces
+pub mod ConstantRanges
+pub mod Constants
+pub mod GoodLines
+pub mod HandlerPlaces
+pub mod LabelTables
+pub mod Labels
+pub mod Limits
+pub mod LineStops
+pub mod LineWriting
+pub mod OperandWriting
+pub mod Outline
+pub mod PoolGrowth
+pub mod PoolIndex
+pub mod PoolKeys
+pub mod Texts
+pub mod WholeText
+pub mod Written
