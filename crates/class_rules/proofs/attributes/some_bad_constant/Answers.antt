@@ -1,0 +1,21 @@
+-- One is found, or none is so.
+use Rattle.std.proofs.Common.{arith}
+use Rattle.class_rules.specs.Attributes.{IsBadConstant}
+use Rattle.class_rules.proofs.SomeItem.{none_yet, none_more, is_found, is_missed, is_not}
+use Rattle.class_rules.proofs.attributes.some_bad_constant.Goals as goal
+
+pub loop-a-init : goal.loop-a-init
+loop-a-init c = none_yet (IsBadConstant c.args.pool.now c.args.field.now) c.args.attributes.now
+
+pub loop-a-preserved : goal.loop-a-preserved
+loop-a-preserved c =
+    none_more (IsBadConstant c.args.pool.now c.args.field.now) c.args.attributes.now c.loop-a.a-index c.a-item.result c.loop-a-test.true c.a-item.is
+    (is_not c.is_bad_constant.result _ c.is_bad_constant.ensures c.if-is_bad_constant.false) c.loop-a.invariant
+
+pub returns-then-is_bad_constant : goal.returns-then-is_bad_constant
+returns-then-is_bad_constant c =
+    is_found (IsBadConstant c.args.pool.now c.args.field.now) c.args.attributes.now c.loop-a.a-index c.a-item.result c.loop-a-test.true c.a-item.is
+    (c.is_bad_constant.ensures.0 c.if-is_bad_constant.true)
+
+pub returns : goal.returns
+returns c = is_missed (IsBadConstant c.args.pool.now c.args.field.now) c.args.attributes.now c.loop-a.a-index (omega arith) c.loop-a.invariant

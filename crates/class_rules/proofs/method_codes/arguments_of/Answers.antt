@@ -1,0 +1,11 @@
+-- The slots are those of the shape that is known of the descriptor.
+use Rattle.class_rules.proofs.MethodHasOneCode.{takes_more, takes_none}
+use Rattle.class_rules.proofs.method_codes.arguments_of.Goals as goal
+
+pub returns-in-Some : goal.returns-in-Some
+returns-in-Some c =
+    takes_more c.args.pool.now c.args.flags c.args.method.now c.from.result c.in-Some.field-0-0.now c.in-Some.known c.has.result c.slots_of.result
+    c.from.ensures c.in-Some.ensures c.has.ensures c.slots_of.ensures
+
+pub returns-in-None : goal.returns-in-None
+returns-in-None c = takes_none c.args.pool.now c.args.flags c.args.method.now c.from.result c.from.ensures c.in-None.ensures

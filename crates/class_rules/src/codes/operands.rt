@@ -1,0 +1,247 @@
+//! What an instruction's operands name: entries of the pool, locals, classes and members.
+
+ghost use Rattle.std.specs.Prelude.{◌≡◌, ℕ, ◌↔◌, ◌<◌, ◌^◌, pos, List, MatchOption, IfSome, IsTrue, Some, slice_get};
+ghost use Rattle.jk_model.specs.declared.class_file.PoolEntry.{PoolEntry};
+ghost use Rattle.jk_model.specs.declared.class_file.PoolEntry.TheVariants as entries;
+ghost use Rattle.jk_model_classes.specs.Members.{MemberKind, reference};
+ghost use Rattle.jk_model_classes.specs.MemberCode.{UsesEntry, LoadsFloat, HasBadEntry, is_of_local, is_of_long_local, HasBadLocal, MakesBadArray, CallsInit};
+ghost use Rattle.class_rules.specs.Codes.{LoadsClassBy, IsOfKind, needed_kind, HasShapeDimensions, IsWrongArray, RefersToInit, MayNotNameInit};
+ghost use Rattle.class_rules.specs.Texts.{AreFacts};
+
+use crate::lookups::{begins_array, class_at, is_text, is_word};
+use crate::texts::{FieldShape, TextFacts, Word};
+use jk_model::{Instr, PoolEntry};
+
+/// `ldc` and `ldc_w`.
+const LDC: u8 = 0x13;
+
+const LDC2: u8 = 0x14;
+
+const INVOKEINTERFACE: u8 = 0xb9;
+
+const NEW: u8 = 0xbb;
+
+const ANEWARRAY: u8 = 0xbd;
+
+const MULTIANEWARRAY: u8 = 0xc5;
+
+/// What kind of entry an instruction names.
+#[derive(Clone, Copy, Debug)]
+pub(crate) enum EntryKind {
+    /// An int or a string.
+    Constant,
+    Long,
+    Float,
+    Double,
+    Class,
+    Field,
+    Method,
+    InterfaceMethod,
+}
+
+/// Whether an entry is of this kind.
+fn is_of_kind(entry: &PoolEntry, kind: EntryKind) -> bool
+    ensures { IsTrue result ↔ IsOfKind kind entry.now }
+{
+    match kind {
+        EntryKind::Constant => matches!(entry, PoolEntry::Integer(_) | PoolEntry::Str(_)),
+        EntryKind::Long => matches!(entry, PoolEntry::Long(_)),
+        EntryKind::Float => matches!(entry, PoolEntry::Float(_)),
+        EntryKind::Double => matches!(entry, PoolEntry::Double(_)),
+        EntryKind::Class => matches!(entry, PoolEntry::Class(_)),
+        EntryKind::Field => matches!(entry, PoolEntry::FieldRef(_, _)),
+        EntryKind::Method => matches!(entry, PoolEntry::MethodRef(_, _)),
+        EntryKind::InterfaceMethod => matches!(entry, PoolEntry::InterfaceMethodRef(_, _)),
+    }
+}
+
+/// The first operand, as an index.
+fn index_of(instr: &Instr) -> Option<usize>
+    ensures is { MatchOption result ((i : ℕ) → instr.now.a ≡ pos i → ⊥) (λ i. instr.now.a ≡ pos i) }
+    ensures small { IfSome result (λ i. i < 2 ^ 31) }
+{
+    if instr.a < 0 {
+        None
+    } else {
+        Some(instr.a as usize)
+    }
+}
+
+/// Whether the first operand is the index of an entry of this kind.
+fn uses_entry(pool: &[PoolEntry], instr: &Instr, kind: EntryKind) -> bool
+    ensures { IsTrue result ↔ UsesEntry (IsOfKind kind) pool.now instr.now }
+{
+    let Some(i) = index_of(instr) else {
+        return false;
+    };
+    match pool.get(i) {
+        Some(entry) => is_of_kind(entry, kind),
+        None => false,
+    }
+}
+
+/// Whether an instruction loads a constant of float or double.
+pub(crate) fn loads_float(pool: &[PoolEntry], instr: &Instr) -> bool
+    ensures { IsTrue result ↔ LoadsFloat pool.now instr.now }
+{
+    (instr.op == LDC && uses_entry(pool, instr, EntryKind::Float))
+        || (instr.op == LDC2 && uses_entry(pool, instr, EntryKind::Double))
+}
+
+/// Whether an instruction loads a class as a constant.
+pub(crate) fn loads_class(pool: &[PoolEntry], instr: &Instr) -> bool
+    ensures { IsTrue result ↔ LoadsClassBy pool.now instr.now }
+{
+    instr.op == LDC && uses_entry(pool, instr, EntryKind::Class)
+}
+
+/// The kind of entry that an instruction of this opcode needs.
+#[tactic(auto, unfolding(crate::specs::Codes::needed_kind))]
+fn needed_kind(op: u8) -> Option<EntryKind>
+    ensures { result ≡ needed_kind op }
+{
+    match op {
+        LDC => Some(EntryKind::Constant),
+        LDC2 => Some(EntryKind::Long),
+        0xb2..=0xb5 => Some(EntryKind::Field),
+        0xb6..=0xb8 => Some(EntryKind::Method),
+        INVOKEINTERFACE => Some(EntryKind::InterfaceMethod),
+        NEW | ANEWARRAY | 0xc0 | 0xc1 | MULTIANEWARRAY => Some(EntryKind::Class),
+        _ => None,
+    }
+}
+
+/// Whether the entry that an instruction needs is missing, or of another kind.
+pub(crate) fn has_bad_entry(pool: &[PoolEntry], instr: &Instr) -> bool
+    ensures { IsTrue result ↔ HasBadEntry pool.now instr.now }
+{
+    match needed_kind(instr.op) {
+        Some(kind) => !uses_entry(pool, instr, kind),
+        None => false,
+    }
+}
+
+/// `iload`, `aload`, `istore`, `astore` and `iinc`.
+fn is_of_local(op: u8) -> bool
+    ensures { result ≡ is_of_local op }
+{
+    matches!(op, 0x15 | 0x19 | 0x36 | 0x3a | 0x84)
+}
+
+/// `lload` and `lstore`.
+fn is_of_long_local(op: u8) -> bool
+    ensures { result ≡ is_of_long_local op }
+{
+    matches!(op, 0x16 | 0x37)
+}
+
+/// Whether the local of an instruction, or the second half of a long's, isn't there.
+pub(crate) fn has_bad_local(max_locals: u16, instr: &Instr) -> bool
+    ensures { IsTrue result ↔ HasBadLocal max_locals instr.now }
+{
+    let Some(local) = index_of(instr) else {
+        return false;
+    };
+    let end = usize::from(max_locals);
+    (is_of_local(instr.op) && end <= local) || (is_of_long_local(instr.op) && end <= local + 1)
+}
+
+/// Whether a type is an array's with at least so many dimensions.
+fn has_dimensions(field: Option<FieldShape>, n: i32) -> bool
+    ensures { IsTrue result ↔ HasShapeDimensions field n }
+{
+    match field {
+        Some(shape) => shape.dims >= 1 && i32::from(shape.dims) >= n,
+        None => false,
+    }
+}
+
+/// Whether a class is wrong for an instruction that makes an array or an object of it: its name, and the type
+/// that the name is a descriptor of.
+fn is_wrong_array(instr: &Instr, name: &[u8], field: Option<FieldShape>) -> bool
+    ensures { IsTrue result ↔ IsWrongArray instr.now name.now field }
+{
+    match instr.op {
+        NEW => begins_array(name),
+        MULTIANEWARRAY => !has_dimensions(field, instr.b),
+        ANEWARRAY => has_dimensions(field, 255),
+        _ => false,
+    }
+}
+
+/// Whether an instruction makes an array of a class that isn't right for it, or an object of an array's.
+pub(crate) fn makes_bad_array(
+    pool: &[PoolEntry],
+    facts: &[Option<TextFacts>],
+    instr: &Instr,
+) -> bool
+    requires { AreFacts pool.now facts.now }
+    ensures { IsTrue result ↔ MakesBadArray pool.now instr.now }
+{
+    let Some(i) = index_of(instr) else {
+        return false;
+    };
+    match class_at(pool, facts, i) {
+        Some((name, known)) => is_wrong_array(instr, name, known.field),
+        None => false,
+    }
+}
+
+/// The index of the name and type in the reference at an index.
+fn pair_at(pool: &[PoolEntry], i: usize) -> Option<u16>
+    ensures { MatchOption result
+        ((kind : MemberKind) (class pair : ℕ) → slice_get pool.now i ≡ Some (reference kind class pair) → ⊥)
+        (λ pair. (kind : MemberKind) × (class : ℕ) × (slice_get pool.now i ≡ Some (reference kind class pair))) }
+{
+    match pool.get(i) {
+        Some(PoolEntry::FieldRef(_, pair)) => Some(*pair),
+        Some(PoolEntry::MethodRef(_, pair)) => Some(*pair),
+        Some(PoolEntry::InterfaceMethodRef(_, pair)) => Some(*pair),
+        _ => None,
+    }
+}
+
+/// The indices of a name and of a type, where an entry of both stands at an index.
+fn name_and_type_at(pool: &[PoolEntry], i: usize) -> Option<(u16, u16)>
+    ensures { MatchOption result
+        ((n d : ℕ) → slice_get pool.now i ≡ Some (entries.NameAndType n d) → ⊥)
+        (λ found. slice_get pool.now i ≡ Some (entries.NameAndType found.0 found.1)) }
+{
+    match pool.get(i) {
+        Some(PoolEntry::NameAndType(name, descriptor)) => Some((*name, *descriptor)),
+        _ => None,
+    }
+}
+
+/// Whether a reference to a member called `<init>` stands at an index.
+fn refers_to_init(pool: &[PoolEntry], facts: &[Option<TextFacts>], i: usize) -> bool
+    requires { AreFacts pool.now facts.now }
+    ensures { IsTrue result ↔ RefersToInit pool.now i }
+{
+    let Some(pair) = pair_at(pool, i) else {
+        return false;
+    };
+    let Some((name, descriptor)) = name_and_type_at(pool, usize::from(pair)) else {
+        return false;
+    };
+    is_word(pool, facts, usize::from(name), Word::Init)
+        && is_text(pool, facts, usize::from(descriptor))
+}
+
+/// Whether an instruction of this opcode may name a member, but none called `<init>`.
+fn may_not_name_init(op: u8) -> bool
+    ensures { IsTrue result ↔ MayNotNameInit op }
+{
+    matches!(op, 0xb2..=0xb6 | 0xb8 | 0xb9)
+}
+
+/// Whether an instruction other than `invokespecial` names `<init>`.
+pub(crate) fn calls_init(pool: &[PoolEntry], facts: &[Option<TextFacts>], instr: &Instr) -> bool
+    requires { AreFacts pool.now facts.now }
+    ensures { IsTrue result ↔ CallsInit pool.now instr.now }
+{
+    match index_of(instr) {
+        Some(i) => may_not_name_init(instr.op) && refers_to_init(pool, facts, i),
+        None => false,
+    }
+}
