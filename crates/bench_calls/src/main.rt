@@ -3,6 +3,7 @@
 //! (`words` has no input, and always makes its pool).
 #![tactic(auto)]
 
+mod class_files;
 mod inputs;
 mod readers;
 mod stores;
@@ -25,7 +26,8 @@ fn answer(alloc: Global, call: &str, size: usize, calls: bool) -> Option<usize> 
         "two-pages" => stores::extents(alloc, size, 2, calls),
         "words" => stores::words(alloc, size),
         "numbers" => stores::numbers(alloc, size, calls),
-        _ => None,
+        "assemble" => class_files::assembled(alloc, size, calls),
+        _ => class_files::answer(alloc, call, u16::try_from(size).ok()?, calls),
     }
 }
 

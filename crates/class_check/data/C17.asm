@@ -1,0 +1,1 @@
+class 0021 Other java/lang/Object

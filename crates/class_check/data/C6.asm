@@ -1,0 +1,1 @@
+class 0411 C6 java/lang/Object

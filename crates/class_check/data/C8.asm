@@ -1,0 +1,2 @@
+class 0021 C8 java/lang/Object
+field 0001 a X

@@ -1,0 +1,1 @@
+class 0021 jk/C17 java/lang/Object

@@ -1,0 +1,1 @@
+class 0021 p/C17kept java/lang/Object

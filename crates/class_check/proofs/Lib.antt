@@ -1,0 +1,2 @@
+-- Lemmas on files and the rules that they break.
+mod RefusalsAreRules
