@@ -1,6 +1,5 @@
 -- The class file of a complete class.
-use Rattle.std.proofs.Common.{◌≡◌, ℕ, inl, inr, Bool, false, is_some, List, [], ◌++◌, Option, Some, None, refl, sym, subst, arith}
-use Rattle.jk_model.specs.declared.class_file.Attribute.{Attribute}
+use Rattle.std.proofs.Common.{◌≡◌, inl, false, is_some, List, [], Option, Some, None, refl, arith}
 use Rattle.jk_model.specs.declared.class_file.ClassFile.{ClassFile}
 use Rattle.jk_model.specs.declared.class_file.PoolEntry.{PoolEntry}
 use Rattle.jk_model.specs.ClassFile.{IsU2, IsClass, class_bytes}

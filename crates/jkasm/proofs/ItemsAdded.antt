@@ -1,10 +1,9 @@
 -- What an item adds to the class that is built, and which items can't be added.
-use Rattle.std.proofs.Common.{◌≡◌, ℕ, ◌+◌, ◌≤◌, ◌<◌, ◌⊎◌, ◌&&◌, inl, inr, Bool, true, false, is_some, is_none, List, [], ◌∷◌, ◌++◌, length, Option, Some, None, refl, sym, ◌∙◌, ap, subst, arith}
-use Rattle.std.specs.List.{AllByRecursion}
+use Rattle.std.proofs.Common.{◌≡◌, ℕ, ◌+◌, ◌≤◌, ◌<◌, ◌⊎◌, ◌&&◌, inl, inr, Bool, true, false, is_some, is_none, List, [], ◌∷◌, ◌++◌, length, Option, Some, None, refl, sym, ap, subst, arith}
 use Rattle.std.proofs.lemmas.List.{length_push}
 use Rattle.jk_model.specs.declared.class_file.MemberInfo.{MemberInfo}
 use Rattle.jk_model.specs.declared.class_file.PoolEntry.{PoolEntry}
-use Rattle.jk_model.specs.ClassFile.{IsMember, AreMembers}
+use Rattle.jk_model.specs.ClassFile.{IsMember}
 use Rattle.jk_model.proofs.EachItem.{all_push}
 use Rattle.asm_reader.specs.declared.items.CatchLine.{CatchLine}
 use Rattle.asm_reader.specs.declared.items.ClassLine.{ClassLine}
@@ -17,19 +16,18 @@ use Rattle.asm_reader.specs.declared.items.MethodLine.{MethodLine}
 use Rattle.jkasm.specs.declared.class_builder.ClassBuilder.{ClassBuilder}
 use Rattle.jkasm.specs.declared.class_builder.Header.{Header}
 use Rattle.jkasm.specs.declared.method_builder.MethodBuilder.{MethodBuilder}
-use Rattle.jkasm.specs.Assembled.{Agree, IsFieldOf, IsMethodOf}
+use Rattle.jkasm.specs.Assembled.{IsFieldOf, IsMethodOf}
 use Rattle.jkasm.specs.Building.{IsMethodSoFar, IsHeader, IsHeaderOf, IsNamed, IsUnfinished, IsBuilt}
 use Rattle.jkasm.specs.ClassSteps.{Adds, CannotBeAdded}
-use Rattle.jkasm.specs.CodePlaces.{place_after}
 use Rattle.jkasm.specs.Constants.{for_item, for_statement, for_caught}
 use Rattle.jkasm.specs.GoodLines.{HasGoodLabels, AllStand, HasCodeOrNothing, IsGoodInUnfinished}
 use Rattle.jkasm.specs.Limits.{MAX_COUNT, IsShortMethod, IsShortUnfinished, IsWithinLimits, unfinished_count}
 use Rattle.jkasm.specs.Outline.{MethodText, Outline, after_item, items_of, codes_to_end}
-use Rattle.jkasm.specs.PoolGrowth.{Extends, Takes, HasNoRoom}
-use Rattle.jkasm.proofs.LaterPools.{fields_later, methods_later, so_far_later, classes_later}
+use Rattle.jkasm.specs.PoolGrowth.{Extends, Takes}
+use Rattle.jkasm.proofs.LaterPools.{fields_later, methods_later, classes_later}
 use Rattle.jkasm.proofs.ListsAgree.{agree_push, agree_length}
 use Rattle.jkasm.proofs.SaysLater.{class_later}
-use Rattle.jkasm.proofs.TakesInTurn.{extends_same, takes_none}
+use Rattle.jkasm.proofs.TakesInTurn.{takes_none}
 
 -- ---- The parts of a class that an item leaves as they are.
 
@@ -147,7 +145,6 @@ between pool (Some line) None u later b is un room = absurd is
 between pool (Some line) (Some h) None later b is un room = ((line, refl), refl)
 between pool (Some line) (Some h) (Some m) later None is un room = absurd un
 between pool (Some line) (Some h) (Some m) later (Some b) is un room = absurd cc
-
 
 same_header : (pool : List PoolEntry) (class : Option ClassLine) (h : Option Header) → IsHeader pool class h → is_some h ≡ is_some class
 same_header pool None h is = rw is refl

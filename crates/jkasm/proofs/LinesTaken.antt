@@ -1,9 +1,8 @@
 -- A line is taken into the class of those before it, or is the first at fault; and how a text ends.
-use Rattle.std.proofs.Common.{◌≡◌, ℕ, suc, ◌+◌, ◌<◌, ◌≤◌, inl, inr, List, [], ◌∷◌, ◌++◌, length, take, drop, Option, Some, None, slice_get, refl, sym, ◌∙◌, ap, subst, arith, add-one, below_more}
+use Rattle.std.proofs.Common.{◌≡◌, ℕ, suc, ◌<◌, inl, List, [], ◌∷◌, ◌++◌, length, drop, Some, slice_get, refl, sym, ◌∙◌, subst, arith, add-one, below_more}
 use Rattle.std.specs.List.{AllByRecursion}
 use Rattle.std.proofs.lemmas.List.{append-nil}
 use Rattle.jk_model.specs.declared.class_file.PoolEntry.{PoolEntry}
-use Rattle.asm_reader.specs.declared.items.ClassLine.{ClassLine}
 use Rattle.asm_reader.specs.declared.items.Item.{Item}
 use Rattle.asm_reader.specs.declared.items.LineReading.{LineReading}
 use Rattle.asm_reader.specs.declared.items.LineReading.TheVariants.{Empty, Short, Long, Bad}
@@ -11,13 +10,13 @@ use Rattle.jkasm.specs.declared.class_builder.ClassBuilder.{ClassBuilder}
 use Rattle.jkasm.specs.Building.{IsBuilt}
 use Rattle.jkasm.specs.ClassSteps.{Adds, CannotBeAdded}
 use Rattle.jkasm.specs.ConstantRanges.{AreInRange}
-use Rattle.jkasm.specs.Constants.{PoolConstant, HasJust, for_item, for_reading, needed_first}
-use Rattle.jkasm.specs.GoodLines.{IsGoodInUnfinished, IsGoodItem, IsGoodReading, IsGoodLine, AreGoodBefore, IsComplete, EndsWell, IsFirstFaulty}
+use Rattle.jkasm.specs.Constants.{PoolConstant, HasJust, for_item, needed_first}
+use Rattle.jkasm.specs.GoodLines.{IsGoodInUnfinished, IsGoodItem, IsGoodReading, IsGoodLine, AreGoodBefore, IsFirstFaulty}
 use Rattle.jkasm.specs.Limits.{FitPool, IsWithinLimits}
-use Rattle.jkasm.specs.Outline.{Outline, outline, nothing_yet, after_item, items_of, codes_to_end}
+use Rattle.jkasm.specs.Outline.{Outline, nothing_yet, after_item, items_of, codes_to_end}
 use Rattle.jkasm.specs.WholeText.{IsSoundReading, IsBuiltSoFar}
 use Rattle.jkasm.proofs.ItemsAdded.{empty_passed}
-use Rattle.jkasm.proofs.OutlinesInTurn.{take_next, drop_next, outline_next, outline_same, needed_next, needed_in_range}
+use Rattle.jkasm.proofs.OutlinesInTurn.{drop_next, outline_next, outline_same, needed_next, needed_in_range}
 
 -- nothing is built of no lines
 pub nothing_built : (readings : List LineReading) (b : ClassBuilder) → IsBuilt nothing_yet readings b → HasJust b.pool []

@@ -1,5 +1,5 @@
 -- What the lines of a text say and need, line by line: the outline of one line more, and the constants that it needs.
-use Rattle.std.proofs.Common.{◌≡◌, ℕ, zero, suc, List, [], ◌∷◌, ◌++◌, Option, Some, None, slice_get, take, drop, refl, sym, ◌∙◌, ap, append_assoc}
+use Rattle.std.proofs.Common.{◌≡◌, ℕ, zero, suc, List, [], ◌∷◌, ◌++◌, Some, None, slice_get, take, drop, refl, sym, ◌∙◌, ap, append_assoc}
 use Rattle.std.specs.Option.{option_and_then}
 use Rattle.std.specs.List.{AllByRecursion}
 use Rattle.std.proofs.lemmas.List.{append-nil}
@@ -8,7 +8,7 @@ use Rattle.asm_reader.specs.declared.items.Item.{Item}
 use Rattle.asm_reader.specs.declared.items.LineReading.{LineReading}
 use Rattle.asm_reader.specs.declared.items.LineReading.TheVariants.{Empty, Short, Long, Bad}
 use Rattle.jkasm.specs.ConstantRanges.{IsInRange, AreInRange}
-use Rattle.jkasm.specs.Constants.{PoolConstant, for_reading, needed_first}
+use Rattle.jkasm.specs.Constants.{for_reading, needed_first}
 use Rattle.jkasm.specs.Outline.{Outline, nothing_yet, after_item, after_items, outline, items_of}
 use Rattle.jkasm.specs.WholeText.{IsSoundReading}
 
@@ -44,7 +44,7 @@ after_next [] o so_far next item h k =
     rw (same, k) refl
 after_next (x ∷ items) o so_far next item h k =
     (elim (after_item o x) as (λ a. option_and_then (λ n. after_items n items) a ≡ Some so_far
-      → option_and_then (λ n. after_items n (items ++ item ∷ [])) a ≡ Some next) [
+    → option_and_then (λ n. after_items n (items ++ item ∷ [])) a ≡ Some next) [
       | None ↦ λ e. cc
       | Some n ↦ λ e. after_next items n so_far next item e k
     ]) h

@@ -1,5 +1,5 @@
 -- Lines that read as items have texts that may stand in a pool, and numbers within their types.
-use Rattle.std.proofs.Common.{◌≡◌, ℕ, Bool, true, false, List, [], ◌∷◌, Option, Some, None}
+use Rattle.std.proofs.Common.{ℕ, Bool, true, false, List, [], ◌∷◌, Option, Some, None}
 use Rattle.std.specs.List.{AllByRecursion, flat_map}
 use Rattle.jk_model.proofs.EachItem.{all_append}
 use Rattle.asm_reader.specs.declared.items.Constant.{Constant}

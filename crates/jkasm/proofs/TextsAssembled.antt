@@ -1,5 +1,5 @@
 -- A text is assembled, or is refused at one line, and not both.
-use Rattle.std.proofs.Common.{◌≡◌, ℕ, suc, ◌+◌, ◌<◌, ◌≤◌, ◌⊎◌, inl, inr, Bool, List, [], ◌∷◌, length, take, drop, Option, Some, None, Result, Ok, Err, IfOk, MatchResult, IsSome, refl, sym, ◌∙◌, ap, subst, arith, ◌==◌}
+use Rattle.std.proofs.Common.{◌≡◌, ℕ, suc, ◌+◌, ◌<◌, ◌≤◌, ◌⊎◌, inl, inr, List, [], ◌∷◌, length, Some, Result, Ok, Err, IfOk, MatchResult, IsSome, refl, sym, ◌∙◌, ap, subst, arith, ◌==◌}
 use Rattle.std.specs.List.{slice_split}
 use Rattle.std.proofs.lemmas.List.Splits.{length-slice_split}
 use Rattle.std.proofs.lemmas.List.Sums.{count_by-le-length}
@@ -17,7 +17,7 @@ use Rattle.jkasm.specs.declared.class_builder.ClassBuilder.{ClassBuilder}
 use Rattle.jkasm.specs.Assembled.{IsAssembled}
 use Rattle.jkasm.specs.Constants.{needed_first}
 use Rattle.jkasm.specs.GoodLines.{IsGoodLine, AreGoodBefore, IsComplete, EndsWell, IsFirstFaulty, IsRefusedAt}
-use Rattle.jkasm.specs.Outline.{Outline, outline, items_of}
+use Rattle.jkasm.specs.Outline.{outline, items_of}
 use Rattle.jkasm.specs.WholeText.{IsBuiltSoFar, SaysOutline}
 
 -- ---- How many lines there are.
@@ -61,9 +61,17 @@ module _ (readings : List LineReading) (b : ClassBuilder) (so : IsBuiltSoFar rea
   whole = sym (ap (λ rs. outline (items_of rs)) (take-length readings)) ∙ so.outline_is
 
   pub ends_badly : (IsComplete so.so_far → ⊥) → IsFirstFaulty readings (suc (length readings))
-  ends_badly bad = (length readings, refl, so.good, inr (refl, λ (o, is, complete).
-    let same : o ≡ so.so_far = let e = sym is ∙ whole in cc in
-    bad (subst IsComplete same complete)))
+  ends_badly bad = (
+    length readings,
+    refl,
+    so.good,
+    inr (
+      refl,
+      λ (o, is, complete).
+          let same : o ≡ so.so_far = let e = sym is ∙ whole in cc in
+          bad (subst IsComplete same complete),
+    ),
+  )
 
   pub assembled : (text bytes : List ℕ) (c : ClassFile) → AreReadings (text_lines text) readings → IsClass (class_bytes c) c
       → SaysOutline so.so_far (needed_first (length readings) readings) c → bytes ≡ class_bytes c → IsAssembled text bytes

@@ -43,11 +43,7 @@ pub(crate) struct ClassBuilder {
 }
 
 /// What the line of a class says, with its classes in the pool.
-fn build_header(
-    alloc: Global,
-    pool: &mut PoolBuilder,
-    line: &ClassLine,
-) -> Result<Header, LineStop>
+fn build_header(alloc: Global, pool: &mut PoolBuilder, line: &ClassLine) -> Result<Header, LineStop>
     requires { HasPoolTexts (item.Class line.now) }
     ensures says { IfOk result (λ h. IsHeaderOf pool.new line.now h) }
     ensures takes { OnOk result (Takes pool.old pool.new (for_item (item.Class line.now) [])) }
@@ -81,8 +77,18 @@ impl Header {
         fields: List<MemberInfo>,
         methods: List<MemberInfo>,
     ) -> ClassFile
-        ensures parts { result ≡ record { minor = 0; major = 48; pool = pool; flags = self.flags; this_class = self.this_class;
-            super_class = self.super_class; interfaces = self.interfaces; fields = fields; methods = methods; attributes = [] } }
+        ensures parts { result ≡ record {
+          minor = 0;
+          major = 48;
+          pool = pool;
+          flags = self.flags;
+          this_class = self.this_class;
+          super_class = self.super_class;
+          interfaces = self.interfaces;
+          fields = fields;
+          methods = methods;
+          attributes = [];
+        } }
         ensures numbers { IsU2 self.flags × IsU2 self.this_class × IsU2 self.super_class }
     {
         ClassFile {

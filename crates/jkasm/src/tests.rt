@@ -29,8 +29,8 @@ const SMALL_CLASS: [u8; 141] = [
     // 1 to 4: the class and its parent
     1, 0, 1, b'A', 7, 0, 1, 1, 0, 1, b'B', 7, 0, 3, //
     // 5 to 8: the field, and its constant
-    1, 0, 1, b'L', 1, 0, 1, b'I', 1, 0, 13, b'C', b'o', b'n', b's', b't', b'a', b'n', b't', b'V', b'a',
-    b'l', b'u', b'e', 3, 0, 0, 0, 10, //
+    1, 0, 1, b'L', 1, 0, 1, b'I', 1, 0, 13, b'C', b'o', b'n', b's', b't', b'a', b'n', b't', b'V',
+    b'a', b'l', b'u', b'e', 3, 0, 0, 0, 10, //
     // 9 to 11: the method
     1, 0, 1, b'm', 1, 0, 3, b'(', b')', b'I', 1, 0, 4, b'C', b'o', b'd', b'e', //
     // flags, class, parent, no interfaces

@@ -1,10 +1,7 @@
 -- The text is assembled, or refused at its first faulty line, and not both.
-use Rattle.std.proofs.Common.{List, length, sym, subst, arith}
-use Rattle.std.specs.List.{AllByRecursion}
-use Rattle.asm_reader.specs.declared.items.LineReading.{LineReading}
+use Rattle.std.proofs.Common.{sym, subst, arith}
 use Rattle.asm_reader.specs.Readings.{AreReadings}
 use Rattle.asm_reader.specs.Words.{text_lines}
-use Rattle.jkasm.specs.WholeText.{IsSoundReading}
 use Rattle.jkasm.proofs.SoundReadings.{sound_readings}
 use Rattle.jkasm.proofs.TextsAssembled.{few_readings, only_line}
 use Rattle.jkasm.proofs.assembler.assemble.Goals as goal

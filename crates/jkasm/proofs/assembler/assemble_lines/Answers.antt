@@ -7,12 +7,12 @@ use Rattle.jkasm.proofs.assembler.assemble_lines.Goals as goal
 
 pub returns-in_default-clause-line : goal.returns-in_default-clause-line
 returns-in_default-clause-line c = λ n e.
-  let readings = c.args.readings.now in
-  let b = c.in_ok-builder.builder in
-  let so = c.in_ok-builder.ensures.built in
-  let bad = c.in_default.ensures so.so_far (drop (length readings) readings) (needed_first (length readings) readings) so.built so.pool in
-  let line : suc (length readings) ≡ n = let same : length readings + 1 ≡ n = cc in rw (← add-one (length readings)) same in
-  subst (IsFirstFaulty readings) line (ends_badly readings b so bad)
+    let readings = c.args.readings.now in
+    let b = c.in_ok-builder.builder in
+    let so = c.in_ok-builder.ensures.built in
+    let bad = c.in_default.ensures so.so_far (drop (length readings) readings) (needed_first (length readings) readings) so.built so.pool in
+    let line : suc (length readings) ≡ n = let same : length readings + 1 ≡ n = cc in rw (← add-one (length readings)) same in
+    subst (IsFirstFaulty readings) line (ends_badly readings b so bad)
 
 pub write_class-requires : goal.write_class-requires
 write_class-requires c =
@@ -23,7 +23,7 @@ write_class-requires c =
 
 pub returns-clause-assembled : goal.returns-clause-assembled
 returns-clause-assembled c = λ text read.
-  let readings = c.args.readings.now in
-  let so = c.in_ok-builder.ensures.built in
-  let file = c.in-Some.ensures so.so_far (drop (length readings) readings) (needed_first (length readings) readings) so.built so.pool in
-  assembled readings c.in_ok-builder.builder so text c.in_ok-write_class.field-0 c.in-Some.class read file.0 file.1 c.in_ok-write_class.ensures.written
+    let readings = c.args.readings.now in
+    let so = c.in_ok-builder.ensures.built in
+    let file = c.in-Some.ensures so.so_far (drop (length readings) readings) (needed_first (length readings) readings) so.built so.pool in
+    assembled readings c.in_ok-builder.builder so text c.in_ok-write_class.field-0 c.in-Some.class read file.0 file.1 c.in_ok-write_class.ensures.written

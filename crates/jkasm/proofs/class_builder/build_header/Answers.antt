@@ -1,5 +1,5 @@
 -- The classes are in the pool, or one has no room.
-use Rattle.std.proofs.Common.{ℕ, ◌<◌, ◌^◌, ◌++◌, length, Err, refl, ap, arith}
+use Rattle.std.proofs.Common.{◌++◌, Err, refl, ap, arith}
 use Rattle.std.specs.List.{flat_map}
 use Rattle.jkasm.specs.Constants.{ClassAt, for_class}
 use Rattle.jkasm.proofs.FaultOfPools.{full_at_fault}
@@ -10,20 +10,20 @@ use Rattle.jkasm.proofs.class_builder.build_header.Goals as goal
 
 pub returns-in_err-this_class-clause-fault : goal.returns-in_err-this_class-clause-fault
 returns-in_err-this_class-clause-fault c = λ e few.
-  let line = c.args.line.now in
-  let full = full_at_fault c.from_residual.result c.in_err-this_class.field-0.0 c.from_residual.ensures.1 e in
-  let none = rw c.as_slice.ensures at (c.in_err-this_class.ensures.full (ap (λ x. Err x) full)) in
-  no_room_more c.args.pool.now (for_class line.name) (for_class line.parent ++ flat_map for_class line.interfaces) none
+    let line = c.args.line.now in
+    let full = full_at_fault c.from_residual.result c.in_err-this_class.field-0.0 c.from_residual.ensures.1 e in
+    let none = rw c.as_slice.ensures at (c.in_err-this_class.ensures.full (ap (λ x. Err x) full)) in
+    no_room_more c.args.pool.now (for_class line.name) (for_class line.parent ++ flat_map for_class line.interfaces) none
 
 pub returns-in_err-super_class-clause-fault : goal.returns-in_err-super_class-clause-fault
 returns-in_err-super_class-clause-fault c = λ e few.
-  let line = c.args.line.now in
-  let rest = flat_map for_class line.interfaces in
-  let full = full_at_fault c.from_residual-in_err-super_class.result c.in_err-super_class.field-0.0 c.from_residual-in_err-super_class.ensures.1 e in
-  let none = rw c.as_slice-2.ensures at (c.in_err-super_class.ensures.full (ap (λ x. Err x) full)) in
-  let takes = rw c.as_slice.ensures at c.in_ok-this_class.ensures.takes in
-  no_room_after c.args.pool.now c.class.new.self (for_class line.name) (for_class line.parent ++ rest) takes
-  (no_room_more c.class.new.self (for_class line.parent) rest none)
+    let line = c.args.line.now in
+    let rest = flat_map for_class line.interfaces in
+    let full = full_at_fault c.from_residual-in_err-super_class.result c.in_err-super_class.field-0.0 c.from_residual-in_err-super_class.ensures.1 e in
+    let none = rw c.as_slice-2.ensures at (c.in_err-super_class.ensures.full (ap (λ x. Err x) full)) in
+    let takes = rw c.as_slice.ensures at c.in_ok-this_class.ensures.takes in
+    no_room_after c.args.pool.now c.class.new.self (for_class line.name) (for_class line.parent ++ rest) takes
+    (no_room_more c.class.new.self (for_class line.parent) rest none)
 
 pub returns-clause-says : goal.returns-clause-says
 returns-clause-says c =

@@ -6,10 +6,10 @@ use Rattle.jkasm.proofs.class_builder.ClassBuilder.add_end.Goals as goal
 
 pub returns-in_err-method-clause-fault : goal.returns-in_err-method-clause-fault
 returns-in_err-method-clause-fault c = λ o later built limits e.
-  let fault = same_fault c.from_residual.result c.in_err-method.field-0.0 c.from_residual.ensures.1 e in
-  let (m, of, is) = method_of o _ c.args.self.now c.in-Some.method built (sym c.in-Some.ensures.value) in
-  let short = short_catches o m limits of in
-  end_refused o later c.args.self.now m of (c.in_err-method.ensures.fault _ m later is short (ap (λ x. Err x) fault))
+    let fault = same_fault c.from_residual.result c.in_err-method.field-0.0 c.from_residual.ensures.1 e in
+    let (m, of, is) = method_of o _ c.args.self.now c.in-Some.method built (sym c.in-Some.ensures.value) in
+    let short = short_catches o m limits of in
+    end_refused o later c.args.self.now m of (c.in_err-method.ensures.fault _ m later is short (ap (λ x. Err x) fault))
 
 pub returns-clause-added : goal.returns-clause-added
 returns-clause-added c =
