@@ -3,7 +3,7 @@
 mod operands;
 mod places;
 
-ghost use Rattle.std.specs.Prelude.{◌≡◌, ℕ, ◌↔◌, ◌<◌, ◌⊎◌, ◌^◌, pos, IsTrue, IfOk, length};
+ghost use Rattle.std.specs.Prelude.{◌≡◌, ℕ, ◌↔◌, ◌<◌, ◌⊎◌, ◌^◌, pos, IsTrue, IfOk, IfErr, length};
 ghost use Rattle.jk_model.specs.declared.class_file.Handler.{Handler};
 ghost use Rattle.jk_model_classes.specs.ClassNames.{NamesClass};
 ghost use Rattle.jk_model_classes.specs.Items.{HasItem};
@@ -241,6 +241,7 @@ fn judge_instrs(
 fn judge_error(e: CodeError, few: bool) -> Result<CodeJudgment, OutOfMemory>
     ensures judgment { IfOk result (λ j. j ≡ refused_judgment e few) }
     ensures memory { IfOk result (λ _. IsMemoryError e → ⊥) }
+    ensures only_memory { IfErr result (λ _. IsMemoryError e) }
 {
     let judgment = CodeJudgment {
         has_float: matches!(e, CodeError::FloatOpcode(_)),
