@@ -10,7 +10,7 @@ ghost use Rattle.class_rules.specs.Attributes.{IsUnnamed, IsCalledBy, IsOfConsta
 ghost use Rattle.class_rules.specs.declared.texts.Kind.{Kind};
 ghost use Rattle.class_rules.specs.Texts.{AreFacts};
 
-use crate::lookups::{is_word, text_at};
+use crate::known_pool::KnownPool;
 use crate::texts::{FieldShape, Kind, TextFacts, Word};
 use byte_fields::{ReadError, U2, counted_of, u2_of};
 use class_reader::{CodeRefusal, read_code};
@@ -59,7 +59,11 @@ pub(crate) fn is_called(
     requires { AreFacts pool.now facts.now }
     ensures { IsTrue result ↔ IsCalledBy pool.now word a.now }
 {
-    is_word(pool, facts, usize::from(a.name), word)
+    let known = KnownPool {
+        entries: pool,
+        texts: facts,
+    };
+    known.is_word(a.name, word)
 }
 
 /// Whether some attribute is called so.
@@ -162,10 +166,14 @@ fn is_constant(
     requires { AreFacts pool.now facts.now }
     ensures { IsTrue result ↔ IsConstant pool.now field.now body.now }
 {
-    let Some((_, known)) = text_at(pool, facts, usize::from(field.descriptor)) else {
+    let known = KnownPool {
+        entries: pool,
+        texts: facts,
+    };
+    let Some(descriptor) = known.text(field.descriptor) else {
         return false;
     };
-    let Some(kind) = constant_kind(known.field) else {
+    let Some(kind) = constant_kind(descriptor.field) else {
         return false;
     };
     match index_of(body) {
@@ -249,7 +257,11 @@ pub(crate) fn method_flags(
     requires { AreFacts pool.now facts.now }
     ensures { CountFlags pool.now method.now result }
 {
-    if is_word(pool, facts, usize::from(method.name), Word::Clinit) {
+    let known = KnownPool {
+        entries: pool,
+        texts: facts,
+    };
+    if known.is_word(method.name, Word::Clinit) {
         STATIC
     } else {
         method.flags

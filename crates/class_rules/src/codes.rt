@@ -11,7 +11,7 @@ ghost use Rattle.jk_model_classes.specs.MemberCode.{LoadsFloat, IsBadInstr, Begi
 ghost use Rattle.class_rules.specs.Codes.{IsJudgment, IsReading, ArePlaces, LoadsClassBy, IsMisuse, IsBadIn, refused_judgment, IsMemoryError};
 ghost use Rattle.class_rules.specs.Texts.{AreFacts};
 
-use crate::lookups::{begins_array, class_at};
+use crate::known_pool::KnownPool;
 use crate::texts::TextFacts;
 use jk_model::{Code, Handler, Instr, OutOfMemory, PoolEntry};
 use jk_opcodes::{CodeError, decode};
@@ -117,17 +117,6 @@ fn has_bad_instr(
     false
 }
 
-/// Whether a class that isn't an array's stands at an index.
-fn names_class(pool: &[PoolEntry], facts: &[Option<TextFacts>], i: u16) -> bool
-    requires { AreFacts pool.now facts.now }
-    ensures { IsTrue result ↔ NamesClass pool.now i }
-{
-    match class_at(pool, facts, usize::from(i)) {
-        Some((name, _)) => !begins_array(name),
-        None => false,
-    }
-}
-
 /// Whether an instruction begins at a place.
 fn begins_at(code: &Code, places: &[bool], place: u16) -> bool
     requires { ArePlaces code.now places.now }
@@ -141,7 +130,11 @@ fn catches(pool: &[PoolEntry], facts: &[Option<TextFacts>], i: u16) -> bool
     requires { AreFacts pool.now facts.now }
     ensures { IsTrue result ↔ ((i ≡ 0) ⊎ NamesClass pool.now i) }
 {
-    i == 0 || names_class(pool, facts, i)
+    let known = KnownPool {
+        entries: pool,
+        texts: facts,
+    };
+    i == 0 || known.names_class(i)
 }
 
 /// Whether instructions end at a place.

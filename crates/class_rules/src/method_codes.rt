@@ -10,7 +10,7 @@ ghost use Rattle.class_rules.specs.declared.texts.Word.TheVariants as words;
 
 use crate::attributes::{STATIC, code_of, has, is_called, method_flags, needs_code};
 use crate::codes::{CodeJudgment, judge_code};
-use crate::lookups::text_at;
+use crate::known_pool::KnownPool;
 use crate::texts::{MethodShape, TextFacts, Word};
 use jk_model::{Attribute, ClassFile, Code, MemberInfo, OutOfMemory, PoolEntry};
 use std::alloc::Global;
@@ -65,8 +65,12 @@ fn arguments_of(
     requires { AreFacts pool.now facts.now }
     ensures { (max : ℕ) → max < 2 ^ 16 → (max < result) ↔ TakesMore pool.now flags method.now max }
 {
-    match text_at(pool, facts, usize::from(method.descriptor)) {
-        Some((_, known)) => slots_of(known.method, has(flags, STATIC)),
+    let known = KnownPool {
+        entries: pool,
+        texts: facts,
+    };
+    match known.text(method.descriptor) {
+        Some(descriptor) => slots_of(descriptor.method, has(flags, STATIC)),
         None => 0,
     }
 }
