@@ -49,6 +49,12 @@ pub past_texts : (pool : List PoolEntry) (table : List (Option TextFacts)) (i : 
 past_texts pool table i known past =
     λ units (bytes, here, spells). let below : i < length pool = item_within pool i (Utf8 bytes) here in omega (arith, known.long)
 
+-- what is known of a pool is known of the same entries
+pub own_known : (entries pool : List PoolEntry) (texts table : List (Option TextFacts)) → entries ≡ pool → texts ≡ table → AreFacts pool table
+    → AreFacts entries texts
+own_known entries pool texts table own same known =
+    subst (λ (p : List PoolEntry). AreFacts p texts) (sym own) (subst (λ (t : List (Option TextFacts)). AreFacts pool t) (sym same) known)
+
 -- ---- One text.
 
 -- the text at an index is one list of units

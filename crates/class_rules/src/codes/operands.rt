@@ -3,7 +3,7 @@
 ghost use Rattle.std.specs.Prelude.{◌≡◌, ℕ, ◌↔◌, ◌<◌, ◌^◌, pos, MatchOption, IfSome, IsTrue};
 ghost use Rattle.jk_model_classes.specs.MemberCode.{UsesEntry, LoadsFloat, HasBadEntry, is_of_local, is_of_long_local, HasBadLocal, MakesBadArray, CallsInit};
 ghost use Rattle.class_rules.specs.Codes.{LoadsClassBy, IsOfKind, needed_kind, HasShapeDimensions, IsWrongArray, RefersToInit, MayNotNameInit};
-ghost use Rattle.class_rules.specs.Texts.{AreFacts};
+ghost use Rattle.class_rules.specs.KnownPools.{IsKnown};
 
 use crate::known_pool::KnownPool;
 use crate::texts::{FieldShape, TextFacts, Word};
@@ -166,40 +166,28 @@ fn is_wrong_array(instr: &Instr, name: TextFacts) -> bool
 }
 
 /// Whether an instruction makes an array of a class that isn't right for it, or an object of an array's.
-pub(crate) fn makes_bad_array(
-    pool: &[PoolEntry],
-    facts: &[Option<TextFacts>],
-    instr: &Instr,
-) -> bool
-    requires { AreFacts pool.now facts.now }
-    ensures { IsTrue result ↔ MakesBadArray pool.now instr.now }
+pub(crate) fn makes_bad_array(pool: &KnownPool, instr: &Instr) -> bool
+    requires { IsKnown pool.now }
+    ensures { IsTrue result ↔ MakesBadArray pool.now.entries.now instr.now }
 {
     let Some(i) = index_of(instr) else {
         return false;
     };
-    let known = KnownPool {
-        entries: pool,
-        texts: facts,
-    };
-    match known.class_name_at(i) {
+    match pool.class_name_at(i) {
         Some(name) => is_wrong_array(instr, name),
         None => false,
     }
 }
 
 /// Whether a reference to a member called `<init>` stands at an index.
-fn refers_to_init(pool: &[PoolEntry], facts: &[Option<TextFacts>], i: usize) -> bool
-    requires { AreFacts pool.now facts.now }
-    ensures { IsTrue result ↔ RefersToInit pool.now i }
+fn refers_to_init(pool: &KnownPool, i: usize) -> bool
+    requires { IsKnown pool.now }
+    ensures { IsTrue result ↔ RefersToInit pool.now.entries.now i }
 {
-    let known = KnownPool {
-        entries: pool,
-        texts: facts,
-    };
-    let Some(entry) = known.entry_at(i) else {
+    let Some(entry) = pool.entry_at(i) else {
         return false;
     };
-    match known.reference(entry) {
+    match pool.reference(entry) {
         Some(reference) => reference.name.is(Word::Init),
         None => false,
     }
@@ -213,12 +201,12 @@ fn may_not_name_init(op: u8) -> bool
 }
 
 /// Whether an instruction other than `invokespecial` names `<init>`.
-pub(crate) fn calls_init(pool: &[PoolEntry], facts: &[Option<TextFacts>], instr: &Instr) -> bool
-    requires { AreFacts pool.now facts.now }
-    ensures { IsTrue result ↔ CallsInit pool.now instr.now }
+pub(crate) fn calls_init(pool: &KnownPool, instr: &Instr) -> bool
+    requires { IsKnown pool.now }
+    ensures { IsTrue result ↔ CallsInit pool.now.entries.now instr.now }
 {
     match index_of(instr) {
-        Some(i) => may_not_name_init(instr.op) && refers_to_init(pool, facts, i),
+        Some(i) => may_not_name_init(instr.op) && refers_to_init(pool, i),
         None => false,
     }
 }
