@@ -11,9 +11,9 @@ use Rattle.descriptors.proofs.NoTextBeginsAnother.{one_field}
 use Rattle.class_rules.specs.declared.texts.FieldShape.{FieldShape}
 use Rattle.class_rules.specs.declared.texts.TextFacts.{TextFacts}
 use Rattle.class_rules.specs.Codes.{HasShapeDimensions, IsWrongArray}
-use Rattle.class_rules.specs.Lookups.{IsKnownClass}
-use Rattle.class_rules.specs.Texts.{IsFieldShape}
-use Rattle.class_rules.proofs.TextsByFacts.{one_class, its_class, begins_array_if, begins_array_only_if}
+use Rattle.class_rules.specs.KnownPools.{IsNameKnown}
+use Rattle.class_rules.specs.Texts.{IsFieldShape, AreFactsOf}
+use Rattle.class_rules.proofs.KnownEntries.{one_class_at}
 
 dims_known : (units : List ℕ) (field : Option FieldShape) (n : ℤ) → IsFieldShape units field → HasDimensions units n → HasShapeDimensions field n
 dims_known units None n none (t, some, text, enough) = none t text
@@ -35,19 +35,17 @@ IsWrongFor instr units =
     ⊎ ((instr.op ≡ MULTIANEWARRAY) × (HasDimensions units instr.b → ⊥))
     ⊎ ((instr.op ≡ ANEWARRAY) × HasDimensions units (pos 255))
 
-wrong_by_facts : (pool : List PoolEntry) (i : ℕ) (bytes : List ℕ) (facts : TextFacts) (instr : Instr) → (k : IsKnownClass pool i bytes facts)
-    → IsWrongFor instr k.text.units → IsWrongArray instr bytes facts.field
-wrong_by_facts pool i bytes facts instr k (inl (op, begins)) = inl (op, begins_array_only_if bytes k.text.units k.text.spells begins)
-wrong_by_facts pool i bytes facts instr k (inr (inl (op, none))) =
-    inr (inl (op, λ h. none (known_dims k.text.units facts.field instr.b k.text.known.field h)))
-wrong_by_facts pool i bytes facts instr k (inr (inr (op, h))) = inr (inr (op, dims_known k.text.units facts.field (pos 255) k.text.known.field h))
+wrong_by_facts : (pool : List PoolEntry) (units : List ℕ) (facts : TextFacts) (instr : Instr) → AreFactsOf pool units facts → IsWrongFor instr units
+    → IsWrongArray instr facts
+wrong_by_facts pool units facts instr known (inl (op, begins)) = inl (op, known.begins_array.1 begins)
+wrong_by_facts pool units facts instr known (inr (inl (op, none))) = inr (inl (op, λ h. none (known_dims units facts.field instr.b known.field h)))
+wrong_by_facts pool units facts instr known (inr (inr (op, h))) = inr (inr (op, dims_known units facts.field (pos 255) known.field h))
 
-facts_are_wrong : (pool : List PoolEntry) (i : ℕ) (bytes : List ℕ) (facts : TextFacts) (instr : Instr) → (k : IsKnownClass pool i bytes facts)
-    → IsWrongArray instr bytes facts.field → IsWrongFor instr k.text.units
-facts_are_wrong pool i bytes facts instr k (inl (op, begins)) = inl (op, begins_array_if bytes k.text.units k.text.spells begins)
-facts_are_wrong pool i bytes facts instr k (inr (inl (op, none))) =
-    inr (inl (op, λ h. none (dims_known k.text.units facts.field instr.b k.text.known.field h)))
-facts_are_wrong pool i bytes facts instr k (inr (inr (op, h))) = inr (inr (op, known_dims k.text.units facts.field (pos 255) k.text.known.field h))
+facts_are_wrong : (pool : List PoolEntry) (units : List ℕ) (facts : TextFacts) (instr : Instr) → AreFactsOf pool units facts → IsWrongArray instr facts
+    → IsWrongFor instr units
+facts_are_wrong pool units facts instr known (inl (op, begins)) = inl (op, known.begins_array.0 begins)
+facts_are_wrong pool units facts instr known (inr (inl (op, none))) = inr (inl (op, λ h. none (dims_known units facts.field instr.b known.field h)))
+facts_are_wrong pool units facts instr known (inr (inr (op, h))) = inr (inr (op, known_dims units facts.field (pos 255) known.field h))
 
 same_pos : (i j : ℕ) → pos i ≡ pos j → i ≡ j
 same_pos i j e = cc
@@ -56,13 +54,13 @@ class_there : (pool : List PoolEntry) (instr : Instr) (i j : ℕ) (units : List 
     → ClassAt pool i units
 class_there pool instr i j units e f c = subst (λ (n : ℕ). ClassAt pool n units) (same_pos j i (sym f ∙ e)) c
 
-pub bad_array : (r : Bool) (pool : List PoolEntry) (instr : Instr) (i : ℕ) (bytes : List ℕ) (facts : TextFacts) → instr.a ≡ pos i
-    → IsKnownClass pool i bytes facts → (IsTrue r ↔ IsWrongArray instr bytes facts.field) → IsTrue r ↔ MakesBadArray pool instr
-bad_array r pool instr i bytes facts e k (to, from) = (
-  λ t. (k.text.units, (i, e, its_class pool i bytes facts k), facts_are_wrong pool i bytes facts instr k (to t)),
-  λ (units, (j, f, c), wrong).
-      let same : k.text.units ≡ units = one_class pool i bytes facts units k (class_there pool instr i j units e f c) in
-      from (wrong_by_facts pool i bytes facts instr k (subst (IsWrongFor instr) (sym same) wrong)),
+pub bad_array : (r : Bool) (pool : List PoolEntry) (instr : Instr) (i : ℕ) (facts : TextFacts) → instr.a ≡ pos i → IsNameKnown pool i (Some facts)
+    → (IsTrue r ↔ IsWrongArray instr facts) → IsTrue r ↔ MakesBadArray pool instr
+bad_array r pool instr i facts e (units, at, known) (to, from) = (
+  λ t. (units, (i, e, at), facts_are_wrong pool units facts instr known (to t)),
+  λ (others, (j, f, c), wrong).
+      let same : others ≡ units = one_class_at pool i others units (class_there pool instr i j others e f c) at in
+      from (wrong_by_facts pool units facts instr known (subst (IsWrongFor instr) same wrong)),
 )
 
 pub no_class : (pool : List PoolEntry) (instr : Instr) (i : ℕ) → instr.a ≡ pos i → ((units : List ℕ) → ClassAt pool i units → ⊥)

@@ -12,7 +12,6 @@ use Rattle.jk_model.specs.declared.descriptors.Base.TheVariants as bases
 use Rattle.jk_model.specs.declared.descriptors.FieldType.{FieldType}
 use Rattle.jk_model.specs.ClassFile.{u2, IsU2, NamesEntry}
 use Rattle.jk_model.specs.Descriptors.{IsFieldText}
-use Rattle.jk_model_classes.specs.Members.{TextAt}
 use Rattle.jk_model_classes.specs.MemberAttributes.{IsConstantOf, IsConstant}
 use Rattle.byte_fields.specs.OneReading.{one_u2}
 use Rattle.descriptors.proofs.NoTextBeginsAnother.{one_field}
@@ -21,9 +20,9 @@ use Rattle.class_rules.specs.declared.texts.Kind.{Kind}
 use Rattle.class_rules.specs.declared.texts.Kind.TheVariants as kinds
 use Rattle.class_rules.specs.declared.texts.TextFacts.{TextFacts}
 use Rattle.class_rules.specs.Attributes.{IsOfConstantKind}
-use Rattle.class_rules.specs.Lookups.{IsKnownText}
+use Rattle.class_rules.specs.KnownPools.{IsTextKnown}
 use Rattle.class_rules.specs.Texts.{IsFieldShape, field_shape, kind_of}
-use Rattle.class_rules.proofs.TextsByFacts.{one_text, its_text}
+use Rattle.class_rules.proofs.KnownTexts.{one_text}
 
 -- ---- Two bytes that are an index.
 
@@ -81,23 +80,19 @@ shape_is units (Some shape) t (u, known, same) text = ap (λ (s : FieldShape). S
 abbrev Shape : Kind → Option FieldShape
 Shape kind = Some (record { dims = 0; kind = kind })
 
-its_shape : (pool : List PoolEntry) (field : MemberInfo) (place : ℕ) (bytes body : List ℕ) (facts : TextFacts) → place ≡ field.descriptor
-    → IsKnownText pool place bytes facts → (h : IsConstant pool field body) → facts.field ≡ Shape (kind_of h.base)
-its_shape pool field place bytes body facts same k h =
-    let there : TextAt pool place h.units = subst (λ (n : ℕ). TextAt pool n h.units) (sym same) h.descriptor in
-    let one : k.units ≡ h.units = one_text pool place bytes facts h.units k there in
-    shape_is h.units facts.field (record { dims = 0; base = h.base })
-    (subst (λ (u : List ℕ). IsFieldShape u facts.field) one k.known.field) h.type
+its_shape : (pool : List PoolEntry) (field : MemberInfo) (body : List ℕ) (facts : TextFacts) → IsTextKnown pool field.descriptor (Some facts)
+    → (h : IsConstant pool field body) → facts.field ≡ Shape (kind_of h.base)
+its_shape pool field body facts (units, at, known) h =
+    let one : units ≡ h.units = one_text pool field.descriptor units h.units at h.descriptor in
+    shape_is h.units facts.field (record { dims = 0; base = h.base }) (subst (λ (u : List ℕ). IsFieldShape u facts.field) one known.field) h.type
 
-pub no_descriptor : (pool : List PoolEntry) (field : MemberInfo) (place : ℕ) (body : List ℕ) → place ≡ field.descriptor
-    → ((units : List ℕ) → TextAt pool place units → ⊥) → IsTrue false ↔ IsConstant pool field body
-no_descriptor pool field place body same none =
-    (λ t. absurd cc, λ h. absurd (none h.units (subst (λ (n : ℕ). TextAt pool n h.units) (sym same) h.descriptor)))
+pub no_kind : (pool : List PoolEntry) (field : MemberInfo) (body : List ℕ) (facts : TextFacts) → IsTextKnown pool field.descriptor (Some facts)
+    → ((kind : Kind) → facts.field ≡ Shape kind → ⊥) → IsTrue false ↔ IsConstant pool field body
+no_kind pool field body facts k none = (λ t. absurd cc, λ h. absurd (none (kind_of h.base) (its_shape pool field body facts k h)))
 
-pub no_kind : (pool : List PoolEntry) (field : MemberInfo) (place : ℕ) (bytes body : List ℕ) (facts : TextFacts) → place ≡ field.descriptor
-    → IsKnownText pool place bytes facts → ((kind : Kind) → facts.field ≡ Shape kind → ⊥) → IsTrue false ↔ IsConstant pool field body
-no_kind pool field place bytes body facts same k none =
-    (λ t. absurd cc, λ h. absurd (none (kind_of h.base) (its_shape pool field place bytes body facts same k h)))
+pub no_descriptor : (pool : List PoolEntry) (field : MemberInfo) (body : List ℕ) → IsTextKnown pool field.descriptor None
+    → IsTrue false ↔ IsConstant pool field body
+no_descriptor pool field body none = (λ t. absurd cc, λ h. absurd (none h.units h.descriptor))
 
 pub no_index : (pool : List PoolEntry) (field : MemberInfo) (body : List ℕ) → ((i : ℕ) → IsU2 i → body ≡ u2 i → ⊥)
     → IsTrue false ↔ IsConstant pool field body
@@ -126,14 +121,14 @@ plain_type units field kind h e = known_type (subst (IsFieldShape units) e h)
           ap (λ (s : FieldShape). s.kind) same,
         )
 
-pub constant_known : (r : Bool) (pool : List PoolEntry) (field : MemberInfo) (place : ℕ) (bytes body : List ℕ) (facts : TextFacts) (kind : Kind) (i : ℕ)
-    → place ≡ field.descriptor → IsKnownText pool place bytes facts → facts.field ≡ Shape kind → IsU2 i × (body ≡ u2 i)
+pub constant_known : (r : Bool) (pool : List PoolEntry) (field : MemberInfo) (body : List ℕ) (facts : TextFacts) (kind : Kind) (i : ℕ)
+    → IsTextKnown pool field.descriptor (Some facts) → facts.field ≡ Shape kind → IsU2 i × (body ≡ u2 i)
     → (IsTrue r ↔ NamesEntry (IsOfConstantKind kind) pool i) → IsTrue r ↔ IsConstant pool field body
-constant_known r pool field place bytes body facts kind i same k shape (fits, e) (to, from) =
-    let (base, type, is) = plain_type k.units facts.field kind k.known.field shape in (
+constant_known r pool field body facts kind i (units, at, known) shape (fits, e) (to, from) =
+    let (base, type, is) = plain_type units facts.field kind known.field shape in (
       λ t. record {
-        units = k.units;
-        descriptor = subst (λ (n : ℕ). TextAt pool n k.units) same (its_text pool place bytes facts k);
+        units = units;
+        descriptor = at;
         base = base;
         type = type;
         index = i;
@@ -141,7 +136,8 @@ constant_known r pool field place bytes body facts kind i same k shape (fits, e)
         entry = entry_of_kind pool i kind base is (to t);
       },
       λ h.
-          let one : kind ≡ kind_of h.base = same_kind kind (kind_of h.base) (sym shape ∙ its_shape pool field place bytes body facts same k h) in
+          let one : kind ≡ kind_of h.base =
+          same_kind kind (kind_of h.base) (sym shape ∙ its_shape pool field body facts (units, at, known) h) in
           let index : i ≡ h.index =
           (one_u2 i h.index [] [] fits h.bytes.0 (append-nil (u2 i) ∙ sym e ∙ h.bytes.1 ∙ sym (append-nil (u2 h.index)))).0 in
           from (kind_of_entry pool i kind h.base one (subst (λ (n : ℕ). NamesEntry (IsConstantOf h.base) pool n) (sym index) h.entry)),

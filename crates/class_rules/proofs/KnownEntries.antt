@@ -1,9 +1,8 @@
 -- What is known of an entry that is a class or a reference, and at which spots a rule on entries is broken.
-use Rattle.std.proofs.Common.{◌≡◌, ℕ, ◌⊎◌, inl, inr, ◌↔◌, refl, sym, ◌∙◌, subst, Bool, true, false, List, Option, Some, None, MatchOption}
-use Rattle.std.specs.Prelude.{slice_get, IsTrue}
+use Rattle.std.proofs.Common.{◌≡◌, ℕ, ◌⊎◌, inl, inr, ◌↔◌, refl, sym, ◌∙◌, subst, Bool, false, List, Option, Some, None, MatchOption}
+use Rattle.std.specs.Prelude.{slice_get, IsTrue, not}
 use Rattle.jk_model.specs.declared.class_file.PoolEntry.{PoolEntry}
-use Rattle.jk_model.specs.declared.class_file.PoolEntry.TheVariants.{Utf8, Class, FieldRef, MethodRef, InterfaceMethodRef, NameAndType}
-use Rattle.jk_model.specs.Text.{Spells}
+use Rattle.jk_model.specs.declared.class_file.PoolEntry.TheVariants.{Class, FieldRef, MethodRef, InterfaceMethodRef, NameAndType}
 use Rattle.jk_model_classes.specs.ClassNames.{NamesClass, BeginsArray}
 use Rattle.jk_model_classes.specs.Members.{TextAt, ClassAt, NameAndTypeAt, ReferenceAt, MemberKind}
 use Rattle.jk_model_classes.specs.Members.{Field as FieldKind, Method as MethodKind, InterfaceMethod as InterfaceMethodKind}
@@ -11,8 +10,9 @@ use Rattle.class_rules.specs.declared.known_pool.Reference.{Reference}
 use Rattle.class_rules.specs.declared.known_pool.ReferenceKind.{ReferenceKind}
 use Rattle.class_rules.specs.declared.texts.TextFacts.{TextFacts}
 use Rattle.class_rules.specs.Entries.{kind_of, class_of, reference_of, HasClassName, HasReference, IsClassSo, IsReferenceSo}
-use Rattle.class_rules.specs.KnownPools.{IsTextKnown, ArePairKnown, IsClassKnown, IsReferenceKnown}
+use Rattle.class_rules.specs.KnownPools.{IsTextKnown, ArePairKnown, IsClassKnown, IsNameKnown, IsReferenceKnown}
 use Rattle.class_rules.specs.Texts.{AreFactsOf}
+use Rattle.class_rules.proofs.Decisions.{denied}
 use Rattle.class_rules.proofs.KnownTexts.{one_text}
 
 -- the texts of a name and a descriptor at an index are at their own indices
@@ -133,7 +133,7 @@ reference_spot P pool i = (
 
 -- ---- Tests of entries.
 
-one_class_at : (pool : List PoolEntry) (i : ℕ) (u v : List ℕ) → ClassAt pool i u → ClassAt pool i v → u ≡ v
+pub one_class_at : (pool : List PoolEntry) (i : ℕ) (u v : List ℕ) → ClassAt pool i u → ClassAt pool i v → u ≡ v
 one_class_at pool i u v (n, at, first) (m, here, second) =
     let same : Some (Class m) ≡ Some (Class n) = sym here ∙ at in
     let names : m ≡ n = cc in
@@ -186,19 +186,61 @@ no_class_decides P Q pool entry b none says = (
 
 -- ---- The class at an index.
 
--- the entry at an index is a class, and no name of it begins as that of an array does
-pub class_begins : (pool : List PoolEntry) (i name : ℕ) (bytes units : List ℕ) (b : Bool) → slice_get pool i ≡ Some (Class name)
-    → slice_get pool name ≡ Some (Utf8 bytes) → Spells bytes units → IsTrue b ↔ BeginsArray units → IsTrue b ↔ (NamesClass pool i → ⊥)
-class_begins pool i name bytes units true at here spells says =
-    (λ e (v, there, unlike). unlike (subst BeginsArray (one_class_at pool i units v (name, at, (bytes, here, spells)) there) (says.0 refl)), λ never. refl)
-class_begins pool i name bytes units false at here spells says = (
-  λ e. absurd cc,
-  λ never. absurd (never (units, (name, at, (bytes, here, spells)), λ begins. let same : false ≡ true = says.1 begins in cc)),
+-- what is known of a class's name at the index of the class
+pub name_known : (pool : List PoolEntry) (i : ℕ) (entry : PoolEntry) (found : Option TextFacts) → slice_get pool i ≡ Some entry
+    → IsClassKnown pool entry found → IsNameKnown pool i found
+name_known pool i entry None at none =
+    λ units (name, here, text).
+    let same : Some (Class name) ≡ Some entry = sym here ∙ at in
+    let class : Class name ≡ entry = cc in
+    none units (subst (λ (e : PoolEntry). HasClassName pool e units) class text)
+name_known pool i entry (Some facts) at (units, has, known) = (units, class_at pool i entry units at has, known)
+
+pub no_name_known : (pool : List PoolEntry) (i : ℕ) → slice_get pool i ≡ None → IsNameKnown pool i None
+no_name_known pool i at = λ units (name, here, text). let same : Some (Class name) ≡ None = sym here ∙ at in cc
+
+-- a class is none of an array by the first unit of its name
+pub named_by_first : (pool : List PoolEntry) (i place : ℕ) (facts : TextFacts) → place ≡ i → IsNameKnown pool place (Some facts)
+    → IsTrue (not facts.begins_array) ↔ NamesClass pool i
+named_by_first pool i place facts same (units, at, known) =
+    let unlike = denied facts.begins_array known.begins_array in
+    let here = subst (λ (n : ℕ). ClassAt pool n units) same at in (
+      λ e. (units, here, unlike.0 e),
+      λ (v, there, none). unlike.1 (subst (λ (u : List ℕ). BeginsArray u → ⊥) (one_class_at pool i v units there here) none),
+    )
+
+pub never_named : (pool : List PoolEntry) (i place : ℕ) → place ≡ i → IsNameKnown pool place None → IsTrue false ↔ NamesClass pool i
+never_named pool i place same none =
+    (λ e. absurd cc, λ (units, at, unlike). absurd (none units (subst (λ (n : ℕ). ClassAt pool n units) (sym same) at)))
+
+-- ---- The reference at an index.
+
+-- a member of this name is referred to at an index where the reference there says so
+pub refers_to : (word : List ℕ) (pool : List PoolEntry) (i : ℕ) (entry : PoolEntry) (b : Bool) → slice_get pool i ≡ Some entry
+    → IsTrue b ↔ IsReferenceSo (λ kind name descriptor. name ≡ word) pool entry
+    → IsTrue b ↔ ((kind : MemberKind) × (descriptor : List ℕ) × ReferenceAt pool i kind word descriptor)
+refers_to word pool i entry b at says = (
+  λ e.
+      let (kind, name, descriptor, has, same) = says.0 e in
+      (kind, descriptor, subst (λ (n : List ℕ). ReferenceAt pool i kind n descriptor) same (reference_at pool i entry kind name descriptor at has)),
+  λ (kind, descriptor, there).
+      let (other, here, so) = entry_of (λ kind name descriptor. name ≡ word) pool i kind word descriptor there refl in
+      let both : Some other ≡ Some entry = sym here ∙ at in
+      let same : other ≡ entry = cc in
+      says.1 (subst (λ (e : PoolEntry). IsReferenceSo (λ kind name descriptor. name ≡ word) pool e) same so),
 )
 
-pub no_class_text : (pool : List PoolEntry) (i name : ℕ) → slice_get pool i ≡ Some (Class name)
-    → ((bytes : List ℕ) → slice_get pool name ≡ Some (Utf8 bytes) → ⊥) → NamesClass pool i → ⊥
-no_class_text pool i name at none (units, (n, here, (bytes, text, spells)), unlike) =
-    let same : Some (Class n) ≡ Some (Class name) = sym here ∙ at in
-    let names : n ≡ name = cc in
-    none bytes (subst (λ (k : ℕ). slice_get pool k ≡ Some (Utf8 bytes)) names text)
+pub refers_to_none : (word : List ℕ) (pool : List PoolEntry) (i : ℕ) (entry : PoolEntry) → slice_get pool i ≡ Some entry
+    → IsReferenceKnown pool entry None → IsTrue false ↔ ((kind : MemberKind) × (descriptor : List ℕ) × ReferenceAt pool i kind word descriptor)
+refers_to_none word pool i entry at none =
+    refers_to word pool i entry false at (λ e. absurd cc, λ (kind, name, descriptor, has, same). absurd (none kind name descriptor has))
+
+pub refers_nowhere : (word : List ℕ) (pool : List PoolEntry) (i : ℕ) → slice_get pool i ≡ None
+    → IsTrue false ↔ ((kind : MemberKind) × (descriptor : List ℕ) × ReferenceAt pool i kind word descriptor)
+refers_nowhere word pool i at = (
+  λ e. absurd cc,
+  λ (kind, descriptor, there).
+      let (other, here, so) = entry_of (λ kind name descriptor. name ≡ word) pool i kind word descriptor there refl in
+      let same : Some other ≡ None = sym here ∙ at in
+      absurd cc,
+)

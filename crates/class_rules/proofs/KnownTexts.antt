@@ -43,26 +43,17 @@ known_text pool table i (Some facts) known at =
     let entry = entry_at pool table i (Some facts) known at in
     at_entry pool i entry.0 facts entry.1 entry.2
 
-text_at_entry : (pool : List PoolEntry) (bytes : List ℕ) (found : Option TextFacts) → AreFactsAt pool (Utf8 bytes) found
-    → (units : List ℕ) × Spells bytes units
-text_at_entry pool bytes None h = absurd h
-text_at_entry pool bytes (Some facts) h = (h.0, h.1)
-
--- the bytes of a text spell units
-pub spelled : (pool : List PoolEntry) (table : List (Option TextFacts)) (i : ℕ) (bytes : List ℕ) → AreFacts pool table
-    → slice_get pool i ≡ Some (Utf8 bytes) → (units : List ℕ) × Spells bytes units
-spelled pool table i bytes known here =
-    let below : i < length pool = item_within pool i (Utf8 bytes) here in
-    elim (slice_get_cases table i).1 [
-      | inl k ↦ text_at_entry pool bytes k.0 (known.at i (Utf8 bytes) k.0 here k.2)
-      | inr k ↦ absurd (omega (arith, k.0, known.long))
-    ]
-
 -- no text stands past the end of the table
 pub past_texts : (pool : List PoolEntry) (table : List (Option TextFacts)) (i : ℕ) → AreFacts pool table → length table ≤ i
     → IsTextKnown pool i None
 past_texts pool table i known past =
     λ units (bytes, here, spells). let below : i < length pool = item_within pool i (Utf8 bytes) here in omega (arith, known.long)
+
+-- what is known of a pool is known of the same entries
+pub own_known : (entries pool : List PoolEntry) (texts table : List (Option TextFacts)) → entries ≡ pool → texts ≡ table → AreFacts pool table
+    → AreFacts entries texts
+own_known entries pool texts table own same known =
+    subst (λ (p : List PoolEntry). AreFacts p texts) (sym own) (subst (λ (t : List (Option TextFacts)). AreFacts pool t) (sym same) known)
 
 -- ---- One text.
 

@@ -2,7 +2,6 @@
 mod AllItems
 mod ArraysByFacts
 mod AttributesReadEach
-mod BracketFirst
 mod ClassNameByParts
 mod CodeIsJudged
 mod CodesReadEach
@@ -35,7 +34,6 @@ mod RepeatsByKeys
 mod RulesReadEach
 mod SomeItem
 mod TextsAreLong
-mod TextsByFacts
 mod TextsSoFar
 mod TwoItems
 mod WritableParts

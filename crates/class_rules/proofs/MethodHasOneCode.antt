@@ -13,7 +13,6 @@ use Rattle.jk_model.specs.ClassFile.{CodeLayout}
 use Rattle.jk_model.specs.Descriptors.{IsMethodText, method_slots, receiver_slots}
 use Rattle.jk_model_classes.specs.ClassFlags.{STATIC, NATIVE, ABSTRACT, has}
 use Rattle.jk_model_classes.specs.Items.{HasItemBefore, HasTwoItems}
-use Rattle.jk_model_classes.specs.Members.{TextAt}
 use Rattle.descriptors.proofs.NoTextBeginsAnother.{one_method}
 use Rattle.class_rules.specs.declared.codes.CodeJudgment.{CodeJudgment}
 use Rattle.class_rules.specs.declared.texts.MethodShape.{MethodShape}
@@ -21,12 +20,12 @@ use Rattle.class_rules.specs.declared.texts.TextFacts.{TextFacts}
 use Rattle.class_rules.specs.declared.texts.Word.TheVariants.{Code}
 use Rattle.class_rules.specs.Attributes.{IsCalledBy, CountFlags, needs_code, HasBadMethodAttributes}
 use Rattle.class_rules.specs.Codes.{IsJudgment}
-use Rattle.class_rules.specs.Lookups.{IsKnownText}
+use Rattle.class_rules.specs.KnownPools.{IsTextKnown}
 use Rattle.class_rules.specs.MethodCodes.{HasCodeBody, TakesMore, HasMoreSlots, IsMethodJudged}
 use Rattle.class_rules.specs.Texts.{IsMethodShape, method_shape}
+use Rattle.class_rules.proofs.KnownTexts.{one_text}
 use Rattle.class_rules.proofs.MethodsByFlags.{missed, one_value}
 use Rattle.class_rules.proofs.SomeItem.{none_at_all}
-use Rattle.class_rules.proofs.TextsByFacts.{one_text, its_text}
 
 -- ---- One Code.
 
@@ -90,27 +89,23 @@ more_taken units (Some shape) static max t (u, known, same) text more =
     let one : t ≡ u = one_method units t u text known in
     omega (arith, slots_are shape u (not static) same, subst (λ (v : MethodType). max < method_slots v (not static)) one more)
 
-pub takes_more : (pool : List PoolEntry) (flags : ℕ) (method : MemberInfo) (place : ℕ) (bytes : List ℕ) (facts : TextFacts) (static : Bool) (slots : ℕ)
-    → place ≡ method.descriptor → IsKnownText pool place bytes facts → static ≡ has flags STATIC
+pub takes_more : (pool : List PoolEntry) (flags : ℕ) (method : MemberInfo) (facts : TextFacts) (static : Bool) (slots : ℕ)
+    → IsTextKnown pool method.descriptor (Some facts) → static ≡ has flags STATIC
     → ((max : ℕ) → max < 2 ^ 16 → (max < slots) ↔ HasMoreSlots facts.method static max)
     → (max : ℕ) → max < 2 ^ 16 → (max < slots) ↔ TakesMore pool flags method max
-takes_more pool flags method place bytes facts static slots same k is more max small =
-    let there = subst (λ (n : ℕ). TextAt pool n k.units) same (its_text pool place bytes facts k) in (
-      λ less.
-          let (t, text, above) = more_known k.units facts.method static max k.known.method ((more max small).0 less) in
-          (t, (k.units, there, text), subst (λ (b : Bool). max < method_slots t (not b)) is above),
-      λ (t, (units, at, text), above).
-          let one : k.units ≡ units = one_text pool place bytes facts units k (subst (λ (n : ℕ). TextAt pool n units) (sym same) at) in
-          (more max small).1 (more_taken k.units facts.method static max t k.known.method (subst (λ (u : List ℕ). IsMethodText u t) (sym one) text)
-          (subst (λ (b : Bool). max < method_slots t (not b)) (sym is) above)),
-    )
-
-pub takes_none : (pool : List PoolEntry) (flags : ℕ) (method : MemberInfo) (place : ℕ) → place ≡ method.descriptor
-    → ((units : List ℕ) → TextAt pool place units → ⊥) → (max : ℕ) → max < 2 ^ 16 → (max < 0) ↔ TakesMore pool flags method max
-takes_none pool flags method place same none max small = (
-  λ less. absurd (omega arith),
-  λ (t, (units, at, text), above). absurd (none units (subst (λ (n : ℕ). TextAt pool n units) (sym same) at)),
+takes_more pool flags method facts static slots (known_units, here, known) is more max small = (
+  λ less.
+      let (t, text, above) = more_known known_units facts.method static max known.method ((more max small).0 less) in
+      (t, (known_units, here, text), subst (λ (b : Bool). max < method_slots t (not b)) is above),
+  λ (t, (units, at, text), above).
+      let one : units ≡ known_units = one_text pool method.descriptor units known_units at here in
+      (more max small).1 (more_taken known_units facts.method static max t known.method (subst (λ (u : List ℕ). IsMethodText u t) one text)
+      (subst (λ (b : Bool). max < method_slots t (not b)) (sym is) above)),
 )
+
+pub takes_none : (pool : List PoolEntry) (flags : ℕ) (method : MemberInfo) → IsTextKnown pool method.descriptor None
+    → (max : ℕ) → max < 2 ^ 16 → (max < 0) ↔ TakesMore pool flags method max
+takes_none pool flags method none max small = (λ less. absurd (omega arith), λ (t, (units, at, text), above). absurd (none units at))
 
 -- ---- A method.
 

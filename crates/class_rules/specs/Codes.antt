@@ -12,8 +12,8 @@ use Rattle.jk_model_classes.specs.MemberCode.{HasInstr, Shows, UsesEntry, LDC, L
 use Rattle.jk_opcodes.specs.declared.errors.CodeError.{CodeError}
 use Rattle.jk_opcodes.specs.declared.errors.CodeError.TheVariants as errors
 use Rattle.jk_opcodes.specs.Errors.{error_of}
-use Rattle.class_rules.specs.Lookups.{BeginsArrayBytes}
 use Rattle.class_rules.specs.declared.texts.FieldShape.{FieldShape}
+use Rattle.class_rules.specs.declared.texts.TextFacts.{TextFacts}
 use Rattle.class_rules.specs.declared.codes.CodeJudgment.{CodeJudgment}
 use Rattle.class_rules.specs.declared.codes.operands.EntryKind.{EntryKind}
 use Rattle.class_rules.specs.declared.codes.operands.EntryKind.TheVariants as kinds
@@ -138,11 +138,11 @@ abbrev pub HasShapeDimensions : Option FieldShape → ℤ → Type 0
 HasShapeDimensions None n = ⊥
 HasShapeDimensions (Some shape) n = (1 ≤ shape.dims) × ((pos shape.dims <ℤ n) → ⊥)
 
--- the array's class, whose name begins so and is the descriptor of a type of this shape, isn't right for the instruction
-abbrev pub IsWrongArray : Instr → List ℕ → Option FieldShape → Type 0
-IsWrongArray instr name field =
-    ((instr.op ≡ NEW) × BeginsArrayBytes name) ⊎ ((instr.op ≡ MULTIANEWARRAY) × (HasShapeDimensions field instr.b → ⊥))
-    ⊎ ((instr.op ≡ ANEWARRAY) × HasShapeDimensions field (pos 255))
+-- the class of whose name this is known isn't right for the instruction
+abbrev pub IsWrongArray : Instr → TextFacts → Type 0
+IsWrongArray instr name =
+    ((instr.op ≡ NEW) × IsTrue name.begins_array) ⊎ ((instr.op ≡ MULTIANEWARRAY) × (HasShapeDimensions name.field instr.b → ⊥))
+    ⊎ ((instr.op ≡ ANEWARRAY) × HasShapeDimensions name.field (pos 255))
 
 -- a reference to a member called `<init>` stands at this index
 abbrev pub RefersToInit : List PoolEntry → ℕ → Type 0

@@ -1,7 +1,7 @@
 -- A pool with what is known of its texts.
 use Rattle.std.specs.Prelude.{ℕ, List, Option, Some, None}
 use Rattle.jk_model.specs.declared.class_file.PoolEntry.{PoolEntry}
-use Rattle.jk_model_classes.specs.Members.{TextAt, NameAndTypeAt, MemberKind}
+use Rattle.jk_model_classes.specs.Members.{TextAt, ClassAt, NameAndTypeAt, MemberKind}
 use Rattle.class_rules.specs.declared.known_pool.KnownPool.{KnownPool}
 use Rattle.class_rules.specs.declared.known_pool.Reference.{Reference}
 use Rattle.class_rules.specs.declared.texts.TextFacts.{TextFacts}
@@ -28,6 +28,11 @@ ArePairKnown pool i (Some known) =
 abbrev pub IsClassKnown : List PoolEntry → PoolEntry → Option TextFacts → Type 0
 IsClassKnown pool entry None = (units : List ℕ) → HasClassName pool entry units → ⊥
 IsClassKnown pool entry (Some facts) = (units : List ℕ) × HasClassName pool entry units × AreFactsOf pool units facts
+
+-- what is known of the name of the class at an index, or nothing where no class stands there
+abbrev pub IsNameKnown : List PoolEntry → ℕ → Option TextFacts → Type 0
+IsNameKnown pool i None = (units : List ℕ) → ClassAt pool i units → ⊥
+IsNameKnown pool i (Some facts) = (units : List ℕ) × ClassAt pool i units × AreFactsOf pool units facts
 
 -- what is known of a reference, or nothing where the entry is none
 abbrev pub IsReferenceKnown : List PoolEntry → PoolEntry → Option Reference → Type 0

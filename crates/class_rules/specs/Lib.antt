@@ -6,7 +6,6 @@ pub mod Codes
 pub mod Entries
 pub mod FlagRules
 pub mod KnownPools
-pub mod Lookups
 pub mod MemberKeys
 pub mod MethodCodes
 pub mod MethodDescriptors

@@ -9,6 +9,7 @@ use Rattle.jk_model.specs.declared.descriptors.FieldType.{FieldType}
 use Rattle.jk_model.specs.declared.descriptors.MethodType.{MethodType}
 use Rattle.jk_model.specs.Descriptors.{IsName, IsClassName, IsFieldText, IsMethodText, method_slots}
 use Rattle.jk_model.specs.Text.{Spells}
+use Rattle.jk_model_classes.specs.ClassNames.{BeginsArray}
 use Rattle.jk_model_classes.specs.Members.{TextAt, INIT, CLINIT}
 use Rattle.class_rules.specs.declared.texts.FieldShape.{FieldShape}
 use Rattle.class_rules.specs.declared.texts.Kind.{Kind}
@@ -86,6 +87,7 @@ pub record AreFactsOf (pool : List PoolEntry) (units : List ℕ) (facts : TextFa
   pub word : IsWord units facts.word
   pub is_name : IsTrue facts.is_name ↔ IsName units
   pub has_angle : facts.has_angle ≡ list_any (λ u. u == 60 || u == 62) units
+  pub begins_array : IsTrue facts.begins_array ↔ BeginsArray units
   pub is_class_name : IsTrue facts.is_class_name ↔ IsClassName units
   pub field : IsFieldShape units facts.field
   pub method : IsMethodShape units facts.method

@@ -8,9 +8,10 @@ ghost use Rattle.jk_model_classes.specs.Items.{HasItem, HasTwoItems};
 ghost use Rattle.jk_model_classes.specs.MemberAttributes.{HasUnnamed, IsConstant, HasBadConstant, IsBadCode, AreThrown};
 ghost use Rattle.class_rules.specs.Attributes.{IsUnnamed, IsCalledBy, IsOfConstantKind, IsBadConstant, HasWrongConstant, HasBadFieldAttributes, CountFlags, needs_code, LacksCode, HasUselessCode, IsCodeMissed, AreClasses, AreAllClasses, AreBadExceptions, HasWrongExceptions, HasWrongCode, HasBadMethodAttributes, AreShort};
 ghost use Rattle.class_rules.specs.declared.texts.Kind.{Kind};
+ghost use Rattle.class_rules.specs.KnownPools.{IsKnown};
 ghost use Rattle.class_rules.specs.Texts.{AreFacts};
 
-use crate::lookups::{is_word, text_at};
+use crate::known_pool::KnownPool;
 use crate::texts::{FieldShape, Kind, TextFacts, Word};
 use byte_fields::{ReadError, U2, counted_of, u2_of};
 use class_reader::{CodeRefusal, read_code};
@@ -50,30 +51,20 @@ pub(crate) fn has_unnamed(pool: &[PoolEntry], attributes: &[Attribute]) -> bool
 }
 
 /// Whether the name of an attribute is this word.
-pub(crate) fn is_called(
-    pool: &[PoolEntry],
-    facts: &[Option<TextFacts>],
-    word: Word,
-    a: &Attribute,
-) -> bool
-    requires { AreFacts pool.now facts.now }
-    ensures { IsTrue result ↔ IsCalledBy pool.now word a.now }
+pub(crate) fn is_called(pool: &KnownPool, word: Word, a: &Attribute) -> bool
+    requires { IsKnown pool.now }
+    ensures { IsTrue result ↔ IsCalledBy pool.now.entries.now word a.now }
 {
-    is_word(pool, facts, usize::from(a.name), word)
+    pool.is_word(a.name, word)
 }
 
 /// Whether some attribute is called so.
-fn some_called(
-    pool: &[PoolEntry],
-    facts: &[Option<TextFacts>],
-    word: Word,
-    attributes: &[Attribute],
-) -> bool
-    requires { AreFacts pool.now facts.now }
-    ensures { IsTrue result ↔ HasItem (IsCalledBy pool.now word) attributes.now }
+fn some_called(pool: &KnownPool, word: Word, attributes: &[Attribute]) -> bool
+    requires { IsKnown pool.now }
+    ensures { IsTrue result ↔ HasItem (IsCalledBy pool.now.entries.now word) attributes.now }
 {
     for a in attributes {
-        if is_called(pool, facts, word, a) {
+        if is_called(pool, word, a) {
             return true;
         }
     }
@@ -81,18 +72,13 @@ fn some_called(
 }
 
 /// Whether two attributes are called so.
-fn two_called(
-    pool: &[PoolEntry],
-    facts: &[Option<TextFacts>],
-    word: Word,
-    attributes: &[Attribute],
-) -> bool
-    requires { AreFacts pool.now facts.now }
-    ensures { IsTrue result ↔ HasTwoItems (IsCalledBy pool.now word) attributes.now }
+fn two_called(pool: &KnownPool, word: Word, attributes: &[Attribute]) -> bool
+    requires { IsKnown pool.now }
+    ensures { IsTrue result ↔ HasTwoItems (IsCalledBy pool.now.entries.now word) attributes.now }
 {
     let mut seen = false;
     for a in attributes {
-        if is_called(pool, facts, word, a) {
+        if is_called(pool, word, a) {
             if seen {
                 return true;
             }
@@ -153,53 +139,37 @@ fn constant_kind(field: Option<FieldShape>) -> Option<Kind>
 }
 
 /// Whether a body is that of a ConstantValue of this field.
-fn is_constant(
-    pool: &[PoolEntry],
-    facts: &[Option<TextFacts>],
-    field: &MemberInfo,
-    body: &[u8],
-) -> bool
-    requires { AreFacts pool.now facts.now }
-    ensures { IsTrue result ↔ IsConstant pool.now field.now body.now }
+fn is_constant(pool: &KnownPool, field: &MemberInfo, body: &[u8]) -> bool
+    requires { IsKnown pool.now }
+    ensures { IsTrue result ↔ IsConstant pool.now.entries.now field.now body.now }
 {
-    let Some((_, known)) = text_at(pool, facts, usize::from(field.descriptor)) else {
+    let Some(descriptor) = pool.text(field.descriptor) else {
         return false;
     };
-    let Some(kind) = constant_kind(known.field) else {
+    let Some(kind) = constant_kind(descriptor.field) else {
         return false;
     };
     match index_of(body) {
-        Some(i) => names_constant(pool, kind, i),
+        Some(i) => names_constant(pool.entries, kind, i),
         None => false,
     }
 }
 
 /// Whether an attribute is a ConstantValue whose body is none.
-fn is_bad_constant(
-    pool: &[PoolEntry],
-    facts: &[Option<TextFacts>],
-    field: &MemberInfo,
-    a: &Attribute,
-) -> bool
-    requires { AreFacts pool.now facts.now }
-    ensures { IsTrue result ↔ IsBadConstant pool.now field.now a.now }
+fn is_bad_constant(pool: &KnownPool, field: &MemberInfo, a: &Attribute) -> bool
+    requires { IsKnown pool.now }
+    ensures { IsTrue result ↔ IsBadConstant pool.now.entries.now field.now a.now }
 {
-    is_called(pool, facts, Word::ConstantValue, a)
-        && !is_constant(pool, facts, field, a.body.as_slice())
+    is_called(pool, Word::ConstantValue, a) && !is_constant(pool, field, a.body.as_slice())
 }
 
 /// Whether some attribute is a ConstantValue whose body is none.
-fn some_bad_constant(
-    pool: &[PoolEntry],
-    facts: &[Option<TextFacts>],
-    field: &MemberInfo,
-    attributes: &[Attribute],
-) -> bool
-    requires { AreFacts pool.now facts.now }
-    ensures { IsTrue result ↔ HasItem (IsBadConstant pool.now field.now) attributes.now }
+fn some_bad_constant(pool: &KnownPool, field: &MemberInfo, attributes: &[Attribute]) -> bool
+    requires { IsKnown pool.now }
+    ensures { IsTrue result ↔ HasItem (IsBadConstant pool.now.entries.now field.now) attributes.now }
 {
     for a in attributes {
-        if is_bad_constant(pool, facts, field, a) {
+        if is_bad_constant(pool, field, a) {
             return true;
         }
     }
@@ -207,49 +177,35 @@ fn some_bad_constant(
 }
 
 /// Whether of these attributes of a field two are ConstantValues, or one is a bad one.
-fn has_wrong_constant(
-    pool: &[PoolEntry],
-    facts: &[Option<TextFacts>],
-    field: &MemberInfo,
-    attributes: &[Attribute],
-) -> bool
-    requires { AreFacts pool.now facts.now }
-    ensures { IsTrue result ↔ HasWrongConstant pool.now field.now attributes.now }
+fn has_wrong_constant(pool: &KnownPool, field: &MemberInfo, attributes: &[Attribute]) -> bool
+    requires { IsKnown pool.now }
+    ensures { IsTrue result ↔ HasWrongConstant pool.now.entries.now field.now attributes.now }
 {
-    two_called(pool, facts, Word::ConstantValue, attributes)
-        || some_bad_constant(pool, facts, field, attributes)
+    two_called(pool, Word::ConstantValue, attributes) || some_bad_constant(pool, field, attributes)
 }
 
 /// Whether a static field has two ConstantValues, or a bad one.
-fn has_bad_constant(pool: &[PoolEntry], facts: &[Option<TextFacts>], field: &MemberInfo) -> bool
-    requires { AreFacts pool.now facts.now }
-    ensures { IsTrue result ↔ HasBadConstant pool.now field.now }
+fn has_bad_constant(pool: &KnownPool, field: &MemberInfo) -> bool
+    requires { IsKnown pool.now }
+    ensures { IsTrue result ↔ HasBadConstant pool.now.entries.now field.now }
 {
-    has(field.flags, STATIC) && has_wrong_constant(pool, facts, field, field.attributes.as_slice())
+    has(field.flags, STATIC) && has_wrong_constant(pool, field, field.attributes.as_slice())
 }
 
 /// Whether a field breaks C9.
-pub(crate) fn has_bad_field_attributes(
-    pool: &[PoolEntry],
-    facts: &[Option<TextFacts>],
-    field: &MemberInfo,
-) -> bool
-    requires { AreFacts pool.now facts.now }
-    ensures { IsTrue result ↔ HasBadFieldAttributes pool.now field.now }
+pub(crate) fn has_bad_field_attributes(pool: &KnownPool, field: &MemberInfo) -> bool
+    requires { IsKnown pool.now }
+    ensures { IsTrue result ↔ HasBadFieldAttributes pool.now.entries.now field.now }
 {
-    has_unnamed(pool, field.attributes.as_slice()) || has_bad_constant(pool, facts, field)
+    has_unnamed(pool.entries, field.attributes.as_slice()) || has_bad_constant(pool, field)
 }
 
 /// The flags that count of a method.
-pub(crate) fn method_flags(
-    pool: &[PoolEntry],
-    facts: &[Option<TextFacts>],
-    method: &MemberInfo,
-) -> u16
-    requires { AreFacts pool.now facts.now }
-    ensures { CountFlags pool.now method.now result }
+pub(crate) fn method_flags(pool: &KnownPool, method: &MemberInfo) -> u16
+    requires { IsKnown pool.now }
+    ensures { CountFlags pool.now.entries.now method.now result }
 {
-    if is_word(pool, facts, usize::from(method.name), Word::Clinit) {
+    if pool.is_word(method.name, Word::Clinit) {
         STATIC
     } else {
         method.flags
@@ -264,41 +220,30 @@ pub(crate) fn needs_code(flags: u16) -> bool
 }
 
 /// Whether there isn't exactly one Code.
-fn lacks_code(pool: &[PoolEntry], facts: &[Option<TextFacts>], attributes: &[Attribute]) -> bool
-    requires { AreFacts pool.now facts.now }
-    ensures { IsTrue result ↔ LacksCode pool.now attributes.now }
+fn lacks_code(pool: &KnownPool, attributes: &[Attribute]) -> bool
+    requires { IsKnown pool.now }
+    ensures { IsTrue result ↔ LacksCode pool.now.entries.now attributes.now }
 {
-    !some_called(pool, facts, Word::Code, attributes)
-        || two_called(pool, facts, Word::Code, attributes)
+    !some_called(pool, Word::Code, attributes) || two_called(pool, Word::Code, attributes)
 }
 
 /// Whether the method is abstract and there is a Code.
-fn has_useless_code(
-    pool: &[PoolEntry],
-    facts: &[Option<TextFacts>],
-    flags: u16,
-    attributes: &[Attribute],
-) -> bool
-    requires { AreFacts pool.now facts.now }
-    ensures { IsTrue result ↔ HasUselessCode pool.now flags attributes.now }
+fn has_useless_code(pool: &KnownPool, flags: u16, attributes: &[Attribute]) -> bool
+    requires { IsKnown pool.now }
+    ensures { IsTrue result ↔ HasUselessCode pool.now.entries.now flags attributes.now }
 {
-    has(flags, ABSTRACT) && some_called(pool, facts, Word::Code, attributes)
+    has(flags, ABSTRACT) && some_called(pool, Word::Code, attributes)
 }
 
 /// Whether a method with these flags and attributes lacks its one Code, or has one where it is abstract.
-fn misses_code(
-    pool: &[PoolEntry],
-    facts: &[Option<TextFacts>],
-    flags: u16,
-    attributes: &[Attribute],
-) -> bool
-    requires { AreFacts pool.now facts.now }
-    ensures { IsTrue result ↔ IsCodeMissed pool.now flags attributes.now }
+fn misses_code(pool: &KnownPool, flags: u16, attributes: &[Attribute]) -> bool
+    requires { IsKnown pool.now }
+    ensures { IsTrue result ↔ IsCodeMissed pool.now.entries.now flags attributes.now }
 {
     if needs_code(flags) {
-        lacks_code(pool, facts, attributes)
+        lacks_code(pool, attributes)
     } else {
-        has_useless_code(pool, facts, flags, attributes)
+        has_useless_code(pool, flags, attributes)
     }
 }
 
@@ -319,21 +264,16 @@ pub(crate) fn code_of(alloc: Global, body: &[u8]) -> Result<Option<Code>, OutOfM
 }
 
 /// Whether an attribute is a Code whose body is none, or has an attribute without a name.
-fn is_bad_code(
-    alloc: Global,
-    pool: &[PoolEntry],
-    facts: &[Option<TextFacts>],
-    a: &Attribute,
-) -> Result<bool, OutOfMemory>
-    requires facts { AreFacts pool.now facts.now }
+fn is_bad_code(alloc: Global, pool: &KnownPool, a: &Attribute) -> Result<bool, OutOfMemory>
+    requires known { IsKnown pool.now }
     requires short { length a.now.body < 2 ^ 31 }
-    ensures { IfOk result (λ b. IsTrue b ↔ IsBadCode pool.now a.now) }
+    ensures { IfOk result (λ b. IsTrue b ↔ IsBadCode pool.now.entries.now a.now) }
 {
-    if !is_called(pool, facts, Word::Code, a) {
+    if !is_called(pool, Word::Code, a) {
         return Ok(false);
     }
     match code_of(alloc, a.body.as_slice())? {
-        Some(code) => Ok(has_unnamed(pool, code.attributes.as_slice())),
+        Some(code) => Ok(has_unnamed(pool.entries, code.attributes.as_slice())),
         None => Ok(true),
     }
 }
@@ -341,16 +281,15 @@ fn is_bad_code(
 /// Whether some attribute is a bad Code.
 fn some_bad_code(
     alloc: Global,
-    pool: &[PoolEntry],
-    facts: &[Option<TextFacts>],
+    pool: &KnownPool,
     attributes: &[Attribute],
 ) -> Result<bool, OutOfMemory>
-    requires facts { AreFacts pool.now facts.now }
+    requires known { IsKnown pool.now }
     requires short { AreShort attributes.now }
-    ensures { IfOk result (λ b. IsTrue b ↔ HasItem (IsBadCode pool.now) attributes.now) }
+    ensures { IfOk result (λ b. IsTrue b ↔ HasItem (IsBadCode pool.now.entries.now) attributes.now) }
 {
     for a in attributes {
-        let is_bad = is_bad_code(alloc, pool, facts, a)?;
+        let is_bad = is_bad_code(alloc, pool, a)?;
         if is_bad {
             return Ok(true);
         }
@@ -396,34 +335,28 @@ fn are_thrown(alloc: Global, pool: &[PoolEntry], body: &[u8]) -> Result<bool, Ou
 }
 
 /// Whether an attribute is an Exceptions whose body is none.
-fn are_bad_exceptions(
-    alloc: Global,
-    pool: &[PoolEntry],
-    facts: &[Option<TextFacts>],
-    a: &Attribute,
-) -> Result<bool, OutOfMemory>
-    requires { AreFacts pool.now facts.now }
-    ensures { IfOk result (λ b. IsTrue b ↔ AreBadExceptions pool.now a.now) }
+fn are_bad_exceptions(alloc: Global, pool: &KnownPool, a: &Attribute) -> Result<bool, OutOfMemory>
+    requires { IsKnown pool.now }
+    ensures { IfOk result (λ b. IsTrue b ↔ AreBadExceptions pool.now.entries.now a.now) }
 {
-    if !is_called(pool, facts, Word::Exceptions, a) {
+    if !is_called(pool, Word::Exceptions, a) {
         return Ok(false);
     }
-    let thrown = are_thrown(alloc, pool, a.body.as_slice())?;
+    let thrown = are_thrown(alloc, pool.entries, a.body.as_slice())?;
     Ok(!thrown)
 }
 
 /// Whether some attribute is a bad Exceptions.
 fn some_bad_exceptions(
     alloc: Global,
-    pool: &[PoolEntry],
-    facts: &[Option<TextFacts>],
+    pool: &KnownPool,
     attributes: &[Attribute],
 ) -> Result<bool, OutOfMemory>
-    requires { AreFacts pool.now facts.now }
-    ensures { IfOk result (λ b. IsTrue b ↔ HasItem (AreBadExceptions pool.now) attributes.now) }
+    requires { IsKnown pool.now }
+    ensures { IfOk result (λ b. IsTrue b ↔ HasItem (AreBadExceptions pool.now.entries.now) attributes.now) }
 {
     for a in attributes {
-        let is_bad = are_bad_exceptions(alloc, pool, facts, a)?;
+        let is_bad = are_bad_exceptions(alloc, pool, a)?;
         if is_bad {
             return Ok(true);
         }
@@ -434,58 +367,55 @@ fn some_bad_exceptions(
 /// Whether there are two Exceptions, or a bad one.
 fn has_wrong_exceptions(
     alloc: Global,
-    pool: &[PoolEntry],
-    facts: &[Option<TextFacts>],
+    pool: &KnownPool,
     attributes: &[Attribute],
 ) -> Result<bool, OutOfMemory>
-    requires { AreFacts pool.now facts.now }
-    ensures { IfOk result (λ b. IsTrue b ↔ HasWrongExceptions pool.now attributes.now) }
+    requires { IsKnown pool.now }
+    ensures { IfOk result (λ b. IsTrue b ↔ HasWrongExceptions pool.now.entries.now attributes.now) }
 {
-    if two_called(pool, facts, Word::Exceptions, attributes) {
+    if two_called(pool, Word::Exceptions, attributes) {
         return Ok(true);
     }
-    some_bad_exceptions(alloc, pool, facts, attributes)
+    some_bad_exceptions(alloc, pool, attributes)
 }
 
 /// Whether these attributes of a method with these flags break C9, but for Exceptions.
 fn has_wrong_code(
     alloc: Global,
-    pool: &[PoolEntry],
-    facts: &[Option<TextFacts>],
+    pool: &KnownPool,
     flags: u16,
     attributes: &[Attribute],
 ) -> Result<bool, OutOfMemory>
-    requires facts { AreFacts pool.now facts.now }
+    requires known { IsKnown pool.now }
     requires short { AreShort attributes.now }
-    ensures { IfOk result (λ b. IsTrue b ↔ HasWrongCode pool.now flags attributes.now) }
+    ensures { IfOk result (λ b. IsTrue b ↔ HasWrongCode pool.now.entries.now flags attributes.now) }
 {
-    if has_unnamed(pool, attributes) {
+    if has_unnamed(pool.entries, attributes) {
         return Ok(true);
     }
-    if misses_code(pool, facts, flags, attributes) {
+    if misses_code(pool, flags, attributes) {
         return Ok(true);
     }
-    some_bad_code(alloc, pool, facts, attributes)
+    some_bad_code(alloc, pool, attributes)
 }
 
 /// Whether these attributes of a method with these flags break C9.
 fn has_wrong_attributes(
     alloc: Global,
-    pool: &[PoolEntry],
-    facts: &[Option<TextFacts>],
+    pool: &KnownPool,
     flags: u16,
     attributes: &[Attribute],
 ) -> Result<bool, OutOfMemory>
-    requires facts { AreFacts pool.now facts.now }
+    requires known { IsKnown pool.now }
     requires short { AreShort attributes.now }
     ensures { IfOk result (λ b. IsTrue b ↔
-        (HasWrongCode pool.now flags attributes.now ⊎ HasWrongExceptions pool.now attributes.now)) }
+        (HasWrongCode pool.now.entries.now flags attributes.now ⊎ HasWrongExceptions pool.now.entries.now attributes.now)) }
 {
-    let has_wrong = has_wrong_code(alloc, pool, facts, flags, attributes)?;
+    let has_wrong = has_wrong_code(alloc, pool, flags, attributes)?;
     if has_wrong {
         return Ok(true);
     }
-    has_wrong_exceptions(alloc, pool, facts, attributes)
+    has_wrong_exceptions(alloc, pool, attributes)
 }
 
 /// Whether a method breaks C9.
@@ -499,7 +429,7 @@ pub(crate) fn has_bad_method_attributes(
     requires short { AreShort method.now.attributes }
     ensures { IfOk result (λ b. IsTrue b ↔ HasBadMethodAttributes c.now method.now) }
 {
-    let pool = c.pool.as_slice();
-    let flags = method_flags(pool, facts, method);
-    has_wrong_attributes(alloc, pool, facts, flags, method.attributes.as_slice())
+    let pool = KnownPool::of(c, facts);
+    let flags = method_flags(&pool, method);
+    has_wrong_attributes(alloc, &pool, flags, method.attributes.as_slice())
 }

@@ -4,27 +4,25 @@ ghost use Rattle.std.specs.Prelude.{◌≡◌, ◌<◌, ◌^◌, IfOk, IfSome, l
 ghost use Rattle.jk_model_classes.specs.MemberAttributes.{HasBadAttribute};
 ghost use Rattle.class_rules.specs.Answers.{IsLeastSpot};
 ghost use Rattle.class_rules.specs.Attributes.{HasBadFieldAttributes, HasBadMethodAttributes, HaveShort};
+ghost use Rattle.class_rules.specs.KnownPools.{IsKnown};
 ghost use Rattle.class_rules.specs.Texts.{AreFacts};
 ghost use Rattle.class_rules.specs.Walks.{IsLeastItem};
 
 use crate::attributes::{has_bad_field_attributes, has_bad_method_attributes, has_unnamed};
+use crate::known_pool::KnownPool;
 use crate::members::FirstPlaces;
 use crate::texts::TextFacts;
-use jk_model::{ClassFile, MemberInfo, OutOfMemory, PoolEntry};
+use jk_model::{ClassFile, MemberInfo, OutOfMemory};
 use std::alloc::Global;
 
 /// The place of the first field that breaks C9.
-fn first_field(
-    pool: &[PoolEntry],
-    facts: &[Option<TextFacts>],
-    fields: &[MemberInfo],
-) -> Option<usize>
-    requires { AreFacts pool.now facts.now }
-    ensures least { IsLeastItem (HasBadFieldAttributes pool.now) fields.now result }
+fn first_field(pool: &KnownPool, fields: &[MemberInfo]) -> Option<usize>
+    requires { IsKnown pool.now }
+    ensures least { IsLeastItem (HasBadFieldAttributes pool.now.entries.now) fields.now result }
     ensures within { IfSome result (λ i. i < length fields.now) }
 {
     for (i, field) in fields.iter().enumerate() {
-        if has_bad_field_attributes(pool, facts, field) {
+        if has_bad_field_attributes(pool, field) {
             return Some(i);
         }
     }
@@ -64,10 +62,11 @@ pub(crate) fn bad_attributes(
     requires short { HaveShort c.now.methods }
     ensures { IfOk result (λ n. IsLeastSpot (HasBadAttribute c.now) n) }
 {
+    let pool = KnownPool::of(c, facts);
     let method = first_method(alloc, c, facts, c.methods.as_slice())?;
     let places = FirstPlaces {
-        class: has_unnamed(c.pool.as_slice(), c.attributes.as_slice()),
-        field: first_field(c.pool.as_slice(), facts, c.fields.as_slice()),
+        class: has_unnamed(pool.entries, c.attributes.as_slice()),
+        field: first_field(&pool, c.fields.as_slice()),
         method,
         entry: None,
     };

@@ -3,16 +3,15 @@
 mod operands;
 mod places;
 
-ghost use Rattle.std.specs.Prelude.{◌≡◌, ℕ, ◌↔◌, ◌<◌, ◌⊎◌, ◌^◌, pos, IsTrue, IfOk, length};
+ghost use Rattle.std.specs.Prelude.{◌≡◌, ℕ, ◌↔◌, ◌<◌, ◌⊎◌, ◌^◌, pos, IsTrue, IfOk, IfErr, length};
 ghost use Rattle.jk_model.specs.declared.class_file.Handler.{Handler};
 ghost use Rattle.jk_model_classes.specs.ClassNames.{NamesClass};
 ghost use Rattle.jk_model_classes.specs.Items.{HasItem};
 ghost use Rattle.jk_model_classes.specs.MemberCode.{LoadsFloat, IsBadInstr, BeginsAt, IsGoodHandler};
 ghost use Rattle.class_rules.specs.Codes.{IsJudgment, IsReading, ArePlaces, LoadsClassBy, IsMisuse, IsBadIn, refused_judgment, IsMemoryError};
-ghost use Rattle.class_rules.specs.Texts.{AreFacts};
+ghost use Rattle.class_rules.specs.KnownPools.{IsKnown};
 
-use crate::lookups::{begins_array, class_at};
-use crate::texts::TextFacts;
+use crate::known_pool::KnownPool;
 use jk_model::{Code, Handler, Instr, OutOfMemory, PoolEntry};
 use jk_opcodes::{CodeError, decode};
 use operands::{
@@ -62,70 +61,40 @@ fn has_class(pool: &[PoolEntry], instrs: &[Instr]) -> bool
 
 /// Whether an instruction names a local that isn't there, makes what it may not, or names `<init>` where it
 /// may not.
-fn is_misuse(
-    pool: &[PoolEntry],
-    facts: &[Option<TextFacts>],
-    max_locals: u16,
-    instr: &Instr,
-) -> bool
-    requires { AreFacts pool.now facts.now }
-    ensures { IsTrue result ↔ IsMisuse pool.now max_locals instr.now }
+fn is_misuse(pool: &KnownPool, max_locals: u16, instr: &Instr) -> bool
+    requires { IsKnown pool.now }
+    ensures { IsTrue result ↔ IsMisuse pool.now.entries.now max_locals instr.now }
 {
-    has_bad_local(max_locals, instr)
-        || makes_bad_array(pool, facts, instr)
-        || calls_init(pool, facts, instr)
+    has_bad_local(max_locals, instr) || makes_bad_array(pool, instr) || calls_init(pool, instr)
 }
 
 /// Whether an instruction leads to where none begins, or names what it may not.
-fn is_bad_instr(
-    pool: &[PoolEntry],
-    facts: &[Option<TextFacts>],
-    code: &Code,
-    places: &[bool],
-    instr: &Instr,
-) -> bool
-    requires facts { AreFacts pool.now facts.now }
+fn is_bad_instr(pool: &KnownPool, code: &Code, places: &[bool], instr: &Instr) -> bool
+    requires known { IsKnown pool.now }
     requires places { ArePlaces code.now places.now }
-    ensures { IsTrue result ↔ IsBadInstr pool.now code.now instr.now }
+    ensures { IsTrue result ↔ IsBadInstr pool.now.entries.now code.now instr.now }
 {
     if leads_out(places, instr) {
         return true;
     }
-    if has_bad_entry(pool, instr) {
+    if has_bad_entry(pool.entries, instr) {
         return true;
     }
-    is_misuse(pool, facts, code.max_locals, instr)
+    is_misuse(pool, code.max_locals, instr)
 }
 
 /// Whether some instruction is bad.
-fn has_bad_instr(
-    pool: &[PoolEntry],
-    facts: &[Option<TextFacts>],
-    code: &Code,
-    places: &[bool],
-    instrs: &[Instr],
-) -> bool
-    requires facts { AreFacts pool.now facts.now }
+fn has_bad_instr(pool: &KnownPool, code: &Code, places: &[bool], instrs: &[Instr]) -> bool
+    requires known { IsKnown pool.now }
     requires places { ArePlaces code.now places.now }
-    ensures { IsTrue result ↔ HasItem (IsBadInstr pool.now code.now) instrs.now }
+    ensures { IsTrue result ↔ HasItem (IsBadInstr pool.now.entries.now code.now) instrs.now }
 {
     for instr in instrs {
-        if is_bad_instr(pool, facts, code, places, instr) {
+        if is_bad_instr(pool, code, places, instr) {
             return true;
         }
     }
     false
-}
-
-/// Whether a class that isn't an array's stands at an index.
-fn names_class(pool: &[PoolEntry], facts: &[Option<TextFacts>], i: u16) -> bool
-    requires { AreFacts pool.now facts.now }
-    ensures { IsTrue result ↔ NamesClass pool.now i }
-{
-    match class_at(pool, facts, usize::from(i)) {
-        Some((name, _)) => !begins_array(name),
-        None => false,
-    }
 }
 
 /// Whether an instruction begins at a place.
@@ -137,11 +106,11 @@ fn begins_at(code: &Code, places: &[bool], place: u16) -> bool
 }
 
 /// Whether a handler catches all, or a class.
-fn catches(pool: &[PoolEntry], facts: &[Option<TextFacts>], i: u16) -> bool
-    requires { AreFacts pool.now facts.now }
-    ensures { IsTrue result ↔ ((i ≡ 0) ⊎ NamesClass pool.now i) }
+fn catches(pool: &KnownPool, i: u16) -> bool
+    requires { IsKnown pool.now }
+    ensures { IsTrue result ↔ ((i ≡ 0) ⊎ NamesClass pool.now.entries.now i) }
 {
-    i == 0 || names_class(pool, facts, i)
+    i == 0 || pool.names_class(i)
 }
 
 /// Whether instructions end at a place.
@@ -153,36 +122,24 @@ fn ends_at(code: &Code, places: &[bool], place: u16) -> bool
 }
 
 /// Whether a handler covers instructions, is at one, and catches a class or all.
-fn is_good_handler(
-    pool: &[PoolEntry],
-    facts: &[Option<TextFacts>],
-    code: &Code,
-    places: &[bool],
-    h: &Handler,
-) -> bool
-    requires facts { AreFacts pool.now facts.now }
+fn is_good_handler(pool: &KnownPool, code: &Code, places: &[bool], h: &Handler) -> bool
+    requires known { IsKnown pool.now }
     requires places { ArePlaces code.now places.now }
-    ensures { IsTrue result ↔ IsGoodHandler pool.now code.now h.now }
+    ensures { IsTrue result ↔ IsGoodHandler pool.now.entries.now code.now h.now }
 {
     let covers = begins_at(code, places, h.start) && ends_at(code, places, h.end);
-    let is_there = begins_at(code, places, h.handler) && catches(pool, facts, h.catch);
+    let is_there = begins_at(code, places, h.handler) && catches(pool, h.catch);
     h.start < h.end && covers && is_there
 }
 
 /// Whether some handler of a code is bad.
-fn has_bad_handler(
-    pool: &[PoolEntry],
-    facts: &[Option<TextFacts>],
-    code: &Code,
-    places: &[bool],
-    handlers: &[Handler],
-) -> bool
-    requires facts { AreFacts pool.now facts.now }
+fn has_bad_handler(pool: &KnownPool, code: &Code, places: &[bool], handlers: &[Handler]) -> bool
+    requires known { IsKnown pool.now }
     requires places { ArePlaces code.now places.now }
-    ensures { IsTrue result ↔ HasItem (λ (h : Handler). IsGoodHandler pool.now code.now h → ⊥) handlers.now }
+    ensures { IsTrue result ↔ HasItem (λ (h : Handler). IsGoodHandler pool.now.entries.now code.now h → ⊥) handlers.now }
 {
     for h in handlers {
-        if !is_good_handler(pool, facts, code, places, h) {
+        if !is_good_handler(pool, code, places, h) {
             return true;
         }
     }
@@ -191,20 +148,19 @@ fn has_bad_handler(
 
 /// Whether a code with these instructions is bad.
 fn is_bad_code(
-    pool: &[PoolEntry],
-    facts: &[Option<TextFacts>],
+    pool: &KnownPool,
     code: &Code,
     places: &[bool],
     instrs: &[Instr],
     arguments: u32,
 ) -> bool
-    requires facts { AreFacts pool.now facts.now }
+    requires known { IsKnown pool.now }
     requires places { ArePlaces code.now places.now }
-    ensures { IsTrue result ↔ IsBadIn pool.now arguments code.now instrs.now }
+    ensures { IsTrue result ↔ IsBadIn pool.now.entries.now arguments code.now instrs.now }
 {
     has_few_locals(code, arguments)
-        || has_bad_instr(pool, facts, code, places, instrs)
-        || has_bad_handler(pool, facts, code, places, code.handlers.as_slice())
+        || has_bad_instr(pool, code, places, instrs)
+        || has_bad_handler(pool, code, places, code.handlers.as_slice())
 }
 
 /// Whether a code has fewer locals than the arguments take.
@@ -217,23 +173,22 @@ fn has_few_locals(code: &Code, arguments: u32) -> bool
 /// What a code says whose instructions are these.
 fn judge_instrs(
     alloc: Global,
-    pool: &[PoolEntry],
-    facts: &[Option<TextFacts>],
+    pool: &KnownPool,
     code: &Code,
     instrs: &[Instr],
     arguments: u32,
 ) -> Result<CodeJudgment, OutOfMemory>
-    requires facts { AreFacts pool.now facts.now }
+    requires known { IsKnown pool.now }
     requires reading { IsReading code.now instrs.now }
-    ensures { IfOk result (λ j. IsJudgment pool.now arguments code.now j) }
+    ensures { IfOk result (λ j. IsJudgment pool.now.entries.now arguments code.now j) }
 {
     let places = places_of(alloc, code.code.len(), instrs)?;
     Ok(CodeJudgment {
-        has_float: has_float(pool, instrs),
+        has_float: has_float(pool.entries, instrs),
         has_subroutine: false,
         has_monitor: false,
-        loads_class: has_class(pool, instrs),
-        is_bad: is_bad_code(pool, facts, code, places.as_slice(), instrs, arguments),
+        loads_class: has_class(pool.entries, instrs),
+        is_bad: is_bad_code(pool, code, places.as_slice(), instrs, arguments),
     })
 }
 
@@ -241,6 +196,7 @@ fn judge_instrs(
 fn judge_error(e: CodeError, few: bool) -> Result<CodeJudgment, OutOfMemory>
     ensures judgment { IfOk result (λ j. j ≡ refused_judgment e few) }
     ensures memory { IfOk result (λ _. IsMemoryError e → ⊥) }
+    ensures only_memory { IfErr result (λ _. IsMemoryError e) }
 {
     let judgment = CodeJudgment {
         has_float: matches!(e, CodeError::FloatOpcode(_)),
@@ -264,17 +220,16 @@ fn judge_error(e: CodeError, few: bool) -> Result<CodeJudgment, OutOfMemory>
 /// What a code says, whose method's arguments take so many slots. The code is decoded once.
 pub(crate) fn judge_code(
     alloc: Global,
-    pool: &[PoolEntry],
-    facts: &[Option<TextFacts>],
+    pool: &KnownPool,
     code: &Code,
     arguments: u32,
 ) -> Result<CodeJudgment, OutOfMemory>
-    requires facts { AreFacts pool.now facts.now }
+    requires known { IsKnown pool.now }
     requires short { length code.now.code < 2 ^ 16 }
-    ensures { IfOk result (λ j. IsJudgment pool.now arguments code.now j) }
+    ensures { IfOk result (λ j. IsJudgment pool.now.entries.now arguments code.now j) }
 {
     match decode(alloc, code.code.as_slice()) {
-        Ok(instrs) => judge_instrs(alloc, pool, facts, code, instrs.as_slice(), arguments),
+        Ok(instrs) => judge_instrs(alloc, pool, code, instrs.as_slice(), arguments),
         Err(e) => judge_error(e, has_few_locals(code, arguments)),
     }
 }

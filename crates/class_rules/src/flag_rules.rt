@@ -6,46 +6,38 @@ ghost use Rattle.jk_model_classes.specs.MemberCode.{UsesMonitor, IsNative};
 ghost use Rattle.class_rules.specs.Answers.{IsLeastSpot};
 ghost use Rattle.class_rules.specs.CodeRules.{AreMethodsJudged};
 ghost use Rattle.class_rules.specs.FlagRules.{HasFlagged};
+ghost use Rattle.class_rules.specs.KnownPools.{IsKnown};
 ghost use Rattle.class_rules.specs.Texts.{AreFacts};
 ghost use Rattle.class_rules.specs.Walks.{IsLeastItem};
 
 use crate::attributes::{has, method_flags};
 use crate::code_rules::{CodeRule, first_code};
 use crate::codes::CodeJudgment;
+use crate::known_pool::KnownPool;
 use crate::members::{FirstPlaces, earlier};
 use crate::texts::TextFacts;
-use jk_model::{ClassFile, MemberInfo, PoolEntry};
+use jk_model::{ClassFile, MemberInfo};
 
 const SYNCHRONIZED: u16 = 0x0020;
 
 const NATIVE: u16 = 0x0100;
 
 /// Whether a flag that counts of a method is set.
-fn is_flagged(
-    pool: &[PoolEntry],
-    facts: &[Option<TextFacts>],
-    flag: u16,
-    method: &MemberInfo,
-) -> bool
-    requires { AreFacts pool.now facts.now }
-    ensures { IsTrue result ↔ HasFlagged pool.now flag method.now }
+fn is_flagged(pool: &KnownPool, flag: u16, method: &MemberInfo) -> bool
+    requires { IsKnown pool.now }
+    ensures { IsTrue result ↔ HasFlagged pool.now.entries.now flag method.now }
 {
-    has(method_flags(pool, facts, method), flag)
+    has(method_flags(pool, method), flag)
 }
 
 /// The place of the first method that has a flag.
-fn first_flagged(
-    pool: &[PoolEntry],
-    facts: &[Option<TextFacts>],
-    flag: u16,
-    methods: &[MemberInfo],
-) -> Option<usize>
-    requires { AreFacts pool.now facts.now }
-    ensures least { IsLeastItem (HasFlagged pool.now flag) methods.now result }
+fn first_flagged(pool: &KnownPool, flag: u16, methods: &[MemberInfo]) -> Option<usize>
+    requires { IsKnown pool.now }
+    ensures least { IsLeastItem (HasFlagged pool.now.entries.now flag) methods.now result }
     ensures within { IfSome result (λ i. i < length methods.now) }
 {
     for (i, method) in methods.iter().enumerate() {
-        if is_flagged(pool, facts, flag, method) {
+        if is_flagged(pool, flag, method) {
             return Some(i);
         }
     }
@@ -59,10 +51,11 @@ pub(crate) fn native_method(c: &ClassFile, facts: &[Option<TextFacts>]) -> Optio
     requires methods { length c.now.methods < 2 ^ 16 }
     ensures { IsLeastSpot (IsNative c.now) result }
 {
+    let pool = KnownPool::of(c, facts);
     let places = FirstPlaces {
         class: false,
         field: None,
-        method: first_flagged(c.pool.as_slice(), facts, NATIVE, c.methods.as_slice()),
+        method: first_flagged(&pool, NATIVE, c.methods.as_slice()),
         entry: None,
     };
     places.number(c.fields.len())
@@ -80,8 +73,9 @@ pub(crate) fn bad_monitor(
     requires methods { length c.now.methods < 2 ^ 16 }
     ensures { IsLeastSpot (UsesMonitor c.now) result }
 {
+    let pool = KnownPool::of(c, facts);
     let by_code = first_code(CodeRule::Monitors, judged);
-    let by_flag = first_flagged(c.pool.as_slice(), facts, SYNCHRONIZED, c.methods.as_slice());
+    let by_flag = first_flagged(&pool, SYNCHRONIZED, c.methods.as_slice());
     let places = FirstPlaces {
         class: false,
         field: None,

@@ -1,11 +1,12 @@
 //! A constant pool with what is known of its texts, and what its indices and entries lead to.
 
-ghost use Rattle.std.specs.Prelude.{◌≡◌, ℕ, ◌↔◌, List, IsTrue, MatchOption, slice_get};
+ghost use Rattle.std.specs.Prelude.{◌≡◌, ℕ, ◌↔◌, List, IsTrue, MatchOption, Some, None, slice_get};
 ghost use Rattle.jk_model.specs.declared.class_file.PoolEntry.{PoolEntry};
-ghost use Rattle.jk_model.specs.declared.class_file.PoolEntry.TheVariants.{Utf8, Class, NameAndType};
+ghost use Rattle.jk_model.specs.declared.class_file.PoolEntry.TheVariants.{NameAndType};
+ghost use Rattle.jk_model_classes.specs.ClassNames.{NamesClass};
 ghost use Rattle.jk_model_classes.specs.Members.{TextAt};
 ghost use Rattle.class_rules.specs.Entries.{reference_of};
-ghost use Rattle.class_rules.specs.KnownPools.{IsKnown, IsTextKnown, ArePairKnown, IsClassKnown, IsReferenceKnown};
+ghost use Rattle.class_rules.specs.KnownPools.{IsKnown, IsTextKnown, ArePairKnown, IsClassKnown, IsNameKnown, IsReferenceKnown};
 ghost use Rattle.class_rules.specs.Texts.{AreFactsOf, word_text};
 
 use crate::texts::{TextFacts, Word};
@@ -56,6 +57,14 @@ impl<'a> KnownPool<'a> {
         }
     }
 
+    /// The entry at an index.
+    pub(crate) fn entry_at(&self, i: usize) -> Option<&PoolEntry>
+        ensures { MatchOption result (slice_get self.now.entries.now i ≡ None)
+            (λ entry. slice_get self.now.entries.now i ≡ Some entry.now) }
+    {
+        self.entries.get(i)
+    }
+
     /// What is known of the text at an index.
     pub(crate) fn text(&self, i: u16) -> Option<TextFacts>
         requires { IsKnown self.now }
@@ -75,30 +84,6 @@ impl<'a> KnownPool<'a> {
         match self.text(i) {
             Some(text) => text.is(word),
             None => false,
-        }
-    }
-
-    /// The bytes of the text at an index.
-    pub(crate) fn text_bytes(&self, i: u16) -> Option<&[u8]>
-        ensures { MatchOption result
-            ((bytes : List ℕ) → slice_get self.now.entries.now i ≡ Some (Utf8 bytes) → ⊥)
-            (λ bytes. slice_get self.now.entries.now i ≡ Some (Utf8 bytes.now)) }
-    {
-        match self.entries.get(usize::from(i)) {
-            Some(PoolEntry::Utf8(bytes)) => Some(bytes.as_slice()),
-            _ => None,
-        }
-    }
-
-    /// The index of the name of the class at an index.
-    pub(crate) fn class_at(&self, i: u16) -> Option<u16>
-        ensures { MatchOption result
-            ((name : ℕ) → slice_get self.now.entries.now i ≡ Some (Class name) → ⊥)
-            (λ name. slice_get self.now.entries.now i ≡ Some (Class name)) }
-    {
-        match self.entries.get(usize::from(i)) {
-            Some(PoolEntry::Class(name)) => Some(*name),
-            _ => None,
         }
     }
 
@@ -133,6 +118,28 @@ impl<'a> KnownPool<'a> {
         match entry {
             PoolEntry::Class(name) => self.text(*name),
             _ => None,
+        }
+    }
+
+    /// What is known of the name of the class at an index.
+    pub(crate) fn class_name_at(&self, i: usize) -> Option<TextFacts>
+        requires { IsKnown self.now }
+        ensures { IsNameKnown self.now.entries.now i result }
+    {
+        match self.entry_at(i) {
+            Some(entry) => self.class_name(entry),
+            None => None,
+        }
+    }
+
+    /// Whether a class that isn't an array's stands at an index.
+    pub(crate) fn names_class(&self, i: u16) -> bool
+        requires { IsKnown self.now }
+        ensures { IsTrue result ↔ NamesClass self.now.entries.now i }
+    {
+        match self.class_name_at(usize::from(i)) {
+            Some(name) => !name.begins_array,
+            None => false,
         }
     }
 

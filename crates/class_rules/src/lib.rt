@@ -12,7 +12,6 @@ mod flag_rules;
 mod flags;
 mod floats;
 mod known_pool;
-mod lookups;
 mod member_descriptors;
 mod members;
 mod method_codes;

@@ -4,34 +4,34 @@ ghost use Rattle.std.specs.Prelude.{◌≡◌, ℕ, ◌↔◌, ◌<◌, ◌^◌,
 ghost use Rattle.jk_model.specs.declared.class_file.Code.{Code};
 ghost use Rattle.jk_model_classes.specs.Items.{HasTwoItems};
 ghost use Rattle.class_rules.specs.Attributes.{IsCalledBy, HasBadMethodAttributes, AreShort};
+ghost use Rattle.class_rules.specs.KnownPools.{IsKnown};
 ghost use Rattle.class_rules.specs.MethodCodes.{HasCodeBody, TakesMore, HasMoreSlots, IsMethodJudged};
 ghost use Rattle.class_rules.specs.Texts.{AreFacts};
 ghost use Rattle.class_rules.specs.declared.texts.Word.TheVariants as words;
 
 use crate::attributes::{STATIC, code_of, has, is_called, method_flags, needs_code};
 use crate::codes::{CodeJudgment, judge_code};
-use crate::lookups::text_at;
+use crate::known_pool::KnownPool;
 use crate::texts::{MethodShape, TextFacts, Word};
-use jk_model::{Attribute, ClassFile, Code, MemberInfo, OutOfMemory, PoolEntry};
+use jk_model::{Attribute, ClassFile, Code, MemberInfo, OutOfMemory};
 use std::alloc::Global;
 
 /// What the one Code among these attributes says, where it is laid out as one.
 fn one_code(
     alloc: Global,
-    pool: &[PoolEntry],
-    facts: &[Option<TextFacts>],
+    pool: &KnownPool,
     attributes: &[Attribute],
 ) -> Result<Option<Code>, OutOfMemory>
-    requires facts { AreFacts pool.now facts.now }
+    requires known { IsKnown pool.now }
     requires short { AreShort attributes.now }
-    requires one { HasTwoItems (IsCalledBy pool.now words.Code) attributes.now → ⊥ }
+    requires one { HasTwoItems (IsCalledBy pool.now.entries.now words.Code) attributes.now → ⊥ }
     ensures { IfOk result (λ found. MatchOption found
-        ((code : Code) → HasCodeBody pool.now attributes.now code → ⊥)
-        (λ code. HasCodeBody pool.now attributes.now code
-        × ((other : Code) → HasCodeBody pool.now attributes.now other → code ≡ other))) }
+        ((code : Code) → HasCodeBody pool.now.entries.now attributes.now code → ⊥)
+        (λ code. HasCodeBody pool.now.entries.now attributes.now code
+        × ((other : Code) → HasCodeBody pool.now.entries.now attributes.now other → code ≡ other))) }
 {
     for a in attributes {
-        if is_called(pool, facts, Word::Code, a) {
+        if is_called(pool, Word::Code, a) {
             return code_of(alloc, a.body.as_slice());
         }
     }
@@ -56,17 +56,12 @@ fn slots_of(shape: Option<MethodShape>, is_static: bool) -> u32
 
 /// The slots of the arguments of a method with these flags, its receiver included. A method whose descriptor is
 /// none takes none.
-fn arguments_of(
-    pool: &[PoolEntry],
-    facts: &[Option<TextFacts>],
-    flags: u16,
-    method: &MemberInfo,
-) -> u32
-    requires { AreFacts pool.now facts.now }
-    ensures { (max : ℕ) → max < 2 ^ 16 → (max < result) ↔ TakesMore pool.now flags method.now max }
+fn arguments_of(pool: &KnownPool, flags: u16, method: &MemberInfo) -> u32
+    requires { IsKnown pool.now }
+    ensures { (max : ℕ) → max < 2 ^ 16 → (max < result) ↔ TakesMore pool.now.entries.now flags method.now max }
 {
-    match text_at(pool, facts, usize::from(method.descriptor)) {
-        Some((_, known)) => slots_of(known.method, has(flags, STATIC)),
+    match pool.text(method.descriptor) {
+        Some(descriptor) => slots_of(descriptor.method, has(flags, STATIC)),
         None => 0,
     }
 }
@@ -83,15 +78,15 @@ pub(crate) fn judge_method(
     requires attributes { HasBadMethodAttributes c.now method.now → ⊥ }
     ensures { IfOk result (λ found. IsMethodJudged c.now method.now found) }
 {
-    let pool = c.pool.as_slice();
-    let flags = method_flags(pool, facts, method);
+    let pool = KnownPool::of(c, facts);
+    let flags = method_flags(&pool, method);
     if !needs_code(flags) {
         return Ok(None);
     }
-    let Some(code) = one_code(alloc, pool, facts, method.attributes.as_slice())? else {
+    let Some(code) = one_code(alloc, &pool, method.attributes.as_slice())? else {
         return Ok(None);
     };
-    let arguments = arguments_of(pool, facts, flags, method);
-    let judgment = judge_code(alloc, pool, facts, &code, arguments)?;
+    let arguments = arguments_of(&pool, flags, method);
+    let judgment = judge_code(alloc, &pool, &code, arguments)?;
     Ok(Some(judgment))
 }

@@ -3,8 +3,7 @@
 ghost use Rattle.std.specs.Prelude.{◌≡◌, ℕ, ◌<◌, ◌^◌, ◌↔◌, List, IsTrue, length};
 ghost use Rattle.jk_model.specs.declared.class_file.PoolEntry.{PoolEntry};
 ghost use Rattle.jk_model.specs.Descriptors.{IsName};
-ghost use Rattle.jk_model.specs.Text.{Spells};
-ghost use Rattle.jk_model_classes.specs.ClassNames.{HasText, IsPlainMethodName, IsMethodName, IsReferenceName, IsArrayDescriptor, IsClassEntryName, BeginsArray, NamesClass, HasBadHeader, HasBadName};
+ghost use Rattle.jk_model_classes.specs.ClassNames.{HasText, IsPlainMethodName, IsMethodName, IsReferenceName, IsArrayDescriptor, IsClassEntryName, NamesClass, HasBadHeader, HasBadName};
 ghost use Rattle.class_rules.specs.Answers.{IsLeastSpot};
 ghost use Rattle.class_rules.specs.Entries.{kind_of, IsBadlyNamed};
 ghost use Rattle.class_rules.specs.KnownPools.{IsKnown};
@@ -55,13 +54,7 @@ impl KnownPool<'_> {
         requires { IsKnown self.now }
         ensures { IsTrue result ↔ (NamesClass self.now.entries.now i → ⊥) }
     {
-        let Some(name) = self.class_at(i) else {
-            return true;
-        };
-        match self.text_bytes(name) {
-            Some(bytes) => begins_array(bytes),
-            None => true,
-        }
+        !self.names_class(i)
     }
 
     /// Whether no text with the form of a name stands at an index.
@@ -151,15 +144,4 @@ impl TextFacts {
     {
         self.is_class_name || self.is_array()
     }
-}
-
-/// Whether the bytes spell a text that begins with a bracket, as the name of an array does. The bracket has three
-/// encodings.
-fn begins_array(bytes: &[u8]) -> bool
-    ensures { (units : List ℕ) → Spells bytes.now units → IsTrue result ↔ BeginsArray units }
-{
-    if bytes.starts_with(&[0x5b]) {
-        return true;
-    }
-    bytes.starts_with(&[0xc1, 0x9b]) || bytes.starts_with(&[0xe0, 0x81, 0x9b])
 }

@@ -13,7 +13,7 @@ mod shapes;
 mod words;
 
 use jk_model::{List, OutOfMemory, PoolEntry, Units};
-use names::{has_angle, is_class_name, is_name};
+use names::{begins_array, has_angle, is_class_name, is_name};
 use shapes::{field_shape_of, method_shape_of};
 use std::alloc::Global;
 use std::collections::BTreeMap;
@@ -78,6 +78,8 @@ pub(crate) struct TextFacts {
     pub is_name: bool,
     /// It has a `<` or a `>`.
     pub has_angle: bool,
+    /// Its first unit is `[`, as that of an array's name.
+    pub begins_array: bool,
     /// It has the form of a class's name.
     pub is_class_name: bool,
     /// Its type, where it is the descriptor of a field.
@@ -96,6 +98,7 @@ fn judge(alloc: Global, units: &[u16], first: u16) -> Result<TextFacts, OutOfMem
         word: word_of(units),
         is_name: is_name(units),
         has_angle: has_angle(units),
+        begins_array: begins_array(units),
         is_class_name: is_class_name(units),
         field: field_shape_of(alloc, units)?,
         method: method_shape_of(alloc, units)?,

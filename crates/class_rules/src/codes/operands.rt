@@ -1,14 +1,11 @@
 //! What an instruction's operands name: entries of the pool, locals, classes and members.
 
-ghost use Rattle.std.specs.Prelude.{◌≡◌, ℕ, ◌↔◌, ◌<◌, ◌^◌, pos, List, MatchOption, IfSome, IsTrue, Some, slice_get};
-ghost use Rattle.jk_model.specs.declared.class_file.PoolEntry.{PoolEntry};
-ghost use Rattle.jk_model.specs.declared.class_file.PoolEntry.TheVariants as entries;
-ghost use Rattle.jk_model_classes.specs.Members.{MemberKind, reference};
+ghost use Rattle.std.specs.Prelude.{◌≡◌, ℕ, ◌↔◌, ◌<◌, ◌^◌, pos, MatchOption, IfSome, IsTrue};
 ghost use Rattle.jk_model_classes.specs.MemberCode.{UsesEntry, LoadsFloat, HasBadEntry, is_of_local, is_of_long_local, HasBadLocal, MakesBadArray, CallsInit};
 ghost use Rattle.class_rules.specs.Codes.{LoadsClassBy, IsOfKind, needed_kind, HasShapeDimensions, IsWrongArray, RefersToInit, MayNotNameInit};
-ghost use Rattle.class_rules.specs.Texts.{AreFacts};
+ghost use Rattle.class_rules.specs.KnownPools.{IsKnown};
 
-use crate::lookups::{begins_array, class_at, is_text, is_word};
+use crate::known_pool::KnownPool;
 use crate::texts::{FieldShape, TextFacts, Word};
 use jk_model::{Instr, PoolEntry};
 
@@ -156,76 +153,44 @@ fn has_dimensions(field: Option<FieldShape>, n: i32) -> bool
     }
 }
 
-/// Whether a class is wrong for an instruction that makes an array or an object of it: its name, and the type
-/// that the name is a descriptor of.
-fn is_wrong_array(instr: &Instr, name: &[u8], field: Option<FieldShape>) -> bool
-    ensures { IsTrue result ↔ IsWrongArray instr.now name.now field }
+/// Whether a class of this name is wrong for an instruction that makes an array or an object of it.
+fn is_wrong_array(instr: &Instr, name: TextFacts) -> bool
+    ensures { IsTrue result ↔ IsWrongArray instr.now name }
 {
     match instr.op {
-        NEW => begins_array(name),
-        MULTIANEWARRAY => !has_dimensions(field, instr.b),
-        ANEWARRAY => has_dimensions(field, 255),
+        NEW => name.begins_array,
+        MULTIANEWARRAY => !has_dimensions(name.field, instr.b),
+        ANEWARRAY => has_dimensions(name.field, 255),
         _ => false,
     }
 }
 
 /// Whether an instruction makes an array of a class that isn't right for it, or an object of an array's.
-pub(crate) fn makes_bad_array(
-    pool: &[PoolEntry],
-    facts: &[Option<TextFacts>],
-    instr: &Instr,
-) -> bool
-    requires { AreFacts pool.now facts.now }
-    ensures { IsTrue result ↔ MakesBadArray pool.now instr.now }
+pub(crate) fn makes_bad_array(pool: &KnownPool, instr: &Instr) -> bool
+    requires { IsKnown pool.now }
+    ensures { IsTrue result ↔ MakesBadArray pool.now.entries.now instr.now }
 {
     let Some(i) = index_of(instr) else {
         return false;
     };
-    match class_at(pool, facts, i) {
-        Some((name, known)) => is_wrong_array(instr, name, known.field),
+    match pool.class_name_at(i) {
+        Some(name) => is_wrong_array(instr, name),
         None => false,
     }
 }
 
-/// The index of the name and type in the reference at an index.
-fn pair_at(pool: &[PoolEntry], i: usize) -> Option<u16>
-    ensures { MatchOption result
-        ((kind : MemberKind) (class pair : ℕ) → slice_get pool.now i ≡ Some (reference kind class pair) → ⊥)
-        (λ pair. (kind : MemberKind) × (class : ℕ) × (slice_get pool.now i ≡ Some (reference kind class pair))) }
-{
-    match pool.get(i) {
-        Some(PoolEntry::FieldRef(_, pair)) => Some(*pair),
-        Some(PoolEntry::MethodRef(_, pair)) => Some(*pair),
-        Some(PoolEntry::InterfaceMethodRef(_, pair)) => Some(*pair),
-        _ => None,
-    }
-}
-
-/// The indices of a name and of a type, where an entry of both stands at an index.
-fn name_and_type_at(pool: &[PoolEntry], i: usize) -> Option<(u16, u16)>
-    ensures { MatchOption result
-        ((n d : ℕ) → slice_get pool.now i ≡ Some (entries.NameAndType n d) → ⊥)
-        (λ found. slice_get pool.now i ≡ Some (entries.NameAndType found.0 found.1)) }
-{
-    match pool.get(i) {
-        Some(PoolEntry::NameAndType(name, descriptor)) => Some((*name, *descriptor)),
-        _ => None,
-    }
-}
-
 /// Whether a reference to a member called `<init>` stands at an index.
-fn refers_to_init(pool: &[PoolEntry], facts: &[Option<TextFacts>], i: usize) -> bool
-    requires { AreFacts pool.now facts.now }
-    ensures { IsTrue result ↔ RefersToInit pool.now i }
+fn refers_to_init(pool: &KnownPool, i: usize) -> bool
+    requires { IsKnown pool.now }
+    ensures { IsTrue result ↔ RefersToInit pool.now.entries.now i }
 {
-    let Some(pair) = pair_at(pool, i) else {
+    let Some(entry) = pool.entry_at(i) else {
         return false;
     };
-    let Some((name, descriptor)) = name_and_type_at(pool, usize::from(pair)) else {
-        return false;
-    };
-    is_word(pool, facts, usize::from(name), Word::Init)
-        && is_text(pool, facts, usize::from(descriptor))
+    match pool.reference(entry) {
+        Some(reference) => reference.name.is(Word::Init),
+        None => false,
+    }
 }
 
 /// Whether an instruction of this opcode may name a member, but none called `<init>`.
@@ -236,12 +201,12 @@ fn may_not_name_init(op: u8) -> bool
 }
 
 /// Whether an instruction other than `invokespecial` names `<init>`.
-pub(crate) fn calls_init(pool: &[PoolEntry], facts: &[Option<TextFacts>], instr: &Instr) -> bool
-    requires { AreFacts pool.now facts.now }
-    ensures { IsTrue result ↔ CallsInit pool.now instr.now }
+pub(crate) fn calls_init(pool: &KnownPool, instr: &Instr) -> bool
+    requires { IsKnown pool.now }
+    ensures { IsTrue result ↔ CallsInit pool.now.entries.now instr.now }
 {
     match index_of(instr) {
-        Some(i) => may_not_name_init(instr.op) && refers_to_init(pool, facts, i),
+        Some(i) => may_not_name_init(instr.op) && refers_to_init(pool, i),
         None => false,
     }
 }

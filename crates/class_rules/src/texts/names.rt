@@ -3,6 +3,7 @@
 ghost use Rattle.std.specs.Prelude.{◌≡◌, ◌↔◌, ◌==◌, ◌||◌, IsTrue};
 ghost use Rattle.std.specs.List.{list_any, slice_split, All};
 ghost use Rattle.jk_model.specs.Descriptors.{IsNameUnit, IsName, IsClassName};
+ghost use Rattle.jk_model_classes.specs.ClassNames.{BeginsArray};
 
 const DOT: u16 = b'.' as u16;
 
@@ -49,4 +50,11 @@ pub(crate) fn has_angle(units: &[u16]) -> bool
     ensures { result ≡ list_any (λ u. u == 60 || u == 62) units.now }
 {
     units.iter().any(|unit| *unit == LESS || *unit == GREATER)
+}
+
+/// Whether the first unit is `[`.
+pub(crate) fn begins_array(units: &[u16]) -> bool
+    ensures { IsTrue result ↔ BeginsArray units.now }
+{
+    matches!(units, [BRACKET, ..])
 }

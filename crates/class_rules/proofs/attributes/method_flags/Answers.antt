@@ -1,13 +1,10 @@
 -- Those of `<clinit>` are ignored.
-use Rattle.std.proofs.Common.{ℕ, inl, inr, refl, sym, subst}
-use Rattle.jk_model_classes.specs.Members.{TextAt, CLINIT}
+use Rattle.std.proofs.Common.{inl, inr, refl}
 use Rattle.class_rules.proofs.SomeItem.{is_not}
 use Rattle.class_rules.proofs.attributes.method_flags.Goals as goal
 
 pub returns-then-is_word : goal.returns-then-is_word
-returns-then-is_word c =
-    inl (subst (λ (n : ℕ). TextAt c.args.pool.now n CLINIT) c.from.ensures (c.is_word.ensures.0 c.if-is_word.true), refl)
+returns-then-is_word c = inl (c.is_word.ensures.0 c.if-is_word.true, refl)
 
 pub returns-else-is_word : goal.returns-else-is_word
-returns-else-is_word c =
-    inr (λ t. is_not c.is_word.result _ c.is_word.ensures c.if-is_word.false (subst (λ (n : ℕ). TextAt c.args.pool.now n CLINIT) (sym c.from.ensures) t), refl)
+returns-else-is_word c = inr (λ t. is_not c.is_word.result _ c.is_word.ensures c.if-is_word.false t, refl)

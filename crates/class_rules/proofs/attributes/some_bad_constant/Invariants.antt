@@ -4,4 +4,4 @@ use Rattle.class_rules.specs.Attributes.{IsBadConstant}
 use Rattle.class_rules.proofs.attributes.some_bad_constant.Given as goal
 
 abbrev pub invariant-loop-a : goal.invariant-loop-a
-invariant-loop-a l = HasItemBefore l.a-index (IsBadConstant l.pool l.field) l.attributes → ⊥
+invariant-loop-a l = HasItemBefore l.a-index (IsBadConstant l.pool.entries.now l.field) l.attributes → ⊥

@@ -5,17 +5,17 @@ use Rattle.class_rules.proofs.SomeItem.{none_yet, none_more, is_found, is_missed
 use Rattle.class_rules.proofs.attributes.some_called.Goals as goal
 
 pub loop-a-init : goal.loop-a-init
-loop-a-init c = none_yet (IsCalledBy c.args.pool.now c.args.word) c.args.attributes.now
+loop-a-init c = none_yet (IsCalledBy c.args.pool.now.entries.now c.args.word) c.args.attributes.now
 
 pub loop-a-preserved : goal.loop-a-preserved
 loop-a-preserved c =
-    none_more (IsCalledBy c.args.pool.now c.args.word) c.args.attributes.now c.loop-a.a-index c.a-item.result c.loop-a-test.true c.a-item.is
+    none_more (IsCalledBy c.args.pool.now.entries.now c.args.word) c.args.attributes.now c.loop-a.a-index c.a-item.result c.loop-a-test.true c.a-item.is
     (is_not c.is_called.result _ c.is_called.ensures c.if-is_called.false) c.loop-a.invariant
 
 pub returns-then-is_called : goal.returns-then-is_called
 returns-then-is_called c =
-    is_found (IsCalledBy c.args.pool.now c.args.word) c.args.attributes.now c.loop-a.a-index c.a-item.result c.loop-a-test.true c.a-item.is
+    is_found (IsCalledBy c.args.pool.now.entries.now c.args.word) c.args.attributes.now c.loop-a.a-index c.a-item.result c.loop-a-test.true c.a-item.is
     (c.is_called.ensures.0 c.if-is_called.true)
 
 pub returns : goal.returns
-returns c = is_missed (IsCalledBy c.args.pool.now c.args.word) c.args.attributes.now c.loop-a.a-index (omega arith) c.loop-a.invariant
+returns c = is_missed (IsCalledBy c.args.pool.now.entries.now c.args.word) c.args.attributes.now c.loop-a.a-index (omega arith) c.loop-a.invariant

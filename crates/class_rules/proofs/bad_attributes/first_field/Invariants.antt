@@ -4,4 +4,4 @@ use Rattle.class_rules.specs.Attributes.{HasBadFieldAttributes}
 use Rattle.class_rules.proofs.bad_attributes.first_field.Given as goal
 
 abbrev pub invariant-loop-i : goal.invariant-loop-i
-invariant-loop-i l = HasItemBefore l.i (HasBadFieldAttributes l.pool) l.fields → ⊥
+invariant-loop-i l = HasItemBefore l.i (HasBadFieldAttributes l.pool.entries.now) l.fields → ⊥

@@ -5,4 +5,4 @@ use Rattle.jk_model_classes.specs.MemberCode.{IsGoodHandler}
 use Rattle.class_rules.proofs.codes.has_bad_handler.Given as goal
 
 abbrev pub invariant-loop-h : goal.invariant-loop-h
-invariant-loop-h l = HasItemBefore l.h-index (λ (h : Handler). IsGoodHandler l.pool l.code h → ⊥) l.handlers → ⊥
+invariant-loop-h l = HasItemBefore l.h-index (λ (h : Handler). IsGoodHandler l.pool.entries.now l.code h → ⊥) l.handlers → ⊥

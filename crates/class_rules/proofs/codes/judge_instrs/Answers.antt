@@ -9,12 +9,12 @@ places_of-requires c = instrs_within c.args.code.now c.args.instrs.now c.len.res
 
 pub is_bad_code-requires : goal.is_bad_code-requires
 is_bad_code-requires c = record {
-  facts = c.requires.facts;
+  known = c.requires.known;
   places = places_of_code c.args.code.now c.args.instrs.now c.as_slice.result.now c.requires.reading
       (subst (λ (xs : List Bool). ArePlacesOf c.args.instrs.now xs) (sym c.as_slice.ensures.value) c.in_ok-places.ensures);
 }
 
 pub returns : goal.returns
 returns c =
-    read_judgment c.args.pool.now c.args.arguments c.args.code.now c.args.instrs.now c.has_float.result c.has_class.result c.is_bad_code.result
+    read_judgment c.args.pool.now.entries.now c.args.arguments c.args.code.now c.args.instrs.now c.has_float.result c.has_class.result c.is_bad_code.result
     c.requires.reading c.has_float.ensures c.has_class.ensures c.is_bad_code.ensures

@@ -19,8 +19,8 @@ returns c =
     let both = least_either (HasWrongMethodCode Monitors c.args.c.now) (HasFlagged c.args.c.now.pool SYNCHRONIZED) c.args.c.now.methods
     c.first_code-by_code.result c.first_flagged-by_flag.result
     (least_code Monitors c.args.c.now c.args.judged.now c.requires.judged c.first_code-by_code.result c.first_code-by_code.ensures.least)
-    (own_flagged c.as_slice.result.now c.args.c.now.pool SYNCHRONIZED c.as_slice-2.result.now c.args.c.now.methods c.first_flagged-by_flag.result
-    c.as_slice.ensures c.as_slice-2.ensures c.first_flagged-by_flag.ensures.least) in
+    (own_flagged c.of-pool.result.entries.now c.args.c.now.pool SYNCHRONIZED c.as_slice.result.now c.args.c.now.methods c.first_flagged-by_flag.result
+    c.of-pool.ensures.entries c.as_slice.ensures c.first_flagged-by_flag.ensures.least) in
     least_spot c.args.c.now ⊥ (λ field. ⊥) (UsesMonitorBy c.args.c.now) (λ entry. ⊥) (UsesMonitor c.args.c.now) places _ _
     (monitor_reads_each c.args.c.now)
     (record {

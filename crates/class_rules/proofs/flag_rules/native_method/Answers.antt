@@ -17,8 +17,8 @@ returns c =
     (record {
       class = false_is_never;
       field = λ h. h.3;
-      method = own_flagged c.as_slice.result.now c.args.c.now.pool NATIVE c.as_slice-2.result.now c.args.c.now.methods c.first_flagged.result
-          c.as_slice.ensures c.as_slice-2.ensures c.first_flagged.ensures.least;
+      method = own_flagged c.of-pool.result.entries.now c.args.c.now.pool NATIVE c.as_slice.result.now c.args.c.now.methods c.first_flagged.result
+          c.of-pool.ensures.entries c.as_slice.ensures c.first_flagged.ensures.least;
       entry = λ h. h.3;
     })
     c.len.ensures c.number.ensures

@@ -4,8 +4,8 @@ use Rattle.class_rules.proofs.method_codes.arguments_of.Goals as goal
 
 pub returns-in-Some : goal.returns-in-Some
 returns-in-Some c =
-    takes_more c.args.pool.now c.args.flags c.args.method.now c.from.result c.in-Some.field-0-0.now c.in-Some.known c.has.result c.slots_of.result
-    c.from.ensures c.in-Some.ensures c.has.ensures c.slots_of.ensures
+    takes_more c.args.pool.now.entries.now c.args.flags c.args.method.now c.in-Some.descriptor c.has.result c.slots_of.result c.in-Some.ensures
+    c.has.ensures c.slots_of.ensures
 
 pub returns-in-None : goal.returns-in-None
-returns-in-None c = takes_none c.args.pool.now c.args.flags c.args.method.now c.from.result c.from.ensures c.in-None.ensures
+returns-in-None c = takes_none c.args.pool.now.entries.now c.args.flags c.args.method.now c.in-None.ensures

@@ -13,18 +13,18 @@ code_of-requires c =
     rw c.as_slice.ensures (c.requires.short c.loop-a.a-index c.a-item.result at)
 
 pub loop-a-init : goal.loop-a-init
-loop-a-init c = none_yet (IsCalledBy c.args.pool.now Code) c.args.attributes.now
+loop-a-init c = none_yet (IsCalledBy c.args.pool.now.entries.now Code) c.args.attributes.now
 
 pub loop-a-preserved : goal.loop-a-preserved
 loop-a-preserved c =
-    none_more (IsCalledBy c.args.pool.now Code) c.args.attributes.now c.loop-a.a-index c.a-item.result c.loop-a-test.true c.a-item.is
+    none_more (IsCalledBy c.args.pool.now.entries.now Code) c.args.attributes.now c.loop-a.a-index c.a-item.result c.loop-a-test.true c.a-item.is
     (is_not c.is_called.result _ c.is_called.ensures c.if-is_called.false) c.loop-a.invariant
 
 pub returns-then-is_called : goal.returns-then-is_called
 returns-then-is_called c =
     let at = slice_get_read c.args.attributes.now (length c.args.attributes.now) c.loop-a.a-index c.a-item.result refl c.loop-a-test.true c.a-item.is in
-    code_found c.args.pool.now c.args.attributes.now c.loop-a.a-index c.a-item.result c.as_slice.result.now c.code_of.result c.requires.one at
+    code_found c.args.pool.now.entries.now c.args.attributes.now c.loop-a.a-index c.a-item.result c.as_slice.result.now c.code_of.result c.requires.one at
     (c.is_called.ensures.0 c.if-is_called.true) c.as_slice.ensures c.code_of.ensures.layout c.code_of.ensures.only
 
 pub returns : goal.returns
-returns c = no_code c.args.pool.now c.args.attributes.now c.loop-a.a-index (omega arith) c.loop-a.invariant
+returns c = no_code c.args.pool.now.entries.now c.args.attributes.now c.loop-a.a-index (omega arith) c.loop-a.invariant

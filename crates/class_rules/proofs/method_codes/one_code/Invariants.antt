@@ -5,4 +5,4 @@ use Rattle.class_rules.specs.declared.texts.Word.TheVariants.{Code}
 use Rattle.class_rules.proofs.method_codes.one_code.Given as goal
 
 abbrev pub invariant-loop-a : goal.invariant-loop-a
-invariant-loop-a l = HasItemBefore l.a-index (IsCalledBy l.pool Code) l.attributes → ⊥
+invariant-loop-a l = HasItemBefore l.a-index (IsCalledBy l.pool.entries.now Code) l.attributes → ⊥
