@@ -10,5 +10,6 @@ returns-then-has_wrong c = (λ t. inl (c.in_ok-has_wrong.ensures.0 c.if-has_wron
 
 pub returns : goal.returns
 returns c =
-    or_else_answer (HasWrongCode c.args.pool.now.entries.now c.args.flags c.args.attributes.now) (HasWrongExceptions c.args.pool.now.entries.now c.args.attributes.now)
+    or_else_answer (HasWrongCode c.args.pool.now.entries.now c.args.flags c.args.attributes.now)
+    (HasWrongExceptions c.args.pool.now.entries.now c.args.attributes.now)
     c.has_wrong_exceptions.result (is_not c.in_ok-has_wrong.has_wrong _ c.in_ok-has_wrong.ensures c.if-has_wrong.false) c.has_wrong_exceptions.ensures

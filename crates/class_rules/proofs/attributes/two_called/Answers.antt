@@ -13,10 +13,12 @@ pub loop-a-preserved : goal.loop-a-preserved
 loop-a-preserved c =
     elim c.if-is_called.branch [
       | then-is_called+else-seen w ↦
-          first_seen c.loop-a.seen c.if-is_called.seen (IsCalledBy c.args.pool.now.entries.now c.args.word) c.args.attributes.now c.loop-a.a-index c.a-item.result
+          first_seen c.loop-a.seen c.if-is_called.seen (IsCalledBy c.args.pool.now.entries.now c.args.word)
+          c.args.attributes.now c.loop-a.a-index c.a-item.result
           w.if-seen.false w.seen-is c.loop-a-test.true c.a-item.is (c.is_called.ensures.0 w.if-is_called.true) c.loop-a.invariant
       | else-is_called w ↦
-          still_seen c.loop-a.seen c.if-is_called.seen (IsCalledBy c.args.pool.now.entries.now c.args.word) c.args.attributes.now c.loop-a.a-index c.a-item.result
+          still_seen c.loop-a.seen c.if-is_called.seen (IsCalledBy c.args.pool.now.entries.now c.args.word)
+          c.args.attributes.now c.loop-a.a-index c.a-item.result
           w.seen-is c.loop-a-test.true c.a-item.is (is_not c.is_called.result _ c.is_called.ensures w.if-is_called.false) c.loop-a.invariant
     ]
 
@@ -26,4 +28,5 @@ returns-then-seen c =
     c.loop-a-test.true c.a-item.is (c.is_called.ensures.0 c.if-is_called.true) c.loop-a.invariant
 
 pub returns : goal.returns
-returns c = seen_at_end c.loop-a.seen (IsCalledBy c.args.pool.now.entries.now c.args.word) c.args.attributes.now c.loop-a.a-index (omega arith) c.loop-a.invariant
+returns c = seen_at_end c.loop-a.seen (IsCalledBy c.args.pool.now.entries.now c.args.word)
+    c.args.attributes.now c.loop-a.a-index (omega arith) c.loop-a.invariant

@@ -14,7 +14,8 @@ loop-i-preserved c =
 
 pub returns-then-has_bad_field_attributes : goal.returns-then-has_bad_field_attributes
 returns-then-has_bad_field_attributes c = record {
-  least = is_first (HasBadFieldAttributes c.args.pool.now.entries.now) c.args.fields.now c.loop-i.i c.index-fields-i.result c.loop-i-test.true c.index-fields-i.is
+  least = is_first (HasBadFieldAttributes c.args.pool.now.entries.now)
+      c.args.fields.now c.loop-i.i c.index-fields-i.result c.loop-i-test.true c.index-fields-i.is
       (c.has_bad_field_attributes.ensures.0 c.if-has_bad_field_attributes.true) c.loop-i.invariant;
   within = c.loop-i-test.true;
 }

@@ -10,7 +10,8 @@ loop-h-init c = none_yet (λ (h : Handler). IsGoodHandler c.args.pool.now.entrie
 
 pub loop-h-preserved : goal.loop-h-preserved
 loop-h-preserved c =
-    none_more_copied (λ (h : Handler). IsGoodHandler c.args.pool.now.entries.now c.args.code.now h → ⊥) c.args.handlers.now c.loop-h.h-index _ c.loop-h-test.true
+    none_more_copied (λ (h : Handler). IsGoodHandler c.args.pool.now.entries.now c.args.code.now h → ⊥)
+    c.args.handlers.now c.loop-h.h-index _ c.loop-h-test.true
     (λ none. none (c.is_good_handler.ensures.0 c.if-not-is_good_handler.false)) c.loop-h.invariant
 
 pub returns-then-not-is_good_handler : goal.returns-then-not-is_good_handler
@@ -20,4 +21,5 @@ returns-then-not-is_good_handler c =
 
 pub returns : goal.returns
 returns c =
-    is_missed (λ (h : Handler). IsGoodHandler c.args.pool.now.entries.now c.args.code.now h → ⊥) c.args.handlers.now c.loop-h.h-index (omega arith) c.loop-h.invariant
+    is_missed (λ (h : Handler). IsGoodHandler c.args.pool.now.entries.now c.args.code.now h → ⊥)
+    c.args.handlers.now c.loop-h.h-index (omega arith) c.loop-h.invariant

@@ -9,7 +9,8 @@ loop-instr-init c = none_yet (IsBadInstr c.args.pool.now.entries.now c.args.code
 
 pub loop-instr-preserved : goal.loop-instr-preserved
 loop-instr-preserved c =
-    none_more (IsBadInstr c.args.pool.now.entries.now c.args.code.now) c.args.instrs.now c.loop-instr.instr-index c.instr-item.result c.loop-instr-test.true c.instr-item.is
+    none_more (IsBadInstr c.args.pool.now.entries.now c.args.code.now)
+    c.args.instrs.now c.loop-instr.instr-index c.instr-item.result c.loop-instr-test.true c.instr-item.is
     (is_not c.is_bad_instr.result _ c.is_bad_instr.ensures c.if-is_bad_instr.false) c.loop-instr.invariant
 
 pub returns-then-is_bad_instr : goal.returns-then-is_bad_instr

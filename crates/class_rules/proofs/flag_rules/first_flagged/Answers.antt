@@ -9,12 +9,14 @@ loop-i-init c = none_yet (HasFlagged c.args.pool.now.entries.now c.args.flag) c.
 
 pub loop-i-preserved : goal.loop-i-preserved
 loop-i-preserved c =
-    none_more (HasFlagged c.args.pool.now.entries.now c.args.flag) c.args.methods.now c.loop-i.i c.index-methods-i.result c.loop-i-test.true c.index-methods-i.is
+    none_more (HasFlagged c.args.pool.now.entries.now c.args.flag)
+    c.args.methods.now c.loop-i.i c.index-methods-i.result c.loop-i-test.true c.index-methods-i.is
     (is_not c.is_flagged.result _ c.is_flagged.ensures c.if-is_flagged.false) c.loop-i.invariant
 
 pub returns-then-is_flagged : goal.returns-then-is_flagged
 returns-then-is_flagged c = record {
-  least = is_first (HasFlagged c.args.pool.now.entries.now c.args.flag) c.args.methods.now c.loop-i.i c.index-methods-i.result c.loop-i-test.true c.index-methods-i.is
+  least = is_first (HasFlagged c.args.pool.now.entries.now c.args.flag)
+      c.args.methods.now c.loop-i.i c.index-methods-i.result c.loop-i-test.true c.index-methods-i.is
       (c.is_flagged.ensures.0 c.if-is_flagged.true) c.loop-i.invariant;
   within = c.loop-i-test.true;
 }

@@ -15,5 +15,6 @@ two (x ∷ y ∷ xs) mid new first second few at put pushed = absurd (omega arit
 pub returns : goal.returns
 returns c = λ few.
     on_ok_weaker c.push-2.result
-    (two c.args.attributes.now c.replace-second.new.self c.push-2.new.self c.args.first c.replace-second.result few c.replace-second.ensures.old c.replace-second.ensures.new)
+    (two c.args.attributes.now c.replace-second.new.self c.push-2.new.self c.args.first c.replace-second.result
+    few c.replace-second.ensures.old c.replace-second.ensures.new)
     c.push-2.ensures.ok
