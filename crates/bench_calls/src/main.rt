@@ -1,6 +1,7 @@
-//! `bench_calls CALL SIZE`: calls of a leaf crate on an input that is made to a size, so that
-//! `bench/run` can count what they cost. With a third word the input is made, and nothing is called
-//! (`words` has no input, and always makes its pool).
+//! `bench_calls CALL SIZE`: calls of one crate on an input that is made to a size, so that `bench/run` can count
+//! what they cost. With a third word all is done that comes before the call that is counted: the input is made, and
+//! for `judge-` and `write-` the class file is also read, and `is_writable` asked. (`words` has no input, and always
+//! makes its pool.)
 #![tactic(auto)]
 
 mod class_files;

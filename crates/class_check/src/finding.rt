@@ -1,4 +1,4 @@
-//! What is found of one class file.
+//! What is found of one class file, or of one assembler's text.
 
 ghost use Rattle.std.specs.Prelude.{◌≡◌, ◌<◌, ◌^◌, ℕ, length, Ok};
 ghost use Rattle.jk_model.specs.declared.output.Rule.{Rule};
@@ -8,6 +8,7 @@ ghost use Rattle.jkasm.specs.GoodLines.{IsRefusedAt};
 use class_reader::{ReadRefusal, read_class};
 use class_rules::first_fault;
 use class_writer::laws::one_spelling;
+use class_writer::write_class;
 use jk_model::{OutOfMemory, Rule};
 use jkasm::{AsmError, assemble};
 use std::alloc::Global;
@@ -21,8 +22,10 @@ pub enum Finding {
     Broken(Rule, u32),
     /// It is an assembler's text, and this line is at fault.
     Line(u32),
-    /// It, or the class file that it stands for, has over 1,048,576 bytes, and was not judged.
+    /// It is, or stands for, a class file of over 1,048,576 bytes, or it is a text of over 8,388,608. It was not judged.
     TooLong,
+    /// What is written of its record is another file. No file is found so.
+    Differs,
 }
 
 /// The rule that bytes break which are no class file.
@@ -47,6 +50,7 @@ pub fn finding_of_file(alloc: Global, bytes: &[u8], path: &str) -> Result<Findin
     ensures good { result ≡ Ok Finding.Good → IsGoodFile bytes.now path.now }
     ensures broken { (rule : Rule) (n : ℕ) → result ≡ Ok (Finding.Broken rule n) → BreaksFirst bytes.now path.now rule n }
     ensures no_line { (n : ℕ) → result ≡ Ok (Finding.Line n) → ⊥ }
+    ensures same { result ≡ Ok Finding.Differs → ⊥ }
 {
     if bytes.len() > MOST {
         return Ok(Finding::TooLong);
@@ -54,18 +58,22 @@ pub fn finding_of_file(alloc: Global, bytes: &[u8], path: &str) -> Result<Findin
     first_finding(alloc, bytes, path)
 }
 
-/// The first of C1 to C17 that a file breaks.
+/// The first of C1 to C17 that a file breaks. A class file is also written again, and has the same bytes.
 fn first_finding(alloc: Global, bytes: &[u8], path: &str) -> Result<Finding, OutOfMemory>
     requires { length bytes.now < 2 ^ 31 }
     ensures good { result ≡ Ok Finding.Good → IsGoodFile bytes.now path.now }
     ensures broken { (rule : Rule) (n : ℕ) → result ≡ Ok (Finding.Broken rule n) → BreaksFirst bytes.now path.now rule n }
     ensures no_line { (n : ℕ) → result ≡ Ok (Finding.Line n) → ⊥ }
+    ensures same { result ≡ Ok Finding.Differs → ⊥ }
 {
     let class = match read_class(alloc, bytes) {
         Ok(class) => class,
         Err(refusal) => return refused(refusal),
     };
     one_spelling();
+    if write_class(alloc, &class)?.as_slice() != bytes {
+        return Ok(Finding::Differs);
+    }
     match first_fault(alloc, &class, path)? {
         Some(fault) => Ok(Finding::Broken(fault.rule, fault.number)),
         None => Ok(Finding::Good),
@@ -79,6 +87,7 @@ pub fn finding_of_text(alloc: Global, text: &[u8], path: &str) -> Result<Finding
     ensures broken { (rule : Rule) (n : ℕ) → result ≡ Ok (Finding.Broken rule n)
         → HasFileSo text.now (λ bytes. BreaksFirst bytes path.now rule n) }
     ensures line { (n : ℕ) → result ≡ Ok (Finding.Line n) → IsRefusedAt text.now n }
+    ensures same { result ≡ Ok Finding.Differs → ⊥ }
 {
     match assemble(alloc, text) {
         Ok(bytes) => finding_of_file(alloc, bytes.as_slice(), path),

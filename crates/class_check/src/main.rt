@@ -35,6 +35,7 @@ fn check(rt: &HostRuntime, name: &str) -> io::Result<()> {
         Ok(Finding::Broken(rule, number)) => println!(rt; "{name} {rule:?} {number}"),
         Ok(Finding::Line(line)) => println!(rt; "{name} line {line}"),
         Ok(Finding::TooLong) => println!(rt; "{name} too long"),
+        Ok(Finding::Differs) => println!(rt; "{name} differs from what is written of it"),
         Err(OutOfMemory) => Err(io::Error::from(io::ErrorKind::OutOfMemory)),
     }
 }
