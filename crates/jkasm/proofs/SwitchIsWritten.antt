@@ -1,4 +1,4 @@
--- A switch is written where the offsets to its labels are those of places that count as FAR from there on.
+-- A switch is written right where its offsets are right, each place from FAR on counting as FAR.
 use Rattle.std.proofs.Common.{◌≡◌, ℕ, ◌+◌, ◌*◌, ◌≤◌, ◌<◌, List, [], ◌∷◌, ◌++◌, Option, Some, None, IsSome, length, refl, sym, ap, ◌∙◌, arith, length-append, ℤ, pos, ◌-ℤ◌, min, append_assoc, take, get_or}
 use Rattle.std.specs.Prelude.{map, flat_map, replicate, unwrap_or}
 use Rattle.std.specs.Int.{w32, cast_unsigned}

@@ -1,6 +1,6 @@
 -- The first line of a text that is at fault: it isn't of its form at its place, it names a label that doesn't
--- stand in its method, repeats one that does, or passes a limit. A text that ends too early is at fault at the
--- line after its last.
+-- stand in its method, repeats one that does, jumps too far, ends a method that has lines and no instruction, or
+-- passes a limit. A text that ends too early is at fault at the line after its last.
 use Rattle.std.specs.Prelude.{◌≡◌, ℕ, suc, ◌<◌, ◌⊎◌, ⊤, ℤ, IsSome, List, [], ◌∷◌, ◌++◌, length, map, take, drop, slice_get, Option, Some, None}
 use Rattle.std.specs.List.{AllByRecursion}
 use Rattle.asm_reader.specs.declared.items.CodeLine.{CodeLine}

@@ -1,4 +1,4 @@
--- What the index of a pool knows, and what it is to put one entry into the pool.
+-- What the index of a pool knows, and what holds after one entry was put into the pool.
 use Rattle.std.specs.Prelude.{◌≡◌, ◌≢◌, ℕ, ◌+◌, ◌<◌, ◌⊎◌, List, ◌++◌, length, Option, Some, None, slice_get}
 use Rattle.std.specs.BTreeMap.{BTreeMap, get}
 use Rattle.jk_model.specs.declared.class_file.PoolEntry.{PoolEntry}

@@ -1,4 +1,4 @@
-//! A text as a whole.
+//! Assembles a whole text: its lines are read, taken one by one, and written as a class file.
 
 ghost use Rattle.std.specs.Prelude.{◌≡◌, ◌+◌, ◌<◌, ◌^◌, ◌⊎◌, ℕ, List, length, IfOk, OnOk, MatchResult, Err};
 ghost use Rattle.std.specs.List.{AllByRecursion};

@@ -1,4 +1,4 @@
-//! Makes class files from an assembler's text, for tests and examples. `docs/FORMATS.md` has its grammar.
+//! Makes class files from an assembler's text. `docs/FORMATS.md` has its grammar.
 #![tactic(auto)]
 
 mod assembler;

@@ -45,7 +45,7 @@ const SMALL_CLASS: [u8; 141] = [
     0, 0,
 ];
 
-/// The example of `docs/FORMATS.md`, with a method without code after it.
+/// The example of `docs/FORMATS.md` as an abstract class with an interface, and with a method without code after it.
 const EXAMPLE: &[u8] = b"# One class. Each line is one item.
 class 0421 Example java/lang/Object java/lang/Runnable
 field 0019 LIMIT I 10
