@@ -51,6 +51,7 @@ pub fn finding_of_file(alloc: Global, bytes: &[u8], path: &str) -> Result<Findin
     ensures broken { (rule : Rule) (n : ℕ) → result ≡ Ok (Finding.Broken rule n) → BreaksFirst bytes.now path.now rule n }
     ensures no_line { (n : ℕ) → result ≡ Ok (Finding.Line n) → ⊥ }
     ensures same { result ≡ Ok Finding.Differs → ⊥ }
+    ensures too_long { result ≡ Ok Finding.TooLong → 2 ^ 20 < length bytes.now }
 {
     if bytes.len() > MOST {
         return Ok(Finding::TooLong);
@@ -65,6 +66,7 @@ fn first_finding(alloc: Global, bytes: &[u8], path: &str) -> Result<Finding, Out
     ensures broken { (rule : Rule) (n : ℕ) → result ≡ Ok (Finding.Broken rule n) → BreaksFirst bytes.now path.now rule n }
     ensures no_line { (n : ℕ) → result ≡ Ok (Finding.Line n) → ⊥ }
     ensures same { result ≡ Ok Finding.Differs → ⊥ }
+    ensures no_limit { result ≡ Ok Finding.TooLong → ⊥ }
 {
     let class = match read_class(alloc, bytes) {
         Ok(class) => class,
@@ -88,6 +90,7 @@ pub fn finding_of_text(alloc: Global, text: &[u8], path: &str) -> Result<Finding
         → HasFileSo text.now (λ bytes. BreaksFirst bytes path.now rule n) }
     ensures line { (n : ℕ) → result ≡ Ok (Finding.Line n) → IsRefusedAt text.now n }
     ensures same { result ≡ Ok Finding.Differs → ⊥ }
+    ensures too_long { result ≡ Ok Finding.TooLong → HasFileSo text.now (λ bytes. 2 ^ 20 < length bytes) }
 {
     match assemble(alloc, text) {
         Ok(bytes) => finding_of_file(alloc, bytes.as_slice(), path),
