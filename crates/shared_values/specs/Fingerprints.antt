@@ -1,0 +1,2 @@
+-- Fingerprints of texts: the first 64 bits of the SHA-256 digest of their units, each as two bytes with the higher
+-- one first.

@@ -1,0 +1,2 @@
+-- What a fingerprint is.
+pub mod Fingerprints

@@ -1,0 +1,16 @@
+//! Values that many hold and that stand in memory once: texts, types of methods, and values of any type. A
+//! contract sees each as the value itself. A text and a method's type carry a fingerprint, which is worked
+//! out once, so that members are put in order and found by it and not by long comparisons.
+#![tactic(auto)]
+
+mod fingerprint;
+mod kinds;
+mod shared;
+#[cfg(test)]
+mod tests;
+mod text;
+
+pub use fingerprint::{fingerprint, kind_fingerprint};
+pub use kinds::SharedKind;
+pub use shared::Shared;
+pub use text::Text;
