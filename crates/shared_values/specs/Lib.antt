@@ -1,2 +1,3 @@
 -- What a fingerprint is.
+pub mod Feeding
 pub mod Fingerprints

@@ -3,14 +3,15 @@
 //! out once, so that members are put in order and found by it and not by long comparisons.
 #![tactic(auto)]
 
-mod fingerprint;
+mod fingerprints;
+mod hashed_kinds;
+mod hashed_units;
 mod kinds;
+mod same_kind;
 mod shared;
-#[cfg(test)]
-mod tests;
 mod text;
 
-pub use fingerprint::{fingerprint, kind_fingerprint};
+pub use fingerprints::{fingerprint, kind_fingerprint};
 pub use kinds::SharedKind;
 pub use shared::Shared;
 pub use text::Text;

@@ -1,0 +1,43 @@
+//! Fingerprints: 64 bits that a text determines, and that nobody can bring to agree for many texts.
+
+ghost use Rattle.std.specs.Prelude.{◌≡◌, length};
+ghost use Rattle.jk_model.specs.Descriptors.{method_text};
+ghost use Rattle.shared_values.specs.Fingerprints.{first_bits, fingerprint_of};
+
+use crate::hashed_kinds::feed_kind;
+use crate::hashed_units::feed_units;
+use jk_model::MethodType;
+use sha2::{Digest, Sha256};
+
+/// The fingerprint of units: the first 64 bits, the highest first, of the SHA-256 digest of the units, each
+/// as two bytes with the higher one first. It takes time in proportion to their number, and no memory.
+///
+/// The texts come from strangers. A stranger who could bring the fingerprints of many texts to agree would
+/// make each look-up among them a walk through all of them. So it is a hash for which nobody knows how to
+/// find many such texts, and no cheap one.
+pub fn fingerprint(units: &[u16]) -> u64
+    ensures { result ≡ fingerprint_of units.now }
+{
+    let mut hasher = Sha256::new();
+    feed_units(&mut hasher, units);
+    first_eight(&hasher.finalize())
+}
+
+/// The fingerprint of a method's type, which is that of its descriptor. It takes time in proportion to the
+/// descriptor's length, and no memory.
+pub fn kind_fingerprint(kind: &MethodType) -> u64
+    ensures { result ≡ fingerprint_of (method_text kind.now) }
+{
+    let mut hasher = Sha256::new();
+    feed_kind(&mut hasher, kind);
+    first_eight(&hasher.finalize())
+}
+
+/// The first eight bytes of a digest, as a number.
+fn first_eight(digest: &[u8; 32]) -> u64
+    ensures { result ≡ first_bits digest.now }
+{
+    u64::from_be_bytes([
+        digest[0], digest[1], digest[2], digest[3], digest[4], digest[5], digest[6], digest[7],
+    ])
+}
