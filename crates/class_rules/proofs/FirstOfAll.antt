@@ -13,7 +13,7 @@ use Rattle.jk_model_classes.specs.OneClassRules.{one_class_rules, Breaks, IsFirs
 use Rattle.class_rules.specs.Answers.{IsLeastSpot}
 use Rattle.class_rules.specs.Order.{HoldBefore, IsFaultBefore}
 use Rattle.class_rules.specs.Texts.{AreFacts}
-use Rattle.class_rules.specs.declared.fault.ClassFault.{ClassFault}
+use Rattle.jk_model_classes.specs.declared.sharing.ClassFault.{ClassFault}
 use Rattle.class_rules.specs.declared.texts.TextFacts.{TextFacts}
 
 module _ (c : ClassFile) (path : List ℕ) where

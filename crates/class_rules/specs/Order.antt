@@ -4,7 +4,7 @@ use Rattle.jk_model.specs.declared.class_file.ClassFile.{ClassFile}
 use Rattle.jk_model.specs.declared.output.Rule.{Rule}
 use Rattle.jk_model_classes.specs.Items.{HasItemBefore, Spot}
 use Rattle.jk_model_classes.specs.OneClassRules.{one_class_rules, Breaks, IsFirstFault}
-use Rattle.class_rules.specs.declared.fault.ClassFault.{ClassFault}
+use Rattle.jk_model_classes.specs.declared.sharing.ClassFault.{ClassFault}
 
 -- none of the first so many rules is broken anywhere
 abbrev pub HoldBefore : ClassFile → List ℕ → ℕ → Type 0

@@ -20,16 +20,8 @@ use crate::names::bad_names;
 use crate::path::wrong_path;
 use crate::texts::{TextFacts, facts_of};
 use jk_model::{ClassFile, OutOfMemory, Rule};
+use jk_model_classes::ClassFault;
 use std::alloc::Global;
-
-/// A rule that a class file breaks, and where.
-#[derive(Clone, Copy, Debug, PartialEq, Eq)]
-pub struct ClassFault {
-    pub rule: Rule,
-    /// A member: 0 is the class itself, fields count from 1, and methods follow on. Where no member breaks the rule, the
-    /// index of an entry of the pool.
-    pub number: u32,
-}
 
 /// The first of the rules C6 to C17 that a class file breaks by itself, with the least member that breaks it, or else the
 /// least entry. None where it breaks none of them.

@@ -20,7 +20,8 @@ mod path;
 mod spelling;
 mod texts;
 
-pub use fault::{ClassFault, first_fault};
+pub use fault::first_fault;
+pub use jk_model_classes::ClassFault;
 
 #[cfg(test)]
 mod tests;
