@@ -1,11 +1,12 @@
 -- What stands above a class: its parents upwards, its interfaces with theirs, and the orders in which members are
 -- looked for. A class is a place in the list of all records, and stands after its parent and its interfaces. So no
 -- path upwards from the class at place n has more than n + 1 classes, which is the height to which each walk goes.
-use Rattle.std.specs.Prelude.{◌≡◌, ℕ, zero, suc, ◌+◌, ◌<◌, ⊤, Bool, false, IsTrue, List, [], ◌∷◌, ◌++◌, length, flat_map, Contains, Option, Some, None, slice_get, if◌then◌else◌}
+use Rattle.std.specs.Prelude.{◌≡◌, ℕ, zero, suc, ◌+◌, ◌<◌, ⊤, Bool, false, IsTrue, List, [], ◌∷◌, ◌++◌, length, flat_map, Contains, Option, Some, None, slice_get, slice_set, not, filter, ◌==◌, if◌then◌else◌}
 use Rattle.std.specs.List.{AllByRecursion}
 use Rattle.std.specs.Option.{option_map_or}
 use Rattle.jk_model.specs.declared.identifiers.ClassId.{ClassId}
 use Rattle.jk_model_classes.specs.declared.records.ClassRecord.{ClassRecord}
+use Rattle.jk_model_classes.specs.declared.records.Link.{Link}
 use Rattle.jk_model_classes.specs.ClassFlags.{has, INTERFACE}
 
 -- ---- The parts of a record, by the class's number: nothing of a number that no class has.
@@ -26,6 +27,11 @@ listed_interfaces classes c = option_map_or (λ (r : ClassRecord). r.interfaces)
 
 abbrev pub IsInterface : List ClassRecord → ClassId → Type 0
 IsInterface classes c = (r : ClassRecord) × (record_of classes c ≡ Some r) × IsTrue (has r.flags INTERFACE)
+
+-- the class has these links from now on, and all else is as before
+abbrev pub GetsLinks : List ClassRecord → ClassId → List Link → List ClassRecord → Type 0
+GetsLinks old c links new =
+    (r : ClassRecord) × (record_of old c ≡ Some r) × (new ≡ slice_set old c.0 (record r { links = links }))
 
 -- ---- The list of all records: each class stands after its parent and its interfaces.
 
@@ -105,3 +111,10 @@ is_interface_record o = option_map_or (λ (r : ClassRecord). has r.flags INTERFA
 abbrev pub method_walk : List ClassRecord → ClassId → List ClassId
 method_walk classes c =
     if is_interface_record (record_of classes c) then interface_method_walk classes c else class_method_walk classes c
+
+-- ---- A walk reaches some classes on several paths. Looked at once each, at the place where they come first, they
+-- are these.
+
+abbrev pub firsts : List ClassId → List ClassId
+firsts [] = []
+firsts (c ∷ walk) = c ∷ filter (λ d. not (d.0 == c.0)) (firsts walk)

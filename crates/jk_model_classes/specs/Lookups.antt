@@ -1,6 +1,6 @@
 -- How members are found, who may access them, and which method a call runs (the Java Virtual Machine Specification,
 -- 5.4.3, 5.4.4 and 6, invokevirtual).
-use Rattle.std.specs.Prelude.{◌≡◌, ◌≢◌, ℕ, ◌<◌, ◌⊎◌, ◌++◌, ◌∷◌, [], not, IsTrue, List, Contains, Option, Some, None, slice_get, MatchOption}
+use Rattle.std.specs.Prelude.{◌≡◌, ◌≢◌, ℕ, ◌<◌, ◌≤◌, ◌⊎◌, ◌++◌, ◌∷◌, [], not, IsTrue, List, Contains, Option, Some, None, slice_get, MatchOption}
 use Rattle.std.specs.List.{AllByRecursion}
 use Rattle.jk_model.specs.declared.descriptors.MethodType.{MethodType}
 use Rattle.jk_model.specs.declared.identifiers.ClassId.{ClassId}
@@ -34,6 +34,15 @@ abbrev pub IsMethodOf : List ClassRecord → List ℕ → MethodType → MemberI
 IsMethodOf classes name kind m =
     (method : MethodRecord) × MethodIs classes m method × (method.name ≡ name) × (method.kind ≡ kind)
 
+-- what a field, or a method, is looked for by
+pub record FieldSought : Type 0 where
+  pub name : List ℕ
+  pub kind : TypeRef
+
+pub record MethodSought : Type 0 where
+  pub name : List ℕ
+  pub kind : MethodType
+
 -- ---- The first class of a walk that has such a member, and its first such member.
 
 -- the class has such a member
@@ -44,6 +53,19 @@ Declares Suits c = (i : ℕ) × Suits (record { class = c; index = i })
 pub record IsFirstOf (Suits : MemberId → Type 0) (m : MemberId) : Type 0 where
   pub suits : Suits m
   pub first : (i : ℕ) → i < m.index → Suits (record { class = m.class; index = i }) → ⊥
+
+-- the first such member of its class at this place or after it
+pub record IsFirstFrom (Suits : MemberId → Type 0) (from : ℕ) (m : MemberId) : Type 0 where
+  pub suits : Suits m
+  pub not_before : from ≤ m.index
+  pub first : (i : ℕ) → from ≤ i → i < m.index → Suits (record { class = m.class; index = i }) → ⊥
+
+-- the place of the first such member of a class at this place or after it; nothing where there is none
+abbrev pub FindsFrom : (MemberId → Type 0) → ClassId → ℕ → Option ℕ → Type 0
+FindsFrom Suits c from found =
+    MatchOption found
+    ((i : ℕ) → from ≤ i → Suits (record { class = c; index = i }) → ⊥)
+    (λ i. IsFirstFrom Suits from (record { class = c; index = i }))
 
 pub record IsFirstOn (Suits : MemberId → Type 0) (walk : List ClassId) (m : MemberId) : Type 0 where
   pub member : IsFirstOf Suits m

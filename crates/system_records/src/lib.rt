@@ -1,0 +1,9 @@
+//! The records of the system classes, made from their table: what loading has as its first classes.
+#![tactic(auto)]
+
+mod records;
+#[cfg(test)]
+mod tests;
+mod types;
+
+pub use records::system_record;
