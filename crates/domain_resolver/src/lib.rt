@@ -1,13 +1,16 @@
-// A library with one function.
+//! What the names of a domain mean, what it offers to others, the world of all classes and domains in which a
+//! folder is loaded, and the reader of `resolver.txt`.
 #![tactic(auto)]
 
-ghost use Rattle.std.specs.Prelude.{◌≡◌};
-ghost use Rattle.domain_resolver.specs.Echo.{echo_of};
+mod name_table;
+mod offers;
+mod resolver;
+#[cfg(test)]
+mod tests;
+mod world;
 
-// The `ensures` clause is the contract: what `echo` returns is `echo_of` of its argument, a definition
-// in `specs/Echo.antt`, which a caller's clause can cite too.
-pub fn echo(x: usize) -> usize
-    ensures { result ≡ echo_of x }
-{
-    x
-}
+pub use jk_model_classes::{Offer, ResolverLine, ResolverWord};
+pub use name_table::NameTable;
+pub use offers::Offers;
+pub use resolver::{ResolverError, read_resolver};
+pub use world::{DomainNames, World};
