@@ -1,0 +1,13 @@
+//! The rules on classes that domains share, C25 and C26, and on the shape of remote interfaces, C27, over the classes of a
+//! folder that is loaded. Nothing here takes memory. `docs/RULES.md` states the rules.
+#![tactic(auto)]
+
+mod path_order;
+mod remote;
+mod share;
+#[cfg(test)]
+mod tests;
+
+pub use jk_model_classes::ClassFault;
+pub use remote::remote_fault;
+pub use share::share_fault;
