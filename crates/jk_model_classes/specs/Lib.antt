@@ -4,13 +4,16 @@ pub mod ClassNames
 pub mod Classes
 pub mod Items
 pub mod Layouts
+pub mod LinkRules
 pub mod Lookups
 pub mod MemberAttributes
 pub mod MemberCode
 pub mod MemberDescriptors
 pub mod Members
 pub mod OneClassRules
+pub mod References
 pub mod Resolver
+pub mod ResolverRules
 pub mod SharedRules
 pub mod Stubs
 pub mod SystemRecords
