@@ -58,7 +58,7 @@ superclasses_within (suc height) classes c = c ∷ flat_map (superclasses_within
 abbrev pub superclasses : List ClassRecord → ClassId → List ClassId
 superclasses classes c = superclasses_within (c.0 + 1) classes c
 
--- a is b, or stands below it through parents
+-- a is b, or stands below it through parents; a number that no class has is below itself alone
 abbrev pub IsSubclass : List ClassRecord → ClassId → ClassId → Type 0
 IsSubclass classes a b = Contains (superclasses classes a) b
 
@@ -78,7 +78,8 @@ abbrev pub own_interfaces : List ClassRecord → ClassId → List ClassId
 own_interfaces classes c = flat_map (with_interfaces classes) (listed_interfaces classes c)
 
 -- A class implements an interface where the interface, or one below it, is listed by the class or by a class above
--- it. An interface implements itself and those above it.
+-- it. An interface implements itself and those above it; so would a class below a parent that is an interface, which C19
+-- refuses.
 abbrev pub Implements : List ClassRecord → ClassId → ClassId → Type 0
 Implements classes a i =
     IsInterface classes i
@@ -86,7 +87,7 @@ Implements classes a i =
 
 -- ---- The orders in which members are looked for (the Java Virtual Machine Specification, 5.4.3).
 
--- java/lang/Object is the first class
+-- java/lang/Object is the first of the system classes, which stand in front of all others
 abbrev pub OBJECT : ClassId
 OBJECT = record { 0 = 0 }
 

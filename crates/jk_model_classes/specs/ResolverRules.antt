@@ -1,14 +1,16 @@
--- The rules on the lines of a `resolver.txt` that keeps its grammar: the rest of L6, shares of classes that the folder has
--- no file of, and L7, imports of what isn't offered. The number is that of the line.
-use Rattle.std.specs.Prelude.{◌≡◌, ◌≢◌, ℕ, ◌<◌, ◌⊎◌, List, ◌++◌, Contains, Option, Some, None, slice_get, codes}
+-- The rules on the lines of a `resolver.txt`: L6, lines outside the grammar and shares of classes that the folder has no
+-- file of, and L7, imports of what isn't offered. The number is that of the line.
+use Rattle.std.specs.Prelude.{◌≡◌, ◌≢◌, ℕ, ◌+◌, ⊤, ◌<◌, ◌⊎◌, List, ◌++◌, Contains, Option, Some, None, slice_get, codes}
 use Rattle.jk_model.specs.declared.identifiers.ClassId.{ClassId}
 use Rattle.jk_model.specs.declared.identifiers.DomainId.{DomainId}
+use Rattle.jk_model.specs.Script.{script_lines}
 use Rattle.jk_model.specs.Text.{utf16_of}
 use Rattle.jk_model_classes.specs.declared.records.ClassRecord.{ClassRecord}
 use Rattle.jk_model_classes.specs.declared.sharing.ResolverLine.{ResolverLine}
 use Rattle.jk_model_classes.specs.declared.sharing.ResolverWord.TheVariants.{Share, Import}
 use Rattle.jk_model_classes.specs.Classes.{record_of}
 use Rattle.jk_model_classes.specs.Items.{HasItem}
+use Rattle.jk_model_classes.specs.Resolver.{Reading, Says, Outside, line_reading}
 use Rattle.jk_model_classes.specs.Worlds.{WorldRecord, DomainRecord, domain_of, class_named, IsLiveNamed, IsOfferedTo}
 
 -- The folder has a class file under the path of this name. Paths are below the folder, in UTF-8, and a name is in UTF-16.
@@ -16,11 +18,17 @@ use Rattle.jk_model_classes.specs.Worlds.{WorldRecord, DomainRecord, domain_of, 
 abbrev pub HasFileOf : List (List ℕ) → List ℕ → Type 0
 HasFileOf paths name = HasItem (λ path. utf16_of path ≡ name ++ codes ".class") paths
 
--- ---- L6, of lines that keep the grammar.
+-- ---- L6: a line is outside the grammar, or shares a class that the folder has no file of.
 
-abbrev pub SharesAbsent : List (List ℕ) → ResolverLine → Type 0
-SharesAbsent paths line =
-    (class : List ℕ) × (to : Option (List ℕ)) × (line.says ≡ Share class to) × (HasFileOf paths class → ⊥)
+abbrev pub IsBadReading : List (List ℕ) → Reading → Type 0
+IsBadReading paths Outside = ⊤
+IsBadReading paths (Says (Share class to)) = HasFileOf paths class → ⊥
+IsBadReading paths _ = ⊥
+
+-- the line with this number, counted from 1
+abbrev pub BreaksL6 : List (List ℕ) → List ℕ → ℕ → Type 0
+BreaksL6 paths bytes n =
+    (i : ℕ) × (line : List ℕ) × (slice_get (script_lines bytes) i ≡ Some line) × (n ≡ i + 1) × IsBadReading paths (line_reading line)
 
 -- ---- What an import brings in.
 

@@ -20,8 +20,8 @@ use Rattle.jk_model_classes.specs.Stubs.{IsSystemNamed, ImplementsRemote}
 use Rattle.jk_model_classes.specs.Worlds.{WorldRecord, DomainRecord, domain_of, IsOfferedAs}
 
 -- ---- The order of paths. The path of a class is its name with `.class`. Paths are in the order of their bytes in
--- UTF-8, which is the order of their characters. In UTF-16 a character above 16 bits is a pair of surrogates, units
--- from d800 to dfff, and so these rank above all other units.
+-- UTF-8, which is the order of their characters. In the UTF-16 of a path a character above 16 bits is a pair of
+-- surrogates, units from d800 to dfff, and these stand in pairs alone; so they rank above all other units.
 
 abbrev pub rank_of : ℕ → ℕ
 rank_of u = if nat_le 0xd800 u && nat_lt u 0xe000 then u + 0x10000 else u
@@ -42,7 +42,8 @@ IsPathBefore classes a b =
     (of_a : ClassRecord) × (of_b : ClassRecord) × (record_of classes a ≡ Some of_a) × (record_of classes b ≡ Some of_b)
     × IsBeforeInOrder (path_ranks of_a.name) (path_ranks of_b.name)
 
--- ---- The first class that breaks a rule, and the least number where it does.
+-- ---- The first class that breaks a rule, and the least number where it does. There is one such class where the names of
+-- the folder's classes differ, as those of files at different paths do.
 
 pub record IsFirstToBreak (classes : List ClassRecord) (Breaks : ClassId → ℕ → Type 0) (c : ClassId) (number : ℕ) : Type 0 where
   pub breaks : Breaks c number

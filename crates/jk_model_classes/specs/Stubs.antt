@@ -10,7 +10,7 @@ use Rattle.jk_model_classes.specs.declared.sharing.Stub.{Stub}
 use Rattle.jk_model_classes.specs.Classes.{Implements}
 use Rattle.jk_model_classes.specs.Lookups.{MethodIs, Selects}
 
--- the class of this name among the system classes
+-- The class of this name among the system classes, which stand in front of all others in the order of their table.
 abbrev pub IsSystemNamed : List ℕ → ClassId → Type 0
 IsSystemNamed name c = number_named name ≡ Some c.0
 
@@ -31,8 +31,8 @@ pub record IsStub (classes : List ClassRecord) (c : ClassId) (stub : Stub) : Typ
   pub remote : ImplementsRemote classes c
   pub listed : (i : ClassId) → Contains stub.interfaces i → IsRemoteInterfaceOf classes c i
   pub all : (i : ClassId) → IsRemoteInterfaceOf classes c i → Contains stub.interfaces i
-  -- each is there once
-  pub once : (j k : ℕ) (i : ClassId) → slice_get stub.interfaces j ≡ Some i → slice_get stub.interfaces k ≡ Some i → j ≡ k
+  -- in rising number, each once
+  pub rising : (j k : ℕ) (a b : ClassId) → j < k → slice_get stub.interfaces j ≡ Some a → slice_get stub.interfaces k ≡ Some b → a.0 < b.0
 
 -- the method is one of the system
 abbrev pub IsSystemMethod : List ClassRecord → MemberId → Type 0

@@ -68,7 +68,7 @@ domain_of w d = slice_get w.domains d.0
 abbrev pub IsLiveNamed : WorldRecord → List ℕ → DomainId → Type 0
 IsLiveNamed w name d = (r : DomainRecord) × (domain_of w d ≡ Some r) × (r.live ≡ true) × (r.name ≡ name)
 
--- the numbers of classes in a record are those of classes
+-- the classes to which a record refers are there
 pub record NamesClasses (classes : List ClassRecord) (r : ClassRecord) : Type 0 where
   pub references : AllByRecursion (HasClass classes) r.references
 
@@ -77,7 +77,7 @@ pub record IsWorld (w : WorldRecord) (home : ℕ) : Type 0 where
   -- a domain's number is its place
   pub numbered : (i : ℕ) (d : DomainRecord) → slice_get w.domains i ≡ Some d → d.id.0 ≡ i
   pub names_differ : (name : List ℕ) (a b : DomainId) → IsLiveNamed w name a → IsLiveNamed w name b → a ≡ b
-  -- each class of a name table, an offer or a record is there
+  -- each class of a name table or an offer is there, and each to which a record refers
   pub named : (i : ℕ) (d : DomainRecord) → slice_get w.domains i ≡ Some d → (c : ClassId) → IsNamed d.table c → HasClass w.classes c
   pub offered : (i : ℕ) (d : DomainRecord) → slice_get w.domains i ≡ Some d → (o : Offer) → Contains d.offers o → HasClass w.classes o.class
   pub records : (c : ClassId) (r : ClassRecord) → record_of w.classes c ≡ Some r → NamesClasses w.classes r
@@ -86,4 +86,3 @@ pub record IsWorld (w : WorldRecord) (home : ℕ) : Type 0 where
   pub homes : (c : ClassId) (r : ClassRecord) (d : DomainId) → record_of w.classes c ≡ Some r → r.home ≡ Some d
       → (d.0 < length w.domains) ⊎ (d.0 ≡ home)
   pub few_domains : length w.domains < 2 ^ 32 - 1
-  pub few_classes : length w.classes < 2 ^ 32 - 513

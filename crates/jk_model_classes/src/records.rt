@@ -34,7 +34,8 @@ pub struct FieldRecord {
     /// 0001 public, 0002 private, 0004 protected, 0008 static, 0010 final, 0080 transient.
     pub flags: u16,
     pub kind: TypeRef,
-    /// What a static field begins with; `Nothing` where that is 0 or null.
+    /// The constant with which a static field begins, as a store into the field would leave it; `Nothing` where the
+    /// class file gives none.
     pub constant: Link,
 }
 
@@ -42,7 +43,8 @@ pub struct FieldRecord {
 #[derive(Drop)]
 pub struct MethodRecord {
     pub name: Text,
-    /// 0001 public, 0002 private, 0004 protected, 0008 static, 0010 final, 0400 abstract. `<clinit>` has 0008.
+    /// 0001 public, 0002 private, 0004 protected, 0008 static, 0010 final, 0400 abstract. `<clinit>` has
+    /// 0008 alone.
     pub flags: u16,
     /// Its type as the descriptor says it, with names of classes.
     pub kind: SharedKind,

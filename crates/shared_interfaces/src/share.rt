@@ -5,7 +5,6 @@
 /// domain that is loaded, and `offers` is what it offers. It takes no memory, and time in proportion to the offers times
 /// the references of a class ..
 pub fn share_fault(w: &World, home: DomainId, first: ClassId, offers: &Offers) -> Option<(ClassId, ClassFault)>
-    requires world { IsWorld w.now home.0 }
-    requires offered { (o : Offer) → Contains offers.now o → HasClass w.now.classes o.class }
+    requires { IsWorld w.now home.0 }
     ensures fault { IfSome result (λ f. IsShareFault w.now home first offers.now f.0 f.1) }
     ensures no_fault { IfNone result (HasNoShareFault w.now home first offers.now) }
