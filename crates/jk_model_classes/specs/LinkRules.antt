@@ -54,22 +54,22 @@ pub record FindsFieldAt (s : LinkScope) (c : ClassFile) (i : ℕ) (m : MemberId)
   pub resolved : IsTypeFor s.meaning type kind
   pub found : FindsField s.classes class name kind (Some m)
 
--- a MethodRef names a class, an InterfaceMethodRef an interface
+-- a MethodRef is to name a class, an InterfaceMethodRef an interface
 abbrev pub NamesRightSort : List ClassRecord → MemberKind → ClassId → Type 0
 NamesRightSort classes Field class = ⊥
 NamesRightSort classes Method class = IsInterface classes class → ⊥
 NamesRightSort classes InterfaceMethod class = IsInterface classes class
 
--- the method that a MethodRef or an InterfaceMethodRef finds
+-- The method that a MethodRef or an InterfaceMethodRef finds, also where it names a class of the other sort.
 pub record FindsMethodAt (s : LinkScope) (c : ClassFile) (i : ℕ) (m : MemberId) : Type 0 where
   pub kind : MemberKind
+  pub of_method : kind ≢ Field
   pub target : List ℕ
   pub name : List ℕ
   pub descriptor : List ℕ
   pub is_there : MemberRefAt c.pool i kind target name descriptor
   pub class : ClassId
   pub class_is : s.meaning target ≡ Some class
-  pub sort : NamesRightSort s.classes kind class
   pub type : MethodType
   pub text : IsMethodText descriptor type
   pub found : FindsMethod s.classes class name type (Some m)
@@ -122,10 +122,12 @@ FindsWrongMethod s c instr =
     ⊎ (IsTrue (is_instance_call instr.op) × IsTrue (has method.flags STATIC))
     ⊎ ((instr.op ≡ INVOKESPECIAL) × IsTrue (has method.flags ABSTRACT)))
 
+-- The two parts are read apart: an instruction may be at fault, and so may the reference that it names.
 abbrev pub MissesMember : LinkScope → ClassFile → Spot → Type 0
 MissesMember s c (Member n) = HasCode (HasInstr (λ instr. FindsWrongField s c instr ⊎ FindsWrongMethod s c instr)) c n
 MissesMember s c (Entry i) =
-    IsReferenceAt c i × ((m : MemberId) → FindsFieldAt s c i m → ⊥) × ((m : MemberId) → FindsMethodAt s c i m → ⊥)
+    IsReferenceAt c i × ((m : MemberId) → FindsFieldAt s c i m → ⊥)
+    × ((m : MemberId) (f : FindsMethodAt s c i m) → NamesRightSort s.classes f.kind f.class → ⊥)
 
 -- ---- C21.
 

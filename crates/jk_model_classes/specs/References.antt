@@ -52,13 +52,7 @@ RefersAt c i name =
     ClassEntryAt c.pool i name
     ⊎ ((descriptor : List ℕ) × IsDescriptorEntry c i × TextAt c.pool i descriptor × Mentions descriptor name)
 
--- ---- C18: a class that it refers to has no meaning in the domain.
-
-abbrev pub MissesClass : (List ℕ → Option ClassId) → ClassFile → Spot → Type 0
-MissesClass meaning c (Member n) = ⊥
-MissesClass meaning c (Entry i) = (name : List ℕ) × RefersAt c i name × (meaning name ≡ None)
-
--- ---- C19. What a class is called, and what stands above it in the folder.
+-- ---- What a class file's class is called, and what stands above it in the folder.
 
 abbrev pub IsCalledClass : ClassFile → List ℕ → Type 0
 IsCalledClass c name = ClassAt c.pool c.this_class name
@@ -84,6 +78,18 @@ pub record FolderScope : Type 0 where
   pub files : List ClassFile
   pub names : List NamedClass
   pub classes : List ClassRecord
+
+-- ---- C18: a class that it refers to is neither one of the folder nor has another meaning.
+
+abbrev pub IsKnownName : FolderScope → List ℕ → Type 0
+IsKnownName s name =
+    HasItem (λ (c : ClassFile). IsCalledClass c name) s.files ⊎ ((class : ClassId) × (class_named s.names name ≡ Some class))
+
+abbrev pub MissesClass : FolderScope → ClassFile → Spot → Type 0
+MissesClass s c (Member n) = ⊥
+MissesClass s c (Entry i) = (name : List ℕ) × RefersAt c i name × (IsKnownName s name → ⊥)
+
+-- ---- C19.
 
 -- the flags of the class that a name means: one of the folder, or else one that is loaded
 abbrev pub FlagsOfNamed : FolderScope → List ℕ → ℕ → Type 0
