@@ -1,3 +1,3 @@
--- What a fingerprint is.
+-- What a fingerprint is, and what a hasher holds on the way to it.
 pub mod Feeding
 pub mod Fingerprints

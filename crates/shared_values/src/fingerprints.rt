@@ -1,6 +1,6 @@
-//! Fingerprints: 64 bits that a text determines, and that nobody can bring to agree for many texts.
+//! Fingerprints: 64 bits that a text determines, and that strangers can't bring to agree for many texts.
 
-ghost use Rattle.std.specs.Prelude.{◌≡◌, length};
+ghost use Rattle.std.specs.Prelude.{◌≡◌};
 ghost use Rattle.jk_model.specs.Descriptors.{method_text};
 ghost use Rattle.shared_values.specs.Fingerprints.{first_bits, fingerprint_of};
 
@@ -12,9 +12,10 @@ use sha2::{Digest, Sha256};
 /// The fingerprint of units: the first 64 bits, the highest first, of the SHA-256 digest of the units, each
 /// as two bytes with the higher one first. It takes time in proportion to their number, and no memory.
 ///
-/// The texts come from strangers. A stranger who could bring the fingerprints of many texts to agree would
-/// make each look-up among them a walk through all of them. So it is a hash for which nobody knows how to
-/// find many such texts, and no cheap one.
+/// The texts come from strangers, who would slow each search by fingerprint if they could bring many to
+/// agree. For SHA-256 nobody knows a cheaper way than to try texts: some 2^32 of them for a pair that agrees,
+/// and some 2^64 for a text that agrees with a given one. It costs some 100 instructions a unit, and some
+/// 3,000 at least.
 pub fn fingerprint(units: &[u16]) -> u64
     ensures { result ≡ fingerprint_of units.now }
 {

@@ -39,8 +39,8 @@ impl Model for SharedKind {
 }
 
 impl SharedKind {
-    /// The type, with one owner so far. It takes time in proportion to the descriptor's length, and memory
-    /// for one handle and the fingerprint.
+    /// The type, with one owner so far. It takes time in proportion to the descriptor's length, and memory of
+    /// constant size beside the type's own.
     pub fn new(alloc: Global, kind: MethodType) -> Result<SharedKind, OutOfMemory>
         ensures { IfOk result (λ shared. shared ≡ kind) }
     {

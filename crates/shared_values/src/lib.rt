@@ -9,6 +9,8 @@ mod hashed_units;
 mod kinds;
 mod same_kind;
 mod shared;
+#[cfg(test)]
+mod tests;
 mod text;
 
 pub use fingerprints::{fingerprint, kind_fingerprint};
