@@ -3,11 +3,11 @@
 //! whatever names a class has, and nothing long is compared but what is found.
 #![tactic(auto)]
 
+mod entries;
 mod field_index;
 mod keys;
+mod marks;
 mod method_index;
-#[cfg(test)]
-mod tests;
 
 pub use field_index::FieldIndex;
 pub use keys::{FieldKey, MethodKey};

@@ -1,0 +1,5 @@
+-- Lemmas on indexes of members.
+pub mod OrderOfEntries
+pub mod EntriesOfMarks
+pub mod RunOfEntries
+pub mod FirstOfARun
