@@ -3,3 +3,4 @@ pub mod OrderOfEntries
 pub mod EntriesOfMarks
 pub mod RunOfEntries
 pub mod FirstOfARun
+pub mod FoundInClass

@@ -23,12 +23,12 @@ FindsAt Suits members from found =
 abbrev pub FieldSuits : FieldSought → FieldRecord → Type 0
 FieldSuits sought field = (field.name ≡ sought.name) × (field.kind ≡ sought.kind)
 
-abbrev pub FindsField : FieldSought → List FieldRecord → ℕ → Option ℕ → Type 0
-FindsField sought fields from found = FindsAt (FieldSuits sought) fields from found
+abbrev pub FindsFieldAt : List FieldRecord → FieldSought → ℕ → Option ℕ → Type 0
+FindsFieldAt fields sought from found = FindsAt (FieldSuits sought) fields from found
 
 -- the method has this name and this type
 abbrev pub MethodSuits : MethodSought → MethodRecord → Type 0
 MethodSuits sought method = (method.name ≡ sought.name) × (method.kind ≡ sought.kind)
 
-abbrev pub FindsMethod : MethodSought → List MethodRecord → ℕ → Option ℕ → Type 0
-FindsMethod sought methods from found = FindsAt (MethodSuits sought) methods from found
+abbrev pub FindsMethodAt : List MethodRecord → MethodSought → ℕ → Option ℕ → Type 0
+FindsMethodAt methods sought from found = FindsAt (MethodSuits sought) methods from found

@@ -25,7 +25,7 @@ base_number (Class c) = 6 + c.0
 abbrev pub type_number : TypeRef → ℕ
 type_number t = t.dims * 2 ^ 33 + base_number t.base
 
--- what a field is looked for by, and the marks of a name and a type
+-- what a field is looked for by, and the marks of its name and type
 abbrev pub field_sought : FieldRecord → FieldSought
 field_sought field = record { name = field.name; kind = field.kind }
 

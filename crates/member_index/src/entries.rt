@@ -36,7 +36,7 @@ pub(crate) trait Sought<M: Marked> {
     ghost marks_agree: { (key : Self) (member : M) → Suits key member → M.marks_of member ≡ sought_marks key };
 }
 
-/// The entries of members in their order.
+/// The entries of members in their order. It takes time in proportion to n log n for n members.
 pub(crate) fn sorted_entries<M: Marked>(
     alloc: Global,
     members: &[M],
@@ -54,7 +54,8 @@ pub(crate) fn sorted_entries<M: Marked>(
     Ok(entries)
 }
 
-/// The place of the first member at `from` or after it that suits.
+/// The place of the first member at `from` or after it that suits. No member is looked at but those with the
+/// marks that are sought.
 pub(crate) fn first_from<M: Marked, K: Sought<M>>(
     entries: &[Entry],
     members: &[M],

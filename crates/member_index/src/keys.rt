@@ -10,6 +10,8 @@ use shared_values::{fingerprint, kind_fingerprint};
 use std::marker::Model;
 
 /// A name and a type of a field, with the name's fingerprint worked out. A contract sees the name and the type.
+/// One key serves for the search of many classes.
+#[derive(Drop)]
 pub struct FieldKey<'n> {
     name: &'n [u16],
     kind: TypeRef,
@@ -78,6 +80,7 @@ impl Sought<FieldRecord> for FieldKey<'_> {
 }
 
 /// A name and a type of a method, with their fingerprints worked out. A contract sees the name and the type.
+#[derive(Drop)]
 pub struct MethodKey<'n> {
     name: &'n [u16],
     kind: &'n MethodType,
