@@ -1,22 +1,51 @@
 //! The fields of one class by name and type.
 
-/// The fields of a class, in the order of the fingerprints of their names. It takes about 16 to 24 bytes a field.
-/// A contract sees what the fields are looked for by, in the order of the class file.
-pub struct FieldIndex { .. }
-// impl Model: Value = List FieldSought (one for each field of the class, in file order)? The index itself keeps no names,
-// so where a Model of that kind can't be had, a relation `IsFieldIndex index fields` in specs/ is as good:
+use crate::entries::{Entry, first_from, sorted_entries};
+use crate::keys::FieldKey;
+use jk_model::OutOfMemory;
+use jk_model_classes::FieldRecord;
+use std::alloc::Global;
+use std::marker::Model;
+
+/// The fields of a class, in the order of their names' fingerprints, then of their types, then of
+/// their places. It takes 24 bytes a field. A contract sees the entries, and `IsFieldIndex` of `specs/Index.antt`
+/// says of which fields they are the index.
+#[derive(Drop)]
+pub struct FieldIndex {
+    entries: Vec<Entry>,
+}
+
+impl Model for FieldIndex {
+    ghost use Rattle.std.specs.Prelude.{List};
+    ghost use Rattle.member_index.specs.declared.entries.Entry.{Entry};
+
+    ghost Value = { List Entry };
+
+    ghost view = { λ a. a.entries.items };
+}
 
 impl FieldIndex {
-    /// The index of these fields. It takes time in proportion to n log n for n fields, whatever their names are.
+    ghost use Rattle.std.specs.Prelude.{◌≤◌, length, IfOk};
+    ghost use Rattle.member_index.specs.Finding.{FindsFieldAt};
+    ghost use Rattle.member_index.specs.Index.{IsFieldIndex};
+
+    /// The index of these fields, which stand in the order of the class file. It takes time in proportion to
+    /// n log n for n fields, whatever their names are, and memory for the entries alone.
     pub fn new(alloc: Global, fields: &[FieldRecord]) -> Result<FieldIndex, OutOfMemory>
         requires { length fields.now ≤ 65535 }
         ensures { IfOk result (λ index. IsFieldIndex index fields.now) }
+    {
+        let entries = sorted_entries(alloc, fields)?;
+        Ok(FieldIndex { entries })
+    }
 
-    /// The place of the first field of this name and type that stands at `from` or after it; none where there is none.
-    /// It takes no memory, and time in proportion to log n and to the length of the name where it finds one.
+    /// The place of the first field of this name and type that stands at `from` or after it; none where there is
+    /// none. The fields are those that the index was made of. It takes no memory, and time in proportion to log n,
+    /// and to the length of the name where it finds one.
     pub fn find(&self, fields: &[FieldRecord], key: &FieldKey<'_>, from: u16) -> Option<u16>
         requires { IsFieldIndex self.now fields.now }
         ensures { FindsFieldAt fields.now key.now from result }
+    {
+        first_from(self.entries.as_slice(), fields, key, from)
+    }
 }
-// FindsFieldAt: MatchOption result (no place i ≥ from has a field with this name and kind) (λ i. i ≥ from, fields[i] has them,
-// and no place from `from` to before i does). Place it in specs/ in plain terms over List FieldRecord.

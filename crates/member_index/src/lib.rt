@@ -3,8 +3,10 @@
 //! whatever names a class has, and nothing long is compared but what is found.
 #![tactic(auto)]
 
+mod entries;
 mod field_index;
 mod keys;
+mod marks;
 mod method_index;
 #[cfg(test)]
 mod tests;

@@ -1,0 +1,6 @@
+-- Lemmas on indexes of members.
+pub mod OrderOfEntries
+pub mod EntriesOfMarks
+pub mod RunOfEntries
+pub mod FirstOfARun
+pub mod FoundInClass
