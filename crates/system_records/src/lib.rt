@@ -1,9 +1,12 @@
 //! The records of the system classes, made from their table: what loading has as its first classes.
 #![tactic(auto)]
 
+mod members;
+mod numbers;
 mod records;
 #[cfg(test)]
 mod tests;
+mod texts;
 mod types;
 
 pub use records::system_record;

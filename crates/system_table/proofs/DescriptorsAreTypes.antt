@@ -58,7 +58,7 @@ class_name (n ∷ ns) h = (n ∷ ns, λ e. absurd cc, all_from_test IsName is_na
 
 -- ---- One of a list.
 
-one_of : {X : Type 0} (Q : X → Type 0) (test : X → Bool) (xs : List X) → AllByRecursion Q xs → list_any test xs ≡ true → (x : X) × Q x × (test x ≡ true)
+pub one_of : {X : Type 0} (Q : X → Type 0) (test : X → Bool) (xs : List X) → AllByRecursion Q xs → list_any test xs ≡ true → (x : X) × Q x × (test x ≡ true)
 one_of Q test [] all h = absurd cc
 one_of Q test (x ∷ xs) (here, others) h = elim (or_cases (test x) (list_any test xs) h) [
   | inl now ↦ (x, here, now)
@@ -94,7 +94,7 @@ base Boolean h = tt
 abbrev pub is_field_type : FieldType → Bool
 is_field_type t = nat_lt t.dims 256 && is_base t.base
 
-field_type : (t : FieldType) → is_field_type t ≡ true → IsFieldType t
+pub field_type : (t : FieldType) → is_field_type t ≡ true → IsFieldType t
 field_type t h =
     let parts = and_parts (nat_lt t.dims 256) (is_base t.base) h in
     let dims : t.dims < 256 = ltb-true t.dims 256 parts.0 in
@@ -111,7 +111,7 @@ result_type (Some t) h = field_type t h
 abbrev pub is_method_type : MethodType → Bool
 is_method_type m = list_all is_field_type m.params && is_result m.result
 
-method_type : (m : MethodType) → is_method_type m ≡ true → IsMethodType m
+pub method_type : (m : MethodType) → is_method_type m ≡ true → IsMethodType m
 method_type m h =
     let parts = and_parts (list_all is_field_type m.params) (is_result m.result) h in
     (all_from_test IsFieldType is_field_type field_type m.params parts.0, result_type m.result parts.1)

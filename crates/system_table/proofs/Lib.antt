@@ -1,5 +1,5 @@
 -- Lemmas on the classes of the table, and on the code's records of them.
-mod DescriptorsAreTypes
+pub mod DescriptorsAreTypes
 mod FirstOfAName
-mod LawsOfTheTable
+pub mod LawsOfTheTable
 mod RecordsAreEntries
