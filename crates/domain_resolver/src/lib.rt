@@ -2,15 +2,18 @@
 //! folder is loaded, and the reader of `resolver.txt`.
 #![tactic(auto)]
 
+mod domain_names;
+mod line;
+mod live_names;
 mod name_table;
 mod offers;
 mod resolver;
-#[cfg(test)]
-mod tests;
+mod words;
 mod world;
 
+pub use domain_names::DomainNames;
 pub use jk_model_classes::{Offer, ResolverLine, ResolverWord};
 pub use name_table::NameTable;
 pub use offers::Offers;
 pub use resolver::{ResolverError, read_resolver};
-pub use world::{DomainNames, World};
+pub use world::World;

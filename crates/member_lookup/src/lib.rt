@@ -4,11 +4,16 @@
 
 mod access;
 mod find;
-mod select;
+mod flags;
+mod packages;
+mod records;
+mod selection;
 #[cfg(test)]
 mod tests;
 
-pub use access::{in_one_package, may_access, may_access_class};
+pub use access::{may_access, may_access_class};
 pub use find::{find_field, find_method};
 pub use jk_model_classes::Member;
-pub use select::{overrides, select};
+pub use packages::in_one_package;
+pub use records::{field_record, is_interface, method_record};
+pub use selection::{overrides, select};

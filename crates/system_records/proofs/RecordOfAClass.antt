@@ -6,11 +6,11 @@ use Rattle.std.proofs.lemmas.List.{length-map}
 use Rattle.jk_model.specs.SystemTable as Table
 use Rattle.jk_model.specs.SystemTable.{system_classes, number_named, first_method_number}
 use Rattle.jk_model.specs.declared.identifiers.ClassId.{ClassId}
-use Rattle.jk_model_classes.specs.Classes.{IsBelow, ParentIsBelow}
+use Rattle.jk_model_classes.specs.Classes.{IsBelow, ParentIsBelow, StandsAbove}
 use Rattle.jk_model_classes.specs.SystemRecords.{IsSystemField, IsSystemMethodAt, IsSystemRecord}
 use Rattle.jk_model_classes.specs.declared.records.FieldRecord.{FieldRecord}
 use Rattle.jk_model_classes.specs.declared.records.MethodRecord.{MethodRecord}
-use Rattle.jk_model_classes.specs.declared.records.Link.{Link}
+use Rattle.jk_model_classes.specs.declared.records.ClassRecord.{ClassRecord}
 use Rattle.system_table.specs.declared.entry.SystemClass.{SystemClass}
 use Rattle.system_table.specs.declared.entry.SystemField.{SystemField}
 use Rattle.system_table.specs.declared.entry.SystemMethod.{SystemMethod}
@@ -51,7 +51,8 @@ interfaces_back [] = refl
 interfaces_back (k ∷ numbers) = ap (λ ks. Some k ∷ ks) (interfaces_back numbers)
 
 -- a method's number is that of the first and its place
-methods_at : (first : ℕ) (ms : List SystemMethod) (rs : List MethodRecord) → AllZip MethodIs ms rs → map (λ (m : SystemMethod). m.number) ms ≡ range_with_len first (length ms)
+methods_at : (first : ℕ) (ms : List SystemMethod) (rs : List MethodRecord) → AllZip MethodIs ms rs
+    → map (λ (m : SystemMethod). m.number) ms ≡ range_with_len first (length ms)
     → (i : ℕ) (e : Table.SystemMethod) (r : MethodRecord) → slice_get (map method_of ms) i ≡ Some e → slice_get rs i ≡ Some r
     → IsSystemMethodAt (first + i) e r
 methods_at first [] rs h numbers i e r at_e at_r = absurd cc
@@ -61,7 +62,9 @@ methods_at first (m ∷ ms) (s ∷ rs) h numbers zero e r at_e at_r =
     let same_r : s ≡ r = cc in
     let head : m.number ≡ first = cc in
     let number : m.number ≡ first + 0 = head ∙ sym (add-zero first) in
-    subst (λ k. IsSystemMethodAt k e r) number (subst (λ x. IsSystemMethodAt m.number x r) same_e (subst (λ x. IsSystemMethodAt m.number (method_of m) x) same_r h.0))
+    let of_record : IsSystemMethodAt m.number (method_of m) r = subst (λ x. IsSystemMethodAt m.number (method_of m) x) same_r h.0 in
+    let of_entry : IsSystemMethodAt m.number e r = subst (λ x. IsSystemMethodAt m.number x r) same_e of_record in
+    subst (λ k. IsSystemMethodAt k e r) number of_entry
 methods_at first (m ∷ ms) (s ∷ rs) h numbers (suc i) e r at_e at_r =
     let others : map (λ (m : SystemMethod). m.number) ms ≡ range_with_len (first + 1) (length ms) = cc in
     let place : first + 1 + i ≡ first + suc i = omega arith in
@@ -69,56 +72,55 @@ methods_at first (m ∷ ms) (s ∷ rs) h numbers (suc i) e r at_e at_r =
 
 -- ---- The record.
 
-pub class_made : (n : ℕ) (c : SystemClass) (name : List ℕ) (parent : Option ClassId) (interfaces : List ClassId) (fields : List FieldRecord)
-    (methods : List MethodRecord) (links : List Link) (references : List ClassId) → IsEntry n c → name ≡ c.name.now → parent ≡ option_map numbered c.parent
-    → interfaces ≡ map numbered c.interfaces.now → AllZip FieldIs c.fields.now fields → AllZip MethodIs c.methods.now methods → links ≡ [] → references ≡ []
-    → (e : Table.SystemClass) × (slice_get system_classes n ≡ Some e) × IsSystemRecord n e (record {
-      name = name;
-      home = None;
-      flags = c.flags;
-      parent = parent;
-      interfaces = interfaces;
-      fields = fields;
-      methods = methods;
-      links = links;
-      references = references;
-    })
-class_made n c name parent interfaces fields methods links references (e, at, shows) named parent_is interfaces_are fields_are methods_are no_links no_references =
-    let fields_too : AllZip IsSystemField e.fields fields =
-    subst (λ fs. AllZip IsSystemField fs fields) shows.fields (zip_map field_of IsSystemField c.fields.now fields fields_are) in
+-- what is made of each part of an entry
+pub record PartsAre (c : SystemClass) (r : ClassRecord) : Type 0 where
+  pub name : r.name ≡ c.name.now
+  pub home : r.home ≡ None
+  pub flags : r.flags ≡ c.flags
+  pub parent : r.parent ≡ option_map numbered c.parent
+  pub interfaces : r.interfaces ≡ map numbered c.interfaces.now
+  pub fields : AllZip FieldIs c.fields.now r.fields
+  pub methods : AllZip MethodIs c.methods.now r.methods
+  pub links : r.links ≡ []
+  pub references : r.references ≡ []
+
+pub class_made : (n : ℕ) (c : SystemClass) (r : ClassRecord) → IsEntry n c → PartsAre c r
+    → (e : Table.SystemClass) × (slice_get system_classes n ≡ Some e) × IsSystemRecord n e r
+class_made n c r (e, at, shows) parts =
+    let fields : AllZip IsSystemField e.fields r.fields =
+    subst (λ fs. AllZip IsSystemField fs r.fields) shows.fields (zip_map field_of IsSystemField c.fields.now r.fields parts.fields) in
     let count : length e.methods ≡ length c.methods.now = ap (λ ms. length ms) (sym shows.methods) ∙ length-map c.methods.now method_of in
     let numbers : map (λ (m : SystemMethod). m.number) c.methods.now ≡ range_with_len (first_method_number n) (length c.methods.now) =
-    shows.numbers ∙ ap (λ k. range_with_len (first_method_number n) k) count in (
-      e,
-      at,
-      record {
-        name = named ∙ shows.name;
-        home = refl;
-        flags = shows.flags;
-        parent = ap (λ p. option_map (λ (x : ClassId). x.0) p) parent_is ∙ parent_back c.parent ∙ shows.parent;
-        interfaces = ap (λ xs. map (λ (x : ClassId). Some x.0) xs) interfaces_are ∙ interfaces_back c.interfaces.now ∙ shows.interfaces;
-        field_count = zip_length IsSystemField e.fields fields fields_too;
-        fields = zip_at IsSystemField e.fields fields fields_too;
-        method_count = zip_length MethodIs c.methods.now methods methods_are ∙ sym count;
-        methods = λ i x r at_x at_r. methods_at (first_method_number n) c.methods.now methods methods_are numbers i x r (ap (λ ms. slice_get ms i) shows.methods ∙ at_x) at_r;
-        links = no_links;
-        references = no_references;
-      },
+    shows.numbers ∙ ap (λ k. range_with_len (first_method_number n) k) count in
+    let made : IsSystemRecord n e r = record {
+      name = parts.name ∙ shows.name;
+      home = parts.home;
+      flags = parts.flags ∙ shows.flags;
+      parent = ap (λ p. option_map (λ (x : ClassId). x.0) p) parts.parent ∙ parent_back c.parent ∙ shows.parent;
+      interfaces = ap (λ xs. map (λ (x : ClassId). Some x.0) xs) parts.interfaces ∙ interfaces_back c.interfaces.now ∙ shows.interfaces;
+      field_count = zip_length IsSystemField e.fields r.fields fields;
+      fields = zip_at IsSystemField e.fields r.fields fields;
+      method_count = zip_length MethodIs c.methods.now r.methods parts.methods ∙ sym count;
+      methods = λ i x m at_x at_m.
+          methods_at (first_method_number n) c.methods.now r.methods parts.methods numbers i x m (ap (λ ms. slice_get ms i) shows.methods ∙ at_x) at_m;
+      links = parts.links;
+      references = parts.references;
+    } in
+    (e, at, made)
+
+pub class_above : (n : ℕ) (c : SystemClass) (r : ClassRecord) → IsEntry n c → PartsAre c r → StandsAbove n r
+class_above n c r (e, at, shows) parts =
+    let parent = parent_below number_named n e.parent c.parent shows.parent (parents n e at) in
+    let listed = interfaces_below number_named n e.interfaces c.interfaces.now shows.interfaces (interfaces n e at) in (
+      subst (λ p. ParentIsBelow n p) (sym parts.parent) parent,
+      subst (λ xs. AllByRecursion (IsBelow n) xs) (sym parts.interfaces) listed,
     )
 
-pub class_above : (n : ℕ) (c : SystemClass) (parent : Option ClassId) (listed : List ClassId) → IsEntry n c → parent ≡ option_map numbered c.parent
-    → listed ≡ map numbered c.interfaces.now → ParentIsBelow n parent × AllByRecursion (IsBelow n) listed
-class_above n c parent listed (e, at, shows) parent_is listed_are = (
-  subst (λ p. ParentIsBelow n p) (sym parent_is) (parent_below number_named n e.parent c.parent shows.parent (parents n e at)),
-  subst (λ xs. AllByRecursion (IsBelow n) xs) (sym listed_are) (interfaces_below number_named n e.interfaces c.interfaces.now shows.interfaces (interfaces n e at)),
-)
-
-pub class_few : (n : ℕ) (c : SystemClass) (fields : List FieldRecord) (methods : List MethodRecord) → IsEntry n c → AllZip FieldIs c.fields.now fields
-    → AllZip MethodIs c.methods.now methods → (length fields ≤ 65535) × (length methods ≤ 65535)
-class_few n c fields methods (e, at, shows) fields_are methods_are =
+pub class_few : (n : ℕ) (c : SystemClass) (r : ClassRecord) → IsEntry n c → PartsAre c r → (length r.fields ≤ 65535) × (length r.methods ≤ 65535)
+class_few n c r (e, at, shows) parts =
     let few = few_members n e at in
-    let field_count : length fields ≡ length e.fields =
-    zip_length FieldIs c.fields.now fields fields_are ∙ sym (length-map c.fields.now field_of) ∙ ap (λ fs. length fs) shows.fields in
-    let method_count : length methods ≡ length e.methods =
-    zip_length MethodIs c.methods.now methods methods_are ∙ sym (length-map c.methods.now method_of) ∙ ap (λ ms. length ms) shows.methods in
+    let field_count : length r.fields ≡ length e.fields =
+    zip_length FieldIs c.fields.now r.fields parts.fields ∙ sym (length-map c.fields.now field_of) ∙ ap (λ fs. length fs) shows.fields in
+    let method_count : length r.methods ≡ length e.methods =
+    zip_length MethodIs c.methods.now r.methods parts.methods ∙ sym (length-map c.methods.now method_of) ∙ ap (λ ms. length ms) shows.methods in
     (omega (arith, field_count, few.0), omega (arith, method_count, few.1))

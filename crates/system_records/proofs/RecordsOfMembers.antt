@@ -1,5 +1,5 @@
 -- The parts of a member's record are those of the table's member.
-use Rattle.std.proofs.Common.{◌≡◌, ℕ, List, Option, refl, sym, subst}
+use Rattle.std.proofs.Common.{◌≡◌, ℕ, List, refl, sym, subst}
 use Rattle.std.specs.List.{AllZip}
 use Rattle.jk_model.specs.Descriptors.{IsFieldText, IsMethodText}
 use Rattle.jk_model.specs.SystemTable.{SystemField, SystemMethod}
@@ -8,6 +8,7 @@ use Rattle.jk_model.specs.declared.descriptors.MethodType.{MethodType}
 use Rattle.jk_model_classes.specs.SystemRecords.{AreTypesFor, IsResultFor, IsTypeFor, IsSystemField, IsSystemMethodAt}
 use Rattle.jk_model_classes.specs.declared.records.Body.TheVariants.{System}
 use Rattle.jk_model_classes.specs.declared.records.Link.TheVariants.{Nothing}
+use Rattle.jk_model_classes.specs.declared.records.MethodRecord.{MethodRecord}
 use Rattle.jk_model_classes.specs.declared.records.TypeRef.{TypeRef}
 use Rattle.system_records.specs.KnownTypes.{class_called}
 use Rattle.system_records.proofs.ClassesByName.{called_is_meaning}
@@ -30,20 +31,31 @@ types_for types refs h = record {
   each = zip_at (IsTypeFor class_called) types refs h;
 }
 
--- the record's type and parameters are equal to those that are made, since they are shared
-pub method_made : (number : ℕ) (e : SystemMethod) (name : List ℕ) (type kind : MethodType) (refs params : List TypeRef) (result : Option TypeRef)
-    → name ≡ e.name → IsMethodText e.descriptor type → kind ≡ type → AllZip (IsTypeFor class_called) type.params refs → params ≡ refs
-    → IsResultFor class_called type.result result
-    → IsSystemMethodAt number e (record { name = name; flags = e.flags; kind = kind; params = params; result = result; body = System number })
-method_made number e name type kind refs params result named text same_kind are same_params is =
-    let back : type ≡ kind = sym same_kind in
-    let here : AreTypesFor class_called type.params params =
-    subst (λ ps. AreTypesFor class_called type.params ps) (sym same_params) (types_for type.params refs are) in
+-- what is made of each part of a method, by its type and the types of its parameters with numbers of classes
+pub record PartsAre (number : ℕ) (e : SystemMethod) (type : MethodType) (refs : List TypeRef) (r : MethodRecord) : Type 0 where
+  pub name : r.name ≡ e.name
+  pub flags : r.flags ≡ e.flags
+  pub text : IsMethodText e.descriptor type
+  pub kind : r.kind ≡ type
+  pub types : AllZip (IsTypeFor class_called) type.params refs
+  pub params : r.params ≡ refs
+  pub result : IsResultFor class_called type.result r.result
+  pub body : r.body ≡ System number
+
+pub method_made : (number : ℕ) (e : SystemMethod) (type : MethodType) (refs : List TypeRef) (r : MethodRecord) → PartsAre number e type refs r
+    → IsSystemMethodAt number e r
+method_made number e type refs r parts =
+    let back : type ≡ r.kind = sym parts.kind in
+    let shared : AreTypesFor class_called type.params r.params =
+    subst (λ ps. AreTypesFor class_called type.params ps) (sym parts.params) (types_for type.params refs parts.types) in
+    let params : AreTypesFor class_called r.kind.params r.params = subst (λ (k : MethodType). AreTypesFor class_called k.params r.params) back shared in
+    let result : IsResultFor class_called r.kind.result r.result =
+    subst (λ (k : MethodType). IsResultFor class_called k.result r.result) back parts.result in
     record {
-      name = named;
-      flags = refl;
-      text = subst (λ k. IsMethodText e.descriptor k) back text;
-      params = subst (λ meaning. AreTypesFor meaning kind.params params) called_is_meaning (subst (λ (k : MethodType). AreTypesFor class_called k.params params) back here);
-      result = subst (λ meaning. IsResultFor meaning kind.result result) called_is_meaning (subst (λ (k : MethodType). IsResultFor class_called k.result result) back is);
-      body = refl;
+      name = parts.name;
+      flags = parts.flags;
+      text = subst (λ k. IsMethodText e.descriptor k) back parts.text;
+      params = subst (λ meaning. AreTypesFor meaning r.kind.params r.params) called_is_meaning params;
+      result = subst (λ meaning. IsResultFor meaning r.kind.result r.result) called_is_meaning result;
+      body = parts.body;
     }
