@@ -27,7 +27,8 @@ bytes_more units bytes i pair in_units in_bytes before is_pair =
 
 -- the number of the first eight bytes, byte by byte
 pub first_eight_of : (d : List ℕ) →
-    first_bits d ≡ from_be_bytes w64 (get_or d 0 0 ∷ get_or d 1 0 ∷ get_or d 2 0 ∷ get_or d 3 0 ∷ get_or d 4 0 ∷ get_or d 5 0 ∷ get_or d 6 0 ∷ get_or d 7 0 ∷ [])
+    first_bits d ≡ from_be_bytes w64
+    (get_or d 0 0 ∷ get_or d 1 0 ∷ get_or d 2 0 ∷ get_or d 3 0 ∷ get_or d 4 0 ∷ get_or d 5 0 ∷ get_or d 6 0 ∷ get_or d 7 0 ∷ [])
 unfolding first_bits
 first_eight_of d =
     let in0 : 0 < 8 = omega arith in
