@@ -4,11 +4,15 @@
 #![tactic(auto)]
 
 mod entry;
-mod layout;
+mod layouts;
+mod new_entry;
+mod own_places;
+mod places;
+mod reading;
 mod table;
-#[cfg(test)]
-mod tests;
+mod upwards;
+mod walks;
 
-pub use layout::Layout;
+pub use layouts::Layout;
 pub use member_index::{FieldKey, MethodKey};
 pub use table::ClassTable;

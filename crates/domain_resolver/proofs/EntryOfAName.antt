@@ -30,7 +30,8 @@ has_name name e = bytes_eq e.name name
 pub means_nothing : (es : List NameEntry) (name : List ℕ) → LacksName es name → class_named (map named_class es) name ≡ None
 means_nothing es name lacks = by_find (find (has_name name) (map named_class es)) refl (finds (has_name name) (map named_class es))
   where
-    by_find : (r : Option NamedClass) → find (has_name name) (map named_class es) ≡ r → Finds (has_name name) (map named_class es) (find (has_name name) (map named_class es))
+    by_find : (r : Option NamedClass) → find (has_name name) (map named_class es) ≡ r
+        → Finds (has_name name) (map named_class es) (find (has_name name) (map named_class es))
         → class_named (map named_class es) name ≡ None
     by_find None e h = ap (option_map (λ (n : NamedClass). n.class)) e
     by_find (Some n) e h =
@@ -40,10 +41,12 @@ means_nothing es name lacks = by_find (find (has_name name) (map named_class es)
         absurd (lacks g.0 x.from x.there (ap (λ (m : NamedClass). m.name) x.gives ∙ same))
 
 -- a name that an entry has means its class
-pub means_class : (es : List NameEntry) (name : List ℕ) (class : ClassId) → NamesDiffer es → HasName es name class → class_named (map named_class es) name ≡ Some class
+pub means_class : (es : List NameEntry) (name : List ℕ) (class : ClassId) → NamesDiffer es → HasName es name class
+    → class_named (map named_class es) name ≡ Some class
 means_class es name class differ has = by_find (find (has_name name) (map named_class es)) refl (finds (has_name name) (map named_class es))
   where
-    by_find : (r : Option NamedClass) → find (has_name name) (map named_class es) ≡ r → Finds (has_name name) (map named_class es) (find (has_name name) (map named_class es))
+    by_find : (r : Option NamedClass) → find (has_name name) (map named_class es) ≡ r
+        → Finds (has_name name) (map named_class es) (find (has_name name) (map named_class es))
         → class_named (map named_class es) name ≡ Some class
     by_find None e h =
         let g : Finds (has_name name) (map named_class es) None = rw e at h in
@@ -55,7 +58,8 @@ means_class es name class differ has = by_find (find (has_name name) (map named_
         let same : n.name ≡ name = (bytes_eq-Decides n.name name).0 g.2 in
         let here : g.0 ≡ has.place = differ g.0 has.place x.from has.entry x.there has.there (ap (λ (m : NamedClass). m.name) x.gives ∙ same ∙ sym has.named) in
         let entry : x.from ≡ has.entry = same_Some x.from has.entry (sym x.there ∙ ap (slice_get es) here ∙ has.there) in
-        ap (option_map (λ (m : NamedClass). m.class)) e ∙ ap (λ (m : NamedClass). Some m.class) (sym x.gives) ∙ ap (λ (m : NameEntry). Some m.class) entry ∙ ap Some has.classed
+        let class_of : x.from.class ≡ class = ap (λ (m : NameEntry). m.class) entry ∙ has.classed in
+        ap (option_map (λ (m : NamedClass). m.class)) e ∙ ap (λ (m : NamedClass). Some m.class) (sym x.gives) ∙ ap Some class_of
 
 -- what is known of a name from the entries says what it means
 pub meaning : (es : List NameEntry) (name : List ℕ) (r : Option ClassId) → NamesDiffer es
@@ -68,7 +72,8 @@ pub lacks_from_none : (es : List NameEntry) (name : List ℕ) → class_named (m
 lacks_from_none es name none k e at same =
     by_find (find (has_name name) (map named_class es)) refl (finds (has_name name) (map named_class es))
   where
-    by_find : (r : Option NamedClass) → find (has_name name) (map named_class es) ≡ r → Finds (has_name name) (map named_class es) (find (has_name name) (map named_class es)) → ⊥
+    by_find : (r : Option NamedClass) → find (has_name name) (map named_class es) ≡ r
+        → Finds (has_name name) (map named_class es) (find (has_name name) (map named_class es)) → ⊥
     by_find None f h =
         let g : Finds (has_name name) (map named_class es) None = rw f at h in
         let fails = g k (named_class e) (goes_to named_class es k e at) in

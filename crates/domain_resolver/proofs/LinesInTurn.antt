@@ -27,7 +27,8 @@ first_line text line rest n e f g =
     )
 
 -- bytes without a line feed are one line
-pub last_line : (text rest : List ℕ) → 0 < length text → position is_line_feed text ≡ None → rest ≡ [] → (lines text ≡ text ∷ lines rest) × (length rest < length text)
+pub last_line : (text rest : List ℕ) → 0 < length text → position is_line_feed text ≡ None → rest ≡ []
+    → (lines text ≡ text ∷ lines rest) × (length rest < length text)
 last_line text rest h e g =
     let all : All (λ b. is_line_feed b ≡ false) text = λ k d l. fails_before_first is_line_feed text k d (rw (found_nowhere is_line_feed text e) l) in
     let some : nat_eq (length text) 0 ≡ false = ne_eqb (length text) 0 (omega arith) in

@@ -66,7 +66,8 @@ newest_added es y f r h false e = newest_past es y f r (λ same. let yes = eq-eq
 chained_added : (es : List NameEntry) (y : NameEntry) → AreChained es → IsNewest es (fingerprint_of y.name) (length es) y.before → AreChained (es ++ y ∷ [])
 chained_added es y h last place e at = by_place (old_or_last es y place e at)
   where
-    by_place : ((place < length es) × (slice_get es place ≡ Some e)) ⊎ ((place ≡ length es) × (e ≡ y)) → IsNewest (es ++ y ∷ []) (fingerprint_of e.name) place e.before
+    by_place : ((place < length es) × (slice_get es place ≡ Some e)) ⊎ ((place ≡ length es) × (e ≡ y))
+        → IsNewest (es ++ y ∷ []) (fingerprint_of e.name) place e.before
     by_place (inl (low, there)) = newest_kept es y (fingerprint_of e.name) place e.before (omega arith) (h place e there)
     by_place (inr (end, same)) =
         let kept = newest_kept es y (fingerprint_of y.name) (length es) y.before (omega arith) last in
@@ -110,7 +111,8 @@ classes_added es y c old new h false e g = (
 differ_added : (es : List NameEntry) (y : NameEntry) → NamesDiffer es → LacksName es y.name → NamesDiffer (es ++ y ∷ [])
 differ_added es y differ lacks i j a b p q same = by_places (old_or_last es y i a p) (old_or_last es y j b q)
   where
-    by_places : ((i < length es) × (slice_get es i ≡ Some a)) ⊎ ((i ≡ length es) × (a ≡ y)) → ((j < length es) × (slice_get es j ≡ Some b)) ⊎ ((j ≡ length es) × (b ≡ y)) → i ≡ j
+    by_places : ((i < length es) × (slice_get es i ≡ Some a)) ⊎ ((i ≡ length es) × (a ≡ y))
+        → ((j < length es) × (slice_get es j ≡ Some b)) ⊎ ((j ≡ length es) × (b ≡ y)) → i ≡ j
     by_places (inl (low, there)) (inl (low', there')) = differ i j a b there there' same
     by_places (inl (low, there)) (inr (end, last)) = absurd (lacks i a there (same ∙ ap (λ (e : NameEntry). e.name) last))
     by_places (inr (end, last)) (inl (low, there)) = absurd (lacks j b there (sym same ∙ ap (λ (e : NameEntry). e.name) last))

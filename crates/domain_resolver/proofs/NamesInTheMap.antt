@@ -56,7 +56,8 @@ module _ {K : Type 0} (items : K → List ℕ) where
         where
           by_flag : (c : Bool) → at name k ≡ c → lookup (at name) (insert_entry by_items es k v) ≡ (if c then Some v else lookup (at name) es)
               → (f : Bool) → at name e.0 ≡ f
-              → (if at name e.0 then Some e.1 else lookup (at name) (insert_entry by_items es k v)) ≡ (if c then Some v else (if at name e.0 then Some e.1 else lookup (at name) es))
+              → (if at name e.0 then Some e.1 else lookup (at name) (insert_entry by_items es k v))
+              ≡ (if c then Some v else (if at name e.0 then Some e.1 else lookup (at name) es))
           by_flag c s h false f = rw f h
           by_flag false s h true f = rw f refl
           by_flag true s h true f =

@@ -37,7 +37,8 @@ exact_to (Some x) (Some y) e = ap Some (exact_bytes x y e)
 pub exact_offer : (a b : Offer) → offer_cmp a b ≡ Equal → a ≡ b
 exact_offer a b e = by_class (nat_cmp a.class.0 b.class.0) refl e
   where
-    same : (m n : ℕ) (s t : Option (List ℕ)) → m ≡ n → s ≡ t → (let x : Offer = record { class = record { 0 = m }; to = s } in x) ≡ record { class = record { 0 = n }; to = t }
+    same : (m n : ℕ) (s t : Option (List ℕ)) → m ≡ n → s ≡ t
+        → (let x : Offer = record { class = record { 0 = m }; to = s } in x) ≡ record { class = record { 0 = n }; to = t }
     same m n s t p q = cc
 
     by_class : (r : Ordering) → nat_cmp a.class.0 b.class.0 ≡ r → ordering_then r (to_cmp a.to b.to) ≡ Equal → a ≡ b

@@ -62,7 +62,8 @@ pub record ComesFrom {X Y : Type 0} (f : X → Y) (xs : List X) (k : ℕ) (y : Y
 pub comes_from : {X Y : Type 0} (f : X → Y) (xs : List X) (k : ℕ) (y : Y) → slice_get (map f xs) k ≡ Some y → ComesFrom f xs k y
 comes_from f xs k y e = by_place f xs k y (slice_get xs k) refl (sym (slice_get-map f xs k) ∙ e)
   where
-    by_place : {X Y : Type 0} (f : X → Y) (xs : List X) (k : ℕ) (y : Y) (r : Option X) → slice_get xs k ≡ r → option_map f (slice_get xs k) ≡ Some y → ComesFrom f xs k y
+    by_place : {X Y : Type 0} (f : X → Y) (xs : List X) (k : ℕ) (y : Y) (r : Option X) → slice_get xs k ≡ r
+        → option_map f (slice_get xs k) ≡ Some y → ComesFrom f xs k y
     by_place f xs k y None at e = cc
     by_place f xs k y (Some x) at e = record { from = x; there = at; gives = let g : Some (f x) ≡ Some y = rw at at e in same_Some (f x) y g }
 
@@ -87,6 +88,7 @@ module _ {X : Type 0} where
   slice_get-set (z ∷ xs) (suc i) y zero x e = inr (λ h. cc, e)
   slice_get-set (z ∷ xs) (suc i) y (suc k) x e = further (slice_get-set xs i y k x e)
     where
-      further : ((k ≡ i) × (x ≡ y)) ⊎ ((k ≡ i → ⊥) × (slice_get xs k ≡ Some x)) → ((suc k ≡ suc i) × (x ≡ y)) ⊎ ((suc k ≡ suc i → ⊥) × (slice_get xs k ≡ Some x))
+      further : ((k ≡ i) × (x ≡ y)) ⊎ ((k ≡ i → ⊥) × (slice_get xs k ≡ Some x))
+          → ((suc k ≡ suc i) × (x ≡ y)) ⊎ ((suc k ≡ suc i → ⊥) × (slice_get xs k ≡ Some x))
       further (inl h) = inl (ap suc h.0, h.1)
       further (inr h) = inr (λ s. h.0 (omega (arith, s)), h.1)

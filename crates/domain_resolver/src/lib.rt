@@ -8,6 +8,8 @@ mod live_names;
 mod name_table;
 mod offers;
 mod resolver;
+#[cfg(test)]
+mod tests;
 mod words;
 mod world;
 

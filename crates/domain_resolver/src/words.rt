@@ -28,7 +28,8 @@ fn word_end(text: &[u8]) -> Option<usize>
 /// The first word of a line and what follows it, or `None` where the line has no word.
 #[tactic(auto, using(crate::proofs::WordsInTurn::no_word))]
 pub(crate) fn next_word(line: &[u8]) -> Option<(&[u8], &[u8])>
-    ensures { MatchOption result (script.words line.now ≡ []) (λ found. (script.words line.now ≡ found.0.now ∷ script.words found.1.now) × (0 < length found.0.now)) }
+    ensures { MatchOption result (script.words line.now ≡ [])
+        (λ found. (script.words line.now ≡ found.0.now ∷ script.words found.1.now) × (0 < length found.0.now)) }
 {
     let text = &line[word_begin(line)?..];
     let end = word_end(text).unwrap_or(text.len());
@@ -55,7 +56,8 @@ fn line_end(text: &[u8]) -> Option<usize>
 /// The first of some lines and what follows it, or `None` where no line is left.
 #[tactic(auto, using(crate::proofs::LinesInTurn::last_line))]
 pub(crate) fn next_line(text: &[u8]) -> Option<(&[u8], &[u8])>
-    ensures { MatchOption result (script.script_lines text.now ≡ []) (λ found. (script.script_lines text.now ≡ found.0.now ∷ script.script_lines found.1.now) × (length found.1.now < length text.now)) }
+    ensures { MatchOption result (script.script_lines text.now ≡ [])
+        (λ found. (script.script_lines text.now ≡ found.0.now ∷ script.script_lines found.1.now) × (length found.1.now < length text.now)) }
 {
     if text.is_empty() {
         return None;

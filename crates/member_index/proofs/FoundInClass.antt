@@ -1,15 +1,13 @@
 -- What an index finds among the members of a class's record is what a search of that class finds.
-use Rattle.std.proofs.Common.{◌≡◌, ◌∙◌, ℕ, ◌<◌, ◌≤◌, List, Option, Some, None, MatchOption, sym, subst}
+use Rattle.std.proofs.Common.{◌≡◌, ◌∙◌, ℕ, List, Option, Some, None, sym, subst}
 use Rattle.std.proofs.lemmas.Option.{same_Some}
 use Rattle.std.specs.List.{slice_get}
 use Rattle.jk_model.specs.declared.identifiers.ClassId.{ClassId}
 use Rattle.jk_model.specs.declared.identifiers.MemberId.{MemberId}
 use Rattle.jk_model_classes.specs.Classes.{record_of}
-use Rattle.jk_model_classes.specs.Lookups.{FieldSought, MethodSought, FindsFrom, IsFirstFrom, IsFieldOf, IsMethodOf}
+use Rattle.jk_model_classes.specs.Lookups.{FieldSought, MethodSought, FindsFrom, IsFieldOf, IsMethodOf}
 use Rattle.jk_model_classes.specs.declared.records.ClassRecord.{ClassRecord}
-use Rattle.jk_model_classes.specs.declared.records.FieldRecord.{FieldRecord}
-use Rattle.jk_model_classes.specs.declared.records.MethodRecord.{MethodRecord}
-use Rattle.member_index.specs.Finding.{SuitsAt, IsFirstAt, FindsAt, FieldSuits, FindsFieldAt, MethodSuits, FindsMethodAt}
+use Rattle.member_index.specs.Finding.{SuitsAt, FindsAt, FieldSuits, FindsFieldAt, MethodSuits, FindsMethodAt}
 
 -- where a member of the class is so exactly where the one at its place suits, the same is found
 finds_from : {M : Type 0} (Suits : M → Type 0) (members : List M) (IsOf : MemberId → Type 0) (c : ClassId) (from : ℕ) (found : Option ℕ)

@@ -39,17 +39,22 @@ fn field(alloc: Global, name: &[u16], kind: TypeRef) -> Result<FieldRecord, OutO
 #[test]
 fn fields(rt: HostRuntime) -> Result<(), Fail> {
     let alloc = rt.alloc();
-    let fields = [
-        field(alloc, &[97], INT)?,
-        field(alloc, &[98], INT)?,
-        field(alloc, &[97], LONG)?,
-        field(alloc, &[97], INT)?,
-        field(alloc, &[97, 98], INT)?,
-        field(alloc, &[97], SEVEN)?,
-        field(alloc, &[97], INTS)?,
-    ];
-    let index = FieldIndex::new(alloc, &fields)?;
     let a: &[u16] = &[97];
+    let mut fields = Vec::new(alloc);
+    for (name, kind) in [
+        (a, INT),
+        (&[98], INT),
+        (a, LONG),
+        (a, INT),
+        (&[97, 98], INT),
+        (a, SEVEN),
+        (a, INTS),
+    ] {
+        fields.push(field(alloc, name, kind)?)?;
+    }
+    let fields = fields.as_slice();
+    assert_eq!(rt; fields.len(), 7);
+    let index = FieldIndex::new(alloc, fields)?;
     let cases: [(&[u16], TypeRef, u16, Option<u16>); 13] = [
         (a, INT, 0, Some(0)),
         (a, INT, 1, Some(3)),
@@ -67,7 +72,7 @@ fn fields(rt: HostRuntime) -> Result<(), Fail> {
     ];
     for (name, kind, from, wanted) in cases {
         let key = FieldKey::new(name, kind);
-        assert_eq!(rt; index.find(&fields, &key, from), wanted);
+        assert_eq!(rt; index.find(fields, &key, from), wanted);
     }
     let none = FieldIndex::new(alloc, &[])?;
     assert_eq!(rt; none.find(&[], &FieldKey::new(a, INT), 0), None);
@@ -107,14 +112,19 @@ fn method(alloc: Global, name: u16, takes: bool, gives: bool) -> Result<MethodRe
 #[test]
 fn methods(rt: HostRuntime) -> Result<(), Fail> {
     let alloc = rt.alloc();
-    let methods = [
-        method(alloc, 97, true, false)?,
-        method(alloc, 98, true, false)?,
-        method(alloc, 97, false, true)?,
-        method(alloc, 97, true, false)?,
-        method(alloc, 97, false, false)?,
-    ];
-    let index = MethodIndex::new(alloc, &methods)?;
+    let mut methods = Vec::new(alloc);
+    for (name, takes, gives) in [
+        (97, true, false),
+        (98, true, false),
+        (97, false, true),
+        (97, true, false),
+        (97, false, false),
+    ] {
+        methods.push(method(alloc, name, takes, gives)?)?;
+    }
+    let methods = methods.as_slice();
+    assert_eq!(rt; methods.len(), 5);
+    let index = MethodIndex::new(alloc, methods)?;
     let cases = [
         (97, true, false, 0, Some(0)),
         (97, true, false, 1, Some(3)),
@@ -131,10 +141,10 @@ fn methods(rt: HostRuntime) -> Result<(), Fail> {
         let kind = kind(alloc, takes, gives)?;
         let units = [name];
         let key = MethodKey::new(&units, &kind);
-        assert_eq!(rt; index.find(&methods, &key, from), wanted);
+        assert_eq!(rt; index.find(methods, &key, from), wanted);
     }
     let own = MethodKey::of_method(&methods[3]);
-    assert_eq!(rt; index.find(&methods, &own, 1), Some(3));
+    assert_eq!(rt; index.find(methods, &own, 1), Some(3));
     let none = MethodIndex::new(alloc, &[])?;
     assert_eq!(rt; none.find(&[], &own, 0), None);
     Ok(())

@@ -1,6 +1,7 @@
 //! Stubs: what a capability shows of its target's class, and which method of the target a remote call runs.
 #![tactic(auto)]
 
+mod remote;
 mod stubs;
 mod targets;
 #[cfg(test)]

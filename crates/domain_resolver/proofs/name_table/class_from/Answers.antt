@@ -13,7 +13,8 @@ bounds-entries-place c = next_within c.args.entries.now c.args.name.now c.loop-n
 
 pub offset_bounds-entries-place : goal.offset_bounds-entries-place
 offset_bounds-entries-place c =
-    let low : c.in-Some.place < length c.args.entries.now = next_within c.args.entries.now c.args.name.now c.loop-next.next c.in-Some.place c.loop-next.invariant c.in-Some.is in
+    let es = c.args.entries.now in
+    let low : c.in-Some.place < length es = next_within es c.args.name.now c.loop-next.next c.in-Some.place c.loop-next.invariant c.in-Some.is in
     search rules
 
 pub returns-then-is : goal.returns-then-is

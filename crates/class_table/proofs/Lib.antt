@@ -1,0 +1,17 @@
+-- What is known of classes in order, and of the lists that are made from them.
+pub mod EntriesAreRight
+pub mod FieldsByPlace
+pub mod FirstsByInsertion
+pub mod HeightsAreEnough
+pub mod ItemsByPlace
+pub mod ItemsOfLists
+pub mod LayoutsBegin
+pub mod LowerClassesDecide
+pub mod OneClassMore
+pub mod OwnPlacesGrow
+pub mod ReadingIsRight
+pub mod StandingAbove
+pub mod StepsUp
+pub mod SystemClassesInTurn
+pub mod TableIsKept
+pub mod WalkOfNew
