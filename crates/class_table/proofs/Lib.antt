@@ -7,6 +7,7 @@ pub mod ItemsByPlace
 pub mod ItemsOfLists
 pub mod LayoutsBegin
 pub mod LowerClassesDecide
+pub mod MembersAreFew
 pub mod OneClassMore
 pub mod OwnPlacesGrow
 pub mod ReadingIsRight

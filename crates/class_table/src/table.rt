@@ -2,9 +2,11 @@
 
 ghost use Rattle.std.specs.Prelude.{◌≡◌, ◌+◌, ◌-◌, ◌^◌, ◌<◌, ◌≤◌, ◌↔◌, ◌++◌, ◌∷◌, [], Some, IfOk, IfNone, IfSome, IsTrue, OnErr, OnOk, length, option_map, slice_get, take};
 ghost use Rattle.std.specs.Slice.{IsItemAt};
+ghost use Rattle.jk_model.specs.declared.identifiers.ClassId.{ClassId as AClassId};
+ghost use Rattle.jk_model_classes.specs.declared.records.ClassRecord.{ClassRecord as AClass};
 ghost use Rattle.jk_model_classes.specs.declared.records.FieldRecord.{FieldRecord};
 ghost use Rattle.jk_model_classes.specs.ClassFlags.{STATIC, has};
-ghost use Rattle.jk_model_classes.specs.Classes.{AreOrdered, GetsLinks, HasClass, Implements, IsSubclass, StandsAbove, field_walk, firsts, with_interfaces};
+ghost use Rattle.jk_model_classes.specs.Classes.{AreOrdered, GetsLinks, HasClass, Implements, IsSubclass, StandsAbove, field_walk, firsts, record_of, with_interfaces};
 ghost use Rattle.jk_model_classes.specs.Layouts.{InstanceField, cost_of, instance_fields, layout_of};
 ghost use Rattle.jk_model_classes.specs.Lookups.{FieldIs, FindsFrom, IsFieldOf, IsMethodOf};
 ghost use Rattle.jk_model_classes.specs.SystemRecords.{AreSystemRecords};
@@ -63,9 +65,12 @@ impl ClassTable {
         Ok(table)
     }
 
-    /// What holds of each table: a class stands after its parent and its interfaces. It does nothing.
+    /// What holds of each table: a class stands after its parent and its interfaces, and has at most 65,535 fields
+    /// and as many methods. It does nothing.
     pub fn ordered(&self)
-        ensures { AreOrdered self.now }
+        ensures ordered { AreOrdered self.now }
+        ensures members { (c : AClassId) (r : AClass) → record_of self.now c ≡ Some r
+            → (length r.fields ≤ 65535) × (length r.methods ≤ 65535) }
     {
         let _entries = &self.entries;
     }

@@ -64,7 +64,8 @@ entries_are {M} marks_of members entries long each =
     (slice_get_cases members k).1)
 
 -- entries in file order, sorted, are an index
-pub index_from_sorted : (marks : List Marks) (entries sorted : List Entry) → entries ≡ entries_of marks → IsPermutation entries sorted → AreInOrder sorted → IsIndexOf marks sorted
+pub index_from_sorted : (marks : List Marks) (entries sorted : List Entry) → entries ≡ entries_of marks → IsPermutation entries sorted → AreInOrder sorted
+    → IsIndexOf marks sorted
 index_from_sorted marks entries sorted are perm in_order = record {
   in_order = in_order;
   whole = merely (let P : List Entry → Type 0 = λ es. IsPermutation es sorted in subst P are perm);

@@ -33,7 +33,8 @@ entry_total : IsTotalOrder entry_cmp
 entry_total = then_total (then_total (nat_total_on (λ e. e.marks.name)) (nat_total_on (λ e. e.marks.kind))) (nat_total_on (λ e. e.place))
 
 -- of two entries of a list in order the first is at most the second
-pub entries_rise : (entries : List Entry) (i j : ℕ) (d : Entry) → AreInOrder entries → i ≤ j → j < length entries → IsAtMost (get_or entries i d) (get_or entries j d)
+pub entries_rise : (entries : List Entry) (i j : ℕ) (d : Entry) → AreInOrder entries → i ≤ j → j < length entries
+    → IsAtMost (get_or entries i d) (get_or entries j d)
 entries_rise entries i j d in_order i_first j_in =
     at_most_from_not_less _ _ (sorted_far (λ x y. is_lt (entry_cmp x y)) (ranks_by entry_total (λ e. e)) entries in_order i j d i_first j_in)
 

@@ -10,6 +10,17 @@ use Rattle.member_index.specs.declared.entries.Entry.{Entry}
 use Rattle.member_index.specs.declared.marks.Marks.{Marks}
 use Rattle.member_index.proofs.OrderOfEntries.{IsAtMost, at_most_from_not_less, not_at_most_from_less, less_from_at_most, entries_rise}
 
+-- no entry before the start is one of these marks from the place on or comes after them, and each from the start on is
+abbrev pub StartsAt : List Entry → Marks → ℕ → ℕ → Type 0
+StartsAt entries marks from start =
+    let first : Entry = record { marks = marks; place = from } in
+    IsPartitionPoint (λ e. is_lt (entry_cmp e first) ≡ true) (λ e. is_lt (entry_cmp e first) ≡ false) entries start
+
+-- of the entries from the start on, these many have the marks, and no later one has
+abbrev pub EndsAt : List Entry → Marks → ℕ → ℕ → Type 0
+EndsAt entries marks start size =
+    IsPartitionPoint (λ e. has_marks marks e ≡ true) (λ e. has_marks marks e ≡ false) (drop start entries) size
+
 -- marks of one name and one type are the same
 same_marks : (a b : Marks) → a.name ≡ b.name → a.kind ≡ b.kind → a ≡ b
 same_marks a b name kind =
@@ -58,7 +69,7 @@ parted_by_first entries first in_order i j d i_first j_in h =
 
 -- the second search may be made among what the first leaves
 pub parted_by_marks : (entries : List Entry) (marks : Marks) (from start : ℕ) → AreInOrder entries
-    → IsPartitionPoint (λ e. is_lt (entry_cmp e (record { marks = marks; place = from })) ≡ true) (λ e. is_lt (entry_cmp e (record { marks = marks; place = from })) ≡ false) entries start
+    → StartsAt entries marks from start
     → IsPartitionedBy (has_marks marks) (drop start entries)
 parted_by_marks entries marks from start in_order point i j d i_first j_in h =
     let long = length-drop start entries in
@@ -68,11 +79,12 @@ parted_by_marks entries marks from start in_order point i j d i_first j_in h =
     let first : Entry = record { marks = marks; place = from } in
     let first_at_i : IsAtMost first (get_or entries (start + i) d) =
     at_most_from_not_less _ _ (point.1 (start + i) d (omega arith) i_in_all) in
-    rw (get_or-drop start entries i d) (test_between marks from _ _ first_at_i (entries_rise entries (start + i) (start + j) d in_order (omega arith) j_in_all) at_j)
+    let rise = entries_rise entries (start + i) (start + j) d in_order (omega arith) j_in_all in
+    rw (get_or-drop start entries i d) (test_between marks from _ _ first_at_i rise at_j)
 
 -- no entry of these marks from the place on stands before the start
 not_before_start : (entries : List Entry) (marks : Marks) (from start i : ℕ) (d : Entry)
-    → IsPartitionPoint (λ e. is_lt (entry_cmp e (record { marks = marks; place = from })) ≡ true) (λ e. is_lt (entry_cmp e (record { marks = marks; place = from })) ≡ false) entries start
+    → StartsAt entries marks from start
     → (get_or entries i d).marks ≡ marks → from ≤ (get_or entries i d).place → start ≤ i
 not_before_start entries marks from start i d point same after =
     ⊎_elim
@@ -82,7 +94,7 @@ not_before_start entries marks from start i d point same after =
 
 -- no entry of these marks stands after the end
 before_end : (entries : List Entry) (marks : Marks) (start size i : ℕ) (d : Entry)
-    → IsPartitionPoint (λ e. has_marks marks e ≡ true) (λ e. has_marks marks e ≡ false) (drop start entries) size
+    → EndsAt entries marks start size
     → i < length entries → (get_or entries i d).marks ≡ marks → i < start + size
 before_end entries marks start size i d end i_in same =
     ⊎_elim
@@ -95,9 +107,9 @@ before_end entries marks start size i d end i_in same =
     (cases_lt i (start + size))
 
 pub run_between : (entries : List Entry) (marks : Marks) (from start size : ℕ) → AreInOrder entries → start ≤ length entries
-    → IsPartitionPoint (λ e. is_lt (entry_cmp e (record { marks = marks; place = from })) ≡ true) (λ e. is_lt (entry_cmp e (record { marks = marks; place = from })) ≡ false) entries start
+    → StartsAt entries marks from start
     → size ≤ length (drop start entries)
-    → IsPartitionPoint (λ e. has_marks marks e ≡ true) (λ e. has_marks marks e ≡ false) (drop start entries) size
+    → EndsAt entries marks start size
     → IsRunOf entries marks from (take size (drop start entries))
 run_between entries marks from start size in_order start_in point size_in end =
     let first : Entry = record { marks = marks; place = from } in
@@ -113,10 +125,11 @@ run_between entries marks from start size in_order start_in point size_in end =
       stands = λ k d k_in. at k d (omega arith);
       marked = λ k d k_in. rw (at k d (omega arith)) (marked k d (omega arith));
       not_before = λ k d k_in.
+          let e : Entry = get_or entries (start + k) d in
           let k_in_all : start + k < length entries = omega arith in
           let k_in_run : k < size = omega arith in
-          rw (at k d k_in_run)
-          (not_before_first marks from (get_or entries (start + k) d) (at_most_from_not_less (get_or entries (start + k) d) first (point.1 (start + k) d (omega arith) k_in_all)) (marked k d k_in_run));
+          let after_first = at_most_from_not_less e first (point.1 (start + k) d (omega arith) k_in_all) in
+          rw (at k d k_in_run) (not_before_first marks from e after_first (marked k d k_in_run));
       all = λ i d i_in same after. (
         not_before_start entries marks from start i d point same after,
         rw long (before_end entries marks start size i d end i_in same),

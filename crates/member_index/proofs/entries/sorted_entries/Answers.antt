@@ -7,8 +7,11 @@ pub returns : goal.returns
 returns g c =
     let marks_of = g.M.Marked.marks_of in
     let members = c.args.members.now in
-    let all : c.loop-place.place ≡ length members = omega arith in
-    let are = entries_are marks_of members c.loop-place.entries.items (c.loop-place.invariant.0 ∙ all) (λ k d m k_in. c.loop-place.invariant.1 k d m (omega arith)) in
+    let entries = c.loop-place.entries.items in
     let sorted = c.sort_unstable.new.self in
+    let all : c.loop-place.place ≡ length members = omega arith in
+    let are = entries_are marks_of members entries (c.loop-place.invariant.0 ∙ all)
+    (λ k d m k_in. c.loop-place.invariant.1 k d m (omega arith)) in
+    let perm = rw c.as_mut_slice.ensures.value at c.sort_unstable.ensures.permutation in
     let long : c.loop-place.entries.len ≡ length sorted = omega arith in
-    rw (long, take-append_seam) (index_from_sorted (map marks_of members) c.loop-place.entries.items sorted are (rw c.as_mut_slice.ensures.value at c.sort_unstable.ensures.permutation) c.sort_unstable.ensures.sorted)
+    rw (long, take-append_seam) (index_from_sorted (map marks_of members) entries sorted are perm c.sort_unstable.ensures.sorted)
