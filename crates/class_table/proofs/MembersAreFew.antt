@@ -12,6 +12,6 @@ pub few_members : (entries : List Entry) → IsTable entries → (c : ClassId) (
     → (length r.fields ≤ 65535) × (length r.methods ≤ 65535)
 few_members entries t c r e =
     let found = entry-exists entries c (subst (λ n. c.0 < n) (length-records entries) (slice_get_within (records entries) c.0 r e)) in
-    let same : found.0.class ≡ r = same_Some (sym (record-at entries c found.0 found.1) ∙ e) in
+    let same : found.0.class ≡ r = same_Some found.0.class r (sym (record-at entries c found.0 found.1) ∙ e) in
     let few = t.right c.0 found.0 found.1 in
     subst (λ (x : ClassRecord). (length x.fields ≤ 65535) × (length x.methods ≤ 65535)) same (few.few_fields, few.few_methods)
