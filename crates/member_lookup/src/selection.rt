@@ -75,7 +75,7 @@ fn own_runner(t: &ClassTable, d: ClassId, method: MemberId, called: &MethodRecor
     requires { MethodIs t.now method called.now }
     ensures { FindsFrom (RunsFor t.now method) d 0 result }
 {
-    t.few_members();
+    t.ordered();
     let key = MethodKey::of_method(called);
     let mut from = 0;
     while let Some(index) = t.own_method(d, &key, from) {

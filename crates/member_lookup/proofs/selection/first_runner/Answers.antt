@@ -8,16 +8,16 @@ loop-next-init c = left-all (RunsFor c.args.t.now c.args.method) c.args.t.now c.
 
 pub returns-in-Some-own_runner : goal.returns-in-Some-own_runner
 returns-in-Some-own_runner c =
-    left-here (RunsFor c.args.t.now c.args.method) c.args.t.now c.ordered.ensures c.args.receiver _ _ _ c.in-Some.is c.loop-next.invariant
+    left-here (RunsFor c.args.t.now c.args.method) c.args.t.now c.ordered.ensures.ordered c.args.receiver _ _ _ c.in-Some.is c.loop-next.invariant
     (rw c.in-Some-own_runner.is at c.own_runner.ensures)
 
 pub loop-next-preserved : goal.loop-next-preserved
 loop-next-preserved c =
-    left-there (RunsFor c.args.t.now c.args.method) c.args.t.now c.ordered.ensures c.args.receiver _ _ _ c.in-Some.is c.parent_of-next.ensures
+    left-there (RunsFor c.args.t.now c.args.method) c.args.t.now c.ordered.ensures.ordered c.args.receiver _ _ _ c.in-Some.is c.parent_of-next.ensures
     c.loop-next.invariant (rw c.in_default-own_runner.is at c.own_runner.ensures)
 
 pub loop-next-smaller : goal.loop-next-smaller
-loop-next-smaller c = height-falls c.args.t.now c.ordered.ensures _ _ _ c.in-Some.is c.parent_of-next.ensures
+loop-next-smaller c = height-falls c.args.t.now c.ordered.ensures.ordered _ _ _ c.in-Some.is c.parent_of-next.ensures
 
 pub returns : goal.returns
 returns c = left-none (RunsFor c.args.t.now c.args.method) c.args.t.now c.args.receiver _ c.in_default.is c.loop-next.invariant

@@ -14,7 +14,7 @@ returns-then-runs_for c =
 pub overflow_add-from : goal.overflow_add-from
 overflow_add-from c =
     let found = rw c.in-Some.is at c.own_method.ensures in
-    let fits = place-fits c.args.t.now c.few_members.ensures _ _ found.suits.1 in
+    let fits = place-fits c.args.t.now c.ordered.ensures.members _ _ found.suits.1 in
     omega arith
 
 pub loop-index-preserved : goal.loop-index-preserved
@@ -26,7 +26,7 @@ loop-index-preserved c =
 pub loop-index-smaller : goal.loop-index-smaller
 loop-index-smaller c =
     let found = rw c.in-Some.is at c.own_method.ensures in
-    let fits = place-fits c.args.t.now c.few_members.ensures _ _ found.suits.1 in
+    let fits = place-fits c.args.t.now c.ordered.ensures.members _ _ found.suits.1 in
     let after = found.not_before in
     omega arith
 
