@@ -1,12 +1,12 @@
 -- What an entry of a table says of its class, in the words of the records.
-use Rattle.std.proofs.Common.{◌≡◌, ℕ, zero, suc, ◌+◌, ◌*◌, ◌-◌, ◌<◌, ◌≤◌, ◌^◌, min, List, [], ◌∷◌, ◌++◌, length, get_or, map, flat_map, Contains, Option, Some, None, slice_get, refl, sym, ap, ◌∙◌, inl, inr, arith, length-append}
+use Rattle.std.proofs.Common.{◌≡◌, ℕ, ◌+◌, ◌*◌, ◌-◌, ◌<◌, ◌≤◌, ◌^◌, min, List, [], ◌∷◌, ◌++◌, length, get_or, Option, Some, None, slice_get, refl, sym, ap, ◌∙◌, arith, length-append}
 use Rattle.std.specs.Option.{option_map_or}
 use Rattle.std.proofs.lemmas.List.{length-map}
 use Rattle.std.proofs.lemmas.Option.{slice_get-map, slice_get_within, slice_get-get_or}
 use Rattle.std.proofs.lemmas.List.Sums.{sum_by-append}
 use Rattle.jk_model.specs.declared.identifiers.ClassId.{ClassId}
 use Rattle.jk_model_classes.specs.declared.records.ClassRecord.{ClassRecord}
-use Rattle.jk_model_classes.specs.Classes.{record_of, HasClass, parents_of, listed_interfaces, AreOrdered, superclasses, IsSubclass}
+use Rattle.jk_model_classes.specs.Classes.{record_of, HasClass, parents_of, listed_interfaces, IsSubclass}
 use Rattle.jk_model_classes.specs.Layouts.{InstanceField, own_fields, instance_fields, up_to_32_bits, words_of}
 use Rattle.class_table.specs.declared.entry.Entry.{Entry}
 use Rattle.class_table.specs.Entries.{IsEntry, IsTable, fields_above, records}

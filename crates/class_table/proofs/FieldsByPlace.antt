@@ -1,6 +1,6 @@
 -- The field at a place of a layout is the one that the class declares which holds the place, and the fields before it take the
 -- words of those above and of the class's own.
-use Rattle.std.proofs.Common.{◌≡◌, ℕ, zero, suc, ◌+◌, ◌-◌, ◌<◌, ◌≤◌, ◌^◌, min, Bool, true, not, List, [], ◌∷◌, ◌++◌, length, take, Option, Some, None, option_map, slice_get, refl, sym, ap, ◌∙◌, inl, inr, arith}
+use Rattle.std.proofs.Common.{◌≡◌, ℕ, zero, suc, ◌+◌, ◌-◌, ◌<◌, ◌≤◌, ◌^◌, min, true, not, List, [], ◌∷◌, ◌++◌, length, take, Some, option_map, slice_get, refl, sym, ap, ◌∙◌, inl, inr, arith}
 use Rattle.std.proofs.lemmas.Bool.{cases_Bool}
 use Rattle.std.proofs.lemmas.List.{take-append-le}
 use Rattle.std.proofs.lemmas.List.Sums.{sum_by-append}

@@ -6,7 +6,7 @@ use Rattle.std.specs.Option.{option_map_or}
 use Rattle.jk_model.specs.declared.identifiers.ClassId.{ClassId}
 use Rattle.jk_model_classes.specs.declared.records.ClassRecord.{ClassRecord}
 use Rattle.jk_model_classes.specs.Classes.{record_of, parents_of, listed_interfaces, IsBelow, ParentIsBelow, StandsAbove, AreOrdered, superclasses_within, superclasses, with_interfaces_within, with_interfaces, own_interfaces, field_walk}
-use Rattle.jk_model_classes.specs.Layouts.{InstanceField, own_fields, fields_within, instance_fields}
+use Rattle.jk_model_classes.specs.Layouts.{own_fields, fields_within, instance_fields}
 use Rattle.class_table.proofs.ItemsOfLists.{each-of, each-from, each-weaker, Contains-flat_map_from, Contains-cases, Contains-none, flat_map-same, flat_map-flat_map}
 
 -- ---- The classes directly above a class have lower numbers.

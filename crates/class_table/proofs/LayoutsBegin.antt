@@ -1,9 +1,9 @@
 -- The instance fields of a class begin with those of each class above it.
-use Rattle.std.proofs.Common.{◌≡◌, ℕ, zero, suc, ◌+◌, ◌<◌, List, [], ◌∷◌, ◌++◌, flat_map, Contains, refl, sym, ap, ◌∙◌, inl, inr, append-nil, append_assoc, arith}
+use Rattle.std.proofs.Common.{◌≡◌, ℕ, zero, suc, ◌+◌, ◌<◌, List, [], ◌∷◌, ◌++◌, sym, ap, ◌∙◌, inl, inr, append-nil, append_assoc, arith}
 use Rattle.jk_model.specs.declared.identifiers.ClassId.{ClassId}
 use Rattle.jk_model_classes.specs.declared.records.ClassRecord.{ClassRecord}
-use Rattle.jk_model_classes.specs.Classes.{parents_of, AreOrdered, superclasses, IsSubclass}
-use Rattle.jk_model_classes.specs.Layouts.{InstanceField, own_fields, instance_fields}
+use Rattle.jk_model_classes.specs.Classes.{parents_of, AreOrdered, IsSubclass}
+use Rattle.jk_model_classes.specs.Layouts.{own_fields, instance_fields}
 use Rattle.class_table.specs.OwnFields.{Begins}
 use Rattle.class_table.proofs.HeightsAreEnough.{instance_fields-step}
 use Rattle.class_table.proofs.StandingAbove.{flat_map-one, superclasses-cases, parent-lower}

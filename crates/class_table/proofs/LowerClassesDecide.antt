@@ -1,17 +1,16 @@
 -- What stands above a class, and what an object of it is made of, is decided by the classes up to its number. So it stays
 -- where a class is put after the others, where later classes are dropped, and where a class gets other links.
-use Rattle.std.proofs.Common.{◌≡◌, ◌≢◌, ℕ, zero, suc, ◌+◌, ◌<◌, ◌≤◌, List, [], ◌∷◌, ◌++◌, length, take, set, Option, Some, None, flat_map, slice_get, refl, sym, ap, ◌∙◌, inl, inr, arith}
-use Rattle.std.specs.List.{AllByRecursion}
+use Rattle.std.proofs.Common.{◌≡◌, ℕ, zero, suc, ◌+◌, ◌<◌, List, [], ◌∷◌, ◌++◌, length, take, set, Some, flat_map, refl, sym, ap, ◌∙◌, inl, inr, arith}
 use Rattle.std.specs.Option.{option_map_or}
 use Rattle.std.proofs.lemmas.Bool.{cases_eq}
-use Rattle.std.proofs.lemmas.Option.{slice_get_within, same_Some}
+use Rattle.std.proofs.lemmas.Option.{slice_get_within}
 use Rattle.jk_model.specs.declared.identifiers.ClassId.{ClassId}
 use Rattle.jk_model_classes.specs.declared.records.ClassRecord.{ClassRecord}
 use Rattle.jk_model_classes.specs.declared.records.Link.{Link}
 use Rattle.jk_model_classes.specs.Classes.{record_of, parents_of, listed_interfaces, GetsLinks, IsBelow, StandsAbove, AreOrdered, superclasses_within, superclasses, with_interfaces_within, with_interfaces, own_interfaces, field_walk}
-use Rattle.jk_model_classes.specs.Layouts.{InstanceField, own_fields, fields_within, instance_fields}
+use Rattle.jk_model_classes.specs.Layouts.{own_fields, fields_within, instance_fields}
 use Rattle.class_table.specs.OwnFields.{own_of}
-use Rattle.class_table.proofs.ItemsByPlace.{slice_get-front, slice_get-last, slice_get-take, slice_get-from_take, slice_get-set_same, slice_get-set_other, slice_get-push_cases, slice_get-set_cases}
+use Rattle.class_table.proofs.ItemsByPlace.{slice_get-front, slice_get-take, slice_get-from_take, slice_get-set_same, slice_get-set_other, slice_get-push_cases, slice_get-set_cases}
 use Rattle.class_table.proofs.ItemsOfLists.{each-weaker, flat_map-same}
 use Rattle.class_table.proofs.HeightsAreEnough.{parents-below, interfaces-below, superclasses-below}
 

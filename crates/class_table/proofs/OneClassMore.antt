@@ -1,11 +1,10 @@
 -- What stands above a class that is put after the others, and how many fields and words come before its own.
-use Rattle.std.proofs.Common.{◌≡◌, ℕ, ◌+◌, ◌*◌, ◌-◌, ◌<◌, ◌≤◌, ◌^◌, min, List, [], ◌∷◌, ◌++◌, length, Contains, Option, Some, None, slice_get, refl, sym, ap, ◌∙◌, append-nil, arith}
+use Rattle.std.proofs.Common.{◌≡◌, ℕ, ◌+◌, ◌-◌, ◌<◌, ◌^◌, min, List, [], ◌∷◌, ◌++◌, length, Contains, Some, None, slice_get, refl, sym, ap, ◌∙◌, append-nil, arith}
 use Rattle.jk_model.specs.declared.identifiers.ClassId.{ClassId}
 use Rattle.jk_model_classes.specs.declared.records.ClassRecord.{ClassRecord}
 use Rattle.jk_model_classes.specs.Classes.{record_of, parents_of, StandsAbove, AreOrdered, superclasses}
 use Rattle.jk_model_classes.specs.Layouts.{instance_fields, up_to_32_bits, words_of}
 use Rattle.class_table.specs.declared.entry.Entry.{Entry}
-use Rattle.class_table.specs.declared.entry.Standing.{Standing}
 use Rattle.class_table.specs.Entries.{IsStanding, IsTable, fields_above, records}
 use Rattle.class_table.proofs.EntriesAreRight.{length-records, parents-from, words-at, field_count-at, few_fields-at, within-at}
 use Rattle.class_table.proofs.ItemsByPlace.{slice_get-last}
@@ -61,6 +60,6 @@ module _ (entries : List Entry) (table : IsTable entries) (r : ClassRecord) (abo
           few = omega (arith, before_is, few_fields-at entries p e at table, within-at entries p e at);
           words = words_is ∙ words-at entries p e at table ∙ ap (λ fields. up_to_32_bits (words_of fields)) (sym fields_above-new);
           jump =
-            superclasses-of_parent (with_new entries r) ordered-new (next_number entries) p jump (rw parents-new (Contains-here p []))
-            (rw (← (superclasses-agree (length (records entries)) (records entries) (with_new entries r) table.ordered (agree-push (records entries) r) p low)) jumps);
+              superclasses-of_parent (with_new entries r) ordered-new (next_number entries) p jump (rw parents-new (Contains-here p []))
+              (rw (← (superclasses-agree (length (records entries)) (records entries) (with_new entries r) table.ordered (agree-push (records entries) r) p low)) jumps);
         }

@@ -1,5 +1,5 @@
 -- Where the instance fields of a class stand, with one field more.
-use Rattle.std.proofs.Common.{◌≡◌, ℕ, zero, suc, ◌+◌, ◌<◌, ◌≤◌, Bool, true, false, not, cond, List, [], ◌∷◌, ◌++◌, length, take, map, filter, Some, slice_get, refl, sym, ap, ◌∙◌, inl, inr, arith, append-nil}
+use Rattle.std.proofs.Common.{◌≡◌, ℕ, suc, ◌+◌, ◌<◌, ◌≤◌, Bool, true, false, not, List, [], ◌∷◌, ◌++◌, length, take, map, filter, Some, slice_get, refl, sym, ap, ◌∙◌, inl, inr, arith, append-nil}
 use Rattle.std.specs.List.{enumerate_from}
 use Rattle.std.proofs.lemmas.Bool.{cases_Bool}
 use Rattle.std.proofs.lemmas.List.{length-map, length_push, take-append-le}
@@ -14,7 +14,7 @@ use Rattle.jk_model_classes.specs.Layouts.{InstanceField, is_instance_field, typ
 use Rattle.class_table.specs.declared.entry.OwnField.{OwnField}
 use Rattle.class_table.specs.declared.entry.OwnPlaces.{OwnPlaces}
 use Rattle.class_table.specs.Entries.{AreOwnPlaces, IsOwnField}
-use Rattle.class_table.specs.OwnFields.{instance_field, own_from, own_of}
+use Rattle.class_table.specs.OwnFields.{instance_field, own_of}
 use Rattle.class_table.proofs.ItemsByPlace.{slice_get-front, slice_get-last, slice_get-push_cases}
 
 enumerate_from-push : {X : Type 0} (n : ℕ) (xs : List X) (y : X) → enumerate_from n (xs ++ y ∷ []) ≡ enumerate_from n xs ++ (n + length xs, y) ∷ []
@@ -98,7 +98,7 @@ own_field-front c fields more i o within is =
       at = slice_get-front fields (more ∷ []) i within ∙ is.at;
       member = is.member;
       words = rw (take-append-le i fields (more ∷ []) (omega arith)) is.words;
-    few = is.few;
+      few = is.few;
     }
 
 own_field-last : (c : ClassId) (fields : List InstanceField) (more : InstanceField) (i : ℕ) (o : OwnField) → i ≡ length fields
@@ -109,7 +109,7 @@ own_field-last c fields more i o last member words few =
       at = slice_get-last fields more;
       member = member;
       words = rw (take-append_seam fields (more ∷ [])) words;
-    few = few;
+      few = few;
     }
 
 pub places-instance : (c : ClassId) (front : List FieldRecord) (f : FieldRecord) (own : OwnPlaces) (fields : List OwnField) (ranks : List ℕ)

@@ -1,22 +1,16 @@
 -- What is read from an entry is what the definitions say of its class.
-use Rattle.std.proofs.Common.{◌≡◌, ℕ, zero, suc, ◌+◌, ◌-◌, ◌<◌, ◌≤◌, ◌^◌, ◌↔◌, Bool, true, false, not, min, List, [], ◌∷◌, ◌++◌, length, take, drop, flat_map, Contains, Option, Some, None, MatchOption, IsTrue, option_map, slice_get, refl, sym, ap, subst, ◌∙◌, inl, inr, arith, append-nil}
+use Rattle.std.proofs.Common.{◌≡◌, ℕ, ◌↔◌, Bool, List, [], ◌∷◌, ◌++◌, flat_map, Contains, Option, Some, None, IsTrue, slice_get, refl, sym, ap, ◌∙◌, append-nil}
 use Rattle.std.specs.Option.{option_map_or}
 use Rattle.std.proofs.lemmas.Option.{none-some, same_Some, slice_get-map}
 use Rattle.jk_model.specs.declared.identifiers.ClassId.{ClassId}
-use Rattle.jk_model.specs.declared.identifiers.MemberId.{MemberId}
 use Rattle.jk_model_classes.specs.declared.records.ClassRecord.{ClassRecord}
-use Rattle.jk_model_classes.specs.declared.records.FieldRecord.{FieldRecord}
-use Rattle.jk_model_classes.specs.declared.records.MethodRecord.{MethodRecord}
 use Rattle.jk_model_classes.specs.declared.records.TypeRef.{TypeRef}
 use Rattle.jk_model.specs.declared.descriptors.MethodType.{MethodType}
-use Rattle.jk_model_classes.specs.ClassFlags.{has}
-use Rattle.jk_model_classes.specs.Classes.{record_of, HasClass, parents_of, listed_interfaces, IsInterface, AreOrdered, Implements, with_interfaces, own_interfaces, field_walk, firsts}
-use Rattle.jk_model_classes.specs.Layouts.{InstanceField, instance_fields, up_to_32_bits, words_of}
-use Rattle.jk_model_classes.specs.Lookups.{FieldIs, FindsFrom, IsFieldOf, IsMethodOf, IsFirstFrom}
-use Rattle.member_index.specs.Finding.{FindsFieldAt, FindsMethodAt, FieldSuits, MethodSuits, SuitsAt, IsFirstAt}
+use Rattle.jk_model_classes.specs.Classes.{record_of, HasClass, IsInterface, AreOrdered, Implements, with_interfaces, field_walk}
+use Rattle.jk_model_classes.specs.Lookups.{FindsFrom, IsFieldOf, IsMethodOf}
+use Rattle.member_index.specs.Finding.{FindsFieldAt, FindsMethodAt, FieldSuits, MethodSuits, SuitsAt}
 use Rattle.class_table.specs.declared.entry.Entry.{Entry}
-use Rattle.class_table.specs.declared.entry.OwnField.{OwnField}
-use Rattle.class_table.specs.Entries.{IsTable, IsOwnField, fields_above, records}
+use Rattle.class_table.specs.Entries.{IsTable, records}
 use Rattle.class_table.proofs.EntriesAreRight.{record-at, length-records, entry-exists, entry-at}
 use Rattle.class_table.proofs.FirstsByInsertion.{Contains-firsts, Contains-firsts_from}
 use Rattle.class_table.proofs.HeightsAreEnough.{field_walk-step, with_interfaces-step}
@@ -60,8 +54,7 @@ implements-none entries table a i none (interface, above) =
 pub implements-some : (entries : List Entry) → IsTable entries → (a i : ClassId) (e : Entry) → slice_get entries a.0 ≡ Some e
     → (there : Bool) → IsInterface (records entries) i → IsTrue there ↔ Contains e.walk.classes i → IsTrue there ↔ Implements (records entries) a i
 implements-some entries table a i e at there interface found =
-    let walk = (entry-at entries a e at table).walk.whole in
-    (
+    let walk = (entry-at entries a e at table).walk.whole in (
       (λ yes. (interface, Contains-firsts_from (field_walk (records entries) a) i (rw walk at (found.0 yes)))),
       (λ is. found.1 (rw walk (Contains-firsts (field_walk (records entries) a) i is.1))),
     )

@@ -1,11 +1,10 @@
 -- Which classes stand above a class, for ordered classes: those above its parent and its interfaces among them, and of two
 -- superclasses of one class the lower number is above the other.
-use Rattle.std.proofs.Common.{◌≡◌, ℕ, zero, suc, ◌+◌, ◌<◌, ◌≤◌, List, [], ◌∷◌, ◌++◌, Option, Some, None, flat_map, Contains, refl, sym, ap, subst, ◌∙◌, inl, inr, ◌⊎◌, arith}
+use Rattle.std.proofs.Common.{◌≡◌, ℕ, zero, suc, ◌+◌, ◌<◌, ◌≤◌, List, [], ◌∷◌, ◌++◌, Option, Some, None, flat_map, Contains, refl, sym, ap, ◌∙◌, inl, inr, ◌⊎◌, arith}
 use Rattle.std.specs.Option.{option_map_or}
-use Rattle.std.proofs.lemmas.List.Elements.{Contains-append_left, Contains-append_right, Contains-append_cases}
 use Rattle.jk_model.specs.declared.identifiers.ClassId.{ClassId}
 use Rattle.jk_model_classes.specs.declared.records.ClassRecord.{ClassRecord}
-use Rattle.jk_model_classes.specs.Classes.{record_of, parents_of, listed_interfaces, IsBelow, AreOrdered, superclasses, with_interfaces, own_interfaces, field_walk}
+use Rattle.jk_model_classes.specs.Classes.{record_of, parents_of, listed_interfaces, IsBelow, AreOrdered, superclasses, with_interfaces, own_interfaces}
 use Rattle.class_table.proofs.ItemsOfLists.{Contains-here, Contains-there, Contains-cases, none_in, only_in, Contains-flat_map, Contains-flat_map_from, each-of}
 use Rattle.class_table.proofs.HeightsAreEnough.{parents-below, interfaces-below, superclasses-below, superclasses-step, with_interfaces-step}
 

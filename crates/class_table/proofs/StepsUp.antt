@@ -1,20 +1,13 @@
 -- A step upwards, to the parent or to the class that an entry jumps to, passes over nothing that is sought.
-use Rattle.std.proofs.Common.{◌≡◌, ℕ, zero, suc, ◌+◌, ◌*◌, ◌-◌, ◌<◌, ◌≤◌, ◌^◌, ◌↔◌, min, Bool, eqb, IsTrue, List, [], ◌∷◌, ◌++◌, length, flat_map, Contains, Option, Some, None, MatchOption, slice_get, refl, sym, ap, subst, ◌∙◌, inl, inr, append-nil, arith}
-use Rattle.std.proofs.lemmas.List.Sums.{sum_by-append}
+use Rattle.std.proofs.Common.{◌≡◌, ℕ, ◌<◌, ◌≤◌, ◌↔◌, Bool, eqb, IsTrue, List, [], ◌∷◌, Option, Some, None, MatchOption, slice_get, sym, ap, subst, ◌∙◌, inl, inr, arith}
 use Rattle.std.proofs.lemmas.Bool.{eqb-true, eq-eqb}
 use Rattle.jk_model.specs.declared.identifiers.ClassId.{ClassId}
 use Rattle.jk_model_classes.specs.declared.records.ClassRecord.{ClassRecord}
-use Rattle.jk_model_classes.specs.Classes.{record_of, parents_of, StandsAbove, AreOrdered, superclasses, IsSubclass}
-use Rattle.jk_model_classes.specs.Layouts.{InstanceField, instance_fields, up_to_32_bits, words_of}
+use Rattle.jk_model_classes.specs.Classes.{AreOrdered, IsSubclass}
 use Rattle.class_table.specs.declared.entry.Entry.{Entry}
-use Rattle.class_table.specs.declared.entry.Standing.{Standing}
-use Rattle.class_table.specs.Entries.{IsStanding, IsTable, fields_above, records}
-use Rattle.class_table.specs.OwnFields.{own_of}
-use Rattle.class_table.proofs.EntriesAreRight.{length-records, parents-from, parents-at, no_parents-at, entry-at, fields-at, field_count-at, few_fields-at, within-at, jump_above-at, parent_lower-at, parent_above-at}
-use Rattle.class_table.proofs.ItemsByPlace.{slice_get-last}
-use Rattle.class_table.proofs.ItemsOfLists.{Contains-here}
-use Rattle.class_table.proofs.LowerClassesDecide.{agree-push, ordered-push, superclasses-agree, instance_fields-agree}
-use Rattle.class_table.proofs.StandingAbove.{superclasses-cases, superclasses-trans, superclasses-chain, superclasses-of_parent, superclasses-lower, is-own_superclass, flat_map-one}
+use Rattle.class_table.specs.Entries.{IsTable, records}
+use Rattle.class_table.proofs.EntriesAreRight.{parents-at, no_parents-at, jump_above-at, parent_lower-at, parent_above-at}
+use Rattle.class_table.proofs.StandingAbove.{superclasses-cases, superclasses-trans, superclasses-chain, superclasses-lower, is-own_superclass}
 
 module _ (entries : List Entry) (table : IsTable entries) (at to : ClassId) (e : Entry) (is : slice_get entries at.0 ≡ Some e) (above : to.0 < at.0) where
   pub step-jump : e.standing.jump.0 < at.0 → to.0 ≤ e.standing.jump.0

@@ -15,7 +15,7 @@ pub system-more : (old new : List ClassRecord) (n : ℕ) (r : ClassRecord) → l
 system-more old new n r many each grown (made, is, right) k entry s known at = elim (slice_get-push_cases old r s k (rw grown at at)) [
   | inl front ↦ each k entry s known front.1
   | inr last ↦
-    let here : k ≡ n = last.0 ∙ many in
-    let same : made ≡ entry = same_Some made entry (sym is ∙ ap (slice_get system_classes) (sym here) ∙ known) in
-    rw (here, ← same, ← (last.1)) right
+      let here : k ≡ n = last.0 ∙ many in
+      let same : made ≡ entry = same_Some made entry (sym is ∙ ap (slice_get system_classes) (sym here) ∙ known) in
+      rw (here, ← same, ← (last.1)) right
 ]

@@ -1,20 +1,19 @@
 -- The entries of a table stay right where a class is put after the others, where later classes are dropped, and where a class gets
 -- other links.
-use Rattle.std.proofs.Common.{◌≡◌, ℕ, zero, suc, ◌+◌, ◌<◌, ◌≤◌, ◌^◌, List, [], ◌∷◌, ◌++◌, length, get_or, take, set, map, flat_map, Contains, Option, Some, None, IsSome, is_some, IfSome, MatchOption, unwrap_or, option_map, slice_get, nat_lt, refl, sym, ap, subst, ◌∙◌, inl, inr, arith}
+use Rattle.std.proofs.Common.{◌≡◌, ℕ, zero, suc, ◌+◌, ◌<◌, ◌≤◌, ◌^◌, List, [], ◌∷◌, ◌++◌, length, take, set, map, flat_map, Some, None, slice_get, refl, sym, ap, ◌∙◌, inl, inr, arith}
 use Rattle.std.specs.Borrow.{Bor}
-use Rattle.std.specs.Option.{option_copied}
 use Rattle.std.specs.Slice.{IsItemAt}
 use Rattle.std.proofs.lemmas.Bool.{lt-ltb, le-ltb}
 use Rattle.std.proofs.lemmas.List.{get_or_past, length_push, map_push}
-use Rattle.std.proofs.lemmas.Option.{none-some, slice_get_within, slice_get-get_or, get_or_from_slice_get, slice_get-map}
+use Rattle.std.proofs.lemmas.Option.{slice_get_within, get_or_from_slice_get}
 use Rattle.jk_model.specs.declared.identifiers.ClassId.{ClassId}
 use Rattle.jk_model_classes.specs.declared.records.ClassRecord.{ClassRecord}
 use Rattle.jk_model_classes.specs.declared.records.Link.{Link}
-use Rattle.jk_model_classes.specs.Classes.{record_of, HasClass, parents_of, GetsLinks, StandsAbove, AreOrdered, IsBelow, superclasses, firsts, field_walk, with_interfaces}
+use Rattle.jk_model_classes.specs.Classes.{parents_of, GetsLinks, StandsAbove, AreOrdered, IsBelow, firsts}
 use Rattle.jk_model_classes.specs.Layouts.{instance_fields, up_to_32_bits, words_of}
 use Rattle.class_table.specs.declared.entry.Entry.{Entry}
 use Rattle.class_table.specs.Entries.{IsEntry, IsTable, fields_above, records}
-use Rattle.class_table.proofs.EntriesAreRight.{entry-exists, length-records, record-at}
+use Rattle.class_table.proofs.EntriesAreRight.{length-records, record-at}
 use Rattle.class_table.proofs.HeightsAreEnough.{parents-below}
 use Rattle.class_table.proofs.ItemsByPlace.{slice_get-push_cases, slice_get-from_take, slice_get-set_cases, length_take, length_take_whole}
 use Rattle.class_table.proofs.ItemsOfLists.{each-weaker, flat_map-same}
@@ -59,8 +58,8 @@ table-push entries e table above few is =
       few = omega (arith, length_push entries e);
       right = λ k x at. rw grown (elim (slice_get-push_cases entries e x k at) [
         | inl front ↦
-          entry-agree (length (records entries)) (records entries) (records entries ++ e.class ∷ []) table.ordered (agree-push (records entries) e.class)
-          (record { 0 = k }) x (rw (length-records entries) front.0) (table.right k x front.1)
+            entry-agree (length (records entries)) (records entries) (records entries ++ e.class ∷ []) table.ordered (agree-push (records entries) e.class)
+            (record { 0 = k }) x (rw (length-records entries) front.0) (table.right k x front.1)
         | inr last ↦ rw (last.0, ← (last.1)) is
       ]);
     }
@@ -76,9 +75,9 @@ table-take entries n table =
       ordered = rw (records-take entries n) (ordered-take (records entries) n table.ordered);
       few = omega (arith, length_take_whole entries n, table.few);
       right = λ k x at.
-        rw (records-take entries n)
-        (entry-agree n (records entries) (take n (records entries)) table.ordered (agree-take (records entries) n) (record { 0 = k }) x
-        (omega (arith, slice_get_within (take n entries) k x at, length_take entries n)) (table.right k x (slice_get-from_take entries n k x at)));
+          rw (records-take entries n)
+          (entry-agree n (records entries) (take n (records entries)) table.ordered (agree-take (records entries) n) (record { 0 = k }) x
+          (omega (arith, slice_get_within (take n entries) k x at, length_take entries n)) (table.right k x (slice_get-from_take entries n k x at)));
     }
 
 -- ---- Other links.
@@ -138,8 +137,7 @@ not_within (x ∷ xs) (suc i) none = omega (arith, not_within xs i none)
 
 pub item-none : {X : Type 0} (xs : List X) (i : ℕ) → slice_get xs i ≡ None → IsItemAt xs i None
 item-none {X} xs i none =
-    let past = not_within xs i none in
-    (
+    let past = not_within xs i none in (
       sym (le-ltb i (length xs) past),
       tt,
       (λ within. absurd (omega arith)),
@@ -149,8 +147,7 @@ item-none {X} xs i none =
 
 pub item-some : {X : Type 0} (xs : List X) (i : ℕ) (r : Bor X) → slice_get xs i ≡ Some r.now → IsItemAt xs i (Some r)
 item-some {X} xs i r at =
-    let within = slice_get_within xs i r.now at in
-    (
+    let within = slice_get_within xs i r.now at in (
       sym (lt-ltb i (length xs) within),
       sym (get_or_from_slice_get xs i r.now r.now at),
       (λ order. refl),

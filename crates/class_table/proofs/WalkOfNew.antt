@@ -1,5 +1,5 @@
 -- The walk of a class that is put after the others, from the walks of its interfaces and its parent.
-use Rattle.std.proofs.Common.{◌≡◌, ℕ, zero, suc, ◌+◌, ◌<◌, ◌≤◌, Bool, true, false, nat_eq, List, [], ◌∷◌, ◌++◌, length, get_or, take, map, flat_map, Contains, Option, Some, None, slice_get, refl, sym, ap, ◌∙◌, inl, inr, append-nil, arith, length-append}
+use Rattle.std.proofs.Common.{◌≡◌, ℕ, zero, suc, ◌+◌, ◌<◌, true, false, nat_eq, List, [], ◌∷◌, ◌++◌, length, get_or, take, map, flat_map, Option, Some, None, slice_get, refl, sym, ap, ◌∙◌, inl, inr, append-nil, arith, length-append}
 use Rattle.std.specs.List.{AllByRecursion, list_any}
 use Rattle.std.specs.Option.{option_map_or}
 use Rattle.std.proofs.lemmas.Bool.{eqb-true, or_cases}
@@ -9,9 +9,8 @@ use Rattle.std.proofs.lemmas.List.Elements.{Contains-get_or}
 use Rattle.indexmap.specs.IndexSet.{insert_key}
 use Rattle.jk_model.specs.declared.identifiers.ClassId.{ClassId}
 use Rattle.jk_model_classes.specs.declared.records.ClassRecord.{ClassRecord}
-use Rattle.jk_model_classes.specs.Classes.{record_of, parents_of, listed_interfaces, IsBelow, StandsAbove, AreOrdered, superclasses, with_interfaces, own_interfaces, field_walk, firsts}
+use Rattle.jk_model_classes.specs.Classes.{record_of, parents_of, listed_interfaces, IsBelow, StandsAbove, AreOrdered, with_interfaces, field_walk, firsts}
 use Rattle.class_table.specs.declared.entry.Entry.{Entry}
-use Rattle.class_table.specs.declared.entry.Walk.{Walk}
 use Rattle.class_table.specs.Entries.{IsTable, IsWalk, records}
 use Rattle.class_table.specs.Walks.{numbers, classes_numbered, with_all}
 use Rattle.class_table.proofs.EntriesAreRight.{length-records, parents-from, entry-at}

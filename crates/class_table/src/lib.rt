@@ -4,12 +4,15 @@
 #![tactic(auto)]
 
 mod entry;
+pub mod laws;
 mod layouts;
 mod new_entry;
 mod own_places;
 mod places;
 mod reading;
 mod table;
+#[cfg(test)]
+mod tests;
 mod upwards;
 mod walks;
 

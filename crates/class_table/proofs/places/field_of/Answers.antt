@@ -1,5 +1,5 @@
 -- The class that holds the place declares the field there.
-use Rattle.std.proofs.Common.{◌≡◌, ◌-◌, Some, slice_get, get_or, ap, ◌∙◌, arith}
+use Rattle.std.proofs.Common.{◌-◌, get_or}
 use Rattle.std.proofs.lemmas.Option.{slice_get-get_or}
 use Rattle.class_table.proofs.FieldsByPlace.{held-field, held-within}
 use Rattle.class_table.proofs.places.field_of.Goals as goal

@@ -12,10 +12,9 @@ pub returns-clause-some : goal.returns-clause-some
 returns-clause-some c =
     let entries = c.args.entries.now in
     let e = c.in_ok-entry.entry.now in
-    let at : slice_get entries c.args.c.0 ≡ Some e = sym c.in_ok-entry.ensures in
-    (
+    let at : slice_get entries c.args.c.0 ≡ Some e = sym c.in_ok-entry.ensures in (
       is_class entries c.args.c e at,
       c.saturating_add.ensures
-      ∙ ap (λ n. min (n + 4) (2 ^ 32 - 1)) (c.words.ensures ∙ words-at entries c.args.c e at c.requires)
-      ∙ saturated-twice (words_of (instance_fields (records entries) c.args.c)) 4 (2 ^ 32 - 1),
+          ∙ ap (λ n. min (n + 4) (2 ^ 32 - 1)) (c.words.ensures ∙ words-at entries c.args.c e at c.requires)
+          ∙ saturated-twice (words_of (instance_fields (records entries) c.args.c)) 4 (2 ^ 32 - 1),
     )

@@ -1,7 +1,6 @@
 -- An interface is implemented where it is on the class's walk.
-use Rattle.std.proofs.Common.{◌≡◌, ◌↔◌, ◌∙◌, Contains, IsTrue, List, true, sym}
+use Rattle.std.proofs.Common.{◌↔◌, Contains, IsTrue, sym}
 use Rattle.std.proofs.lemmas.Bool.{false≢true}
-use Rattle.jk_model.specs.declared.identifiers.ClassId.{ClassId}
 use Rattle.class_table.proofs.ReadingIsRight.{implements-none, implements-some}
 use Rattle.class_table.proofs.reading.implements.Goals as goal
 
@@ -13,8 +12,7 @@ returns-then-is_interface c =
     (c.is_interface.ensures.0 c.if-is_interface.true) found
 
 pub returns-in-None : goal.returns-in-None
-returns-in-None c =
-    (
-      (λ yes. absurd (false≢true yes)),
-      (λ is. absurd (implements-none c.args.entries.now c.requires c.args.a c.args.i (sym c.in-None.ensures) is)),
-    )
+returns-in-None c = (
+  (λ yes. absurd (false≢true yes)),
+  (λ is. absurd (implements-none c.args.entries.now c.requires c.args.a c.args.i (sym c.in-None.ensures) is)),
+)

@@ -1,7 +1,6 @@
 -- The field stands after those of the classes above, at its rank among the class's own.
-use Rattle.std.proofs.Common.{◌≡◌, ◌<◌, ◌≤◌, ℕ, not, true, Some, length, slice_get, take, get_or, refl, sym, ap, ◌∙◌, arith}
+use Rattle.std.proofs.Common.{◌≡◌, ◌<◌, ◌≤◌, Some, length, slice_get, take, get_or, refl, sym, ap, ◌∙◌, arith}
 use Rattle.std.proofs.lemmas.Option.{slice_get_read, slice_get-get_or}
-use Rattle.jk_model_classes.specs.ClassFlags.{has}
 use Rattle.class_table.proofs.EntriesAreRight.{entry-at, within-at}
 use Rattle.class_table.proofs.FieldsByPlace.{placed-member}
 use Rattle.class_table.proofs.ItemsByPlace.{length_take_whole}

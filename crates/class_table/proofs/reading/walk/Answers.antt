@@ -1,5 +1,5 @@
 -- An entry has its class's walk.
-use Rattle.std.proofs.Common.{◌≡◌, ◌<◌, Some, slice_get, length, sym, ◌∙◌}
+use Rattle.std.proofs.Common.{◌≡◌, Some, slice_get, sym, ◌∙◌}
 use Rattle.class_table.proofs.EntriesAreRight.{entry-at, is_class}
 use Rattle.class_table.proofs.reading.walk.Goals as goal
 

@@ -1,5 +1,4 @@
 -- Each jump leads to a class above.
-use Rattle.std.proofs.Common.{arith}
 use Rattle.class_table.specs.Entries.{records}
 use Rattle.class_table.proofs.EntriesAreRight.{jump_above-at, jump_within-at}
 use Rattle.class_table.proofs.StandingAbove.{superclasses-trans}

@@ -1,6 +1,6 @@
 -- What follows for the new class follows from its parent's entry.
-use Rattle.std.proofs.Common.{◌≡◌, ◌+◌, ◌∙◌, ap, length, min, ◌-◌, ◌^◌, arith}
-use Rattle.class_table.proofs.EntriesAreRight.{entry-at, fits-at, few_own-at}
+use Rattle.std.proofs.Common.{◌+◌, ◌∙◌, ap, min, ◌-◌, ◌^◌}
+use Rattle.class_table.proofs.EntriesAreRight.{fits-at, few_own-at}
 use Rattle.class_table.proofs.OneClassMore.{standing-no_parent, standing-parent}
 use Rattle.class_table.proofs.upwards.standing_of_new.Goals as goal
 

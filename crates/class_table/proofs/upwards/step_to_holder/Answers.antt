@@ -1,9 +1,9 @@
 -- The field stands in the layout of the parent, and so in that of the class that is jumped to or in the parent's.
-use Rattle.std.proofs.Common.{◌≡◌, ◌<◌, ◌++◌, [], length, flat_map, ap, ◌∙◌, sym, arith, append-nil}
+use Rattle.std.proofs.Common.{length, flat_map, ap, ◌∙◌, arith, append-nil}
 use Rattle.jk_model_classes.specs.Classes.{parents_of}
 use Rattle.jk_model_classes.specs.Layouts.{instance_fields}
-use Rattle.class_table.specs.Entries.{records, fields_above}
-use Rattle.class_table.proofs.EntriesAreRight.{entry-exists, fits-at, field_count-at, jump_above-at, jump_within-at, parents-at, no_parents-at, parent_lower-at, parent_above-at}
+use Rattle.class_table.specs.Entries.{records}
+use Rattle.class_table.proofs.EntriesAreRight.{fits-at, field_count-at, jump_above-at, jump_within-at, parents-at, no_parents-at, parent_lower-at, parent_above-at}
 use Rattle.class_table.proofs.StandingAbove.{flat_map-one}
 use Rattle.class_table.proofs.upwards.step_to_holder.Goals as goal
 

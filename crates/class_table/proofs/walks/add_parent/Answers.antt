@@ -1,5 +1,5 @@
 -- The parent's walk is put in.
-use Rattle.std.proofs.Common.{◌≡◌, ap, ◌∙◌, OnOk}
+use Rattle.std.proofs.Common.{ap, ◌∙◌}
 use Rattle.std.proofs.lemmas.Result.{on_ok_weaker}
 use Rattle.jk_model_classes.specs.Classes.{field_walk}
 use Rattle.class_table.specs.Entries.{records}

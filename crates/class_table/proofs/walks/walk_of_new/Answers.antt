@@ -1,5 +1,5 @@
 -- The set has the classes of the walk in their order.
-use Rattle.std.proofs.Common.{◌≡◌, ℕ, List, [], ◌∷◌, length, flat_map, nat_eq, ap, ◌∙◌}
+use Rattle.std.proofs.Common.{◌≡◌, [], ◌∷◌, length, flat_map, nat_eq, ap, ◌∙◌}
 use Rattle.indexmap.specs.IndexSet.{insert_key}
 use Rattle.jk_model_classes.specs.Classes.{with_interfaces}
 use Rattle.class_table.specs.Entries.{records}

@@ -1,5 +1,5 @@
 -- The record of the class's entry.
-use Rattle.std.proofs.Common.{◌≡◌, List, None, Option, Some, slice_get, ap, sym, subst, ◌∙◌}
+use Rattle.std.proofs.Common.{◌≡◌, List, None, Some, slice_get, ap, sym, ◌∙◌}
 use Rattle.std.specs.Borrow.{Bor}
 use Rattle.std.specs.Slice.{IsItemAt}
 use Rattle.jk_model_classes.specs.declared.records.ClassRecord.{ClassRecord}

@@ -1,9 +1,8 @@
 -- One class gets other links, and all entries stay right.
-use Rattle.std.proofs.Common.{◌≡◌, ◌<◌, List, Some, length, set, slice_get, subst, refl, ap, sym, ◌∙◌}
+use Rattle.std.proofs.Common.{◌≡◌, ◌<◌, List, Some, length, set, slice_get, subst, refl}
 use Rattle.std.proofs.lemmas.Option.{slice_get_read}
 use Rattle.jk_model_classes.specs.declared.records.ClassRecord.{ClassRecord}
 use Rattle.jk_model_classes.specs.Classes.{GetsLinks}
-use Rattle.class_table.specs.declared.entry.Entry.{Entry}
 use Rattle.class_table.specs.Entries.{records}
 use Rattle.class_table.proofs.EntriesAreRight.{length-records}
 use Rattle.class_table.proofs.TableIsKept.{linked, table-linked, gets_links}
