@@ -19,6 +19,18 @@ pub record IsSearch {M : Type 0} (marks_of : M → Marks) (Suits : M → Type 0)
   pub is_run : IsRunOf entries marks from run
   pub agree : (m : M) → Suits m → marks_of m ≡ marks
 
+-- such a search, made of what the code knows
+pub search_of : {M : Type 0} {marks_of : M → Marks} {Suits : M → Type 0} {entries run : List Entry} {marks sought : Marks} {from : ℕ} (members : List M)
+    → IsIndexOf (map marks_of members) entries → IsRunOf entries marks from run → marks ≡ sought → ((m : M) → Suits m → marks_of m ≡ sought)
+    → IsSearch marks_of Suits members run from
+search_of {M} {marks_of} {Suits} {entries} {run} {marks} members index is_run same agree = record {
+  entries = entries;
+  marks = marks;
+  index = index;
+  is_run = is_run;
+  agree = λ m suits. agree m suits ∙ sym same;
+}
+
 -- an entry of the run leads to a member
 pub entry_in_run : {M : Type 0} {marks_of : M → Marks} {Suits : M → Type 0} {members : List M} {run : List Entry} {from : ℕ}
     → IsSearch marks_of Suits members run from → (k : ℕ) (d : Entry) → k < length run → (get_or run k d).place < length members

@@ -3,18 +3,12 @@ use Rattle.std.proofs.lemmas.Bool.{cases_lt, false≢true}
 use Rattle.std.proofs.lemmas.List.{get_or_default}
 use Rattle.std.proofs.lemmas.Option.{same_Some}
 use Rattle.member_index.specs.declared.entries.Entry.{Entry}
-use Rattle.member_index.proofs.FirstOfARun.{IsSearch, entry_in_run, read_in_run, first_suits, none_suits}
+use Rattle.member_index.proofs.FirstOfARun.{search_of, entry_in_run, read_in_run, first_suits, none_suits}
 use Rattle.member_index.proofs.entries.first_from.Goals as goal
 
 pub bounds-members-from : goal.bounds-members-from
 bounds-members-from g c =
-    let s : IsSearch g.M.Marked.marks_of (g.K.Sought.Suits c.args.key.now) c.args.members.now c.run-entry-items.result.now c.args.from = record {
-      entries = c.args.entries.now;
-      marks = c.marks.result;
-      index = c.requires;
-      is_run = c.run-entry-items.ensures;
-      agree = λ m suits. g.met.K.Sought.marks_agree c.args.key.now m suits ∙ sym c.marks.ensures;
-    } in
+    let s = search_of c.args.members.now c.requires c.run-entry-items.ensures c.marks.ensures (g.met.K.Sought.marks_agree c.args.key.now) in
     rw c.from.ensures (entry_in_run s _ _ c.loop-entry-test.true)
 
 pub offset_bounds-members-from : goal.offset_bounds-members-from
@@ -22,13 +16,7 @@ offset_bounds-members-from g c = let below = bounds-members-from g c in omega ar
 
 pub returns-then-is : goal.returns-then-is
 returns-then-is g c =
-    let s : IsSearch g.M.Marked.marks_of (g.K.Sought.Suits c.args.key.now) c.args.members.now c.run-entry-items.result.now c.args.from = record {
-      entries = c.args.entries.now;
-      marks = c.marks.result;
-      index = c.requires;
-      is_run = c.run-entry-items.ensures;
-      agree = λ m suits. g.met.K.Sought.marks_agree c.args.key.now m suits ∙ sym c.marks.ensures;
-    } in
+    let s = search_of c.args.members.now c.requires c.run-entry-items.ensures c.marks.ensures (g.met.K.Sought.marks_agree c.args.key.now) in
     let m = c.index-members-from.result in
     let stands = read_in_run s c.loop-entry.entry-index _ c.from.result m c.loop-entry-test.true c.from.ensures c.index-members-from.is in
     first_suits s c.loop-entry.entry-index _ c.loop-entry-test.true c.loop-entry.invariant (m, stands, c.is.ensures.0 c.if-is.true)
@@ -36,13 +24,7 @@ returns-then-is g c =
 -- the entry of this turn leads to a member that doesn't suit
 pub loop-entry-preserved : goal.loop-entry-preserved
 loop-entry-preserved g c =
-    let s : IsSearch g.M.Marked.marks_of (g.K.Sought.Suits c.args.key.now) c.args.members.now c.run-entry-items.result.now c.args.from = record {
-      entries = c.args.entries.now;
-      marks = c.marks.result;
-      index = c.requires;
-      is_run = c.run-entry-items.ensures;
-      agree = λ m suits. g.met.K.Sought.marks_agree c.args.key.now m suits ∙ sym c.marks.ensures;
-    } in
+    let s = search_of c.args.members.now c.requires c.run-entry-items.ensures c.marks.ensures (g.met.K.Sought.marks_agree c.args.key.now) in
     let here = c.loop-entry.entry-index in
     let m = c.index-members-from.result in
     let d : Entry = record { marks = record { name = 0; kind = 0 }; place = 0 } in
@@ -60,11 +42,5 @@ loop-entry-preserved g c =
 
 pub returns : goal.returns
 returns g c =
-    let s : IsSearch g.M.Marked.marks_of (g.K.Sought.Suits c.args.key.now) c.args.members.now c.run-entry-items.result.now c.args.from = record {
-      entries = c.args.entries.now;
-      marks = c.marks.result;
-      index = c.requires;
-      is_run = c.run-entry-items.ensures;
-      agree = λ m suits. g.met.K.Sought.marks_agree c.args.key.now m suits ∙ sym c.marks.ensures;
-    } in
+    let s = search_of c.args.members.now c.requires c.run-entry-items.ensures c.marks.ensures (g.met.K.Sought.marks_agree c.args.key.now) in
     none_suits s (λ k d k_in. c.loop-entry.invariant k d (omega arith))
