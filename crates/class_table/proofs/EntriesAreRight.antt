@@ -62,7 +62,13 @@ module _ (entries : List Entry) (c : ClassId) (e : Entry) (at : slice_get entrie
 
     pub field_count-at : length (instance_fields (records entries) c) ≡ e.standing.before + length e.own.fields
     field_count-at =
-        omega (arith, ap length fields-at, length-append (fields_above (records entries) c) (own_of c e.class.fields), entry-at.standing.before, entry-at.own.as_many)
+        omega (
+          arith,
+          ap length fields-at,
+          length-append (fields_above (records entries) c) (own_of c e.class.fields),
+          entry-at.standing.before,
+          entry-at.own.as_many,
+        )
 
     -- what the entry says of words, put together
     pub words-at : min (e.standing.words + (length e.own.fields + e.own.longs)) (2 ^ 32 - 1) ≡ up_to_32_bits (words_of (instance_fields (records entries) c))

@@ -61,5 +61,6 @@ module _ (entries : List Entry) (table : IsTable entries) (r : ClassRecord) (abo
           words = words_is ∙ words-at entries p e at table ∙ ap (λ fields. up_to_32_bits (words_of fields)) (sym fields_above-new);
           jump =
               superclasses-of_parent (with_new entries r) ordered-new (next_number entries) p jump (rw parents-new (Contains-here p []))
-              (rw (← (superclasses-agree (length (records entries)) (records entries) (with_new entries r) table.ordered (agree-push (records entries) r) p low)) jumps);
+              (rw (← (superclasses-agree (length (records entries)) (records entries) (with_new entries r) table.ordered
+              (agree-push (records entries) r) p low)) jumps);
         }

@@ -128,7 +128,14 @@ places-instance c front f own fields ranks longs place rank few here are instanc
         | inl early ↦ own_field-front c before more i x (omega (arith, early.0, are.as_many)) (are.each i x early.1)
         | inr last ↦ rw (← (last.1)) (own_field-last c before more i o (last.0 ∙ are.as_many) refl (omega (arith, are.words, are.as_many)) few)
       ]);
-      words = rw grown (omega (arith, are.words, words, length_push own.fields o, sum_by-append (λ (x : InstanceField). x.words) before (more ∷ []), sum_by-cons (λ (x : InstanceField). x.words) more []));
+      words = rw grown (omega (
+        arith,
+        are.words,
+        words,
+        length_push own.fields o,
+        sum_by-append (λ (x : InstanceField). x.words) before (more ∷ []),
+        sum_by-cons (λ (x : InstanceField). x.words) more [],
+      ));
       rank_count = rank_count-push front f own.ranks (length own.fields) are.rank_count;
       ranks = ranks-push c front f own are;
     }

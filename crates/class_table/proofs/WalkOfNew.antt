@@ -121,7 +121,8 @@ module _ (entries : List Entry) (table : IsTable entries) (r : ClassRecord) (abo
       let below : p.0 < length entries = parent_below p is in
       flat_map-one (field_walk classes) (parents_of classes new) p only
       ∙ append-nil (field_walk classes p)
-      ∙ sym (field_walk-agree (length (records entries)) (records entries) classes table.ordered (agree-push (records entries) r) p (rw (length-records entries) below))
+      ∙ sym (field_walk-agree (length (records entries)) (records entries) classes table.ordered (agree-push (records entries) r) p
+      (rw (length-records entries) below))
 
   pub walk-new : (own_keys keys : List ℕ) (own : ℕ) (list : List ClassId)
       → own_keys ≡ with_all (length entries ∷ []) (flat_map (with_interfaces (records entries)) r.interfaces)

@@ -1,4 +1,5 @@
--- Lemmas on the lines and words of a `resolver.txt`, and on the indexes of the types.
+-- Lemmas on the lines and words of a `resolver.txt`, on the indexes of the types, and on imports.
+mod BroughtInTurn
 mod ClassOfANumber
 mod EntryOfAName
 mod LinesInTurn
@@ -7,4 +8,6 @@ mod NameIndexKept
 mod NamesInTheMap
 mod OffersInOrder
 mod PlacesInLists
+mod ReachedClassesNamed
+mod SystemClassesAlone
 mod WordsInTurn

@@ -3,6 +3,7 @@
 #![tactic(auto)]
 
 mod domain_names;
+mod imports;
 mod line;
 mod live_names;
 mod name_table;

@@ -1,11 +1,17 @@
-//! Texts of `resolver.txt` with what they say or the bad line, names, offers, and live domains.
+//! Texts of `resolver.txt` with what they say or the bad line, names, offers, imports, and a world.
+
+ghost use Rattle.std.specs.Prelude.{◌≡◌, Some};
+ghost use Rattle.jk_model.specs.declared.identifiers.ClassId.{ClassId as AClassId};
+ghost use Rattle.jk_model_classes.specs.declared.records.ClassRecord.{ClassRecord as ARecord};
+ghost use Rattle.jk_model_classes.specs.Classes.{record_of};
+ghost use Rattle.jk_model_classes.specs.SystemRecords.{AreSystemRecords};
+ghost use Rattle.jk_model_classes.specs.Worlds.{NamesClasses};
 
 use super::*;
-use crate::live_names::{LiveNames, find, put, take_out};
-use jk_model::{Bytes, ClassId};
+use class_table::ClassTable;
+use jk_model::{Bytes, ClassId, DomainId, OutOfMemory};
 use shared_values::Text;
 use std::alloc::Global;
-use std::collections::BTreeMap;
 use std::process::Abort;
 use std::test::Fail;
 
@@ -173,17 +179,74 @@ fn offers(rt: HostRuntime) -> Result<(), Fail> {
     Ok(())
 }
 
+/// System classes refer to no class. It does nothing.
+fn refer_to_none(_classes: &ClassTable)
+    requires { AreSystemRecords _classes.now }
+    ensures { (c : AClassId) (r : ARecord) → record_of _classes.now c ≡ Some r → NamesClasses _classes.now r }
+{}
+
 #[test]
-fn live_names(rt: HostRuntime) -> Result<(), Fail> {
-    let mut live: LiveNames = BTreeMap::new(rt.alloc());
-    put(&mut live, rt.alloc(), b"a", 0)?;
-    put(&mut live, rt.alloc(), b"ab", 1)?;
-    put(&mut live, rt.alloc(), b"b", 2)?;
-    take_out(&mut live, b"ab");
-    assert_eq!(rt; find(&live, b"a"), Some(0));
-    assert_eq!(rt; find(&live, b"ab"), None);
-    assert_eq!(rt; find(&live, b"b"), Some(2));
-    put(&mut live, rt.alloc(), b"ab", 3)?;
-    assert_eq!(rt; find(&live, b"ab"), Some(3));
+fn imports(rt: HostRuntime) -> Result<(), Fail> {
+    let classes = ClassTable::new(rt.alloc())?;
+    assert!(rt; classes.len() > 0);
+    refer_to_none(&classes);
+    let object = ClassId(0);
+    let name = [
+        106, 97, 118, 97, 47, 108, 97, 110, 103, 47, 79, 98, 106, 101, 99, 116,
+    ];
+    let mut table = NameTable::new(rt.alloc());
+    assert!(rt; table.import(&classes, object)?);
+    assert!(rt; table.import(&classes, object)?);
+    assert_eq!(rt; table.len(), 1);
+    assert_eq!(rt; table.resolve(&name), Some(object));
+    let mut taken = NameTable::new(rt.alloc());
+    assert!(rt; taken.give(&Text::new(rt.alloc(), &name)?, ClassId(5))?);
+    assert!(rt; !taken.import(&classes, object)?);
+    Ok(())
+}
+
+/// Adds a domain without names or offers.
+fn add(
+    rt: &impl Abort,
+    alloc: Global,
+    world: &mut World,
+    name: &[u8],
+) -> Result<DomainId, OutOfMemory> {
+    assert!(rt; world.domain_count() < 1000);
+    if let Some(_) = world.live_named(name) {
+        panic!(rt; "the name is taken");
+    }
+    let name = Bytes::from_slice(alloc, name)?;
+    world.add_domain(name, NameTable::new(alloc), Offers::new(alloc))
+}
+
+/// Ends a domain that is there.
+fn end(rt: &impl Abort, world: &mut World, d: DomainId) {
+    assert!(rt; (d.0 as usize) < world.domain_count());
+    world.end_domain(d);
+}
+
+#[test]
+fn three_domains(rt: HostRuntime) -> Result<(), Fail> {
+    let mut world = World::new(rt.alloc())?;
+    assert!(rt; world.classes().len() > 0);
+    for (name, number) in [(b"a", 0), (b"b", 1), (b"c", 2)] {
+        let d = add(&rt, rt.alloc(), &mut world, name)?;
+        assert_eq!(rt; d, DomainId(number));
+    }
+    end(&rt, &mut world, DomainId(1));
+    assert_eq!(rt; world.live_named(b"a"), Some(DomainId(0)));
+    assert_eq!(rt; world.live_named(b"b"), None);
+    assert_eq!(rt; world.live_named(b"c"), Some(DomainId(2)));
+    let ended = world.domain(DomainId(1)).ok_or("no domain")?;
+    assert!(rt; !ended.is_live());
+    assert_eq!(rt; ended.name().as_slice(), b"b".as_slice());
+    assert_eq!(rt; ended.table().len(), 0);
+    assert_eq!(rt; ended.offers().as_slice().len(), 0);
+    let again = add(&rt, rt.alloc(), &mut world, b"b")?;
+    end(&rt, &mut world, DomainId(1));
+    assert_eq!(rt; world.live_named(b"b"), Some(again));
+    assert_eq!(rt; world.domain_count(), 4);
+    assert!(rt; world.domain(DomainId(4)).is_none());
     Ok(())
 }

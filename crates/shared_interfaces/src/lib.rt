@@ -2,12 +2,19 @@
 //! folder that is loaded. Nothing here takes memory. `docs/RULES.md` states the rules.
 #![tactic(auto)]
 
+mod class_rule;
+mod earliest;
+mod flags;
+pub mod laws;
 mod path_order;
+mod references;
 mod remote;
+mod remote_numbers;
 mod share;
 #[cfg(test)]
 mod tests;
 
 pub use jk_model_classes::ClassFault;
+pub use path_order::is_path_before;
 pub use remote::remote_fault;
 pub use share::share_fault;

@@ -21,7 +21,8 @@ overflow_add-rank c =
     let held = held-within c.args.entries.now c.requires.table c.args.c c.args.i c.holder.result c.holder.ensures e c.entry_of-entry.ensures in
     let few = few_own-at c.args.entries.now c.holder.result e c.entry_of-entry.ensures c.requires.table in
     let own = get_or e.own.fields rank none in
-    let is = (entry-at c.args.entries.now c.holder.result e c.entry_of-entry.ensures c.requires.table).own.each rank own (slice_get-get_or e.own.fields rank none held) in
+    let right = entry-at c.args.entries.now c.holder.result e c.entry_of-entry.ensures c.requires.table in
+    let is = right.own.each rank own (slice_get-get_or e.own.fields rank none held) in
     let read : c.from.result ≡ own.longs = c.from.ensures ∙ ap (λ fields. (get_or fields rank none).longs) c.as_slice.ensures in
     record { fits = omega (arith, held, few, read, is.few) }
 

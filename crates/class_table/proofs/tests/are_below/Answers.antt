@@ -1,5 +1,5 @@
 -- One class more is below.
-use Rattle.std.proofs.Common.{◌≡◌, length, take, get_or, arith}
+use Rattle.std.proofs.Common.{take, get_or, arith}
 use Rattle.std.proofs.lemmas.List.{take_more, take_all}
 use Rattle.jk_model.proofs.EachItem.{all_push}
 use Rattle.jk_model.specs.declared.identifiers.ClassId.{ClassId}

@@ -41,5 +41,7 @@ pub returns-clause-place : goal.returns-clause-place
 returns-clause-place c =
     let classes = records c.args.entries.now in
     let only = parents-at c.args.entries.now c.args.at c.entry_of-entry.result.now c.entry_of-entry.ensures c.in-Some.parent c.in-Some.is in
-    let same = flat_map-one (instance_fields classes) (parents_of classes c.args.at) c.in-Some.parent only ∙ append-nil (instance_fields classes c.in-Some.parent) in
+    let same =
+    flat_map-one (instance_fields classes) (parents_of classes c.args.at) c.in-Some.parent only
+    ∙ append-nil (instance_fields classes c.in-Some.parent) in
     omega (arith, c.requires.place, ap length same)

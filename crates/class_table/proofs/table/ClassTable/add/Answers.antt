@@ -16,7 +16,9 @@ invariant_of-self-2 c =
     let many : length c.args.self.now ≡ length entries = ap length (sym c.self.view_is) ∙ length-records entries in
     let above : StandsAbove (length entries) e.class = rw (same, ← many) c.requires.above in
     let few : length entries + 1 < 2 ^ 32 = omega (arith, many, c.requires.few) in
-    let by_slice = subst (λ (xs : List Entry). IsEntry (records xs ++ c.args.c ∷ []) (record { 0 = length xs }) e) c.as_slice.ensures.value c.in_ok-entry.ensures.right in
+    let by_slice =
+    subst (λ (xs : List Entry). IsEntry (records xs ++ c.args.c ∷ []) (record { 0 = length xs }) e) c.as_slice.ensures.value
+    c.in_ok-entry.ensures.right in
     let right : IsEntry (records entries ++ e.class ∷ []) (record { 0 = length entries }) e
     = subst (λ (r : ClassRecord). IsEntry (records entries ++ r ∷ []) (record { 0 = length entries }) e) (sym same) by_slice in
     rw (c.in_ok-push.ensures.items) (table-push entries e c.self.invariant above few right)
