@@ -1,5 +1,5 @@
 -- The methods of the classes of a folder are counted class by class.
-use Rattle.std.proofs.Common.{◌≡◌, ℕ, ◌+◌, ◌-◌, ◌<◌, ◌≤◌, List, length, Some, ◌∙◌, ap, get_or, sum_by, take, drop, take_all, arith, length-drop, get_or-drop}
+use Rattle.std.proofs.Common.{◌≡◌, ℕ, ◌+◌, ◌-◌, ◌<◌, ◌≤◌, List, length, Some, sym, ◌∙◌, ap, get_or, sum_by, take, drop, take_all, arith, length-drop, get_or-drop}
 use Rattle.std.proofs.lemmas.List.Sums.{sum_by_more, sum_by_more_le}
 use Rattle.std.proofs.lemmas.Option.{slice_get_within, get_or_from_slice_get}
 use Rattle.jk_model.specs.declared.identifiers.ClassId.{ClassId}
@@ -51,3 +51,11 @@ unfolding count
 none_counted classes first =
     let none : first.0 - first.0 ≡ 0 = omega arith in
     ap (λ (n : ℕ). sum_by count (take n (drop first.0 classes))) none
+
+-- from the last class on all are counted
+pub all_counted : (classes : List ClassRecord) (first : ClassId) (n : ℕ) → length classes ≤ n → methods_before classes first n ≡ folder_methods classes first
+all_counted classes first n all =
+    let rest : List ClassRecord = drop first.0 classes in
+    let long : length rest ≡ length classes - first.0 = length-drop first.0 classes in
+    ap (sum_by (λ (r : ClassRecord). length r.methods))
+    (take_all (n - first.0) rest (omega (arith, long)) ∙ sym (take_all (length classes - first.0) rest (omega (arith, long))))

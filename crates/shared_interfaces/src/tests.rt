@@ -104,12 +104,10 @@ fn method(alloc: Global, name: &[u8]) -> Result<MethodRecord, OutOfMemory> {
 fn are_below(n: usize, classes: &[ClassId]) -> bool
     ensures { IsTrue result → AllByRecursion (IsBelow n) classes.now }
 {
-    for c in classes {
-        if c.0 as usize >= n {
-            return false;
-        }
+    match classes.split_first() {
+        Some((c, rest)) => (c.0 as usize) < n && are_below(n, rest),
+        None => true,
     }
-    true
 }
 
 /// Puts a class after the others, where it may stand there.
@@ -125,14 +123,17 @@ fn add(w: &mut World, class: ClassRecord) -> Result<(), OutOfMemory> {
     Ok(())
 }
 
-/// Offers of classes to domains, or to all where the name is empty.
-fn offers(alloc: Global, rows: &[(ClassId, &[u8])]) -> Result<Offers, OutOfMemory> {
+/// The offer of a class to all domains.
+const ALL: u8 = 0;
+
+/// Offers of classes, each to the domain of a letter or to all.
+fn offers(alloc: Global, rows: &[(ClassId, u8)]) -> Result<Offers, OutOfMemory> {
     let mut offers = Vec::new(alloc);
-    for (class, name) in rows {
-        let to = if name.is_empty() {
+    for (class, letter) in rows {
+        let to = if *letter == ALL {
             None
         } else {
-            Some(Bytes::from_slice(alloc, name)?)
+            Some(Bytes::from_slice(alloc, &[*letter])?)
         };
         offers.push(Offer { class: *class, to })?;
     }
@@ -188,8 +189,7 @@ fn first_with_static(
         }
         add(&mut w, given)?;
         if *is_shared {
-            let all: &[u8] = b"";
-            shared.push((ClassId(number), all))?;
+            shared.push((ClassId(number), ALL))?;
         }
     }
     let offers = offers(alloc, shared.as_slice())?;
@@ -236,65 +236,70 @@ fn static_fields(rt: HostRuntime) -> Result<(), Fail> {
 
 // ---- C26.
 
-/// Offers of classes to domains, or to all.
-type Given<'g> = &'g [(ClassId, &'g [u8])];
-
-/// A class of the domain `home`, which lives or is dead, and then two of the folder, of which the first refers to all of them.
+/// A class of another domain, which lives or is dead, and then two of the folder, of which the first refers to all of them.
 fn first_exposing(
     alloc: Global,
-    of_home: Given,
+    of_home: &[(ClassId, u8)],
     lives: bool,
-    of_folder: Given,
+    of_folder: &[(ClassId, u8)],
 ) -> Result<Option<(ClassId, ClassFault)>, OutOfMemory> {
     let mut w = World::new(alloc)?;
     let name = Bytes::from_slice(alloc, b"home")?;
+    let given = offers(alloc, of_home)?;
     if w.live_named(name.as_slice()).is_none() && w.domain_count() < 1000 {
-        let domain = w.add_domain(name, NameTable::new(alloc), offers(alloc, of_home)?)?;
+        let domain = w.add_domain(name, NameTable::new(alloc), given)?;
         if !lives && (domain.0 as usize) < w.domain_count() {
             w.end_domain(domain);
         }
     }
     add(&mut w, class(alloc, 0, b"there", 1, &[])?)?;
-    let mut given = class(alloc, 1, b"given", 1, &[])?;
-    given
+    let mut class_of_folder = class(alloc, 1, b"given", 1, &[])?;
+    class_of_folder
         .references
         .extend_from_slice(&[OBJECT, FIRST, SECOND, THIRD])?;
-    add(&mut w, given)?;
+    add(&mut w, class_of_folder)?;
     add(&mut w, class(alloc, 1, b"other", 1, &[])?)?;
-    let offers = offers(alloc, of_folder)?;
-    Ok(share_fault(&w, DomainId(1), SECOND, &offers))
+    let shared = offers(alloc, of_folder)?;
+    Ok(share_fault(&w, DomainId(1), SECOND, &shared))
 }
 
 #[test]
 fn exposed_references(rt: HostRuntime) -> Result<(), Fail> {
-    let to_all: &[u8] = b"";
-    let all: Given = &[(FIRST, to_all)];
-    let cases: [(Given, bool, Given, bool); 11] = [
-        (all, true, &[], false),
-        (all, true, &[(THIRD, to_all)], false),
-        (all, true, &[(SECOND, to_all), (THIRD, to_all)], false),
-        (all, true, &[(SECOND, to_all)], true),
-        (all, true, &[(SECOND, to_all), (THIRD, b"a")], true),
-        (all, true, &[(SECOND, b"a"), (THIRD, to_all)], false),
-        (all, true, &[(SECOND, b"a"), (THIRD, b"b")], true),
+    let shared = [(FIRST, ALL)];
+    let cases: [(&[(ClassId, u8)], bool); 8] = [
+        (&[], false),
+        (&[(THIRD, ALL)], false),
+        (&[(SECOND, ALL), (THIRD, ALL)], false),
+        (&[(SECOND, ALL)], true),
+        (&[(SECOND, ALL), (THIRD, b'a')], true),
+        (&[(SECOND, b'a'), (THIRD, ALL)], false),
+        (&[(SECOND, b'a'), (THIRD, b'b')], true),
         (
-            all,
-            true,
-            &[(SECOND, b"a"), (SECOND, b"b"), (THIRD, b"b"), (THIRD, b"a")],
+            &[(SECOND, b'a'), (SECOND, b'b'), (THIRD, b'b'), (THIRD, b'a')],
             false,
         ),
-        (
-            &[(FIRST, b"folder")],
-            true,
-            &[(SECOND, to_all), (THIRD, to_all)],
-            true,
-        ),
-        (all, false, &[(SECOND, to_all), (THIRD, to_all)], false),
-        (&[], false, &[(SECOND, to_all), (THIRD, to_all)], true),
     ];
-    for (of_home, lives, of_folder, is_broken) in cases {
+    for (of_folder, is_broken) in cases {
         let found = if is_broken { Some((SECOND, 0)) } else { None };
-        let answer = first_exposing(rt.alloc(), of_home, lives, of_folder)?;
+        let answer = first_exposing(rt.alloc(), &shared, true, of_folder)?;
+        assert_eq!(rt; answer, breach(Rule::C26, found));
+    }
+    Ok(())
+}
+
+#[test]
+fn exposed_imports(rt: HostRuntime) -> Result<(), Fail> {
+    let cases: [(&[(ClassId, u8)], bool, bool); 4] = [
+        // to the domain of the folder alone
+        (&[(FIRST, b'f')], true, true),
+        (&[(FIRST, b'f'), (FIRST, ALL)], true, false),
+        // a home that is dead
+        (&[(FIRST, ALL)], false, false),
+        (&[], false, true),
+    ];
+    for (of_home, lives, is_broken) in cases {
+        let found = if is_broken { Some((SECOND, 0)) } else { None };
+        let answer = first_exposing(rt.alloc(), of_home, lives, &[(SECOND, ALL), (THIRD, ALL)])?;
         assert_eq!(rt; answer, breach(Rule::C26, found));
     }
     Ok(())
@@ -302,14 +307,12 @@ fn exposed_references(rt: HostRuntime) -> Result<(), Fail> {
 
 // ---- C27.
 
-/// A class: its name, its flags, the interfaces that it lists, how many fields it has, and its methods with what they declare.
-type Shape<'g> = (
-    &'g [u8],
-    u16,
-    &'g [ClassId],
-    u8,
-    &'g [(&'g [u8], &'g [ClassId])],
-);
+/// The name of a method that is `<clinit>`.
+const CLINIT: u8 = 0;
+
+/// A class: its name of one letter, its flags, the interfaces that it lists, how many fields it has, and its methods, each with its
+/// name and what it declares beside java/lang/Error.
+type Shape<'g> = (u8, u16, &'g [ClassId], u8, &'g [(u8, ClassId)]);
 
 /// How many methods the classes of a folder have.
 fn folder_methods(classes: &ClassTable, first: ClassId) -> usize
@@ -332,14 +335,19 @@ fn first_misshapen(
 ) -> Result<Option<(ClassId, ClassFault)>, OutOfMemory> {
     let mut w = World::new(alloc)?;
     let mut declared = Vec::new(alloc);
-    for (name, flags, interfaces, fields, methods) in classes {
-        let mut given = class(alloc, 0, name, *flags, interfaces)?;
+    for (letter, flags, interfaces, fields, methods) in classes {
+        let mut given = class(alloc, 0, &[*letter], *flags, interfaces)?;
         for _ in 0..*fields {
             given.fields.push(field(alloc, STATIC)?)?;
         }
-        for (name, thrown) in *methods {
-            given.methods.push(method(alloc, name)?)?;
-            declared.push(List::from_slice(alloc, thrown)?)?;
+        for (letter, thrown) in *methods {
+            let own = if *letter == CLINIT {
+                method(alloc, b"<clinit>")?
+            } else {
+                method(alloc, &[*letter])?
+            };
+            given.methods.push(own)?;
+            declared.push(List::from_slice(alloc, &[ERROR, *thrown])?)?;
         }
         add(&mut w, given)?;
     }
@@ -351,67 +359,97 @@ fn first_misshapen(
 
 #[test]
 fn remote_interfaces(rt: HostRuntime) -> Result<(), Fail> {
-    let loud: &[ClassId] = &[ERROR, REMOTE_EXCEPTION];
-    let silent: &[ClassId] = &[ERROR];
-    let remote: &[ClassId] = &[REMOTE];
-    let a: &[u8] = b"a";
     let cases: [(&[Shape], Option<(ClassId, u32)>); 9] = [
         (
-            &[(a, INTERFACE, remote, 0, &[(b"m", loud), (b"n", loud)])],
-            None,
-        ),
-        (
             &[(
-                a,
+                b'a',
                 INTERFACE,
-                remote,
+                &[REMOTE],
                 0,
-                &[(b"m", &[EXCEPTION]), (b"n", &[THROWABLE])],
+                &[(b'm', REMOTE_EXCEPTION), (b'n', REMOTE_EXCEPTION)],
             )],
             None,
         ),
         (
             &[(
-                a,
+                b'a',
                 INTERFACE,
-                remote,
+                &[REMOTE],
+                0,
+                &[(b'm', EXCEPTION), (b'n', THROWABLE)],
+            )],
+            None,
+        ),
+        (
+            &[(
+                b'a',
+                INTERFACE,
+                &[REMOTE],
                 3,
-                &[(b"m", loud), (b"n", silent), (b"o", &[])],
+                &[(b'm', REMOTE_EXCEPTION), (b'n', ERROR), (b'o', ERROR)],
             )],
             Some((FIRST, 5)),
         ),
         (
-            &[(a, INTERFACE, remote, 1, &[(b"<clinit>", &[]), (b"n", &[])])],
+            &[(
+                b'a',
+                INTERFACE,
+                &[REMOTE],
+                1,
+                &[(CLINIT, ERROR), (b'n', ERROR)],
+            )],
             Some((FIRST, 3)),
         ),
         (
-            &[(a, INTERFACE, &[REMOTE, SERIALIZABLE], 0, &[(b"m", silent)])],
+            &[(
+                b'a',
+                INTERFACE,
+                &[REMOTE, SERIALIZABLE],
+                0,
+                &[(b'm', ERROR)],
+            )],
             Some((FIRST, 0)),
         ),
-        (&[(a, 1, remote, 0, &[(b"m", silent)])], None),
+        (&[(b'a', 1, &[REMOTE], 0, &[(b'm', ERROR)])], None),
         (
-            &[(a, INTERFACE, &[SERIALIZABLE], 0, &[(b"m", silent)])],
+            &[(b'a', INTERFACE, &[SERIALIZABLE], 0, &[(b'm', ERROR)])],
             None,
         ),
         (
             &[
-                (b"c", 1, &[], 0, &[(b"m", silent), (b"n", silent)]),
-                (b"b", INTERFACE, remote, 0, &[(b"m", loud), (b"n", silent)]),
-                (a, INTERFACE, &[SECOND], 2, &[(b"m", silent)]),
+                (b'c', 1, &[], 0, &[(b'm', ERROR), (b'n', ERROR)]),
+                (
+                    b'b',
+                    INTERFACE,
+                    &[REMOTE],
+                    0,
+                    &[(b'm', REMOTE_EXCEPTION), (b'n', ERROR)],
+                ),
+                (b'a', INTERFACE, &[SECOND], 2, &[(b'm', ERROR)]),
             ],
             Some((THIRD, 3)),
         ),
         (
             &[
-                (b"c", INTERFACE, remote, 0, &[(b"m", loud)]),
+                (b'c', INTERFACE, &[REMOTE], 0, &[(b'm', REMOTE_EXCEPTION)]),
                 (
-                    b"b",
+                    b'b',
                     INTERFACE,
                     &[FIRST],
                     0,
-                    &[(b"m", loud), (b"n", loud), (b"o", silent)],
+                    &[
+                        (b'm', REMOTE_EXCEPTION),
+                        (b'n', REMOTE_EXCEPTION),
+                        (b'o', ERROR),
+                    ],
                 ),
-                (a, INTERFACE, &[SECOND, FIRST, REMOTE], 2, &[(b"m", loud)]),
+                (
+                    b'a',
+                    INTERFACE,
+                    &[SECOND, FIRST, REMOTE],
+                    2,
+                    &[(b'm', REMOTE_EXCEPTION)],
+                ),
             ],
             Some((SECOND, 3)),
         ),
