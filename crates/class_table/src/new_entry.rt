@@ -13,8 +13,8 @@ use jk_model_classes::ClassRecord;
 use member_index::{FieldIndex, MethodIndex};
 use std::alloc::Global;
 
-/// The entry of a class. It takes time in proportion to the class's members (n log n for n of them) and to the walks of the
-/// interfaces that it lists.
+/// The entry of a class. It takes time in proportion to the class's members (n log n for n of them) and to the walks of its
+/// parent and of the interfaces that it lists.
 pub(crate) fn new_entry(
     alloc: Global,
     entries: &[Entry],

@@ -84,8 +84,8 @@ impl ClassTable {
     }
 
     /// Puts a class after all others, and answers its number. It takes time in proportion to the record's members
-    /// (n log n) and to the walks of the interfaces that it lists, and memory as said at the type. After an error all
-    /// is as before.
+    /// (n log n) and to the walks of its parent and of the interfaces that it lists, and memory as said at the type.
+    /// After an error all is as before.
     pub fn add(&mut self, c: ClassRecord) -> Result<ClassId, OutOfMemory>
         requires above { StandsAbove (length self.old) c }
         requires few { length self.old < 2 ^ 32 - 1 }

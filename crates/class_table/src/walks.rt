@@ -15,8 +15,8 @@ use jk_model::{ClassId, List, OutOfMemory};
 use jk_model_classes::ClassRecord;
 use std::alloc::Global;
 
-/// The walk of a class that is put after the others. It takes time in proportion to the interfaces that the class lists and
-/// to the walks of those that aren't there through others.
+/// The walk of a class that is put after the others. It takes time in proportion to the interfaces that the class lists, to
+/// the walks of those that aren't there through others, and to the walk of the parent.
 pub(crate) fn walk_of_new(
     alloc: Global,
     entries: &[Entry],

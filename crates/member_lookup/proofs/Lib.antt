@@ -1,4 +1,4 @@
--- What is known of walks over classes, of records of members, and of packages.
+-- What is known of walks over classes, of records of methods, and of packages.
 pub mod FirstOnWalk
 pub mod OneRecord
 mod OnePackage

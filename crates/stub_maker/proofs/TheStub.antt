@@ -1,12 +1,11 @@
 -- The interfaces of a class's walk that implement jk/Remote, in the order of their numbers, make its stub.
-use Rattle.std.proofs.Common.{◌≡◌, ℕ, List, [], ◌∷◌, Some, None, refl, sym, ap, subst, ◌∙◌, arith, add-one, flat_map}
+use Rattle.std.proofs.Common.{◌≡◌, ℕ, List, refl, sym, ap, subst, ◌∙◌}
 use Rattle.std.proofs.lemmas.List.Sorted.{Contains-permutation, IsPermutation-sym}
-use Rattle.std.proofs.lemmas.Option.{same_Some, slice_get_past}
+use Rattle.std.proofs.lemmas.Option.{same_Some}
 use Rattle.class_table.proofs.FirstsByInsertion.{Contains-firsts, Contains-firsts_from}
-use Rattle.class_table.proofs.ItemsOfLists.{only_in}
 use Rattle.jk_model.specs.declared.identifiers.ClassId.{ClassId}
 use Rattle.jk_model_classes.specs.declared.records.ClassRecord.{ClassRecord}
-use Rattle.jk_model_classes.specs.Classes.{HasClass, Implements, firsts, field_walk, record_of, parents_of, listed_interfaces, superclasses, superclasses_within, own_interfaces}
+use Rattle.jk_model_classes.specs.Classes.{Implements, firsts, field_walk}
 use Rattle.jk_model_classes.specs.Stubs.{ImplementsRemote, IsRemote, IsStub}
 use Rattle.stub_maker.specs.Kept.{IsInOrder, IsShown}
 use Rattle.stub_maker.proofs.EachOnce.{once-moved, once-firsts, numbers-rise}
@@ -39,32 +38,3 @@ module _ (classes : List ClassRecord) (remote : ClassId) (is : IsRemote remote) 
             (once-moved h.kept list h.moved (kept-once shows walk h.kept h.of_classes (once-firsts (field_walk classes c))))
             h.in_order;
       }
-
--- ---- A class that isn't there implements nothing.
-
-module _ (classes : List ClassRecord) (c : ClassId) (absent : record_of classes c ≡ None) where
-  no_parents : parents_of classes c ≡ []
-  no_parents = rw absent refl
-
-  no_interfaces : listed_interfaces classes c ≡ []
-  no_interfaces = rw absent refl
-
-  alone : superclasses classes c ≡ c ∷ []
-  alone =
-      ap (λ h. superclasses_within h classes c) (add-one c.0)
-      ∙ ap (λ parents. c ∷ flat_map (superclasses_within c.0 classes) parents) no_parents
-
-  nothing_listed : own_interfaces classes c ≡ []
-  nothing_listed = rw no_interfaces refl
-
-  walk_of_one : field_walk classes c ≡ c ∷ []
-  walk_of_one = rw (alone, nothing_listed) refl
-
-  implements_nothing : (i : ClassId) → Implements classes c i → ⊥
-  implements_nothing i ((r, at, flag), there) =
-      let same : c ≡ i = only_in i c (field_walk classes c) walk_of_one there in
-      let present : record_of classes c ≡ Some r = ap (record_of classes) same ∙ at in
-      cc
-
-pub absent-implements : (classes : List ClassRecord) (c : ClassId) → (HasClass classes c → ⊥) → ImplementsRemote classes c → ⊥
-absent-implements classes c absent (remote, is, h) = implements_nothing classes c (slice_get_past classes c.0 (omega arith)) remote h
