@@ -1,6 +1,6 @@
 //! The stub of a class.
 
-ghost use Rattle.std.specs.Prelude.{◌≡◌, ◌↔◌, IfNone, IfOk, IfSome, IsTrue};
+ghost use Rattle.std.specs.Prelude.{◌≡◌, ◌↔◌, IfNone, IfOk, IfSome, IsTrue, OnErr};
 ghost use Rattle.jk_model_classes.specs.Stubs.{ImplementsRemote, IsRemote, IsStub};
 ghost use Rattle.stub_maker.specs.Kept.{IsInOrder, IsKept, IsShown};
 
@@ -15,10 +15,12 @@ use std::alloc::Global;
 /// implement jk/Remote, or there is no such class.
 ///
 /// It asks each class and interface above the class whether it implements jk/Remote, and puts the n that do in order, in time
-/// in proportion to n log n. The stub takes 4 bytes for each of its interfaces, and the work as much again.
+/// in proportion to n log n. The stub takes 4 bytes for each of its interfaces, and the work as much again. A class
+/// without a stub takes no memory.
 pub fn stub_of(alloc: Global, t: &ClassTable, c: ClassId) -> Result<Option<Stub>, OutOfMemory>
     ensures some { IfOk result (λ o. IfSome o (λ stub. IsStub t.now c stub)) }
     ensures none { IfOk result (λ o. IfNone o (ImplementsRemote t.now c → ⊥)) }
+    ensures err { OnErr result (ImplementsRemote t.now c) }
 {
     match (remote(), t.walk(c)) {
         (Some(remote), Some(walk)) if t.implements(c, remote) => {
