@@ -1,8 +1,8 @@
 //! Classes put into a world.
 
-ghost use Rattle.std.specs.Prelude.{◌↔◌, IsTrue};
+ghost use Rattle.std.specs.Prelude.{◌↔◌, IfSome, IsTrue};
 ghost use Rattle.std.specs.List.{AllByRecursion};
-ghost use Rattle.jk_model_classes.specs.Classes.{IsBelow, StandsAbove};
+ghost use Rattle.jk_model_classes.specs.Classes.{HasClass, IsBelow, StandsAbove};
 
 use domain_resolver::World;
 use jk_model::ClassId;
@@ -27,7 +27,9 @@ fn stands_above(count: usize, class: &ClassRecord) -> bool
 }
 
 /// Puts a class after all others, where it may stand there.
-pub fn put(world: &mut World, class: ClassRecord) -> Option<ClassId> {
+pub fn put(world: &mut World, class: ClassRecord) -> Option<ClassId>
+    ensures { IfSome result (HasClass world.new.classes) }
+{
     let count = world.classes().len();
     if count >= u32::MAX as usize || !stands_above(count, &class) {
         return None;
