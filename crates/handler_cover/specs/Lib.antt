@@ -1,0 +1,3 @@
+-- What a tree of entries says.
+pub mod Building
+pub mod Covering
