@@ -1,0 +1,20 @@
+//! What one instruction asks of the frame before it, and which frame it leaves.
+#![tactic(auto)]
+
+mod code_view;
+mod demands;
+mod entries;
+mod fresh;
+mod groups;
+mod instructions;
+mod locals;
+mod operands;
+mod rows;
+mod shapes;
+mod stacks;
+mod starts;
+
+pub use code_view::CodeView;
+pub use groups::{is_store, leaves_line};
+pub use rows::step;
+pub use starts::{caught_value, start_frame};

@@ -1,0 +1,22 @@
+-- What is known of leaders, of frames that rise, of what is handed to handlers, of walks and of the typing that comes of them.
+mod BelowTypings
+mod BothOfResults
+mod EntriesAtNodes
+mod FramesInOrder
+mod FramesRise
+mod HandlersHaveFrames
+mod LeadersMarked
+mod LinesStand
+mod MarksKept
+mod MovesCompose
+mod NodesByPlace
+mod NodesRise
+mod NodesUnseen
+mod OnePlaceMore
+mod OneScope
+mod SettledStays
+mod StartsOfTypings
+mod UnrolledIsTyping
+mod UnrolledSoFar
+mod WalksGoOn
+mod WayUp

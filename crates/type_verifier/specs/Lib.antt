@@ -1,0 +1,11 @@
+-- What the verifier keeps while it goes over a code, and what holds when it is done.
+pub mod Climbs
+pub mod Covers
+pub mod Leaders
+pub mod Marks
+pub mod Progress
+pub mod Rises
+pub mod Settling
+pub mod Tasks
+pub mod Unrolling
+pub mod Walking

@@ -1,0 +1,16 @@
+//! The verifier: whether a method's code has a typing, and the least one. It keeps the frames of leaders alone, the places at
+//! which control comes together; from each leader whose frame rose it goes over the instructions up to the next one.
+#![tactic(auto)]
+
+mod covers;
+mod handing;
+mod jumping;
+mod leading;
+mod progress;
+mod storing;
+mod tasks;
+mod unrolling;
+mod verifying;
+mod visiting;
+
+pub use verifying::verify;

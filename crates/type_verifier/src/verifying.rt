@@ -1,0 +1,140 @@
+//! The verifier.
+
+ghost use Rattle.std.specs.Prelude.{◌≡◌, ◌<◌, ◌^◌, IfNone, IfOk, IfSome, List, Option, None as NoFrame, [], length, replicate};
+ghost use Rattle.jk_model_classes.specs.Classes.{AreOrdered};
+ghost use Rattle.jk_model_typing.specs.declared.frames.FrameType.{FrameType as AFrame};
+ghost use Rattle.jk_model_typing.specs.FrameTypes.{IsFrameOf};
+ghost use Rattle.jk_model_typing.specs.Scopes.{CodeScope, IsScopeOf};
+ghost use Rattle.jk_model_typing.specs.Typing.{FitsAt, IsLeastTyping, IsStart, IsTyping};
+ghost use Rattle.type_rows.specs.CodeViews.{scope_of};
+ghost use Rattle.type_verifier.specs.Progress.{AreFrames};
+ghost use Rattle.type_verifier.specs.Settling.{AreSettled};
+ghost use Rattle.type_verifier.specs.Tasks.{HasNoTyping, IsTask, scope_in};
+
+use crate::handing::unseen;
+use crate::leading::leaders;
+use crate::progress::{Progress, raise_at};
+use crate::tasks::Task;
+use crate::unrolling::unroll;
+use crate::visiting::visit;
+use class_table::ClassTable;
+use handler_cover::CoverTree;
+use jk_model::{MemberId, OutOfMemory};
+use jk_model_typing::{FrameType, Typing};
+use std::alloc::Global;
+use std::collections::BTreeSet;
+use type_frames::FrameRef;
+use type_rows::{CodeView, start_frame};
+
+/// The least typing of a method's code; none exactly where it has no typing, and where there is no such method or it has no
+/// code.
+pub fn verify(
+    alloc: Global,
+    t: &ClassTable,
+    method: MemberId,
+) -> Result<Option<Typing>, OutOfMemory>
+    requires short { (s : CodeScope) → IsScopeOf t.now method s → length s.code.instrs < 2 ^ 32 }
+    ensures typing { IfOk result (λ o. IfSome o (λ y. IsLeastTyping t.now method y.frames)) }
+    ensures none { IfOk result (λ o. IfNone o ((frames : List (Option AFrame)) → IsTyping t.now method frames → ⊥)) }
+{
+    let Some(view) = CodeView::of(t, method) else {
+        return Ok(None);
+    };
+    let Some(start) = start_frame(alloc, &view)? else {
+        return Ok(None);
+    };
+    let task = task_of(alloc, method, view)?;
+    let Some(frames) = settled_frames(alloc, &task, &start)? else {
+        return Ok(None);
+    };
+    let typing = unroll(alloc, &task, frames.as_slice())?;
+    Ok(Some(typing))
+}
+
+/// What is known of a method before its code is gone over.
+fn task_of<'a>(alloc: Global, method: MemberId, view: CodeView<'a>) -> Result<Task<'a>, OutOfMemory>
+    requires scope { IsScopeOf view.table.now method (scope_of view) }
+    requires short { length view.code.now.instrs < 2 ^ 32 }
+    ensures task { IfOk result (λ task. IsTask task) }
+    ensures same { IfOk result (λ task. (task.view ≡ view.entry) × (task.method ≡ method)) }
+{
+    let leads = leaders(alloc, view.code)?;
+    let tree = CoverTree::new(alloc, view.code.instrs.len(), view.code.handlers.as_slice())?;
+    Ok(Task {
+        method,
+        view,
+        leads,
+        tree,
+    })
+}
+
+/// The frames of leaders, all of which are settled, and the start frame fits that of the first place; none where there is no
+/// typing. The place that is looked at is the least one whose frame rose.
+fn settled_frames(
+    alloc: Global,
+    task: &Task<'_>,
+    start: &FrameType,
+) -> Result<Option<Vec<Option<FrameType>>>, OutOfMemory>
+    requires task { IsTask task.now }
+    requires start { IsStart (scope_in task.now) start.now }
+    requires sized { IsFrameOf (scope_in task.now).code start.now }
+    ensures none { IfOk result (λ o. IfNone o (HasNoTyping task.now)) }
+    ensures frames { IfOk result (λ o. IfSome o (λ frames. AreFrames task.now frames.items)) }
+    ensures settled { IfOk result (λ o. IfSome o (λ frames. AreSettled (scope_in task.now) task.now.leads.items frames.items [])) }
+    ensures first { IfOk result (λ o. IfSome o (λ frames. FitsAt (scope_in task.now) frames.items 0 start.now)) }
+{
+    task.view.table.ordered();
+    let Some(mut progress) = begun(alloc, task, start)? else {
+        return Ok(None);
+    };
+    let mut nodes = unseen(alloc, task)?;
+    while let Some(place) = progress.work.pop_first() {
+        if !visit(&mut progress, &mut nodes, task, place)? {
+            return Ok(None);
+        }
+    }
+    Ok(Some(progress.frames))
+}
+
+/// No frames but that of the first place, which the start frame fits; none where it can't have a frame.
+fn begun(alloc: Global, task: &Task<'_>, start: &FrameType) -> Result<Option<Progress>, OutOfMemory>
+    requires task { IsTask task.now }
+    requires ordered { AreOrdered (scope_in task.now).classes }
+    requires start { IsStart (scope_in task.now) start.now }
+    requires sized { IsFrameOf (scope_in task.now).code start.now }
+    ensures none { IfOk result (λ o. IfNone o (HasNoTyping task.now)) }
+    ensures frames { IfOk result (λ o. IfSome o (λ p. AreFrames task.now p.frames.items)) }
+    ensures settled { IfOk result (λ o. IfSome o (λ p. AreSettled (scope_in task.now) task.now.leads.items p.frames.items p.work.keys)) }
+    ensures first { IfOk result (λ o. IfSome o (λ p. FitsAt (scope_in task.now) p.frames.items 0 start.now)) }
+{
+    let places = task.leads.len();
+    if places == 0 {
+        return Ok(None);
+    }
+    let mut progress = Progress {
+        alloc,
+        frames: no_frames(alloc, places)?,
+        work: BTreeSet::new(alloc),
+    };
+    let from = FrameRef {
+        locals: start.locals.as_slice(),
+        stack: start.stack.as_slice(),
+        fresh: start.fresh,
+    };
+    if raise_at(&mut progress, task, 0, from, 0, start.locals.len())? {
+        Ok(Some(progress))
+    } else {
+        Ok(None)
+    }
+}
+
+/// No frame at any place.
+fn no_frames(alloc: Global, places: usize) -> Result<Vec<Option<FrameType>>, OutOfMemory>
+    ensures { IfOk result (λ frames. frames.items ≡ replicate places NoFrame) }
+{
+    let mut frames = Vec::new(alloc);
+    for _place in 0..places {
+        frames.push(None)?;
+    }
+    Ok(frames)
+}
