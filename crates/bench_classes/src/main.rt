@@ -4,13 +4,18 @@
 
 mod above;
 mod adding;
+mod catches;
+mod codes;
 mod imports;
 mod layouts;
+mod lines;
+mod loops;
 mod members;
 mod names;
 mod records;
 mod shares;
 mod stubs;
+mod typing;
 mod worlds;
 
 use std::alloc::Global;
@@ -35,6 +40,22 @@ fn answer(alloc: Global, family: &str, size: u16, calls: bool) -> Option<usize> 
         "shares" => shares::judged(alloc, size, calls),
         "stubs" => stubs::stubs(alloc, size, calls),
         "targets" => stubs::targets(alloc, size, calls),
+        _ => typing_answer(alloc, family, size, calls),
+    }
+}
+
+/// The same of the families in which methods' codes are judged.
+fn typing_answer(alloc: Global, family: &str, size: u16, calls: bool) -> Option<usize> {
+    match family {
+        "straight" => lines::straight(alloc, size, calls),
+        "many-locals" => lines::many_locals(alloc, size, calls),
+        "goto-chain" => lines::goto_chain(alloc, size, calls),
+        "small-methods" => lines::small_methods(alloc, size, calls),
+        "handlers" => catches::handlers(alloc, size, calls),
+        "nested" => catches::nested(alloc, size, calls),
+        "rising" => loops::rising(alloc, size, calls),
+        "ring" => loops::ring(alloc, size, calls),
+        "far-joins" => loops::far_joins(alloc, size, calls),
         _ => None,
     }
 }

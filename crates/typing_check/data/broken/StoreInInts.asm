@@ -1,0 +1,9 @@
+# Broken: aastore into an array of int.
+class 0021 broken/StoreInInts java/lang/Object
+method 0009 wrong ([I)V 3 1
+        aload 0
+        sipush 0
+        aconst_null
+        aastore
+        return
+end

@@ -1,0 +1,75 @@
+# Broken: 64 instructions, 65,535 locals and two slots on the stack are more than C24 allows, as the third method. It comes before C23,
+# which the second method breaks.
+class 0021 broken/TooLarge java/lang/Object
+method 0009 right ()V 0 0
+        return
+end
+method 0009 wrong ()V 0 0
+        nop
+end
+method 0009 large ()V 2 65535
+        nop
+        nop
+        nop
+        nop
+        nop
+        nop
+        nop
+        nop
+        nop
+        nop
+        nop
+        nop
+        nop
+        nop
+        nop
+        nop
+        nop
+        nop
+        nop
+        nop
+        nop
+        nop
+        nop
+        nop
+        nop
+        nop
+        nop
+        nop
+        nop
+        nop
+        nop
+        nop
+        nop
+        nop
+        nop
+        nop
+        nop
+        nop
+        nop
+        nop
+        nop
+        nop
+        nop
+        nop
+        nop
+        nop
+        nop
+        nop
+        nop
+        nop
+        nop
+        nop
+        nop
+        nop
+        nop
+        nop
+        nop
+        nop
+        nop
+        nop
+        nop
+        nop
+        nop
+        return
+end

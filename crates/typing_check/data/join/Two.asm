@@ -1,0 +1,2 @@
+# Another interface.
+class 0601 join/Two java/lang/Object
