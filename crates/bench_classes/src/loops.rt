@@ -76,10 +76,9 @@ pub fn rising(alloc: Global, size: u16, calls: bool) -> Option<usize> {
     judged(alloc, &mut world, methods, calls)
 }
 
-/// A method whose locals all begin with an array of 255 dimensions. It goes on in a loop that stores each local into the one
-/// before it, and an element of the first into the last.
-fn method_of_ring(alloc: Global, size: u16) -> Result<MethodRecord, OutOfMemory> {
-    let mut code = CodeWriter::new(alloc, size, 3);
+/// Writes a code whose locals all begin with what the first one has. It goes on in a loop that stores each local into the one
+/// before it, and an element of the first into the last. Answers the place at which the loop begins.
+fn write_ring(code: &mut CodeWriter, size: u16) -> Result<u16, OutOfMemory> {
     for local in 1..size {
         code.move_local(0, local)?;
     }
@@ -91,13 +90,42 @@ fn method_of_ring(alloc: Global, size: u16) -> Result<MethodRecord, OutOfMemory>
     code.put_all(&[ICONST, AALOAD])?;
     code.put(ASTORE, size.saturating_sub(1))?;
     code.put(GOTO, top)?;
+    Ok(top)
+}
+
+/// The method with a code that takes an array of 255 dimensions.
+fn taking_array(alloc: Global, code: CodeWriter) -> Result<MethodRecord, OutOfMemory> {
     let params = List::from_slice(alloc, &[reference(255, OBJECT)])?;
     code.method(&taking(alloc, params)?, own_name(alloc)?)
+}
+
+/// A method with a ring of locals.
+fn method_of_ring(alloc: Global, size: u16) -> Result<MethodRecord, OutOfMemory> {
+    let mut code = CodeWriter::new(alloc, size, 3);
+    write_ring(&mut code, size)?;
+    taking_array(alloc, code)
 }
 
 /// It is judged. In the end a local is no array any more, and so there is no typing.
 pub fn ring(alloc: Global, size: u16, calls: bool) -> Option<usize> {
     judged_alone(alloc, method_of_ring(alloc, size), calls)
+}
+
+/// The same method with a switch after the loop that control never gets to. It has a case for each place of the loop, so each
+/// is a leader.
+fn method_of_leaders(alloc: Global, size: u16) -> Result<MethodRecord, OutOfMemory> {
+    let mut code = CodeWriter::new(alloc, size, 3);
+    let top = write_ring(&mut code, size)?;
+    let end = code.place();
+    code.put(ICONST, 0)?;
+    code.put_switch(top, end)?;
+    code.put(RETURN, 0)?;
+    taking_array(alloc, code)
+}
+
+/// It is judged, and has no typing either.
+pub fn ring_of_leaders(alloc: Global, size: u16, calls: bool) -> Option<usize> {
+    judged_alone(alloc, method_of_leaders(alloc, size), calls)
 }
 
 /// Parameters of the lowest class, after one of the highest.

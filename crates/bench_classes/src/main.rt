@@ -55,6 +55,7 @@ fn typing_answer(alloc: Global, family: &str, size: u16, calls: bool) -> Option<
         "nested" => catches::nested(alloc, size, calls),
         "rising" => loops::rising(alloc, size, calls),
         "ring" => loops::ring(alloc, size, calls),
+        "ring-of-leaders" => loops::ring_of_leaders(alloc, size, calls),
         "far-joins" => loops::far_joins(alloc, size, calls),
         _ => None,
     }

@@ -11,7 +11,7 @@ use Rattle.jk_model_typing.specs.declared.frames.FrameType.{FrameType}
 use Rattle.jk_model_typing.specs.Typing.{FitsAt, handler_frame, Covers as CoversPlace}
 use Rattle.handler_cover.specs.Covering.{node_over, entries_at}
 use Rattle.type_verifier.specs.declared.tasks.Task.{Task}
-use Rattle.type_verifier.specs.Progress.{Moves}
+use Rattle.type_verifier.specs.Progress.{Moves, Notes}
 use Rattle.type_verifier.specs.Tasks.{IsTask, scope_in}
 use Rattle.type_verifier.proofs.MovesCompose.{FitsAt-moves}
 
@@ -56,7 +56,7 @@ module _ (task : Task) (ordered : AreOrdered (scope_in task).classes) (xs : List
   AreHandedTo frames n = (k : ℕ) (h : Caught) → k < n → slice_get (scope_in task).code.handlers (get_or xs k 0) ≡ Some h
       → FitsAt (scope_in task) frames h.handler (handler_frame (scope_in task) h locals fresh)
 
-  pub AreHandedTo-more : (old : List (Option FrameType)) (old_work : List ℕ) (new : List (Option FrameType)) (new_work : List ℕ)
+  pub AreHandedTo-more : (old : List (Option FrameType)) (old_work : Notes) (new : List (Option FrameType)) (new_work : Notes)
       (n : ℕ) (h : Caught) → AreHandedTo old n → Moves (scope_in task) old old_work new new_work
       → slice_get (scope_in task).code.handlers (get_or xs n 0) ≡ Some h
       → FitsAt (scope_in task) new h.handler (handler_frame (scope_in task) h locals fresh) → AreHandedTo new (n + 1)

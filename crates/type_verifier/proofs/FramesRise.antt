@@ -13,18 +13,22 @@ use Rattle.jk_model_classes.specs.Classes.{AreOrdered}
 use Rattle.jk_model_typing.specs.declared.frames.FrameType.{FrameType}
 use Rattle.jk_model_typing.specs.FrameTypes.{FrameFits, IsFrameOf}
 use Rattle.jk_model_typing.specs.Typing.{FrameAt, FitsAt}
+use Rattle.type_frames.specs.FrameJoins.{FitOutside}
 use Rattle.type_frames.specs.Heights.{place_height}
 use Rattle.class_table.proofs.ItemsByPlace.{slice_get-set_same, slice_get-set_other, slice_get-set_cases}
 use Rattle.class_table.proofs.ItemsOfLists.{Contains-here, Contains-there, Contains-cases}
+use Rattle.type_verifier.specs.declared.ranges.LocalRange.{LocalRange}
 use Rattle.type_verifier.specs.declared.tasks.Task.{Task}
 use Rattle.type_verifier.specs.Leaders.{Leads}
-use Rattle.type_verifier.specs.Progress.{AreFrames, Moves}
+use Rattle.type_verifier.specs.Progress.{AreFrames, HasNoted, Moves, Notes}
+use Rattle.type_verifier.specs.Ranges.{IsNoteAt, IsWhole, IsWithin, RangeAt, RoseFrom}
 use Rattle.type_verifier.specs.Rises.{RisesTo, CannotRise}
 use Rattle.type_verifier.specs.Tasks.{IsTask, scope_in, TypesTask, HasNoTyping}
 use Rattle.type_frames.proofs.HeightsAreBounded.{frame_height-most}
-use Rattle.type_frames.proofs.OrderOfFrames.{FrameFits-refl}
+use Rattle.type_frames.proofs.OrderOfFrames.{EachFits-length, FrameFits-refl}
 use Rattle.type_verifier.proofs.FramesInOrder.{IsFrameOf-above}
-use Rattle.type_verifier.proofs.MovesCompose.{FrameAt-one}
+use Rattle.type_verifier.proofs.MovesCompose.{FrameAt-one, RoseFrom-refl}
+use Rattle.type_verifier.proofs.PartsOfLocals.{FitOutside-wider, join-outside}
 
 -- ---- The work, after a place was put into it.
 
@@ -110,6 +114,32 @@ module _ (task : Task) (ordered : AreOrdered (scope_in task).classes) (old : Lis
   stays None rose n rises stayed = absurd (false≢true (subst IsTrue stayed rises.0))
   stays (Some f) rose n (g, is, rise) stayed = is ∙ ap Some (rise.same stayed)
 
+  -- what is noted of the place
+  module _ (ranges new_ranges : List LocalRange) (known looked range : LocalRange) (is_known : RangeAt ranges place known)
+      (note : IsNoteAt ranges place range new_ranges) where
+    noted-here : (o : Option FrameType) (rose : Bool) (n : Option FrameType) → slice_get old place ≡ Some o
+        → RisesTo (scope_in task).classes o from rose n → (o ≡ None → (range.first ≡ 0) × (range.end ≡ length from.locals))
+        → ((f : FrameType) → o ≡ Some f → IsWithin known range) → ((f : FrameType) → o ≡ Some f → IsWithin looked range)
+        → ((f : FrameType) → o ≡ Some f → FitOutside (scope_in task).classes looked.first looked.end from.locals f.locals)
+        → (f : FrameType) (r : LocalRange) → n ≡ Some f → slice_get new_ranges place ≡ Some r
+        → HasNoted (scope_in task) old ranges place f r
+    noted-here None rose n at rises first has_known has_looked out f r e there =
+        let whole = first refl in
+        let all : IsWhole (scope_in task) range = (whole.0, omega (arith, whole.1, sized.locals)) in
+        subst (λ (q : LocalRange). HasNoted (scope_in task) old ranges place f q) (sym (note.here r there).0) (inl all)
+    noted-here (Some g) rose n at (h, is, rise) first has_known has_looked out f r e there =
+        let (same, (k, at_k)) = note.here r there in
+        let had : IsWithin k range = subst (λ (q : LocalRange). IsWithin q range) (is_known k at_k) (has_known g refl) in
+        let from_old : RoseFrom (scope_in task) g k h range = record {
+          within = had;
+          as_many = EachFits-length (scope_in task).classes g.locals h.locals rise.join.left.locals;
+          outside = FitOutside-wider (scope_in task).classes looked range h.locals g.locals (has_looked g refl)
+              (join-outside (scope_in task).classes g from h looked.first looked.end rise.join (out g refl));
+        } in
+        let one : h ≡ f = same_Some h f (sym is ∙ e) in
+        subst (λ (q : LocalRange). HasNoted (scope_in task) old ranges place f q) (sym same)
+        (inr (g, k, at, at_k, subst (λ (x : FrameType). RoseFrom (scope_in task) g k x range) one from_old))
+
   module _ (o : Option FrameType) (rose : Bool) (n : Option FrameType) (at : slice_get old place ≡ Some o)
       (rises : RisesTo (scope_in task).classes o from rose n) where
     there : slice_get (set old place n) place ≡ Some n
@@ -149,14 +179,37 @@ module _ (task : Task) (ordered : AreOrdered (scope_in task).classes) (old : Lis
       | inr apart ↦ (f, slice_get-set_other old place other n apart ∙ h, FrameFits-refl (scope_in task).classes f (are.sized other f h).usable)
     ]
 
-    pub raised-moves : (work : List ℕ) → IsTrue rose → Moves (scope_in task) old work (set old place n) (insert_key nat_cmp work place)
-    raised-moves work risen = record {
+    pub raised-moves : (work : List ℕ) (ranges new_ranges : List LocalRange) (known looked range : LocalRange) → IsTrue rose
+        → RangeAt ranges place known → IsNoteAt ranges place range new_ranges
+        → (o ≡ None → (range.first ≡ 0) × (range.end ≡ length from.locals))
+        → ((f : FrameType) → o ≡ Some f → IsWithin known range) → ((f : FrameType) → o ≡ Some f → IsWithin looked range)
+        → ((f : FrameType) → o ≡ Some f → FitOutside (scope_in task).classes looked.first looked.end from.locals f.locals)
+        → Moves (scope_in task) old (record { work = work; rose = ranges }) (set old place n)
+        (record { work = insert_key nat_cmp work place; rose = new_ranges })
+    raised-moves work ranges new_ranges known looked range risen is_known note first has_known has_looked out = record {
       grows = grows;
       pending = λ other. elim (nat_cases place other) [
         | inl e ↦ inr (subst (λ (p : ℕ). Contains (insert_key nat_cmp work place) p) e (insert_key-has work place))
         | inr apart ↦ inl (slice_get-set_other old place other n apart)
       ];
       kept = λ other h. insert_key-keeps work place other h;
+      as_many = note.as_many;
+      noted = λ other f r h is. elim (nat_cases place other) [
+        | inl e ↦
+            let back : FrameAt (set old place n) place f = subst (λ (p : ℕ). FrameAt (set old place n) p f) (sym e) h in
+            let noted_there = subst (λ (p : ℕ). slice_get new_ranges p ≡ Some r) (sym e) is in
+            let here : n ≡ Some f = same_Some n (Some f) (sym there ∙ back) in
+            let noted : HasNoted (scope_in task) old ranges place f r =
+            noted-here ranges new_ranges known looked range is_known note o rose n at rises first has_known has_looked out f r here noted_there in
+            subst (λ (p : ℕ). HasNoted (scope_in task) old ranges p f r) e noted
+        | inr apart ↦ inr (
+          f,
+          r,
+          sym (slice_get-set_other old place other n apart) ∙ h,
+          note.others other r (λ e. apart (sym e)) is,
+          RoseFrom-refl (scope_in task) f r,
+        )
+      ];
       cost =
           let height = place_height (scope_in task).classes (scope_in task).code in
           let less = falls o rose n rises risen in
@@ -165,22 +218,26 @@ module _ (task : Task) (ordered : AreOrdered (scope_in task).classes) (old : Lis
           omega (arith, length-insert_key work place);
     }
 
-    pub stays-moves : (work : List ℕ) → rose ≡ false → Moves (scope_in task) old work (set old place n) work
-    stays-moves work stayed = record {
-      grows = grows;
-      pending = λ other. elim (nat_cases place other) [
-        | inl e ↦ inl (subst (λ (p : ℕ). slice_get (set old place n) p ≡ slice_get old p) e
-            (there ∙ ap Some (stays o rose n rises stayed) ∙ sym at))
-        | inr apart ↦ inl (slice_get-set_other old place other n apart)
-      ];
-      kept = λ other h. h;
-      cost =
-          let height = place_height (scope_in task).classes (scope_in task).code in
-          let same = ap height (stays o rose n rises stayed) in
-          let sums = sum_by-set height old place n o (slice_get_within old place o at) in
-          let had = ap height (get_or_from_slice_get old place o o at) in
-          omega arith;
-    }
+    pub stays-moves : (notes : Notes) → rose ≡ false → Moves (scope_in task) old notes (set old place n) notes
+    stays-moves notes stayed =
+        let unchanged : (other : ℕ) → slice_get (set old place n) other ≡ slice_get old other = λ other. elim (nat_cases place other) [
+          | inl e ↦ subst (λ (p : ℕ). slice_get (set old place n) p ≡ slice_get old p) e
+              (there ∙ ap Some (stays o rose n rises stayed) ∙ sym at)
+          | inr apart ↦ slice_get-set_other old place other n apart
+        ] in
+        record {
+          grows = grows;
+          pending = λ other. inl (unchanged other);
+          kept = λ other h. h;
+          as_many = refl;
+          noted = λ other f r h is. inr (f, r, sym (unchanged other) ∙ h, is, RoseFrom-refl (scope_in task) f r);
+          cost =
+              let height = place_height (scope_in task).classes (scope_in task).code in
+              let same = ap height (stays o rose n rises stayed) in
+              let sums = sum_by-set height old place n o (slice_get_within old place o at) in
+              let had = ap height (get_or_from_slice_get old place o o at) in
+              omega arith;
+        }
 
   -- a leader is a place of the code
   pub place-read : IsTask task → (o : Option FrameType) → o ≡ get_or old place o → slice_get old place ≡ Some o

@@ -15,7 +15,7 @@ use Rattle.type_frames.proofs.OrderOfFrames.{EachFits-length}
 use Rattle.type_rows.proofs.RowsInOneScope.{one-scope}
 use Rattle.type_verifier.specs.declared.tasks.Task.{Task}
 use Rattle.type_verifier.specs.Climbs.{FitsBut}
-use Rattle.type_verifier.specs.Progress.{Moves}
+use Rattle.type_verifier.specs.Progress.{Moves, Notes}
 use Rattle.type_verifier.specs.Tasks.{IsTask, scope_in, TypesTask}
 use Rattle.type_verifier.proofs.FramesInOrder.{FitOutside-above}
 use Rattle.type_verifier.proofs.MovesCompose.{FrameAt-one, FitsAt-moves}
@@ -34,7 +34,7 @@ module _ (s : CodeScope) (ordered : AreOrdered s.classes) where
       subst (λ (y : FrameType). FitOutside s.classes first end locals y.locals) (FrameAt-one frames place g f gt at)
       (FitOutside-above s.classes ordered first end locals b.locals g.locals out fits.locals)
 
-  pub FitsBut-moves : (old : List (Option FrameType)) (old_work : List ℕ) (new : List (Option FrameType)) (new_work : List ℕ)
+  pub FitsBut-moves : (old : List (Option FrameType)) (old_work : Notes) (new : List (Option FrameType)) (new_work : Notes)
       (place first end : ℕ) (locals : List VType) → Moves s old old_work new new_work → FitsBut s old place first end locals
       → FitsBut s new place first end locals
   FitsBut-moves old old_work new new_work place first end locals moves (inl all) = inl all

@@ -14,6 +14,8 @@ mod NodesRise
 mod NodesUnseen
 mod OnePlaceMore
 mod OneScope
+mod PartsOfLocals
+mod RangesOfWalks
 mod SettledStays
 mod StartsOfTypings
 mod UnrolledIsTyping

@@ -14,8 +14,8 @@ use Rattle.type_frames.proofs.OrderOfFrames.{EachFits-refl, EachFits-trans}
 use Rattle.type_verifier.specs.declared.covers.Seen.{Seen}
 use Rattle.type_verifier.specs.declared.tasks.Task.{Task}
 use Rattle.type_verifier.specs.Climbs.{AreNodes, ClimbsTo, IsNodeSet, node_in}
-use Rattle.type_verifier.specs.Covers.{Nodes, NodeAt, SeenFits, AreHanded, bare}
-use Rattle.type_verifier.specs.Progress.{Moves}
+use Rattle.type_verifier.specs.Covers.{Nodes, NodeAt, SeenFits, AreHanded, KeepsSeen, bare}
+use Rattle.type_verifier.specs.Progress.{Moves, Notes}
 use Rattle.type_verifier.specs.Rises.{IsNodeRise}
 use Rattle.type_verifier.specs.Tasks.{scope_in, TypesTask}
 use Rattle.type_verifier.proofs.FramesInOrder.{IsFrameOf-above}
@@ -85,6 +85,18 @@ module _ (task : Task) (ordered : AreOrdered (scope_in task).classes) where
     stays_at : (l m : ℕ) (c : Seen) → (l ≡ k → m ≡ n → ⊥) → NodeAt nodes l m c → NodeAt new l m c
     stays_at l m c apart at = is_set.others l m apart ∙ at
 
+    pub seen-kept : KeepsSeen (scope_in task) nodes new
+    seen-kept p seen flag leaf some =
+        let (c, at, fits) = leaf (omega (arith, is_set.levels)) in
+        elim (node_cases 0 p k n) [
+          | inl (a, b) ↦ (
+            rise.now,
+            NodeAt-along new k n 0 p rise.now (sym a) (sym b) at_now,
+            SeenFits-trans seen flag c rise.now fits (rise.left c (slot_at c (NodeAt-along nodes 0 p k n c a b at))),
+          )
+          | inr apart ↦ (c, stays_at 0 p c apart at, fits)
+        ]
+
     -- a frame that the locals and what the node had fit
     risen-fits : (frames : List (Option FrameType)) (h : Caught)
         → FitsAt (scope_in task) frames h.handler (handler_frame (scope_in task) h locals fresh)
@@ -100,7 +112,7 @@ module _ (task : Task) (ordered : AreOrdered (scope_in task).classes) where
         )) in
         (g, at, record { locals = least.0; stack = fits.stack; usable = fits.usable; fresh = least.1 })
 
-    module _ (old : List (Option FrameType)) (old_work : List ℕ) (frames : List (Option FrameType)) (work : List ℕ)
+    module _ (old : List (Option FrameType)) (old_work : Notes) (frames : List (Option FrameType)) (work : Notes)
         (moves : Moves (scope_in task) old old_work frames work)
         (are : AreNodes task old nodes) (sized : IsFrameOf (scope_in task).code (bare locals fresh))
         (below : (typing : List (Option FrameType)) → TypesTask task typing → AreHanded (scope_in task) typing place locals fresh)

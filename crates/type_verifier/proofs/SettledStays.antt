@@ -9,7 +9,7 @@ use Rattle.jk_model_typing.specs.Scopes.{CodeScope}
 use Rattle.jk_model_typing.specs.Typing.{FrameAt, FitsAt}
 use Rattle.type_verifier.specs.declared.tasks.Task.{Task}
 use Rattle.type_verifier.specs.Covers.{AreCovers, AreHanded, Nodes}
-use Rattle.type_verifier.specs.Progress.{Moves}
+use Rattle.type_verifier.specs.Progress.{Moves, Notes}
 use Rattle.type_verifier.specs.Settling.{StepsWell, Settles, AreSettled, AreSettledBut}
 use Rattle.type_verifier.specs.Settling.Settles.{ends, joins, goes_on}
 use Rattle.type_verifier.specs.Tasks.{scope_in}
@@ -59,9 +59,9 @@ AreCovers-grown task ordered old new grows nodes h = record {
 }
 
 -- after a leader's visit all frames are settled, or are still to be looked at
-pub AreSettled-visited : (s : CodeScope) → AreOrdered s.classes → (leads : List Bool) (old new : List (Option FrameType)) (old_work new_work : List ℕ)
-    (leader : ℕ) (f : FrameType) → AreSettledBut s leads old old_work leader → Moves s old old_work new new_work → FrameAt old leader f
-    → Settles s leads new leader f → AreSettled s leads new new_work
+pub AreSettled-visited : (s : CodeScope) → AreOrdered s.classes → (leads : List Bool) (old new : List (Option FrameType)) (old_work new_work : Notes)
+    (leader : ℕ) (f : FrameType) → AreSettledBut s leads old old_work.work leader → Moves s old old_work new new_work → FrameAt old leader f
+    → Settles s leads new leader f → AreSettled s leads new new_work.work
 AreSettled-visited s ordered leads old new old_work new_work leader f but moves at settles place g there =
     elim (moves.pending place) [
       | inl same ↦

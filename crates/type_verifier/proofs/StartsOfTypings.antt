@@ -9,7 +9,7 @@ use Rattle.jk_model_typing.specs.Typing.{FitsAt, FrameAt, IsStart, IsTyping}
 use Rattle.type_rows.proofs.RowsInOneScope.{one-scope}
 use Rattle.type_rows.proofs.RowsStart.{start-determined}
 use Rattle.type_verifier.specs.declared.tasks.Task.{Task}
-use Rattle.type_verifier.specs.Progress.{AreFrames, Moves}
+use Rattle.type_verifier.specs.Progress.{AreFrames, Moves, Notes}
 use Rattle.type_verifier.specs.Settling.{AreSettled}
 use Rattle.type_verifier.specs.Tasks.{scope_in}
 
@@ -45,8 +45,8 @@ AreFrames-none task n many = record {
 }
 
 -- a frame that has come is still to be looked at
-pub AreSettled-begun : (s : CodeScope) (leads : List Bool) (n : ℕ) (old_work : List ℕ) (new : List (Option FrameType)) (new_work : List ℕ)
-    → Moves s (replicate n None) old_work new new_work → AreSettled s leads new new_work
+pub AreSettled-begun : (s : CodeScope) (leads : List Bool) (n : ℕ) (old_work : Notes) (new : List (Option FrameType)) (new_work : Notes)
+    → Moves s (replicate n None) old_work new new_work → AreSettled s leads new new_work.work
 AreSettled-begun s leads n old_work new new_work moves place f at = elim (moves.pending place) [
   | inl same ↦ absurd (no-frame n place f (sym same ∙ at))
   | inr waits ↦ inl waits

@@ -50,6 +50,10 @@ pub record AreCovers (task : Task) (frames : List (Option FrameType)) (nodes : N
 abbrev pub LeafFits : CodeScope → Nodes → ℕ → List VType → Bool → Type 0
 LeafFits s nodes place locals fresh = 0 < length nodes → (c : Seen) × NodeAt nodes 0 place c × SeenFits s locals fresh c
 
+-- what a node has seen it still has
+abbrev pub KeepsSeen : CodeScope → Nodes → Nodes → Type 0
+KeepsSeen s old new = (place : ℕ) (locals : List VType) (fresh : Bool) → LeafFits s old place locals fresh → LeafFits s new place locals fresh
+
 -- the handlers of all entries that cover a place have frames which these locals fit
 abbrev pub AreHanded : CodeScope → List (Option FrameType) → ℕ → List VType → Bool → Type 0
 AreHanded s frames place locals fresh =

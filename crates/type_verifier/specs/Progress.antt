@@ -1,12 +1,15 @@
 -- The frames that leaders have so far, and the places that are still to be looked at.
-use Rattle.std.specs.Prelude.{◌≡◌, ℕ, ◌+◌, ◌*◌, ◌≤◌, ◌⊎◌, List, length, sum_by, Contains, Option, slice_get}
+use Rattle.std.specs.Prelude.{◌≡◌, ℕ, ◌+◌, ◌*◌, ◌≤◌, ◌⊎◌, List, length, sum_by, Contains, Option, Some, slice_get}
 use Rattle.jk_model_typing.specs.declared.frames.FrameType.{FrameType}
 use Rattle.jk_model_typing.specs.FrameTypes.{IsFrameOf}
 use Rattle.jk_model_typing.specs.Scopes.{CodeScope}
 use Rattle.jk_model_typing.specs.Typing.{FrameAt, FitsAt}
 use Rattle.type_frames.specs.Heights.{place_height}
+use Rattle.type_verifier.specs.declared.progress.Progress.{Progress}
+use Rattle.type_verifier.specs.declared.ranges.LocalRange.{LocalRange}
 use Rattle.type_verifier.specs.declared.tasks.Task.{Task}
 use Rattle.type_verifier.specs.Leaders.{Leads}
+use Rattle.type_verifier.specs.Ranges.{IsWhole, RoseFrom}
 use Rattle.type_verifier.specs.Tasks.{scope_in, TypesTask}
 
 -- each frame fits the one that a typing has there
@@ -24,9 +27,26 @@ pub record AreFrames (task : Task) (frames : List (Option FrameType)) : Type 0 w
 abbrev pub work_left : CodeScope → List (Option FrameType) → List ℕ → ℕ
 work_left s frames work = 2 * sum_by (place_height s.classes s.code) frames + length work
 
+-- the places to be looked at, and the locals that may have risen, for each place
+pub record Notes : Type 0 where
+  pub work : List ℕ
+  pub rose : List LocalRange
+
+abbrev pub notes_of : Progress → Notes
+notes_of p = record { work = p.work.keys; rose = p.rose.items }
+
+-- the range that is noted for a place has all locals, or those in which its frame differs from an old one, and all that was noted
+abbrev pub HasNoted : CodeScope → List (Option FrameType) → List LocalRange → ℕ → FrameType → LocalRange → Type 0
+HasNoted s old rose place f r =
+    IsWhole s r
+    ⊎ ((g : FrameType) × (q : LocalRange) × FrameAt old place g × (slice_get rose place ≡ Some q) × RoseFrom s g q f r)
+
 -- Frames rise, and each place whose frame rose is to be looked at.
-pub record Moves (s : CodeScope) (old : List (Option FrameType)) (old_work : List ℕ) (new : List (Option FrameType)) (new_work : List ℕ) : Type 0 where
+pub record Moves (s : CodeScope) (old : List (Option FrameType)) (old_notes : Notes) (new : List (Option FrameType)) (new_notes : Notes) : Type 0 where
   pub grows : (place : ℕ) (f : FrameType) → FrameAt old place f → FitsAt s new place f
-  pub pending : (place : ℕ) → (slice_get new place ≡ slice_get old place) ⊎ Contains new_work place
-  pub kept : (place : ℕ) → Contains old_work place → Contains new_work place
-  pub cost : work_left s new new_work ≤ work_left s old old_work
+  pub pending : (place : ℕ) → (slice_get new place ≡ slice_get old place) ⊎ Contains new_notes.work place
+  pub kept : (place : ℕ) → Contains old_notes.work place → Contains new_notes.work place
+  pub as_many : length new_notes.rose ≡ length old_notes.rose
+  pub noted : (place : ℕ) (f : FrameType) (r : LocalRange) → FrameAt new place f → slice_get new_notes.rose place ≡ Some r
+      → HasNoted s old old_notes.rose place f r
+  pub cost : work_left s new new_notes.work ≤ work_left s old old_notes.work

@@ -7,10 +7,10 @@ ghost use Rattle.jk_model_typing.specs.declared.frames.FrameType.{FrameType as A
 ghost use Rattle.jk_model_typing.specs.FrameTypes.{IsFrameOf};
 ghost use Rattle.jk_model_typing.specs.Typing.{FitsAt, handler_frame};
 ghost use Rattle.type_frames.specs.FrameJoins.{FitOutside};
-ghost use Rattle.type_verifier.specs.Covers.{AreCovers, AreHanded, LeafFits, NodeAt, bare, nodes_of};
+ghost use Rattle.type_verifier.specs.Covers.{AreCovers, AreHanded, KeepsSeen, LeafFits, NodeAt, bare, nodes_of};
 ghost use Rattle.handler_cover.specs.Covering.{entries_at, node_over};
 ghost use Rattle.type_verifier.specs.Climbs.{AllUnseen, FitsBut, IsWidened};
-ghost use Rattle.type_verifier.specs.Progress.{AreFrames, Moves};
+ghost use Rattle.type_verifier.specs.Progress.{AreFrames, Moves, notes_of};
 ghost use Rattle.type_verifier.specs.Rises.{IsNodeRise};
 ghost use Rattle.type_verifier.specs.Tasks.{HasNoTyping, IsTask, TypesTask, scope_in};
 ghost use Rattle.type_verifier.specs.declared.covers.Seen.{Seen as ASeen};
@@ -71,7 +71,8 @@ pub(crate) fn hand_on(
     ensures frames { IfOk result (λ yes. IsTrue yes → AreFrames task.now progress.new.frames.items) }
     ensures covers { IfOk result (λ yes. IsTrue yes → AreCovers task.now progress.new.frames.items (nodes_of nodes.new)) }
     ensures moves { IfOk result (λ yes. IsTrue yes
-        → Moves (scope_in task.now) progress.old.frames.items progress.old.work.keys progress.new.frames.items progress.new.work.keys) }
+        → Moves (scope_in task.now) progress.old.frames.items (notes_of progress.old) progress.new.frames.items (notes_of progress.new)) }
+    ensures seen { IfOk result (λ yes. IsTrue yes → KeepsSeen (scope_in task.now) (nodes_of nodes.old) (nodes_of nodes.new)) }
     ensures leaf { IfOk result (λ yes. IsTrue yes
         → LeafFits (scope_in task.now) (nodes_of nodes.new) at.entry.place at.entry.locals.now at.entry.fresh) }
     ensures handed { IfOk result (λ yes. IsTrue yes
@@ -160,7 +161,7 @@ fn hand_to_entries(
         → FitsBut (scope_in task.now) progress.old.frames.items h.handler at.first at.end at.locals.now }
     ensures frames { IfOk result (λ yes. IsTrue yes → AreFrames task.now progress.new.frames.items) }
     ensures moves { IfOk result (λ yes. IsTrue yes
-        → Moves (scope_in task.now) progress.old.frames.items progress.old.work.keys progress.new.frames.items progress.new.work.keys) }
+        → Moves (scope_in task.now) progress.old.frames.items (notes_of progress.old) progress.new.frames.items (notes_of progress.new)) }
     ensures handed { IfOk result (λ yes. IsTrue yes → (x : ℕ) (h : ACaught)
         → Contains (entries_at task.now.tree level node) x
         → slice_get (scope_in task.now).code.handlers x ≡ Some h
@@ -197,7 +198,7 @@ fn hand_to(
         → FitsAt (scope_in task.now) typing h.now.handler (handler_frame (scope_in task.now) h.now at.locals.now at.fresh) }
     ensures frames { IfOk result (λ yes. IsTrue yes → AreFrames task.now progress.new.frames.items) }
     ensures moves { IfOk result (λ yes. IsTrue yes
-        → Moves (scope_in task.now) progress.old.frames.items progress.old.work.keys progress.new.frames.items progress.new.work.keys) }
+        → Moves (scope_in task.now) progress.old.frames.items (notes_of progress.old) progress.new.frames.items (notes_of progress.new)) }
     ensures handed { IfOk result (λ yes. IsTrue yes → FitsAt (scope_in task.now) progress.new.frames.items h.now.handler
         (handler_frame (scope_in task.now) h.now at.entry.locals.now at.entry.fresh)) }
     ensures none { IfOk result (λ yes. yes ≡ false → HasNoTyping task.now) }

@@ -4,8 +4,8 @@ ghost use Rattle.std.specs.Prelude.{◌≡◌, ◌<◌, false, IfOk, IsTrue, Lis
 ghost use Rattle.jk_model_typing.specs.declared.frames.FrameType.{FrameType as AFrame};
 ghost use Rattle.jk_model_typing.specs.FrameTypes.{IsFrameOf};
 ghost use Rattle.jk_model_typing.specs.Typing.{is_store};
-ghost use Rattle.type_verifier.specs.Covers.{AreCovers, AreHanded, LeafFits, nodes_of};
-ghost use Rattle.type_verifier.specs.Progress.{Moves};
+ghost use Rattle.type_verifier.specs.Covers.{AreCovers, AreHanded, KeepsSeen, LeafFits, nodes_of};
+ghost use Rattle.type_verifier.specs.Progress.{Moves, notes_of};
 ghost use Rattle.type_verifier.specs.Tasks.{HasNoTyping, TypesTask, scope_in};
 ghost use Rattle.type_verifier.specs.Walking.{IsReady, IsStored};
 
@@ -37,7 +37,8 @@ pub(crate) fn hand_on_stored(
     ensures ready { IfOk result (λ yes. IsTrue yes → IsReady task.now progress.new.frames.items) }
     ensures covers { IfOk result (λ yes. IsTrue yes → AreCovers task.now progress.new.frames.items (nodes_of nodes.new)) }
     ensures moves { IfOk result (λ yes. IsTrue yes
-        → Moves (scope_in task.now) progress.old.frames.items progress.old.work.keys progress.new.frames.items progress.new.work.keys) }
+        → Moves (scope_in task.now) progress.old.frames.items (notes_of progress.old) progress.new.frames.items (notes_of progress.new)) }
+    ensures seen { IfOk result (λ yes. IsTrue yes → KeepsSeen (scope_in task.now) (nodes_of nodes.old) (nodes_of nodes.new)) }
     ensures leaf { IfOk result (λ yes. IsTrue yes → IsTrue (is_store i.now.op)
         → LeafFits (scope_in task.now) (nodes_of nodes.new) leader frame.now.locals frame.now.fresh) }
     ensures handed { IfOk result (λ yes. IsTrue yes → IsTrue (is_store i.now.op)

@@ -7,6 +7,8 @@ ghost use Rattle.jk_model_typing.specs.FrameTypes.{IsFrameOf};
 ghost use Rattle.jk_model_typing.specs.Scopes.{CodeScope, IsScopeOf};
 ghost use Rattle.jk_model_typing.specs.Typing.{FitsAt, IsLeastTyping, IsStart, IsTyping};
 ghost use Rattle.type_rows.specs.CodeViews.{scope_of};
+ghost use Rattle.type_verifier.specs.Covers.{Nodes};
+ghost use Rattle.type_verifier.specs.Known.{AreKnown};
 ghost use Rattle.type_verifier.specs.Progress.{AreFrames};
 ghost use Rattle.type_verifier.specs.Settling.{AreSettled};
 ghost use Rattle.type_verifier.specs.Tasks.{HasNoTyping, IsTask, scope_in};
@@ -14,6 +16,7 @@ ghost use Rattle.type_verifier.specs.Tasks.{HasNoTyping, IsTask, scope_in};
 use crate::handing::unseen;
 use crate::leading::leaders;
 use crate::progress::{Progress, raise_at};
+use crate::ranges::{LocalRange, no_locals, note, range_at};
 use crate::tasks::Task;
 use crate::unrolling::unroll;
 use crate::visiting::visit;
@@ -89,7 +92,9 @@ fn settled_frames(
     };
     let mut nodes = unseen(alloc, task)?;
     while let Some(place) = progress.work.pop_first() {
-        if !visit(&mut progress, &mut nodes, task, place)? {
+        let range = range_at(progress.rose.as_slice(), place);
+        note(&mut progress.rose, place, no_locals());
+        if !visit(&mut progress, &mut nodes, task, place, range)? {
             return Ok(None);
         }
     }
@@ -105,6 +110,9 @@ fn begun(alloc: Global, task: &Task<'_>, start: &FrameType) -> Result<Option<Pro
     ensures none { IfOk result (λ o. IfNone o (HasNoTyping task.now)) }
     ensures frames { IfOk result (λ o. IfSome o (λ p. AreFrames task.now p.frames.items)) }
     ensures settled { IfOk result (λ o. IfSome o (λ p. AreSettled (scope_in task.now) task.now.leads.items p.frames.items p.work.keys)) }
+    ensures known { (nodes : Nodes) → IfOk result (λ o. IfSome o (λ p.
+        AreKnown (scope_in task.now) task.now.leads.items p.frames.items p.rose.items nodes)) }
+    ensures ranges { IfOk result (λ o. IfSome o (λ p. length p.rose.items ≡ length (scope_in task.now).code.instrs)) }
     ensures first { IfOk result (λ o. IfSome o (λ p. FitsAt (scope_in task.now) p.frames.items 0 start.now)) }
 {
     let places = task.leads.len();
@@ -115,6 +123,7 @@ fn begun(alloc: Global, task: &Task<'_>, start: &FrameType) -> Result<Option<Pro
         alloc,
         frames: no_frames(alloc, places)?,
         work: BTreeSet::new(alloc),
+        rose: no_ranges(alloc, places)?,
     };
     let from = FrameRef {
         locals: start.locals.as_slice(),
@@ -137,4 +146,15 @@ fn no_frames(alloc: Global, places: usize) -> Result<Vec<Option<FrameType>>, Out
         frames.push(None)?;
     }
     Ok(frames)
+}
+
+/// No locals at any place.
+fn no_ranges(alloc: Global, places: usize) -> Result<Vec<LocalRange>, OutOfMemory>
+    ensures { IfOk result (λ ranges. length ranges.items ≡ places) }
+{
+    let mut ranges = Vec::new(alloc);
+    for _place in 0..places {
+        ranges.push(no_locals())?;
+    }
+    Ok(ranges)
 }

@@ -2,6 +2,7 @@
 use Rattle.std.proofs.Common.{◌≡◌, ℕ, suc, ◌+◌, ◌≤◌, ◌/◌, length, Some, refl, sym, ap, subst, ◌∙◌, arith}
 use Rattle.std.specs.Vec.{with_item}
 use Rattle.handler_cover.specs.Covering.{node_over}
+use Rattle.type_verifier.specs.Progress.{notes_of}
 use Rattle.type_verifier.specs.declared.covers.Seen.{Seen}
 use Rattle.type_verifier.specs.Climbs.{IsNodeSet, IsRange, node_in}
 use Rattle.type_verifier.specs.Covers.{NodeAt, SeenFits, nodes_of}
@@ -87,7 +88,8 @@ loop-level-init c = record {
   end = c.requires.end;
   node = refl;
   frames = c.requires.frames;
-  moves = Moves-refl c.args.task.now c.args.progress.now.frames.items c.args.progress.now.work.keys c.requires.frames;
+  moves = Moves-refl c.args.task.now c.args.progress.now.frames.items (notes_of c.args.progress.now) c.requires.frames;
+  seen = λ place locals fresh leaf. leaf;
   nodes = way.nodes-begin c.args.task.now c.args.progress.now.frames.items (nodes_of c.args.nodes.now) c.requires.covers;
   climbs = way.climb-begins c.args.task.now c.args.progress.now.frames.items (nodes_of c.args.nodes.now) c.args.at.place c.args.at.locals.now
       c.args.at.fresh c.requires.covers;
@@ -153,6 +155,13 @@ returns-then-not-branch-clause-covers c = λ all.
     (way.up-stays c.args.task.now (nodes_of c.loop-level.nodes) c.args.at.place c.args.at.locals.now c.args.at.fresh c.loop-level.level
     inv.climbs c.ordered.ensures.ordered now at_now fits))
 
+pub returns-then-not-branch-clause-seen : goal.returns-then-not-branch-clause-seen
+returns-then-not-branch-clause-seen c = λ all.
+    let inv = c.loop-level.invariant in
+    let r = (goal.at.returns-then-not-branch-clause-seen c).In_ok-raise_node in
+    let stays = c.in_ok-raise_node.ensures.same c.if-not-branch.true in
+    rw (stays_at r stays) inv.seen
+
 pub returns-then-not-branch-clause-leaf : goal.returns-then-not-branch-clause-leaf
 returns-then-not-branch-clause-leaf c = λ all.
     let inv = c.loop-level.invariant in
@@ -200,13 +209,16 @@ loop-level-preserved c =
       end = end;
       node = rw next (ap (λ (i : ℕ). i / 2) inv.node);
       frames = handed.frames c.if-not-branch-2.false;
-      moves = Moves-trans (scope_in task) ordered c.args.progress.now.frames.items c.args.progress.now.work.keys
-          c.loop-level.progress.frames.items c.loop-level.progress.work.keys
-          c.hand_to_entries.new.progress.frames.items c.hand_to_entries.new.progress.work.keys inv.moves moves;
+      moves = Moves-trans (scope_in task) ordered c.args.progress.now.frames.items (notes_of c.args.progress.now)
+          c.loop-level.progress.frames.items (notes_of c.loop-level.progress)
+          c.hand_to_entries.new.progress.frames.items (notes_of c.hand_to_entries.new.progress) inv.moves moves;
+      seen = λ p seen flag leaf. rise.seen-kept task ordered c.loop-level.level c.loop-level.node c.args.at.place inv.node c.args.at.locals.now
+          c.args.at.fresh (nodes_of c.loop-level.nodes) new c.index_mut-slot.result.now c.raise_node.new.slot (slot_at w)
+          (rise_at r locals fresh) (set_at r) p seen flag (inv.seen p seen flag leaf);
       nodes = rise.nodes-risen task ordered c.loop-level.level c.loop-level.node c.args.at.place inv.node c.args.at.locals.now c.args.at.fresh
           (nodes_of c.loop-level.nodes) new c.index_mut-slot.result.now c.raise_node.new.slot (slot_at w) (rise_at r locals fresh) (set_at r)
-          c.loop-level.progress.frames.items c.loop-level.progress.work.keys
-          c.hand_to_entries.new.progress.frames.items c.hand_to_entries.new.progress.work.keys moves inv.nodes c.requires.sized c.requires.below
+          c.loop-level.progress.frames.items (notes_of c.loop-level.progress)
+          c.hand_to_entries.new.progress.frames.items (notes_of c.hand_to_entries.new.progress) moves inv.nodes c.requires.sized c.requires.below
           (rw (← locals, ← fresh) (handed.handed c.if-not-branch-2.false));
       climbs = rw next (rise.climbs-on task ordered c.loop-level.level c.loop-level.node c.args.at.place inv.node c.args.at.locals.now c.args.at.fresh
           (nodes_of c.loop-level.nodes) new c.index_mut-slot.result.now c.raise_node.new.slot (slot_at w) (rise_at r locals fresh) (set_at r)

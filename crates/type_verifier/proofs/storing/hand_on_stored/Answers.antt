@@ -2,6 +2,7 @@
 use Rattle.std.proofs.Common.{◌≡◌, ◌+◌, ◌-◌, sym, IsTrue, nat_abs, of_z, to_z, w32, arith}
 use Rattle.std.proofs.lemmas.Int.{ints}
 use Rattle.std.proofs.lemmas.Result.{IfOk-weaker}
+use Rattle.type_verifier.specs.Progress.{notes_of}
 use Rattle.type_verifier.specs.Covers.{AreHanded, LeafFits, nodes_of}
 use Rattle.type_verifier.specs.Tasks.{scope_in}
 use Rattle.type_verifier.proofs.MovesCompose.{Moves-refl}
@@ -10,7 +11,7 @@ use Rattle.type_verifier.proofs.storing.hand_on_stored.Goals as goal
 
 pub returns-then-not-is_store-clause-moves : goal.returns-then-not-is_store-clause-moves
 returns-then-not-is_store-clause-moves c = λ _.
-    Moves-refl c.args.task.now c.args.progress.now.frames.items c.args.progress.now.work.keys c.requires.ready.kept
+    Moves-refl c.args.task.now c.args.progress.now.frames.items (notes_of c.args.progress.now) c.requires.ready.kept
 
 pub hand_on-requires-clause-outside : goal.hand_on-requires-clause-outside
 hand_on-requires-clause-outside c = λ seen there.

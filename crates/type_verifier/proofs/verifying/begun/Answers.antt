@@ -1,7 +1,9 @@
 -- No frames at first, and the start frame.
 use Rattle.std.proofs.Common.{◌≡◌, length, arith}
+use Rattle.type_verifier.specs.Progress.{notes_of}
 use Rattle.type_verifier.specs.Tasks.{scope_in}
 use Rattle.type_verifier.proofs.BelowTypings.{fits-within}
+use Rattle.type_verifier.proofs.RangesOfWalks.{known-begun}
 use Rattle.type_verifier.proofs.StartsOfTypings.{AreFrames-none, AreSettled-begun, start-below}
 use Rattle.type_verifier.proofs.WalksGoOn.{FitOutside-all}
 use Rattle.type_verifier.proofs.verifying.begun.Goals as goal
@@ -36,7 +38,18 @@ pub returns-then-branch-clause-settled : goal.returns-then-branch-clause-settled
 returns-then-branch-clause-settled c =
     let moves = c.in_ok-raise_at.ensures.moves c.if-branch.true in
     AreSettled-begun (scope_in c.args.task.now) c.args.task.now.leads.items c.len-places.result _ c.raise_at.new.progress.frames.items
-    c.raise_at.new.progress.work.keys (rw c.in_ok-no_frames.ensures at moves)
+    (notes_of c.raise_at.new.progress) (rw c.in_ok-no_frames.ensures at moves)
+
+pub returns-then-branch-clause-known : goal.returns-then-branch-clause-known
+returns-then-branch-clause-known c = λ nodes.
+    let moves = c.in_ok-raise_at.ensures.moves c.if-branch.true in
+    known-begun (scope_in c.args.task.now) c.args.task.now.leads.items c.len-places.result _ c.raise_at.new.progress.frames.items
+    (notes_of c.raise_at.new.progress) nodes (rw c.in_ok-no_frames.ensures at moves)
+
+pub returns-then-branch-clause-ranges : goal.returns-then-branch-clause-ranges
+returns-then-branch-clause-ranges c =
+    let moves = c.in_ok-raise_at.ensures.moves c.if-branch.true in
+    omega (arith, moves.as_many, c.in_ok-no_ranges.ensures, c.requires.task.leaders.as_many)
 
 pub returns-then-branch-clause-first : goal.returns-then-branch-clause-first
 returns-then-branch-clause-first c = rw (c.as_slice.ensures, c.as_slice-2.ensures) at (c.in_ok-raise_at.ensures.fits c.if-branch.true)

@@ -1,15 +1,18 @@
 -- One instruction of a walk.
-use Rattle.std.proofs.Common.{◌≡◌, ℕ, ◌<◌, List, Option, Some, length, slice_get, get_or, refl, sym, subst, ap, add-one}
+use Rattle.std.proofs.Common.{◌≡◌, ℕ, ◌<◌, List, Option, Some, length, slice_get, get_or, refl, sym, subst, ap, add-one, ◌∙◌}
 use Rattle.std.proofs.lemmas.Option.{slice_get_read}
 use Rattle.std.proofs.lemmas.Result.{IfOk-weaker}
 use Rattle.jk_model.specs.declared.instructions.Instr.{Instr}
 use Rattle.jk_model_typing.specs.declared.frames.FrameType.{FrameType}
+use Rattle.type_verifier.specs.Climbs.{FitsBut}
 use Rattle.type_verifier.specs.Covers.{nodes_of}
 use Rattle.type_verifier.specs.Leaders.{Leads}
+use Rattle.type_verifier.specs.Ranges.{IsLeft}
 use Rattle.type_verifier.specs.Tasks.{scope_in}
 use Rattle.type_verifier.proofs.BelowTypings.{may-begin}
 use Rattle.type_verifier.proofs.BothOfResults.{IfOk-both, IfOk-all_four}
 use Rattle.type_verifier.proofs.MovesCompose.{Moves-trans}
+use Rattle.type_verifier.proofs.RangesOfWalks.{DiffersIn-grown, differs-jumps, differs-next, differs-on}
 use Rattle.type_verifier.proofs.SettledStays.{AreCovers-grown, Grows-compose}
 use Rattle.type_verifier.proofs.WalksGoOn.{line-below, settles-here, steps, stored-below, stored-outside, targets, walks-on}
 use Rattle.type_verifier.proofs.visiting.go_over.Goals as goal
@@ -159,3 +162,102 @@ returns-clause-walking c =
     (jumped.moves yes_too).grows (moves (λ e. cc)).grows (stored.handed yes) (jumped.fit yes_too)
     (stored.leaf yes) (λ other. ap nodes_of (stored.others yes other)) (within is) (none is) (stays is))
     c.line_on.ensures.moves c.line_on.ensures.within c.line_on.ensures.no_leader c.line_on.ensures.stays
+
+-- ---- The range of what may differ.
+
+pub left_by-requires : goal.left_by-requires
+left_by-requires c = λ store.
+    let task = c.args.task.now in
+    let walking = c.requires.walking in
+    let i = c.index-as_slice-place.result in
+    let at = found task.view.code.now.instrs c.as_slice.result.now c.args.place i c.as_slice.ensures walking.within c.index-as_slice-place.is in
+    let row = c.in_ok-step.ensures.holds c.if-not-branch.false in
+    let stored = stored-outside task c.args.progress.now.frames.items (nodes_of c.args.nodes.now) c.args.leader c.args.place i c.args.frame.now
+    c.step.new.frame c.requires.ready walking at row store in
+    (stored.0, stored.1)
+
+pub jump_on-requires-clause-sized : goal.jump_on-requires-clause-sized
+jump_on-requires-clause-sized c = (c.in_ok-step.ensures.holds c.if-not-branch.false).room
+
+pub line_on-requires-clause-sized : goal.line_on-requires-clause-sized
+line_on-requires-clause-sized c = (c.in_ok-step.ensures.holds c.if-not-branch.false).room
+
+pub jump_on-requires-clause-outside : goal.jump_on-requires-clause-outside
+jump_on-requires-clause-outside c =
+    let task = c.args.task.now in
+    let walking = c.requires.walking in
+    let i = c.index-as_slice-place.result in
+    let at = found task.view.code.now.instrs c.as_slice.result.now c.args.place i c.as_slice.ensures walking.within c.index-as_slice-place.is in
+    let s = scope_in task in
+    let ordered = c.requires.ready.ordered in
+    let leads = task.leads.items in
+    let old : List (Option FrameType) = c.args.progress.now.frames.items in
+    let stored : List (Option FrameType) = c.hand_on_stored.new.progress.frames.items in
+    let f = c.args.frame.now in
+    let after = c.step.new.frame in
+    let row = c.in_ok-step.ensures.holds c.if-not-branch.false in
+    let same = row.room.locals ∙ sym walking.sized.locals in
+    let q = c.args.range.now in
+    let r = c.left_by.result in
+    let left = subst (λ (n : ℕ). IsLeft i q n r) c.len.ensures c.left_by.ensures in
+    let storing = (c.in_ok-hand_on_stored.ensures.moves c.if-not-branch-2.false).grows in
+    differs-jumps task stored c.args.place i f after at row same q r left
+    (DiffersIn-grown s ordered leads old stored storing c.args.place f q c.requires.differs)
+
+pub line_on-requires-clause-outside : goal.line_on-requires-clause-outside
+line_on-requires-clause-outside c = λ stays leader.
+    let task = c.args.task.now in
+    let walking = c.requires.walking in
+    let i = c.index-as_slice-place.result in
+    let at = found task.view.code.now.instrs c.as_slice.result.now c.args.place i c.as_slice.ensures walking.within c.index-as_slice-place.is in
+    let s = scope_in task in
+    let ordered = c.requires.ready.ordered in
+    let leads = task.leads.items in
+    let old : List (Option FrameType) = c.args.progress.now.frames.items in
+    let stored : List (Option FrameType) = c.hand_on_stored.new.progress.frames.items in
+    let f = c.args.frame.now in
+    let after = c.step.new.frame in
+    let row = c.in_ok-step.ensures.holds c.if-not-branch.false in
+    let same = row.room.locals ∙ sym walking.sized.locals in
+    let q = c.args.range.now in
+    let r = c.left_by.result in
+    let left = subst (λ (n : ℕ). IsLeft i q n r) c.len.ensures c.left_by.ensures in
+    let storing = (c.in_ok-hand_on_stored.ensures.moves c.if-not-branch-2.false).grows in
+    let jumped : List (Option FrameType) = c.jump_on.new.progress.frames.items in
+    let jumping = (c.in_ok-jump_on.ensures.moves c.if-not-branch-3.false).grows in
+    let grows = Grows-compose s ordered old stored jumped storing jumping in
+    let outside = differs-next task jumped c.args.place i f after at row same q r left
+    (DiffersIn-grown s ordered leads old jumped grows c.args.place f q c.requires.differs) stays
+    (subst (λ (n : ℕ). Leads leads n) (add-one c.args.place) leader) in
+    subst (λ (n : ℕ). FitsBut s jumped n r.first r.end after.locals) (sym (add-one c.args.place)) outside
+
+pub returns-clause-differs : goal.returns-clause-differs
+returns-clause-differs c =
+    let task = c.args.task.now in
+    let walking = c.requires.walking in
+    let i = c.index-as_slice-place.result in
+    let at = found task.view.code.now.instrs c.as_slice.result.now c.args.place i c.as_slice.ensures walking.within c.index-as_slice-place.is in
+    let s = scope_in task in
+    let ordered = c.requires.ready.ordered in
+    let leads = task.leads.items in
+    let old : List (Option FrameType) = c.args.progress.now.frames.items in
+    let stored : List (Option FrameType) = c.hand_on_stored.new.progress.frames.items in
+    let f = c.args.frame.now in
+    let after = c.step.new.frame in
+    let row = c.in_ok-step.ensures.holds c.if-not-branch.false in
+    let same = row.room.locals ∙ sym walking.sized.locals in
+    let q = c.args.range.now in
+    let r = c.left_by.result in
+    let left = subst (λ (n : ℕ). IsLeft i q n r) c.len.ensures c.left_by.ensures in
+    let storing = (c.in_ok-hand_on_stored.ensures.moves c.if-not-branch-2.false).grows in
+    let jumped : List (Option FrameType) = c.jump_on.new.progress.frames.items in
+    let new : List (Option FrameType) = c.line_on.new.progress.frames.items in
+    let jumping = (c.in_ok-jump_on.ensures.moves c.if-not-branch-3.false).grows in
+    let grows = Grows-compose s ordered old stored jumped storing jumping in
+    IfOk-all_four c.line_on.result _ _ _ _ _
+    (λ went moves ready none stays is.
+    let later = Grows-compose s ordered old jumped new grows (moves (λ e. cc)).grows in
+    differs-on task new c.args.place i f after at row same q r left
+    (DiffersIn-grown s ordered leads old new later c.args.place f q c.requires.differs) (ready (λ e. cc)).kept (stays is)
+    (λ leader. none is (subst (λ (n : ℕ). Leads leads n) (sym (add-one c.args.place)) leader)))
+    c.line_on.ensures.moves c.line_on.ensures.ready c.line_on.ensures.no_leader c.line_on.ensures.stays

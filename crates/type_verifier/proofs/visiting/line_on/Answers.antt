@@ -3,14 +3,16 @@ use Rattle.std.proofs.Common.{IsTrue, not, arith, inr, true, ap, sym, ◌∙◌,
 use Rattle.std.proofs.lemmas.Option.{get_or_from_slice_get, slice_get_read}
 use Rattle.std.proofs.lemmas.Bool.{false≢true}
 use Rattle.jk_model_typing.specs.Typing.{leaves_line}
+use Rattle.type_verifier.specs.Progress.{notes_of}
 use Rattle.type_verifier.proofs.BelowTypings.{fits-within}
+use Rattle.type_verifier.specs.Tasks.{scope_in}
+use Rattle.type_verifier.proofs.HandlersHaveFrames.{FitsBut-here}
 use Rattle.type_verifier.proofs.MovesCompose.{Moves-refl}
-use Rattle.type_verifier.proofs.WalksGoOn.{FitOutside-all}
 use Rattle.type_verifier.proofs.visiting.line_on.Goals as goal
 
 pub returns-then-leaves_line-clause-moves : goal.returns-then-leaves_line-clause-moves
 returns-then-leaves_line-clause-moves c = λ _.
-    Moves-refl c.args.task.now c.args.progress.now.frames.items c.args.progress.now.work.keys c.requires.ready.kept
+    Moves-refl c.args.task.now c.args.progress.now.frames.items (notes_of c.args.progress.now) c.requires.ready.kept
 
 pub returns-then-next-len-clause-nowhere : goal.returns-then-next-len-clause-nowhere
 returns-then-next-len-clause-nowhere c = λ _ typing types.
@@ -21,7 +23,7 @@ returns-then-next-len-clause-nowhere c = λ _ typing types.
 
 pub returns-then-not-index-clause-moves : goal.returns-then-not-index-clause-moves
 returns-then-not-index-clause-moves c = λ _.
-    Moves-refl c.args.task.now c.args.progress.now.frames.items c.args.progress.now.work.keys c.requires.ready.kept
+    Moves-refl c.args.task.now c.args.progress.now.frames.items (notes_of c.args.progress.now) c.requires.ready.kept
 
 pub returns-then-not-index-clause-no_leader : goal.returns-then-not-index-clause-no_leader
 returns-then-not-index-clause-no_leader c = λ _ leads.
@@ -35,7 +37,12 @@ raise_at-requires-clause-leader c =
 
 pub raise_at-requires-clause-outside : goal.raise_at-requires-clause-outside
 raise_at-requires-clause-outside c = λ f at.
-    rw (c.len-2.ensures, c.as_slice.ensures) (FitOutside-all c.args.task.now.view.table.now c.args.frame.now.locals f.locals)
+    let leads = c.args.task.now.leads.items in
+    let leader = slice_get_read leads (length leads) c.args.next c.index.result.now refl (omega arith) c.index.ensures ∙ ap Some c.if-not-index.false in
+    let stays : IsTrue (not (leaves_line c.args.i.now.op)) = subst (λ (b : Bool). IsTrue (not b)) c.if-leaves_line.ensures refl in
+    rw c.as_slice.ensures
+    (FitsBut-here (scope_in c.args.task.now) c.requires.ready.ordered c.args.progress.now.frames.items c.args.next c.args.range.first
+    c.args.range.end c.args.frame.now.locals f (c.requires.outside stays leader) at)
 
 pub raise_at-requires-clause-below : goal.raise_at-requires-clause-below
 raise_at-requires-clause-below c = λ typing types.

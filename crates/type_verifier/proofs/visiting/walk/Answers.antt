@@ -1,14 +1,28 @@
 -- The walk from a leader on.
 use Rattle.std.proofs.Common.{ℕ, subst, sym, add-one}
+use Rattle.type_verifier.specs.Progress.{notes_of}
 use Rattle.type_verifier.specs.Covers.{nodes_of}
+use Rattle.type_verifier.specs.Known.{DiffersIn}
+use Rattle.type_verifier.specs.Ranges.{IsClipped}
 use Rattle.type_verifier.specs.Settling.{Settles}
 use Rattle.type_verifier.specs.Settling.Settles.{goes_on}
 use Rattle.type_verifier.specs.Tasks.{scope_in}
 use Rattle.type_verifier.specs.Walking.{IsWalking}
 use Rattle.type_verifier.proofs.BelowTypings.{frame-within, handed-below}
 use Rattle.type_verifier.proofs.MovesCompose.{Moves-trans}
+use Rattle.type_verifier.proofs.RangesOfWalks.{DiffersIn-grown, known-differs, known-seen, known-visited}
 use Rattle.type_verifier.proofs.SettledStays.{AreSettled-visited, Grows-compose, StepsWell-grown}
 use Rattle.type_verifier.proofs.visiting.walk.Goals as goal
+
+pub hand_on-requires-clause-outside : goal.hand_on-requires-clause-outside
+hand_on-requires-clause-outside c = λ seen there.
+    let s = scope_in c.args.task.now in
+    let frame = c.args.frame in
+    let clipped = subst (λ (n : ℕ). IsClipped c.args.range n c.clipped-range.result) c.len.ensures c.clipped-range.ensures in
+    rw c.as_slice.ensures
+    (known-seen s c.requires.ready.ordered c.args.task.now.leads.items c.args.progress.now.frames.items (nodes_of c.args.nodes.now) c.args.leader
+    frame c.args.range c.clipped-range.result (c.requires.ready.kept.sized c.args.leader frame c.requires.copied).locals clipped
+    c.requires.known seen there)
 
 pub hand_on-requires-clause-below : goal.hand_on-requires-clause-below
 hand_on-requires-clause-below c = λ typing types.
@@ -27,7 +41,16 @@ loop-frame-init c =
     let frame = c.args.frame in
     let told = c.in_ok-hand_on.ensures in
     let yes = c.if-not-branch.false in
+    let s = scope_in c.args.task.now in
+    let ordered = c.requires.ready.ordered in
+    let clipped = subst (λ (n : ℕ). IsClipped c.args.range n c.clipped-range.result) c.len.ensures c.clipped-range.ensures in
     record {
+      seen = told.seen yes;
+      leaf = rw c.as_slice.ensures at (told.leaf yes);
+      differs = DiffersIn-grown s ordered c.args.task.now.leads.items c.args.progress.now.frames.items c.hand_on.new.progress.frames.items
+          (told.moves yes).grows c.args.leader frame c.clipped-range.result
+          (known-differs s ordered c.args.task.now.leads.items c.args.progress.now.frames.items (nodes_of c.args.nodes.now) c.args.leader
+          frame c.args.range c.clipped-range.result (c.requires.ready.kept.sized c.args.leader frame at).locals clipped c.requires.known);
       ready = record { known = c.requires.ready.known; ordered = c.requires.ready.ordered; kept = told.frames yes };
       covers = told.covers yes;
       moves = told.moves yes;
@@ -63,9 +86,24 @@ returns-in-Done-clause-settled c = λ _.
     let before = c.loop-frame.invariant in
     let moves = c.in_ok-go_over.ensures.moves (λ e. let is = c.in-Done.is in cc) in
     AreSettled-visited s ordered c.args.task.now.leads.items c.args.progress.now.frames.items c.go_over.new.progress.frames.items
-    c.args.progress.now.work.keys c.go_over.new.progress.work.keys c.args.leader c.args.frame c.requires.settled
+    (notes_of c.args.progress.now) (notes_of c.go_over.new.progress) c.args.leader c.args.frame c.requires.settled
     (Moves-trans s ordered _ _ _ _ _ _ before.moves moves) at
     (before.rest c.go_over.new.progress.frames.items moves.grows (c.in_ok-go_over.ensures.done c.in-Done.is))
+
+pub returns-in-Done-clause-known : goal.returns-in-Done-clause-known
+returns-in-Done-clause-known c = λ _.
+    let at = c.requires.copied in
+    let s = scope_in c.args.task.now in
+    let ordered = c.requires.ready.ordered in
+    let before = c.loop-frame.invariant in
+    let moves = c.in_ok-go_over.ensures.moves (λ e. let is = c.in-Done.is in cc) in
+    let keeps = c.in_ok-go_over.ensures.seen (λ e. let is = c.in-Done.is in cc) in
+    known-visited s ordered c.args.task.now.leads.items c.args.progress.now.frames.items c.go_over.new.progress.frames.items
+    (notes_of c.args.progress.now) (notes_of c.go_over.new.progress) (nodes_of c.args.nodes.now) (nodes_of c.go_over.new.nodes)
+    c.args.leader c.args.frame c.requires.others (Moves-trans s ordered _ _ _ _ _ _ before.moves moves)
+    (λ p locals fresh leaf. keeps p locals fresh (before.seen p locals fresh leaf)) at
+    (before.rest c.go_over.new.progress.frames.items moves.grows (c.in_ok-go_over.ensures.done c.in-Done.is))
+    (keeps c.args.leader c.args.frame.locals c.args.frame.fresh before.leaf)
 
 pub loop-frame-preserved : goal.loop-frame-preserved
 loop-frame-preserved c =
@@ -79,6 +117,11 @@ loop-frame-preserved c =
     let moves = told.moves (λ e. cc) in
     let steps = told.steps on in
     record {
+      seen = λ p locals fresh leaf. told.seen (λ e. cc) p locals fresh (before.seen p locals fresh leaf);
+      leaf = told.seen (λ e. cc) c.args.leader c.args.frame.locals c.args.frame.fresh before.leaf;
+      differs =
+          subst (λ (n : ℕ). DiffersIn s task.leads.items c.go_over.new.progress.frames.items n c.go_over.new.frame c.go_over.new.range)
+          (sym (add-one place)) (told.differs on);
       ready = told.ready (λ e. cc);
       covers = told.covers (λ e. cc);
       moves = Moves-trans s ordered _ _ _ _ _ _ before.moves moves;
