@@ -1,0 +1,17 @@
+-- The entries of the small pool are good.
+use Rattle.std.proofs.Common.{◌≡◌, List, [], ◌∷◌, refl, sym, subst, arith}
+use Rattle.std.specs.List.{AllByRecursion}
+use Rattle.jk_model.specs.declared.class_file.PoolEntry.{PoolEntry}
+use Rattle.jk_model.specs.declared.class_file.PoolEntry.TheVariants.{Utf8}
+use Rattle.jk_model.specs.ClassFile.{IsGoodEntry}
+use Rattle.class_texts.specs.SmallPool.{small_pool}
+use Rattle.class_texts.proofs.tests.texts_and_names.Goals as goal
+
+small_is_good : AllByRecursion (IsGoodEntry small_pool) small_pool
+small_is_good =
+    (tt, ((65 ∷ [], (65 ∷ [], [], (omega arith, omega arith, refl), refl, refl)), ((Utf8 (65 ∷ []), refl, tt), tt)))
+
+pub of-requires : goal.of-requires
+of-requires g c =
+    let same : c.as_slice.result.now ≡ small_pool = cc (c.as_slice.ensures, c.pool.view_is, c.in_ok-pool.ensures) in
+    subst (λ (pool : List PoolEntry). AllByRecursion (IsGoodEntry pool) pool) (sym same) small_is_good

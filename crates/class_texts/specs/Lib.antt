@@ -1,0 +1,4 @@
+-- What contracts say of the texts of a pool.
+pub mod EntryTexts
+pub mod PoolTexts
+pub mod SmallPool

@@ -1,0 +1,9 @@
+//! The texts of a class file's pool, each decoded once and kept with its fingerprint, so that names are looked up, shared and
+//! compared without going over their bytes again.
+#![tactic(auto)]
+
+#[cfg(test)]
+mod tests;
+mod texts;
+
+pub use texts::ClassTexts;

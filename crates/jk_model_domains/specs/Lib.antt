@@ -1,0 +1,5 @@
+pub mod Frames
+pub mod NumberRows
+pub mod Objects
+pub mod OwnStates
+pub mod ValueTypes
