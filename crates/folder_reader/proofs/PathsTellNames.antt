@@ -1,0 +1,130 @@
+-- The path of a name in a folder tells both, and leads on from the folder that is read.
+use Rattle.std.proofs.Common.{◌≡◌, ◌≢◌, ℕ, ◌==◌, ◌||◌, Bool, true, false, not, List, [], ◌∷◌, ◌++◌, length, refl, sym, ap, ◌∙◌, subst, append_assoc, eqb, eq-eqb, arith}
+use Rattle.std.specs.Prelude.{IsUtf8, ◌&&◌}
+use Rattle.std.specs.List.{AllByRecursion, list_any}
+use Rattle.std.proofs.lemmas.Bool.{and_parts, false≢true}
+use Rattle.std.proofs.lemmas.Bool.Decides.{Decides-eqb}
+use Rattle.std.proofs.lemmas.Str.{IsUtf8-append, IsUtf8-from_ascii}
+use Rattle.jk_model.specs.declared.entries.Entry.{Entry}
+use Rattle.jk_model.specs.Outside.{IsEntryName, ◌/-◌}
+use Rattle.jk_model.proofs.EachItem.{all_push}
+use Rattle.jk_model_folders.specs.FolderTrees.{RESOLVER}
+use Rattle.folder_reader.specs.FolderAnswers.{IsWithin, path_over}
+use Rattle.folder_reader.specs.Paths.{child, has_name, whole_path}
+
+-- ---- two paths that are the same
+
+abbrev HasNoSlash : List ℕ → Type 0
+HasNoSlash name = AllByRecursion (λ c. c ≢ 47) name
+
+slash_inside : (front name : List ℕ) → HasNoSlash (front ++ 47 ∷ name) → ⊥
+slash_inside [] name h = h.0 refl
+slash_inside (c ∷ front) name h = slash_inside front name h.1
+
+last_names : (p q m n : List ℕ) → HasNoSlash m → HasNoSlash n → p ++ 47 ∷ m ≡ q ++ 47 ∷ n → (p ≡ q) × (m ≡ n)
+last_names [] [] m n hm hn e = (refl, cc)
+last_names [] (d ∷ q) m n hm hn e =
+    let rest : m ≡ q ++ 47 ∷ n = cc in
+    absurd (slash_inside q n (subst HasNoSlash rest hm))
+last_names (c ∷ p) [] m n hm hn e =
+    let rest : n ≡ p ++ 47 ∷ m = cc in
+    absurd (slash_inside p m (subst HasNoSlash rest hn))
+last_names (c ∷ p) (d ∷ q) m n hm hn e =
+    let tails : p ++ 47 ∷ m ≡ q ++ 47 ∷ n = cc in
+    let heads : c ≡ d = cc in
+    let same = last_names p q m n hm hn tails in
+    let fronts : p ≡ q = same.0 in
+    (cc, same.1)
+
+pub child_tells : (p q m n : List ℕ) → IsEntryName m → IsEntryName n → child p m ≡ child q n → (p ≡ q) × (m ≡ n)
+child_tells [] [] m n hm hn e = (refl, e)
+child_tells [] (d ∷ q) m n hm hn e = absurd (slash_inside (d ∷ q) n (subst HasNoSlash e hm.1))
+child_tells (c ∷ p) [] m n hm hn e = absurd (slash_inside (c ∷ p) m (subst HasNoSlash (sym e) hn.1))
+child_tells (c ∷ p) (d ∷ q) m n hm hn e = last_names (c ∷ p) (d ∷ q) m n hm.1 hn.1 e
+
+pub child_not_empty : (p n : List ℕ) → IsEntryName n → child p n ≢ []
+child_not_empty [] n h e = h.0 e
+child_not_empty (c ∷ p) n h e = absurd cc
+
+-- ---- whole paths
+
+pub whole_child : (root p n : List ℕ) → IsEntryName n → whole_path root (child p n) ≡ whole_path root p /- n
+whole_child root [] [] h = absurd (h.0 refl)
+whole_child root [] (c ∷ n) h = refl
+whole_child root (c ∷ p) n h = sym (append_assoc root (47 ∷ c ∷ p) (47 ∷ n))
+
+pub whole_below : (root p : List ℕ) → p ≢ [] → whole_path root p ≡ root /- p
+whole_below root [] h = absurd (h refl)
+whole_below root (c ∷ p) h = refl
+
+path_on : (root : List ℕ) (names : List (List ℕ)) (n : List ℕ) → path_over root (names ++ n ∷ []) ≡ path_over root names /- n
+path_on root [] n = refl
+path_on root (m ∷ names) n = path_on (root /- m) names n
+
+pub within_child : (root p n : List ℕ) → IsEntryName n → IsWithin root (whole_path root p) → IsWithin root (whole_path root (child p n))
+within_child root p n h w = (
+  w.0 ++ n ∷ [],
+  all_push IsEntryName w.0 n w.1 h,
+  whole_child root p n h ∙ ap (λ (x : List ℕ). x /- n) w.2 ∙ sym (path_on root w.0 n),
+)
+
+pub within_self : (root : List ℕ) → IsWithin root root
+within_self root = ([], tt, refl)
+
+slash_text : IsUtf8 (47 ∷ [])
+slash_text = IsUtf8-from_ascii (47 ∷ []) (search (arith))
+
+pub utf8_child : (p n : List ℕ) → IsUtf8 p → IsUtf8 n → IsUtf8 (child p n)
+utf8_child [] n hp hn = hn
+utf8_child (c ∷ p) n hp hn = IsUtf8-append (c ∷ p) (47 ∷ n) hp (IsUtf8-append (47 ∷ []) n slash_text hn)
+
+-- ---- the test of names
+
+neither : (a b : Bool) → not (a || b) ≡ true → (a ≡ false) × (not b ≡ true)
+neither true b e = absurd cc
+neither false b e = (refl, e)
+
+both_not : (a b : Bool) → (a ≡ true → ⊥) → not b ≡ true → not (a || b) ≡ true
+both_not true b h e = absurd (h refl)
+both_not false b h e = e
+
+not_so : (a : Bool) → (a ≡ true → ⊥) → not a ≡ true
+not_so true h = absurd (h refl)
+not_so false h = refl
+
+so_not : (a : Bool) → not a ≡ true → a ≡ true → ⊥
+so_not true e h = absurd cc
+so_not false e h = absurd cc
+
+no_slash : (name : List ℕ) → not (list_any (λ c. c == 47) name) ≡ true → HasNoSlash name
+no_slash [] e = tt
+no_slash (c ∷ name) e =
+    let parts = neither (c == 47) (list_any (λ c. c == 47) name) e in
+    (λ is. false≢true (sym parts.0 ∙ eq-eqb c 47 is), no_slash name parts.1)
+
+slash_free : (name : List ℕ) → HasNoSlash name → not (list_any (λ c. c == 47) name) ≡ true
+slash_free [] h = refl
+slash_free (c ∷ name) h =
+    both_not (c == 47) (list_any (λ c. c == 47) name) (λ is. h.0 ((Decides-eqb c 47).0 is)) (slash_free name h.1)
+
+empty_by_length : (name : List ℕ) → length name ≡ 0 → name ≡ []
+empty_by_length [] e = refl
+empty_by_length (c ∷ name) e = absurd (omega arith)
+
+both : (a b : Bool) → a ≡ true → b ≡ true → (a && b) ≡ true
+both true b h e = e
+both false b h e = absurd cc
+
+pub named_by_test : (e : Entry) → has_name e ≡ true → IsEntryName e.name
+named_by_test e h =
+    let parts = and_parts (not (length e.name == 0)) (not (list_any (λ c. c == 47) e.name)) h in
+    (λ empty. so_not (length e.name == 0) parts.0 (eq-eqb (length e.name) 0 (ap length empty)), no_slash e.name parts.1)
+
+pub test_of_named : (e : Entry) → IsEntryName e.name → has_name e ≡ true
+test_of_named e h =
+    both (not (length e.name == 0)) (not (list_any (λ c. c == 47) e.name))
+    (not_so (length e.name == 0) (λ is. h.0 (empty_by_length e.name ((Decides-eqb (length e.name) 0).0 is))))
+    (slash_free e.name h.1)
+
+pub resolver_within : (root : List ℕ) → IsWithin root (whole_path root RESOLVER)
+resolver_within root = (RESOLVER ∷ [], (named_by_test (record { name = RESOLVER; folder = false }) refl, tt), refl)

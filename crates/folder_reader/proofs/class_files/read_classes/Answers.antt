@@ -1,0 +1,37 @@
+-- One class file more is read, and is of those that make the folder too large.
+use Rattle.std.proofs.Common.{◌≡◌, Some, sym, ap, ◌∙◌, arith}
+use Rattle.folder_reader.proofs.CallsInTurn.{moves_on}
+use Rattle.folder_reader.proofs.ToldOrNot.{file_is_read, path_get, to_read_at}
+use Rattle.folder_reader.proofs.WholeWalk.{read_more, sum_more, too_long_with}
+use Rattle.folder_reader.proofs.class_files.read_classes.Goals as goal
+
+pub read_class-requires-clause-to_read : goal.read_class-requires-clause-to_read
+read_class-requires-clause-to_read g c =
+    to_read_at _ _ c.args.root.now c.args.paths.now c.loop-path.path-index c.path-item.result _ c.loop-path.invariant.moves.stays
+    c.requires.to_read (omega arith) c.path-item.is c.as_str.ensures.value
+
+pub returns-then-sum-gt-MOST_CLASS_BYTES-clause-too_large : goal.returns-then-sum-gt-MOST_CLASS_BYTES-clause-too_large
+returns-then-sum-gt-MOST_CLASS_BYTES-clause-too_large g c = λ _.
+    let at = path_get c.args.paths.now c.loop-path.path-index c.path-item.result (omega arith) c.path-item.is
+    ∙ ap Some (sym (c.in_ok-class.ensures.path ∙ c.as_str.ensures.value)) in
+    let bytes = file_is_read _ _ c.args.root.now _ c.in_ok-class.class c.loop-path.invariant.moves.stays c.in_ok-class.ensures.path
+    c.in_ok-class.ensures.bytes in
+    too_long_with _ c.args.root.now _ c.loop-path.path-index c.loop-path.classes c.in_ok-class.class c.loop-path.invariant.read at bytes
+    c.requires.to_read c.requires.apart c.requires.folder
+    (omega (arith, c.loop-path.invariant.sum, c.len-sum.ensures, c.if-sum-gt-MOST_CLASS_BYTES.true))
+
+pub loop-path-preserved : goal.loop-path-preserved
+loop-path-preserved g c =
+    let at = path_get c.args.paths.now c.loop-path.path-index c.path-item.result (omega arith) c.path-item.is
+    ∙ ap Some (sym (c.in_ok-class.ensures.path ∙ c.as_str.ensures.value)) in
+    let bytes = file_is_read _ _ c.args.root.now _ c.in_ok-class.class c.loop-path.invariant.moves.stays c.in_ok-class.ensures.path
+    c.in_ok-class.ensures.bytes in
+    let whole = sum_more c.loop-path.classes c.in_ok-class.class in
+    record {
+      read = rw c.in_ok-push.ensures.ok
+          (read_more _ c.args.root.now _ c.loop-path.path-index c.loop-path.classes c.in_ok-class.class c.loop-path.invariant.read at bytes
+          c.in_ok-class.ensures.short (omega (arith, c.loop-path.invariant.sum, c.len-sum.ensures, c.if-sum-gt-MOST_CLASS_BYTES.false)));
+      sum = rw c.in_ok-push.ensures.ok (omega (arith, whole, c.loop-path.invariant.sum, c.len-sum.ensures));
+      moves = moves_on c.args.root.now _ _ _ _ _ _ _ _ _ _ _ _ c.loop-path.invariant.moves c.in_ok-class.ensures.moves;
+      calm = λ t is. c.in_ok-class.ensures.calm t (c.loop-path.invariant.moves.stays ∙ is) (λ fault. cc) ∙ c.loop-path.invariant.calm t is;
+    }

@@ -1,0 +1,13 @@
+-- A folder with too many entries makes the one that is read too large.
+use Rattle.std.proofs.Common.{Err, refl, sym, ap, ◌∙◌}
+use Rattle.folder_reader.specs.Paths.{whole_path}
+use Rattle.folder_reader.proofs.CallsInTurn.{err_inner}
+use Rattle.folder_reader.proofs.ToldOrNot.{is_wide}
+use Rattle.folder_reader.proofs.listing.below_of.Goals as goal
+
+pub returns-clause-too_large : goal.returns-clause-too_large
+returns-clause-too_large g c = λ is.
+    let path = c.as_str.ensures.value ∙ c.in_ok-folder.ensures ∙ ap (whole_path c.args.root.now) (c.text_of.ensures ∙ c.as_slice.ensures) in
+    let same = err_inner _ _ (Err _) refl is in
+    is_wide _ c.args.root.now c.args.above.now _ _ c.requires.place c.requires.folder
+    (rw path at (c.entries_of.ensures.too_large (c.in-Err.is ∙ ap Err (sym c.in-Err.e-is ∙ same))))

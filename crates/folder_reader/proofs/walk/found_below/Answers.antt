@@ -1,0 +1,27 @@
+-- The walk begins with the folder alone, and ends where each that was found was looked at.
+use Rattle.std.proofs.Common.{◌≡◌, ℕ, length, vec_len, refl, sym, ap, subst, arith}
+use Rattle.std.proofs.lemmas.Str.{IsUtf8-nil}
+use Rattle.folder_reader.specs.Walks.{AreFound, IsToldWalk}
+use Rattle.folder_reader.proofs.CallsInTurn.{no_move}
+use Rattle.folder_reader.proofs.PathsTellNames.{within_self}
+use Rattle.folder_reader.proofs.ToldOrNot.{begins}
+use Rattle.folder_reader.proofs.walk.found_below.Goals as goal
+
+pub loop-next-init : goal.loop-next-init
+loop-next-init g c =
+    let alone = c.in_ok-found.ensures in
+    let one = ap length alone in
+    record {
+      few = omega (arith, one, c.in_ok-found.found.ok.0);
+      within = omega arith;
+      found = subst (AreFound c.args.root.now) (sym alone) (record { utf8 = IsUtf8-nil; within = within_self c.args.root.now }, tt);
+      walk = begins _ c.args.root.now c.in_ok-found.found.items alone;
+      moves = no_move c.args.root.now _ _ _ _ (g.met.F.Files.faults_fit c.args.files.now) (g.met.F.Files.taken_fits c.args.files.now);
+      calm = λ t is. refl;
+    }
+
+pub returns-clause-walk : goal.returns-clause-walk
+returns-clause-walk g c =
+    let v = c.loop-next.found in
+    let all : c.loop-next.next ≡ vec_len v = omega (arith, c.loop-next-test.false, c.len.ensures, c.loop-next.invariant.within) in
+    subst (λ (n : ℕ). IsToldWalk (g.F.Files.tree c.args.files.now) c.args.root.now v.items n) all c.loop-next.invariant.walk

@@ -1,0 +1,57 @@
+-- What one step of the walk leaves, and what makes the folder too large there.
+use Rattle.std.proofs.Common.{◌≡◌, ℕ, ◌+◌, ◌++◌, List, vec_len, sym, subst, arith}
+use Rattle.std.proofs.lemmas.Option.{slice_get_read}
+use Rattle.jk_model.proofs.EachItem.{all_append, all_at}
+use Rattle.folder_reader.specs.declared.found.Found.{Found}
+use Rattle.folder_reader.specs.Walks.{AreFound, IsFound, IsToldWalk}
+use Rattle.folder_reader.proofs.ToldOrNot.{appended, are_many, is_deep, past_file, past_folder}
+use Rattle.folder_reader.proofs.WalkGoesOn.{children_are_found}
+use Rattle.folder_reader.proofs.walk.look_at.Goals as goal
+
+pub returns-then-not-entry-clause-walk : goal.returns-then-not-entry-clause-walk
+returns-then-not-entry-clause-walk g c =
+    let v = c.args.found.now in
+    let at = slice_get_read v.items (vec_len v) c.args.at c.index-entry.result.now v.ok.0 c.requires.at c.index-entry.ensures in
+    past_file _ c.args.root.now v.items c.args.at c.index-entry.result.now c.requires.walk at c.if-not-entry.true
+
+pub returns-then-entry-gt-MOST_LEVELS-clause-too_large : goal.returns-then-entry-gt-MOST_LEVELS-clause-too_large
+returns-then-entry-gt-MOST_LEVELS-clause-too_large g c = λ _.
+    let v = c.args.found.now in
+    let at = slice_get_read v.items (vec_len v) c.args.at c.index-entry.result.now v.ok.0 c.requires.at c.index-entry.ensures in
+    is_deep _ c.args.root.now v.items c.args.at c.index-entry.result.now c.requires.walk at c.if-not-entry.false c.if-entry-gt-MOST_LEVELS.true
+
+pub returns-then-len-clause-too_large : goal.returns-then-len-clause-too_large
+returns-then-len-clause-too_large g c = λ _.
+    let v = c.args.found.now in
+    let at = slice_get_read v.items (vec_len v) c.args.at c.index-entry.result.now v.ok.0 c.requires.at c.index-entry.ensures in
+    let b = c.in_ok-below.ensures.below in
+    let items = appended _ c.is_err.result v.items c.in_ok-below.below.items c.append.new.self.items c.append.ensures.items c.is_err.ensures.negation
+    c.if-is_err.false in
+    let walk = past_folder _ c.args.root.now v.items c.in_ok-below.below.items c.args.at c.index-entry.result.now b.0 c.requires.walk at
+    c.if-not-entry.false c.if-entry-gt-MOST_LEVELS.false b.1 b.2 in
+    are_many _ c.args.root.now c.append.new.self.items (c.args.at + 1)
+    (subst (λ (xs : List Found). IsToldWalk (g.F.Files.tree c.args.files.now) c.args.root.now xs (c.args.at + 1)) (sym items) walk)
+    (omega (arith, c.if-len.true, c.len.ensures, c.append.new.self.ok.0))
+
+pub returns-clause-found : goal.returns-clause-found
+returns-clause-found g c =
+    let v = c.args.found.now in
+    let at = slice_get_read v.items (vec_len v) c.args.at c.index-entry.result.now v.ok.0 c.requires.at c.index-entry.ensures in
+    let b = c.in_ok-below.ensures.below in
+    let items = appended _ c.is_err.result v.items c.in_ok-below.below.items c.append.new.self.items c.append.ensures.items c.is_err.ensures.negation
+    c.if-is_err.false in
+    let here = all_at (IsFound c.args.root.now) v.items c.args.at c.index-entry.result.now c.requires.found at in
+    let more = children_are_found c.args.root.now c.index-entry.result.now _ _ b.0 here b.1 in
+    subst (AreFound c.args.root.now) (sym items)
+    (all_append (IsFound c.args.root.now) v.items c.in_ok-below.below.items c.requires.found (subst (AreFound c.args.root.now) (sym b.2) more))
+
+pub returns-clause-walk : goal.returns-clause-walk
+returns-clause-walk g c =
+    let v = c.args.found.now in
+    let at = slice_get_read v.items (vec_len v) c.args.at c.index-entry.result.now v.ok.0 c.requires.at c.index-entry.ensures in
+    let b = c.in_ok-below.ensures.below in
+    let items = appended _ c.is_err.result v.items c.in_ok-below.below.items c.append.new.self.items c.append.ensures.items c.is_err.ensures.negation
+    c.if-is_err.false in
+    let walk = past_folder _ c.args.root.now v.items c.in_ok-below.below.items c.args.at c.index-entry.result.now b.0 c.requires.walk at
+    c.if-not-entry.false c.if-entry-gt-MOST_LEVELS.false b.1 b.2 in
+    subst (λ (xs : List Found). IsToldWalk (g.F.Files.tree c.args.files.now) c.args.root.now xs (c.args.at + 1)) (sym items) walk

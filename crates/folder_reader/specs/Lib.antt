@@ -1,0 +1,5 @@
+pub mod Calls
+pub mod FolderAnswers
+pub mod Listings
+pub mod Paths
+pub mod Walks

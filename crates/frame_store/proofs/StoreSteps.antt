@@ -1,0 +1,91 @@
+-- What the calls on one segment make of a store's content.
+use Rattle.std.proofs.Common.{◌≡◌, ℕ, ◌+◌, ◌-◌, List, [], ◌∷◌, ◌++◌, Option, Some, None, option_map, nat_eq, refl, sym, ap, subst, ◌∙◌, inl, inr}
+use Rattle.std.specs.Option.{option_map_or}
+use Rattle.std.specs.HashMap.{WritesThrough}
+use Rattle.std.proofs.lemmas.Bool.{cases_eq}
+use Rattle.jk_model.specs.declared.frames.FrameHead.{FrameHead}
+use Rattle.jk_model.specs.declared.identifiers.SegmentNo.{SegmentNo}
+use Rattle.jk_model_domains.specs.Frames.{FrameState, new_frame, head_chunks}
+use Rattle.indexmap.specs.IndexMap.{IndexMap, get}
+use Rattle.frame_store.specs.declared.domain_frames.DomainFrames.{DomainFrames}
+use Rattle.frame_store.specs.declared.segment_table.Place.{Place}
+use Rattle.frame_store.specs.declared.segment_table.SegmentTable.{SegmentTable}
+use Rattle.frame_store.specs.FrameContents.{StoredSegment, Changes, IsSame, SetsTop, Pops, Pushes}
+use Rattle.frame_store.specs.TableMoves as table
+use Rattle.frame_store.specs.DomainMoves.{frames_of, top_of, lower_of, HasTop, Becomes}
+use Rattle.frame_store.specs.StoreContents.{content_of, stored, IsStore}
+use Rattle.frame_store.proofs.TopIsWritten.{frames_more}
+use Rattle.frame_store.proofs.StoreChanges.{segment_in, get_here, get_other, store_changes, used_is, segment_is}
+
+module _ {S : Type 0} (m n : IndexMap ℕ DomainFrames S) (t : SegmentTable) (owed : ℕ) (s : SegmentNo) (p : Place) (x y : DomainFrames) (h : IsStore m t owed)
+    (at : table.place_in t s.0 ≡ Some p) (is : get nat_eq m p.domain ≡ Some x) (wrote : WritesThrough nat_eq (nat_eq p.domain) m y n) where
+  abbrev segment_here : StoredSegment
+  segment_here = segment_in x p.domain p.slot
+
+  abbrev ChangesTo : List FrameState → ℕ → Type 0
+  ChangesTo fs used =
+      Changes (content_of m t) (content_of n t) s (record { 0 = p.domain }) (Some (record { domain = record { 0 = p.domain }; frames = fs })) used
+
+  use_is : (content_of m t).used (record { 0 = p.domain }) ≡ x.used
+  use_is = used_is m n t owed s p x y h at is wrote
+
+  pub steps_top : HasTop x p.slot → (g : FrameState) → Becomes x y p.slot (lower_of x p.slot ++ g ∷ []) x.used → SetsTop (content_of m t) (content_of n t) s g
+  steps_top top g b =
+      let c = store_changes m n t owed s p x y h at is wrote (lower_of x p.slot ++ g ∷ []) x.used b in
+      let P : ℕ → Type 0 = λ u. ChangesTo (lower_of x p.slot ++ g ∷ []) u in (
+        top_of x p.slot,
+        record {
+          segment = segment_here;
+          is_there = segment_is m n t owed s p x y h at is wrote;
+          lower = lower_of x p.slot;
+          frames = frames_more x p.slot top;
+        },
+        subst P (sym use_is) c,
+      )
+
+  pub steps_pop : HasTop x p.slot → Becomes x y p.slot (lower_of x p.slot) (x.used - head_chunks (top_of x p.slot).head) → Pops (content_of m t) (content_of n t) s
+  steps_pop top b =
+      let c = store_changes m n t owed s p x y h at is wrote (lower_of x p.slot) (x.used - head_chunks (top_of x p.slot).head) b in
+      let P : ℕ → Type 0 = λ u. ChangesTo (lower_of x p.slot) (u - head_chunks (top_of x p.slot).head) in (
+        top_of x p.slot,
+        record {
+          segment = segment_here;
+          is_there = segment_is m n t owed s p x y h at is wrote;
+          lower = lower_of x p.slot;
+          frames = frames_more x p.slot top;
+        },
+        subst P (sym use_is) c,
+      )
+
+  pub steps_push : (head : FrameHead) → Becomes x y p.slot (frames_of x p.slot ++ new_frame head ∷ []) (x.used + head_chunks head) → Pushes (content_of m t) (content_of n t) s head
+  steps_push head b =
+      let fs = frames_of x p.slot ++ new_frame head ∷ [] in
+      let c = store_changes m n t owed s p x y h at is wrote fs (x.used + head_chunks head) b in
+      let P : ℕ → Type 0 = λ u. ChangesTo fs (u + head_chunks head) in
+      (segment_here, segment_is m n t owed s p x y h at is wrote, subst P (sym use_is) c)
+
+  -- nothing is written
+  get_all : y ≡ x → (q : ℕ) → get nat_eq n q ≡ get nat_eq m q
+  get_all e q =
+      elim (cases_eq q p.domain) [
+        | inl same ↦
+            ap (get nat_eq n) same ∙ get_here m n t owed s p x y h at is wrote ∙ ap (λ (z : DomainFrames). Some z) e ∙ sym is ∙ ap (get nat_eq m) (sym same)
+        | inr ne ↦ get_other m n t owed s p x y h at is wrote q ne
+      ]
+
+  stored_all : y ≡ x → (o : Option Place) → stored n o ≡ stored m o
+  stored_all e None = refl
+  stored_all e (Some q) = ap (option_map (λ (z : DomainFrames). segment_in z q.domain q.slot)) (get_all e q.domain)
+
+  pub steps_none : y ≡ x → IsSame (content_of m t) (content_of n t)
+  steps_none e =
+      record {
+        domains = record {
+          pages = refl;
+          took_all = refl;
+          quota = λ d. ap (option_map (λ (z : DomainFrames). z.chunks)) (get_all e d.0);
+          first_page = λ _. refl;
+        };
+        used = λ d. ap (λ o. option_map_or (λ (z : DomainFrames). z.used) o 0) (get_all e d.0);
+        segment = λ r. stored_all e (table.place_in t r.0);
+      }

@@ -1,0 +1,37 @@
+-- The number and the blocks of the frame become free.
+use Rattle.std.proofs.Common.{◌-◌, ◌∙◌, ℕ, refl, sym, ap, subst}
+use Rattle.jk_model_domains.specs.Frames.{head_chunks}
+use Rattle.frame_store.specs.FrameBlocks.{record_at, IsDomain}
+use Rattle.frame_store.proofs.FrameIsOff.{blocks_are, off_keeps, off_top, off_others}
+use Rattle.frame_store.proofs.domain_frames.DomainFrames.pop.Goals as goal
+
+pub invariant_of-self : goal.invariant_of-self
+invariant_of-self c =
+    let d = c.args.self.now in
+    let P : ℕ → Type 0 = λ n. IsDomain d.chunks (d.used - n) d.slots c.move_top.new.self c.give_blocks.new.parts d.records.items d.values.items in
+    record {
+      ok =
+          subst P (sym c.count-blocks.ensures)
+          (off_keeps d c.move_top.new.self c.give_blocks.new.parts c.args.slot c.top-frame.result _ c.requires c.top-frame.ensures.top
+          c.move_top.ensures.moves c.give_blocks.ensures);
+    }
+
+pub returns : goal.returns
+returns c =
+    let d = c.args.self.now in
+    record {
+      same_chunks = refl;
+      same_slots = refl;
+      becomes =
+          off_top d c.move_top.new.self c.give_blocks.new.parts c.args.slot c.top-frame.result _ c.requires c.top-frame.ensures.top
+          c.move_top.ensures.moves c.give_blocks.ensures;
+      others =
+          off_others d c.move_top.new.self c.give_blocks.new.parts c.args.slot c.top-frame.result _ c.requires c.top-frame.ensures.top
+          c.move_top.ensures.moves c.give_blocks.ensures;
+      uses =
+          ap (λ n. d.used - n)
+          (c.count-blocks.ensures
+          ∙ blocks_are d c.move_top.new.self c.give_blocks.new.parts c.args.slot c.top-frame.result _ c.requires c.top-frame.ensures.top
+          c.move_top.ensures.moves c.give_blocks.ensures
+          ∙ ap (λ g. head_chunks (record_at d.records.items g).head) c.top-frame.ensures.top);
+    }

@@ -1,0 +1,29 @@
+-- The table has room, and the domain is the last of the map.
+use Rattle.std.proofs.Common.{◌+◌}
+use Rattle.frame_store.proofs.DomainIsEntered.{entered_store, owes_entered, owes_unchanged, get_unchanged, others_by_updates, le_part}
+use Rattle.frame_store.proofs.plain_frames.PlainFrames.enter.Goals as goal
+
+pub invariant_of-self-in-Break-branch-2 : goal.invariant_of-self-in-Break-branch-2
+invariant_of-self-in-Break-branch-2 c =
+    let st = c.args.self.now in
+    let m = st.domains in
+    let n = c.insert.new.self in
+    let same = c.in_err-insert.ensures.err in
+    record {
+      ok =
+          entered_store m n st.places c.reserve.new.self st.owed st.ok c.args.d c.requires.new (λ e _. get_unchanged m n same e) c.reserve.ensures.same st.owed
+          (owes_unchanged m n st.owed same st.ok.owes) (le_part st.owed _ _ c.in_ok-reserve.ensures.ok);
+    }
+
+pub invariant_of-self-2 : goal.invariant_of-self-2
+invariant_of-self-2 c =
+    let st = c.args.self.now in
+    let m = st.domains in
+    let n = c.insert.new.self in
+    record {
+      ok =
+          entered_store m n st.places c.reserve.new.self st.owed st.ok c.args.d c.requires.new
+          (others_by_updates m n c.args.d _ c.in_ok-insert.ensures.updates.0) c.reserve.ensures.same (st.owed + c.from.result)
+          (owes_entered m n c.args.d c.args.fresh st.owed c.from.result c.requires.new c.in_ok-insert.ensures.entries c.requires.none st.ok.owes c.from.ensures)
+          c.in_ok-reserve.ensures.ok;
+    }

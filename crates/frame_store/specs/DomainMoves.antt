@@ -1,0 +1,89 @@
+-- What the calls of a domain's frames do.
+use Rattle.std.specs.Prelude.{◌≡◌, ◌≢◌, ℕ, ◌+◌, ◌-◌, ◌<◌, List, [], ◌∷◌, ◌++◌}
+use Rattle.jk_model.specs.declared.frames.FrameHead.{FrameHead}
+use Rattle.jk_model.specs.declared.values.Value.{Value}
+use Rattle.jk_model_domains.specs.Frames.{FrameState, new_frame, head_chunks, segment_chunks}
+use Rattle.frame_store.specs.declared.domain_frames.DomainFrames.{DomainFrames}
+use Rattle.frame_store.specs.ChainMoves.{count, place}
+use Rattle.frame_store.specs.SlotMoves.{IsLive, TakesSlot, GivesSlot}
+use Rattle.frame_store.specs.FrameBlocks.{frame_of, lowest_in, IsFramed}
+
+-- how many frames a segment has
+abbrev pub depth_of : DomainFrames → ℕ → ℕ
+depth_of d i = count d.frames i
+
+-- the frame of this number
+abbrev pub value_at : DomainFrames → ℕ → FrameState
+value_at d f = frame_of d.parts d.records.items d.values.items f
+
+-- the frames of the segment in a slot
+abbrev pub frames_of : DomainFrames → ℕ → List FrameState
+frames_of d i = lowest_in d.frames d.parts d.records.items d.values.items i (depth_of d i)
+
+-- the number of the top frame
+abbrev pub top_number : DomainFrames → ℕ → ℕ
+top_number d i = place d.frames i (depth_of d i - 1)
+
+abbrev pub top_of : DomainFrames → ℕ → FrameState
+top_of d i = value_at d (top_number d i)
+
+-- the frames below the top one
+abbrev pub lower_of : DomainFrames → ℕ → List FrameState
+lower_of d i = lowest_in d.frames d.parts d.records.items d.values.items i (depth_of d i - 1)
+
+-- a segment is in this slot
+abbrev pub IsSlot : DomainFrames → ℕ → Type 0
+IsSlot d i = (i < d.chunks) × IsLive d.slots i
+
+-- a segment with a frame is in this slot
+abbrev pub HasTop : DomainFrames → ℕ → Type 0
+HasTop d i = (i < d.chunks) × (0 < depth_of d i)
+
+-- a frame has this number
+pub record IsFrameNumber (d : DomainFrames) (f : ℕ) : Type 0 where
+  pub within : f < d.chunks
+  pub framed : IsFramed d.parts d.records.items f
+
+-- A domain has no segments.
+pub record IsFresh (d : DomainFrames) (chunks : ℕ) : Type 0 where
+  pub quota : d.chunks ≡ chunks
+  pub unused : d.used ≡ 0
+  pub none : d.slots.live ≡ 0
+
+-- The segment in a slot has these frames, and the domain uses so many chunks; all else is as before.
+pub record Becomes (old new : DomainFrames) (i : ℕ) (frames : List FrameState) (used : ℕ) : Type 0 where
+  pub same_chunks : new.chunks ≡ old.chunks
+  pub same_slots : new.slots ≡ old.slots
+  pub becomes : frames_of new i ≡ frames
+  pub others : (j : ℕ) → j < old.chunks → j ≢ i → frames_of new j ≡ frames_of old j
+  pub uses : new.used ≡ used
+
+-- A segment without frames is in a slot that wasn't live.
+pub record Opens (old new : DomainFrames) (number i : ℕ) : Type 0 where
+  pub same_chunks : new.chunks ≡ old.chunks
+  pub takes : TakesSlot old.slots new.slots number i
+  pub frames : frames_of new i ≡ []
+  pub others : (j : ℕ) → j < old.chunks → j ≢ i → frames_of new j ≡ frames_of old j
+  pub uses : new.used ≡ old.used + 1
+
+-- A segment with one frame is in a slot that wasn't live.
+pub record Begins (old new : DomainFrames) (number : ℕ) (head : FrameHead) (i : ℕ) : Type 0 where
+  pub same_chunks : new.chunks ≡ old.chunks
+  pub takes : TakesSlot old.slots new.slots number i
+  pub frames : frames_of new i ≡ new_frame head ∷ []
+  pub others : (j : ℕ) → j < old.chunks → j ≢ i → frames_of new j ≡ frames_of old j
+  pub uses : new.used ≡ old.used + 1 + head_chunks head
+
+-- A slot is no more live.
+pub record Ends (old new : DomainFrames) (i : ℕ) : Type 0 where
+  pub same_chunks : new.chunks ≡ old.chunks
+  pub gives : GivesSlot old.slots new.slots i
+  pub others : (j : ℕ) → j < old.chunks → j ≢ i → frames_of new j ≡ frames_of old j
+  pub uses : new.used ≡ old.used - segment_chunks (frames_of old i)
+
+-- An entry is taken off the operand stack of the top frame.
+abbrev pub TakesTopEntry : DomainFrames → DomainFrames → ℕ → Value → Type 0
+TakesTopEntry old new i v =
+    let f = top_of old i in
+    (below : List Value) × (f.stack ≡ below ++ v ∷ [])
+    × Becomes old new i (lower_of old i ++ record f { stack = below } ∷ []) old.used

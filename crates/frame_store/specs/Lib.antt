@@ -1,0 +1,13 @@
+pub mod Builds
+pub mod ChainMoves
+pub mod Chains
+pub mod DomainMoves
+pub mod Entries
+pub mod FrameBlocks
+pub mod FrameContents
+pub mod SlotMoves
+pub mod Slots
+pub mod StoreContents
+pub mod StoreIsContent
+pub mod SumsBelow
+pub mod TableMoves

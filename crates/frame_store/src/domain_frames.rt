@@ -1,0 +1,309 @@
+//! The frames of one domain. All its memory is taken when it is made.
+
+ghost use Rattle.std.specs.Prelude.{◌≡◌, ◌+◌, ◌*◌, ◌<◌, ◌≤◌, ◌^◌, length, IfOk};
+ghost use Rattle.frame_store.specs.FrameBlocks.{IsDomain};
+
+use crate::chains::Chains;
+use crate::frame_blocks::{FrameRecord, give_blocks, head_chunks, take_blocks, value_index};
+use crate::slot_set::SlotSet;
+use jk_model::{ClassId, FrameHead, NoChunks, OutOfMemory, Value};
+use std::alloc::Global;
+
+/// The frames of a domain's segments. A segment has a slot. A frame has a number, under which its record stands; the numbers
+/// of the frames of a segment are the stack of its slot, and the last stack has the free numbers. A frame's number is that of
+/// the stack of its blocks too, and the last stack of those has the free blocks.
+#[derive(Drop)]
+pub(crate) struct DomainFrames {
+    pub(crate) chunks: u32,
+    pub(crate) used: u32,
+    pub(crate) slots: SlotSet,
+    pub(crate) frames: Chains,
+    pub(crate) parts: Chains,
+    pub(crate) records: Vec<FrameRecord>,
+    pub(crate) values: Vec<Value>,
+    ghost ok: { IsDomain chunks used slots frames parts records.items values.items },
+}
+
+impl DomainFrames {
+    ghost use Rattle.std.specs.Prelude.{◌≡◌, ◌+◌, ◌-◌, ◌*◌, ◌^◌, ◌<◌, ◌≤◌, ◌++◌, ◌∷◌, [], Some, length, slice_get, slice_set, IfOk, OnOk, OnErr};
+    ghost use Rattle.jk_model_domains.specs.Frames.{FrameState as AFrame, new_frame, head_chunks, frames_chunks};
+    ghost use Rattle.frame_store.specs.DomainMoves.{depth_of, frames_of, top_of, top_number, lower_of, value_at, IsSlot, HasTop, IsFrameNumber, IsFresh, Opens, Becomes, Begins, Ends, TakesTopEntry};
+
+    /// A domain without segments, which may use so many chunks.
+    pub(crate) fn new(alloc: Global, chunks: u32) -> Result<DomainFrames, OutOfMemory>
+        requires least { 1 ≤ chunks }
+        requires most { chunks ≤ 262144 }
+        ensures { IfOk result (λ d. IsFresh d chunks) }
+    {
+        let slots = SlotSet::new(alloc, chunks)?;
+        let frames = Chains::new(alloc, chunks, chunks)?;
+        let parts = Chains::new(alloc, chunks, chunks)?;
+        let records = no_records(alloc, chunks)?;
+        let values = no_values(alloc, chunks)?;
+        Ok(DomainFrames {
+            chunks,
+            used: 0,
+            slots,
+            frames,
+            parts,
+            records,
+            values,
+        })
+    }
+
+    /// How many chunks the domain may still use.
+    pub(crate) fn free(&self) -> u32
+        ensures { result ≡ self.now.chunks - self.now.used }
+    {
+        self.chunks - self.used
+    }
+
+    /// Begins a segment with one frame, in a slot.
+    pub(crate) fn begin(&mut self, number: u64, head: FrameHead) -> Result<u32, NoChunks>
+        ensures ok { IfOk result (λ slot. Begins self.old self.new number head slot) }
+        ensures err { OnErr result (self.new ≡ self.old) }
+        ensures room { OnOk result (1 + head_chunks head ≤ self.old.chunks - self.old.used) }
+        ensures no_room { OnErr result (self.old.chunks - self.old.used < 1 + head_chunks head) }
+    {
+        let blocks = head_chunks(&head);
+        if blocks >= self.chunks - self.used {
+            return Err(NoChunks);
+        }
+        let slot = self.open(number);
+        self.add(slot, head, blocks);
+        Ok(slot)
+    }
+
+    /// Takes out a segment with its frames.
+    pub(crate) fn end(&mut self, slot: u32)
+        requires { IsSlot self.old slot }
+        ensures { Ends self.old self.new slot }
+    {
+        self.empty(slot);
+        self.slots.give(slot);
+        self.used -= 1;
+    }
+
+    /// Puts a frame on top of a segment.
+    pub(crate) fn push(&mut self, slot: u32, head: FrameHead) -> Result<(), NoChunks>
+        requires { IsSlot self.old slot }
+        ensures ok { OnOk result (Becomes self.old self.new slot (frames_of self.old slot ++ new_frame head ∷ []) (self.old.used + head_chunks head)) }
+        ensures err { OnErr result (self.new ≡ self.old) }
+        ensures room { OnOk result (head_chunks head ≤ self.old.chunks - self.old.used) }
+        ensures no_room { OnErr result (self.old.chunks - self.old.used < head_chunks head) }
+    {
+        let blocks = head_chunks(&head);
+        if blocks > self.chunks - self.used {
+            return Err(NoChunks);
+        }
+        self.add(slot, head, blocks);
+        Ok(())
+    }
+
+    /// Takes the top frame off a segment.
+    pub(crate) fn pop(&mut self, slot: u32)
+        requires { HasTop self.old slot }
+        ensures { Becomes self.old self.new slot (lower_of self.old slot) (self.old.used - head_chunks (top_of self.old slot).head) }
+    {
+        let frame = self.frames.top(slot);
+        let blocks = self.parts.count(frame);
+        give_blocks(&mut self.parts, self.chunks, frame);
+        let _ = self.frames.move_top(slot, self.chunks);
+        self.used -= blocks;
+    }
+
+    /// How many frames a segment has.
+    pub(crate) fn depth(&self, slot: u32) -> u32
+        requires { IsSlot self.now slot }
+        ensures { result ≡ length (frames_of self.now slot) }
+    {
+        self.frames.count(slot)
+    }
+
+    /// The number of the top frame of a segment.
+    pub(crate) fn top(&self, slot: u32) -> u32
+        requires { HasTop self.now slot }
+        ensures number { result ≡ top_number self.now slot }
+        ensures is_frame { IsFrameNumber self.now result }
+    {
+        self.frames.top(slot)
+    }
+
+    /// The number of a frame of a segment, by how many are below it.
+    pub(crate) fn frame(&self, slot: u32, depth: u32) -> u32
+        requires slot { slot < self.now.chunks }
+        requires there { depth < depth_of self.now slot }
+        ensures frame { slice_get (frames_of self.now slot) depth ≡ Some (value_at self.now result) }
+        ensures is_frame { IsFrameNumber self.now result }
+    {
+        self.frames.at(slot, depth)
+    }
+
+    /// The head of a frame.
+    pub(crate) fn head(&self, frame: u32) -> FrameHead
+        requires { IsFrameNumber self.now frame }
+        ensures { result ≡ (value_at self.now frame).head }
+    {
+        self.records[frame as usize].head
+    }
+
+    /// How many entries the operand stack of a frame has.
+    pub(crate) fn height(&self, frame: u32) -> u16
+        requires { IsFrameNumber self.now frame }
+        ensures { result ≡ length (value_at self.now frame).stack }
+    {
+        self.records[frame as usize].height
+    }
+
+    /// A local of a frame.
+    pub(crate) fn local(&self, frame: u32, i: u16) -> Value
+        requires frame { IsFrameNumber self.now frame }
+        requires there { i < length (value_at self.now frame).locals }
+        ensures { slice_get (value_at self.now frame).locals i ≡ Some result }
+    {
+        self.values[value_index(&self.parts, frame, u32::from(i))]
+    }
+
+    /// An entry of the operand stack of a frame.
+    pub(crate) fn entry(&self, frame: u32, i: u16) -> Value
+        requires frame { IsFrameNumber self.now frame }
+        requires there { i < length (value_at self.now frame).stack }
+        ensures { slice_get (value_at self.now frame).stack i ≡ Some result }
+    {
+        let locals = self.records[frame as usize].head.max_locals;
+        self.values[value_index(&self.parts, frame, u32::from(locals) + u32::from(i))]
+    }
+
+    /// Sets where the top frame stands, and which class it needs.
+    pub(crate) fn go(&mut self, slot: u32, at: u32, need: Option<ClassId>)
+        requires { HasTop self.old slot }
+        ensures { let f = top_of self.old slot in
+            Becomes self.old self.new slot (lower_of self.old slot ++ record f { head = record f.head { at = at; need = need } } ∷ []) self.old.used }
+    {
+        let frame = self.frames.top(slot);
+        let set = &mut self.records[frame as usize];
+        set.head.at = at;
+        set.head.need = need;
+    }
+
+    /// Sets a local of the top frame.
+    pub(crate) fn set_local(&mut self, slot: u32, i: u16, v: Value)
+        requires top { HasTop self.old slot }
+        requires there { i < length (top_of self.old slot).locals }
+        ensures { let f = top_of self.old slot in
+            Becomes self.old self.new slot (lower_of self.old slot ++ record f { locals = slice_set f.locals i v } ∷ []) self.old.used }
+    {
+        let frame = self.frames.top(slot);
+        let index = value_index(&self.parts, frame, u32::from(i));
+        self.values[index] = v;
+    }
+
+    /// Pushes an entry on the operand stack of the top frame.
+    pub(crate) fn push_value(&mut self, slot: u32, v: Value)
+        requires top { HasTop self.old slot }
+        requires room { length (top_of self.old slot).stack < (top_of self.old slot).head.max_stack }
+        ensures { let f = top_of self.old slot in
+            Becomes self.old self.new slot (lower_of self.old slot ++ record f { stack = f.stack ++ v ∷ [] } ∷ []) self.old.used }
+    {
+        let frame = self.frames.top(slot);
+        let top = self.records[frame as usize];
+        let index = value_index(
+            &self.parts,
+            frame,
+            u32::from(top.head.max_locals) + u32::from(top.height),
+        );
+        self.values[index] = v;
+        self.records[frame as usize].height = top.height + 1;
+    }
+
+    /// Takes the top entry off the operand stack of the top frame.
+    pub(crate) fn pop_value(&mut self, slot: u32) -> Value
+        requires top { HasTop self.old slot }
+        requires some { 0 < length (top_of self.old slot).stack }
+        ensures { TakesTopEntry self.old self.new slot result }
+    {
+        let frame = self.frames.top(slot);
+        let top = self.records[frame as usize];
+        let index = value_index(
+            &self.parts,
+            frame,
+            u32::from(top.head.max_locals) + u32::from(top.height) - 1,
+        );
+        self.records[frame as usize].height = top.height - 1;
+        self.values[index]
+    }
+
+    /// Takes a slot for a segment, which has no frames yet.
+    fn open(&mut self, number: u64) -> u32
+        requires { self.old.used < self.old.chunks }
+        ensures { Opens self.old self.new number result }
+    {
+        let slot = self.slots.take(number);
+        self.used += 1;
+        slot
+    }
+
+    /// Puts a frame on top of a segment, where the chunks that it costs are free.
+    fn add(&mut self, slot: u32, head: FrameHead, blocks: u32)
+        requires slot { IsSlot self.old slot }
+        requires cost { blocks ≡ head_chunks head }
+        requires room { self.old.used + blocks ≤ self.old.chunks }
+        requires small { head.max_stack < 2 ^ 16 }
+        ensures { Becomes self.old self.new slot (frames_of self.old slot ++ new_frame head ∷ []) (self.old.used + blocks) }
+    {
+        let frame = self.frames.move_top(self.chunks, slot);
+        self.records[frame as usize] = FrameRecord { head, height: 0 };
+        take_blocks(
+            &mut self.parts,
+            &mut self.values,
+            self.chunks,
+            frame,
+            blocks,
+        );
+        self.used += blocks;
+    }
+
+    /// Takes all frames off a segment.
+    fn empty(&mut self, slot: u32)
+        requires { IsSlot self.old slot }
+        ensures { Becomes self.old self.new slot [] (self.old.used - frames_chunks (frames_of self.old slot)) }
+    {
+        while self.frames.count(slot) > 0 {
+            self.pop(slot);
+        }
+    }
+}
+
+/// So many records of no meaning.
+fn no_records(alloc: Global, count: u32) -> Result<Vec<FrameRecord>, OutOfMemory>
+    ensures { IfOk result (λ v. length v.items ≡ count) }
+{
+    let mut records = Vec::with_capacity(alloc, count as usize)?;
+    for _ in 0..count {
+        records.push_reserved(FrameRecord {
+            head: FrameHead {
+                method: None,
+                at: 0,
+                need: None,
+                initialises: None,
+                max_locals: 0,
+                max_stack: 0,
+            },
+            height: 0,
+        });
+    }
+    Ok(records)
+}
+
+/// Twenty values for each of so many blocks.
+fn no_values(alloc: Global, blocks: u32) -> Result<Vec<Value>, OutOfMemory>
+    requires { blocks ≤ 262144 }
+    ensures { IfOk result (λ v. length v.items ≡ 20 * blocks) }
+{
+    let count = 20 * blocks as usize;
+    let mut values = Vec::with_capacity(alloc, count)?;
+    for _ in 0..count {
+        values.push_reserved(Value::Unset);
+    }
+    Ok(values)
+}

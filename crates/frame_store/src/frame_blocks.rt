@@ -1,0 +1,80 @@
+//! The blocks of a frame: twenty values each, as many blocks as the frame costs chunks. A frame's blocks are a stack of
+//! chains whose nodes are the blocks, so each value is found in a logarithm of the frame's size.
+
+ghost use Rattle.std.specs.Prelude.{◌≡◌, ◌≢◌, ◌+◌, ◌*◌, ◌^◌, ◌<◌, ◌≤◌, length, slice_index_or};
+ghost use Rattle.jk_model.specs.declared.values.Value.TheVariants.{Unset};
+ghost use Rattle.jk_model_domains.specs.Frames.{head_chunks};
+ghost use Rattle.frame_store.specs.ChainMoves.{count, nodes, stacks};
+ghost use Rattle.frame_store.specs.FrameBlocks.{index_of, IsCleared, TakesBlocks, GivesBlocks};
+
+use crate::chains::Chains;
+use jk_model::{FrameHead, Value};
+
+/// A frame's head, and how many entries its operand stack has.
+#[derive(Clone, Copy)]
+pub(crate) struct FrameRecord {
+    pub(crate) head: FrameHead,
+    pub(crate) height: u16,
+}
+
+/// How many chunks a frame costs.
+pub(crate) fn head_chunks(head: &FrameHead) -> u32
+    ensures cost { result ≡ head_chunks head.now }
+    ensures least { 1 ≤ result }
+    ensures small { head.now.max_stack < 2 ^ 16 }
+{
+    (4 + u32::from(head.max_locals) + u32::from(head.max_stack) + 19) / 20
+}
+
+/// Where a value of a frame is.
+pub(crate) fn value_index(parts: &Chains, frame: u32, value: u32) -> usize
+    requires there { frame < stacks parts.now }
+    requires some { value < 20 * count parts.now frame }
+    ensures index { result ≡ index_of parts.now frame value }
+    ensures within { result < 20 * nodes parts.now }
+{
+    let block = parts.at(frame, value / 20);
+    20 * block as usize + (value % 20) as usize
+}
+
+/// Gives a frame without blocks so many of the free ones, which are on the last stack, and unsets their values.
+pub(crate) fn take_blocks(
+    parts: &mut Chains,
+    values: &mut Vec<Value>,
+    last: u32,
+    frame: u32,
+    blocks: u32,
+)
+    requires there { last < stacks parts.old }
+    requires frame { frame < last }
+    requires bare { count parts.old frame ≡ 0 }
+    requires enough { blocks ≤ count parts.old last }
+    requires values { length values.old.items ≡ 20 * nodes parts.old }
+    ensures { TakesBlocks parts.old parts.new values.old.items values.new.items last frame blocks }
+{
+    for _ in 0..blocks {
+        let block = parts.move_top(last, frame);
+        clear(values, block);
+    }
+}
+
+/// Gives back all blocks of a frame.
+pub(crate) fn give_blocks(parts: &mut Chains, last: u32, frame: u32)
+    requires there { last < stacks parts.old }
+    requires frame { frame < last }
+    ensures { GivesBlocks parts.old parts.new last frame }
+{
+    while parts.count(frame) > 0 {
+        let _ = parts.move_top(frame, last);
+    }
+}
+
+/// Unsets the values of a block.
+fn clear(values: &mut Vec<Value>, block: u32)
+    requires { 20 * block + 20 ≤ length values.old.items }
+    ensures { IsCleared values.old.items values.new.items block }
+{
+    for k in 0..20 {
+        values[20 * block as usize + k] = Value::Unset;
+    }
+}

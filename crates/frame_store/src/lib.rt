@@ -1,0 +1,15 @@
+//! Stores of frames: the stacks of all threads as segments, each of a domain that pays for its frames in chunks. The trait
+//! `FrameStore` says what a store holds and what its calls do; `PlainFrames` is a store that keeps the frames of each domain
+//! in vectors of its own.
+#![tactic(auto)]
+
+mod chains;
+mod domain_frames;
+mod frame_blocks;
+mod plain_frames;
+mod segment_table;
+mod slot_set;
+mod store;
+
+pub use plain_frames::PlainFrames;
+pub use store::FrameStore;

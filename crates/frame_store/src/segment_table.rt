@@ -1,0 +1,212 @@
+//! Where each segment stands, found by the segment's number. The numbers are in as many buckets as the table has room for
+//! entries, by what is left of a division, so a look-up takes constant time where the numbers spread, as those that rise by
+//! one do. The entries are the nodes of chains, whose stacks are the buckets, and the last stack has the free entries.
+//! Only `reserve` takes memory.
+
+ghost use Rattle.std.specs.Prelude.{◌≡◌, ◌+◌, ◌<◌, ◌≤◌, ◌^◌, ◌%◌, None, Some, length, IfOk, OnOk, OnErr, IfSome};
+ghost use Rattle.frame_store.specs.Entries.{IsTable};
+
+use crate::chains::Chains;
+use jk_model::OutOfMemory;
+use std::alloc::Global;
+
+/// Where a segment stands: its domain, and its slot there.
+#[derive(Clone, Copy)]
+pub(crate) struct Place {
+    pub(crate) domain: u32,
+    pub(crate) slot: u32,
+}
+
+/// A segment's number, and where it stands.
+#[derive(Clone, Copy)]
+pub(crate) struct Entry {
+    pub(crate) number: u64,
+    pub(crate) place: Place,
+}
+
+/// The places of segments.
+#[derive(Drop)]
+pub(crate) struct SegmentTable {
+    pub(crate) chains: Chains,
+    pub(crate) entries: Vec<Entry>,
+    pub(crate) buckets: u32,
+    ghost ok: { IsTable chains.nodes.items chains.stacks.items entries.items buckets },
+}
+
+impl SegmentTable {
+    ghost use Rattle.std.specs.Prelude.{◌≡◌, ◌+◌, ◌<◌, ◌≤◌, ◌^◌, ◌%◌, None, Some, IsSome, length, IfOk, OnOk, OnErr, IfSome};
+    ghost use Rattle.frame_store.specs.TableMoves.{find, place_in, room, size_of, IsSameTable, Inserts, Removes, Forgets, IsEmptyTable};
+
+    /// A table with no entries, and with room for so many.
+    pub(crate) fn new(alloc: Global, size: u32) -> Result<SegmentTable, OutOfMemory>
+        requires some { 0 < size }
+        requires few { size < 2 ^ 31 }
+        ensures empty { IfOk result (λ t. IsEmptyTable t) }
+        ensures room { IfOk result (λ t. room t ≡ size) }
+    {
+        let chains = Chains::new(alloc, size, size)?;
+        let entries = no_entries(alloc, size)?;
+        Ok(SegmentTable {
+            chains,
+            entries,
+            buckets: size,
+        })
+    }
+
+    /// A table with no entries and no room.
+    pub(crate) fn empty(alloc: Global) -> SegmentTable
+        ensures empty { IsEmptyTable result }
+        ensures room { room result ≡ 0 }
+    {
+        SegmentTable {
+            chains: Chains::empty(alloc),
+            entries: Vec::new(alloc),
+            buckets: 0,
+        }
+    }
+
+    /// Where the segment of this number stands.
+    pub(crate) fn get(&self, number: u64) -> Option<Place>
+        ensures { result ≡ place_in self.now number }
+    {
+        if self.buckets == 0 {
+            return None;
+        }
+        match self.entry_of(number) {
+            Some(entry) => Some(self.entries[entry as usize].place),
+            None => None,
+        }
+    }
+
+    /// How many more entries the table has room for.
+    pub(crate) fn room(&self) -> u32
+        ensures { result ≡ room self.now }
+    {
+        if self.buckets == 0 {
+            0
+        } else {
+            self.chains.count(self.buckets)
+        }
+    }
+
+    /// Enters a segment.
+    pub(crate) fn insert(&mut self, number: u64, place: Place)
+        requires new { place_in self.old number ≡ None }
+        requires room { 0 < room self.old }
+        ensures { Inserts self.old self.new number place }
+    {
+        let bucket = self.bucket(number);
+        let entry = self.chains.move_top(self.buckets, bucket);
+        self.entries[entry as usize] = Entry { number, place };
+    }
+
+    /// Takes out a segment.
+    pub(crate) fn remove(&mut self, number: u64)
+        requires { IsSome (place_in self.old number) }
+        ensures { Removes self.old self.new number }
+    {
+        if let Some(entry) = self.entry_of(number) {
+            let bucket = self.bucket(number);
+            let top = self.chains.top(bucket);
+            self.entries[entry as usize] = self.entries[top as usize];
+            let _ = self.chains.move_top(bucket, self.buckets);
+        }
+    }
+
+    /// Takes out a segment, if it is there and stands in this domain.
+    pub(crate) fn forget(&mut self, number: u64, domain: u32)
+        ensures { Forgets self.old self.new number domain }
+    {
+        let Some(place) = self.get(number) else {
+            return;
+        };
+        if place.domain != domain {
+            return;
+        }
+        self.remove(number);
+    }
+
+    /// Makes room for so many more entries. After an error all is as before.
+    pub(crate) fn reserve(&mut self, alloc: Global, more: u32) -> Result<(), OutOfMemory>
+        ensures same { IsSameTable self.old self.new }
+        ensures ok { OnOk result (more ≤ room self.new) }
+        ensures err { OnErr result (room self.new ≡ room self.old) }
+    {
+        if more <= self.room() {
+            return Ok(());
+        }
+        let size = self.grown(more).ok_or(OutOfMemory)?;
+        let table = SegmentTable::new(alloc, size)?;
+        *self = self.moved_to(table);
+        Ok(())
+    }
+
+    /// The bucket of a number.
+    fn bucket(&self, number: u64) -> u32
+        requires { 0 < self.now.buckets }
+        ensures { result ≡ number % self.now.buckets }
+    {
+        (number % u64::from(self.buckets)) as u32
+    }
+
+    /// The entry of a segment.
+    fn entry_of(&self, number: u64) -> Option<u32>
+        requires { 0 < self.now.buckets }
+        ensures { result ≡ find self.now number }
+    {
+        let bucket = self.bucket(number);
+        let mut left = self.chains.count(bucket);
+        while left > 0 {
+            left -= 1;
+            let entry = self.chains.at(bucket, left);
+            if self.entries[entry as usize].number == number {
+                return Some(entry);
+            }
+        }
+        None
+    }
+
+    /// The size of a table with at least twice the entries and room for so many more; none that has a place for every number.
+    fn grown(&self, more: u32) -> Option<u32>
+        requires { 0 < more }
+        ensures { IfSome result (λ size. (size_of self.now + more ≤ size) × (0 < size) × (size < 2 ^ 31)) }
+    {
+        let had = self.entries.len() as u64;
+        let size = had + had.max(u64::from(more));
+        if size < 2_147_483_648 {
+            Some(size as u32)
+        } else {
+            None
+        }
+    }
+
+    /// The entries, moved to another table, which has none yet.
+    fn moved_to(&self, mut table: SegmentTable) -> SegmentTable
+        requires empty { IsEmptyTable table }
+        requires room { size_of self.now ≤ room table }
+        ensures same { IsSameTable self.now result }
+        ensures room { room table ≤ room result + size_of self.now }
+    {
+        for entry in 0..self.entries.len() {
+            if self.chains.stack_of(entry) != self.buckets {
+                let moved = self.entries[entry];
+                table.insert(moved.number, moved.place);
+            }
+        }
+        table
+    }
+}
+
+/// So many entries of no meaning.
+fn no_entries(alloc: Global, count: u32) -> Result<Vec<Entry>, OutOfMemory>
+    ensures { IfOk result (λ v. length v.items ≡ count) }
+{
+    let mut entries = Vec::with_capacity(alloc, count as usize)?;
+    for _ in 0..count {
+        entries.push_reserved(Entry {
+            number: 0,
+            place: Place { domain: 0, slot: 0 },
+        });
+    }
+    Ok(entries)
+}

@@ -1,0 +1,140 @@
+//! What each store of frames does.
+
+ghost use Rattle.std.specs.Prelude.{◌≡◌, ◌≢◌, ◌+◌, ◌-◌, ◌*◌, ◌<◌, ◌≤◌, ◌⊎◌, ◌++◌, ◌∷◌, [], true, length, option_map, slice_get, slice_set, Some, None, Err, OnOk, OnErr};
+ghost use Rattle.jk_model.specs.declared.stores.AdmitError.TheVariants as Why;
+ghost use Rattle.jk_model_domains.specs.Frames.{FrameState as AFrame, head_chunks};
+ghost use Rattle.frame_store.specs.FrameContents.{FrameContent, IsAdmitted, IsThere, HasTop, TopFrame, FrameAt, HasLocal, HasEntry, HasFreeEntry, HasFrame, HasLocalAt, HasRoomFor, TakesEntry, IsSame, Begins, Pushes, Pops, Ends, SetsTop, Admits, Closes, HasNoPlace, HasFewDomains, IsContent, free_chunks};
+
+use jk_model::{AdmitError, ClassId, DomainId, FrameHead, NoChunks, SegmentNo, Value};
+
+/// The frames of all segments. A segment belongs to a domain, which pays for it in chunks: one for the segment itself, and for
+/// each frame one for every twenty values begun, its own needs counting as four. No call but `admit` takes memory.
+pub trait FrameStore {
+    /// All that the store holds.
+    ghost content: { Self → FrameContent };
+
+    /// Gives a domain so many chunks for its segments, of which it has none yet. `NoExtent` comes exactly where the store
+    /// has a pool of pages and no free run of it is long enough. After an error all is as before.
+    fn admit(&mut self, d: DomainId, chunks: u32) -> Result<(), AdmitError>
+        requires new { (content self.old).quota d ≡ None }
+        requires few { HasFewDomains (content self.old) }
+        requires least { 1 ≤ chunks }
+        requires most { chunks ≤ 262144 }
+        ensures ok { OnOk result (Admits (content self.old) (content self.new) d chunks) }
+        ensures err { OnErr result (IsSame (content self.old) (content self.new)) }
+        ensures no_extent { result ≡ Err Why.NoExtent → HasNoPlace (content self.old) chunks }
+        ensures only_no_extent { HasNoPlace (content self.old) chunks → (result ≡ Err Why.NoExtent) ⊎ (result ≡ Err Why.OutOfMemory) }
+        ensures out_of_memory { result ≡ Err Why.OutOfMemory → (content self.old).took_all ≡ true → ⊥ };
+
+    /// How many chunks a domain may still use.
+    fn free(&self, d: DomainId) -> u32
+        requires { IsAdmitted (content self.now) d }
+        ensures { result ≡ free_chunks (content self.now) d };
+
+    /// Begins a segment with one frame. It fails exactly where the chunks of both exceed what is free, and then all is as before.
+    fn begin(&mut self, d: DomainId, s: SegmentNo, head: FrameHead) -> Result<(), NoChunks>
+        requires admitted { IsAdmitted (content self.old) d }
+        requires new { (content self.old).segment s ≡ None }
+        ensures ok { OnOk result (Begins (content self.old) (content self.new) d s head) }
+        ensures err { OnErr result (IsSame (content self.old) (content self.new)) }
+        ensures room { OnOk result (1 + head_chunks head ≤ free_chunks (content self.old) d) }
+        ensures no_room { OnErr result (free_chunks (content self.old) d < 1 + head_chunks head) };
+
+    /// Takes out a segment with all its frames, wherever it stands in its thread.
+    fn end(&mut self, s: SegmentNo)
+        requires { IsThere (content self.old) s }
+        ensures { Ends (content self.old) (content self.new) s };
+
+    /// Puts another frame on top of a segment. It fails exactly where its chunks exceed what is free, and then all is as before.
+    fn push(&mut self, s: SegmentNo, head: FrameHead) -> Result<(), NoChunks>
+        requires { IsThere (content self.old) s }
+        ensures ok { OnOk result (Pushes (content self.old) (content self.new) s head) }
+        ensures err { OnErr result (IsSame (content self.old) (content self.new)) }
+        ensures room { OnOk result (HasRoomFor (content self.old) s head) }
+        ensures no_room { OnErr result (HasRoomFor (content self.old) s head → ⊥) };
+
+    /// Takes the top frame off a segment.
+    fn pop(&mut self, s: SegmentNo)
+        requires { HasTop (content self.old) s }
+        ensures { Pops (content self.old) (content self.new) s };
+
+    /// How many frames a segment has.
+    fn depth(&self, s: SegmentNo) -> u32
+        requires { IsThere (content self.now) s }
+        ensures { Some result ≡ option_map (λ g. length g.frames) ((content self.now).segment s) };
+
+    /// The head of the top frame.
+    fn head(&self, s: SegmentNo) -> FrameHead
+        requires { HasTop (content self.now) s }
+        ensures { (f : AFrame) → TopFrame (content self.now) s f → result ≡ f.head };
+
+    /// Sets where the top frame stands, and which class it needs before it goes on.
+    fn go(&mut self, s: SegmentNo, at: u32, need: Option<ClassId>)
+        requires { HasTop (content self.old) s }
+        ensures { (f : AFrame) → TopFrame (content self.old) s f
+            → SetsTop (content self.old) (content self.new) s (record f { head = record f.head { at = at; need = need } }) };
+
+    /// A local of the top frame.
+    fn local(&self, s: SegmentNo, i: u16) -> Value
+        requires { HasLocal (content self.now) s i }
+        ensures { (f : AFrame) → TopFrame (content self.now) s f → slice_get f.locals i ≡ Some result };
+
+    /// Sets a local of the top frame.
+    fn set_local(&mut self, s: SegmentNo, i: u16, v: Value)
+        requires { HasLocal (content self.old) s i }
+        ensures { (f : AFrame) → TopFrame (content self.old) s f
+            → SetsTop (content self.old) (content self.new) s (record f { locals = slice_set f.locals i v }) };
+
+    /// How many entries the operand stack of the top frame has.
+    fn height(&self, s: SegmentNo) -> u16
+        requires { HasTop (content self.now) s }
+        ensures { (f : AFrame) → TopFrame (content self.now) s f → result ≡ length f.stack };
+
+    /// An entry of the operand stack of the top frame, by how many are above it.
+    fn peek(&self, s: SegmentNo, below: u16) -> Value
+        requires { HasEntry (content self.now) s below }
+        ensures { (f : AFrame) → TopFrame (content self.now) s f → slice_get f.stack (length f.stack - 1 - below) ≡ Some result };
+
+    /// Pushes an entry on the operand stack of the top frame.
+    fn push_value(&mut self, s: SegmentNo, v: Value)
+        requires { HasFreeEntry (content self.old) s }
+        ensures { (f : AFrame) → TopFrame (content self.old) s f
+            → SetsTop (content self.old) (content self.new) s (record f { stack = f.stack ++ v ∷ [] }) };
+
+    /// Takes the top entry off the operand stack of the top frame.
+    fn pop_value(&mut self, s: SegmentNo) -> Value
+        requires { HasEntry (content self.old) s 0 }
+        ensures { (f : AFrame) → TopFrame (content self.old) s f → TakesEntry (content self.old) (content self.new) s f result };
+
+    /// Takes out a domain with all its segments.
+    fn close(&mut self, d: DomainId)
+        requires { IsAdmitted (content self.old) d }
+        ensures { Closes (content self.old) (content self.new) d };
+
+    /// How many words of 32 bits the store's pool has: 64 for each page. None exactly where it has no pool.
+    fn pool_words(&self) -> Option<u32>
+        ensures { result ≡ option_map (λ p. 64 * p) (content self.now).pages };
+
+    /// The first page of a domain. None exactly where the store has no pool.
+    fn first_page(&self, d: DomainId) -> Option<u32>
+        requires { IsAdmitted (content self.now) d }
+        ensures { result ≡ (content self.now).first_page d };
+
+    /// The head of a frame, by how many are below it in its segment.
+    fn head_at(&self, s: SegmentNo, n: u32) -> FrameHead
+        requires { HasFrame (content self.now) s n }
+        ensures { (f : AFrame) → FrameAt (content self.now) s n f → result ≡ f.head };
+
+    /// A local of a frame.
+    fn local_at(&self, s: SegmentNo, n: u32, i: u16) -> Value
+        requires { HasLocalAt (content self.now) s n i }
+        ensures { (f : AFrame) → FrameAt (content self.now) s n f → slice_get f.locals i ≡ Some result };
+
+    /// An entry of the operand stack of a frame, the lowest being 0. None exactly where there is none.
+    fn entry_at(&self, s: SegmentNo, n: u32, i: u16) -> Option<Value>
+        requires { HasFrame (content self.now) s n }
+        ensures { (f : AFrame) → FrameAt (content self.now) s n f → result ≡ slice_get f.stack i };
+
+    /// What holds of each store.
+    ghost holds: { (x : Self) → IsContent (content x) };
+}

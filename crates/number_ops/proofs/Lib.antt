@@ -1,0 +1,17 @@
+-- What is known of changes of a store's top frame, and of what instructions find there.
+mod Calculations
+mod CasesByKey
+mod Comparisons
+mod EntriesOnTop
+mod FindsOperands
+mod FoundOperands
+mod LocalsUsed
+mod OpcodesAmong
+mod PartsOfOpcodes
+mod ResultsFit
+mod SameEnds
+mod SlotsTaken
+mod StepsDone
+mod TopFrames
+mod TypesKept
+mod ValuesFit

@@ -1,0 +1,25 @@
+-- Each operation is that of its row.
+use Rattle.std.proofs.Common.{ℤ, ℕ, int_rem, lit<, ap, sym, ◌∙◌}
+use Rattle.std.proofs.lemmas.Int.{to_z-of_z}
+use Rattle.std.specs.Int.{w64, int_wrapping_div, cast_signed, cast_unsigned}
+use Rattle.number_ops.proofs.arithmetic.long_division.Goals as goal
+
+pub returns-in-109 : goal.returns-in-109
+returns-in-109 c =
+    let f : ℤ → ℤ → ℤ = int_wrapping_div w64 in (
+      f,
+      (0, lit< tt, ap (λ (n : ℕ). (n, f)) (sym c.in-109.is)),
+      to_z-of_z w64 c.wrapping_div.result (record { sfits = c.wrapping_div.type_inv }) ∙ c.wrapping_div.ensures
+          ∙ ap (λ (z : ℤ). f z (cast_signed w64 (cast_unsigned w64 c.args.y))) (to_z-of_z w64 c.args.x c.ranges.x) ∙ ap (f c.args.x)
+          (to_z-of_z w64 c.args.y c.ranges.y),
+    )
+
+pub returns-in-113 : goal.returns-in-113
+returns-in-113 c =
+    let f : ℤ → ℤ → ℤ = int_rem in (
+      f,
+      (1, lit< tt, ap (λ (n : ℕ). (n, f)) (sym c.in-113.is)),
+      to_z-of_z w64 c.wrapping_rem.result (record { sfits = c.wrapping_rem.type_inv }) ∙ c.wrapping_rem.ensures
+          ∙ ap (λ (z : ℤ). f z (cast_signed w64 (cast_unsigned w64 c.args.y))) (to_z-of_z w64 c.args.x c.ranges.x) ∙ ap (f c.args.x)
+          (to_z-of_z w64 c.args.y c.ranges.y),
+    )

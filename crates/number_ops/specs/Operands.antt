@@ -1,0 +1,175 @@
+-- What an instruction on numbers finds in the top frame, by what the typing of instructions asks of it; and which instructions
+-- do what to the operand stack.
+use Rattle.std.specs.Prelude.{◌≡◌, ℕ, ◌+◌, ◌⊎◌, ⊤, ◌==◌, ◌||◌, Bool, false, ℤ, pos, List, [], ◌∷◌, ◌++◌, length, map, Option, Some}
+use Rattle.jk_model.specs.declared.identifiers.SegmentNo.{SegmentNo}
+use Rattle.jk_model.specs.declared.instructions.Instr.{Instr}
+use Rattle.jk_model.specs.declared.values.Value.{Value}
+use Rattle.jk_model.specs.declared.values.Value.TheVariants as Held
+use Rattle.jk_model_typing.specs.declared.frames.Demand.{Demand}
+use Rattle.jk_model_typing.specs.declared.frames.Demand.TheVariants.{Fitting}
+use Rattle.jk_model_typing.specs.declared.frames.VType.{VType}
+use Rattle.jk_model_typing.specs.declared.frames.VType.TheVariants.{Int, Long}
+use Rattle.jk_model.specs.declared.instructions.SwitchCase.{SwitchCase}
+use Rattle.jk_model.specs.declared.identifiers.MemberId.{MemberId}
+use Rattle.jk_model_classes.specs.declared.records.ClassRecord.{ClassRecord}
+use Rattle.jk_model_classes.specs.declared.records.Link.TheVariants as To
+use Rattle.jk_model_typing.specs.Scopes.{CodeScope, IsScopeOf, LeadsToLink}
+use Rattle.jk_model_typing.specs.Groups.{Group, Shape, Always, LoadsLocal, StoresLocal, IncrementsLocal, LoadsConstant, LoadsLong, ReturnsInt, ReturnsLong, ReturnsReference, Takes, Drops, Copies, Swaps}
+use Rattle.jk_model_domains.specs.NumberRows.{Calculates, DividesByZero, Decides, Moves, values_slots, value_slots}
+use Rattle.frame_store.specs.FrameContents.{FrameContent}
+use Rattle.number_ops.specs.TopChanges.{HasInLocal, HasLocals, OnTop, OnTopWithRoom, Turns}
+
+-- what is known of a value whose type fits this one
+abbrev pub IsOf : VType → Value → Type 0
+IsOf Int v = (n : ℤ) × (v ≡ Held.Int n)
+IsOf Long v = (n : ℤ) × (v ≡ Held.Long n)
+IsOf _ v = ⊤
+
+abbrev pub IsMet : Demand → Value → Type 0
+IsMet (Fitting t) v = IsOf t v
+IsMet _ v = ⊤
+
+-- as many, each of which is known to meet the demand at its place
+abbrev pub AreMet : List Demand → List Value → Type 0
+AreMet [] [] = ⊤
+AreMet (d ∷ ds) (v ∷ vs) = IsMet d v × AreMet ds vs
+AreMet _ _ = ⊥
+
+-- what a shape that works on the stack finds there
+abbrev pub FindsShape : FrameContent → SegmentNo → Shape → Type 0
+FindsShape c s (Takes demands gives) =
+    (taken : List Value) × AreMet demands taken × OnTopWithRoom c s taken (length gives)
+FindsShape c s (Drops n) = (taken : List Value) × (values_slots taken ≡ n) × OnTop c s taken
+FindsShape c s (Copies below top) =
+    (skipped : List Value) × (copied : List Value) × (values_slots skipped ≡ below) × (values_slots copied ≡ top)
+    × OnTopWithRoom c s (skipped ++ copied) (length copied + length skipped + length copied)
+FindsShape c s Swaps =
+    (v : Value) × (w : Value) × (value_slots v ≡ 1) × (value_slots w ≡ 1) × OnTopWithRoom c s (v ∷ w ∷ []) 2
+FindsShape c s _ = ⊤
+
+abbrev pub FindsValue : FrameContent → SegmentNo → Type 0
+FindsValue c s = (v : Value) × OnTop c s (v ∷ [])
+
+abbrev pub Finds : FrameContent → SegmentNo → Instr → Group → Type 0
+Finds c s i (Always shape) = FindsShape c s shape
+Finds c s i (LoadsLocal demand) = (n : ℕ) × (v : Value) × (i.a ≡ pos n) × HasInLocal c s n v × OnTopWithRoom c s [] 1
+Finds c s i (StoresLocal demand) =
+    (n : ℕ) × (v : Value) × (i.a ≡ pos n) × OnTop c s (v ∷ []) × HasLocals c s (n + value_slots v)
+Finds c s i IncrementsLocal = (n : ℕ) × (x : ℤ) × (i.a ≡ pos n) × HasInLocal c s n (Held.Int x)
+Finds c s i LoadsConstant = OnTopWithRoom c s [] 1
+Finds c s i LoadsLong = OnTopWithRoom c s [] 1
+Finds c s i ReturnsInt = FindsValue c s
+Finds c s i ReturnsLong = FindsValue c s
+Finds c s i ReturnsReference = FindsValue c s
+Finds c s i _ = ⊤
+
+-- ---- Changes.
+
+-- the stack was changed as pop, pop2, swap or a dup says
+abbrev pub Moved : FrameContent → FrameContent → SegmentNo → ℕ → Type 0
+Moved old new s op = (taken : List Value) × (pushed : List Value) × Moves op taken pushed × Turns old new s taken pushed
+
+-- the stack was changed as an instruction of arithmetic says
+abbrev pub Calculated : FrameContent → FrameContent → SegmentNo → ℕ → Type 0
+Calculated old new s op =
+    (taken : List Value) × (pushed : List Value) × Calculates op taken pushed × Turns old new s taken pushed
+
+-- it would divide by 0, and nothing changed
+abbrev pub Refused : FrameContent → FrameContent → SegmentNo → ℕ → Type 0
+Refused old new s op = (taken : List Value) × DividesByZero op taken × OnTop old s taken × (new ≡ old)
+
+-- a jump took its operands, and holds or not
+abbrev pub Decided : FrameContent → FrameContent → SegmentNo → ℕ → Bool → Type 0
+Decided old new s op holds = (taken : List Value) × Decides op taken holds × Turns old new s taken []
+
+-- ---- Opcodes.
+
+abbrev pub is_among : List ℕ → ℕ → Bool
+is_among [] op = false
+is_among (k ∷ ks) op = op == k || is_among ks op
+
+-- aconst_null, the constants of int and long, ldc, ldc2_w
+abbrev pub constant_opcodes : List ℕ
+constant_opcodes = 0x01 ∷ 0x09 ∷ 0x11 ∷ 0x13 ∷ 0x14 ∷ []
+
+-- iadd, isub, imul, ishl, ishr, iushr, iand, ior, ixor
+abbrev pub int_opcodes : List ℕ
+int_opcodes = 0x60 ∷ 0x64 ∷ 0x68 ∷ 0x78 ∷ 0x7a ∷ 0x7c ∷ 0x7e ∷ 0x80 ∷ 0x82 ∷ []
+
+-- idiv, irem
+abbrev pub int_division_opcodes : List ℕ
+int_division_opcodes = 0x6c ∷ 0x70 ∷ []
+
+-- ladd, lsub, lmul, land, lor, lxor
+abbrev pub long_opcodes : List ℕ
+long_opcodes = 0x61 ∷ 0x65 ∷ 0x69 ∷ 0x7f ∷ 0x81 ∷ 0x83 ∷ []
+
+-- ldiv, lrem
+abbrev pub long_division_opcodes : List ℕ
+long_division_opcodes = 0x6d ∷ 0x71 ∷ []
+
+-- lshl, lshr, lushr
+abbrev pub long_shift_opcodes : List ℕ
+long_shift_opcodes = 0x79 ∷ 0x7b ∷ 0x7d ∷ []
+
+-- ineg, i2l, i2b, i2c, i2s
+abbrev pub int_conversion_opcodes : List ℕ
+int_conversion_opcodes = 0x74 ∷ 0x85 ∷ 0x91 ∷ 0x92 ∷ 0x93 ∷ []
+
+-- lneg, l2i
+abbrev pub long_conversion_opcodes : List ℕ
+long_conversion_opcodes = 0x75 ∷ 0x88 ∷ []
+
+-- pop, pop2, the forms of dup, swap
+abbrev pub moving_opcodes : List ℕ
+moving_opcodes = 0x57 ∷ 0x58 ∷ 0x59 ∷ 0x5a ∷ 0x5b ∷ 0x5c ∷ 0x5d ∷ 0x5e ∷ 0x5f ∷ []
+
+-- iload, lload, aload
+abbrev pub load_opcodes : List ℕ
+load_opcodes = 0x15 ∷ 0x16 ∷ 0x19 ∷ []
+
+-- istore, lstore, astore
+abbrev pub store_opcodes : List ℕ
+store_opcodes = 0x36 ∷ 0x37 ∷ 0x3a ∷ []
+
+-- ifeq, ifne, iflt, ifge, ifgt, ifle
+abbrev pub zero_jump_opcodes : List ℕ
+zero_jump_opcodes = 0x99 ∷ 0x9a ∷ 0x9b ∷ 0x9c ∷ 0x9d ∷ 0x9e ∷ []
+
+-- the same of two ints
+abbrev pub int_jump_opcodes : List ℕ
+int_jump_opcodes = 0x9f ∷ 0xa0 ∷ 0xa1 ∷ 0xa2 ∷ 0xa3 ∷ 0xa4 ∷ []
+
+-- tableswitch, lookupswitch
+abbrev pub switch_opcodes : List ℕ
+switch_opcodes = 0xaa ∷ 0xab ∷ []
+
+-- ireturn, lreturn, areturn
+abbrev pub value_return_opcodes : List ℕ
+value_return_opcodes = 0xac ∷ 0xad ∷ 0xb0 ∷ []
+
+-- ---- Constants.
+
+-- What ldc and ldc2_w find in the pool of the class of the method that the frame runs.
+pub record HasConstant (classes : List ClassRecord) (method : Option MemberId) (i : Instr) : Type 0 where
+  pub member : MemberId
+  pub method_is : method ≡ Some member
+  pub scope : CodeScope
+  pub scope_is : IsScopeOf classes member scope
+  pub int : i.op ≡ 0x13 → (n : ℤ) × LeadsToLink scope i (To.Int n)
+  pub long : i.op ≡ 0x14 → (n : ℤ) × LeadsToLink scope i (To.Long n)
+
+-- the value of a constant of the pool to which the instruction's operand leads
+abbrev pub IsLinked : CodeScope → Instr → Value → Type 0
+IsLinked scope i (Held.Int n) = LeadsToLink scope i (To.Int n)
+IsLinked scope i (Held.Long n) = LeadsToLink scope i (To.Long n)
+IsLinked scope i _ = ⊥
+
+-- ldc and ldc2_w push a constant of the pool
+abbrev pub HasNumber : CodeScope → Instr → Type 0
+HasNumber scope i = ((n : ℤ) × LeadsToLink scope i (To.Int n)) ⊎ ((n : ℤ) × LeadsToLink scope i (To.Long n))
+
+-- ---- Switches.
+
+abbrev pub keys_of : List SwitchCase → List ℤ
+keys_of cases = map (λ (c : SwitchCase). c.key) cases

@@ -1,0 +1,69 @@
+//! Entries of the operand stack of a segment's top frame: taken and pushed one by one, by their kinds.
+
+ghost use Rattle.std.specs.Prelude.{◌≡◌, ℤ, ◌∷◌, []};
+ghost use Rattle.jk_model.specs.declared.values.Value.{Value as AValue};
+ghost use Rattle.jk_model.specs.declared.values.Value.TheVariants.{Int, Long};
+ghost use Rattle.number_ops.specs.TopChanges.{OnTop, OnTopWithRoom, Turns};
+
+use frame_store::FrameStore;
+use jk_model::{SegmentNo, Value};
+
+/// Pushes an entry.
+pub(crate) fn push<F: FrameStore>(frames: &mut F, s: SegmentNo, v: Value)
+    requires { OnTopWithRoom (F.content frames.old) s [] 1 }
+    ensures { Turns (F.content frames.old) (F.content frames.new) s [] (v ∷ []) }
+{
+    frames.push_value(s, v);
+}
+
+/// Takes the top entry.
+pub(crate) fn pop<F: FrameStore>(frames: &mut F, s: SegmentNo) -> Value
+    requires { (v : AValue) × OnTop (F.content frames.old) s (v ∷ []) }
+    ensures { Turns (F.content frames.old) (F.content frames.new) s (result ∷ []) [] }
+{
+    frames.pop_value(s)
+}
+
+/// Takes an int from the top.
+pub(crate) fn pop_int<F: FrameStore>(frames: &mut F, s: SegmentNo) -> i32
+    requires { (n : ℤ) × OnTop (F.content frames.old) s (Int n ∷ []) }
+    ensures { Turns (F.content frames.old) (F.content frames.new) s (Int result ∷ []) [] }
+{
+    match pop(frames, s) {
+        Value::Int(n) => n,
+        _ => unreachable!(),
+    }
+}
+
+/// Takes a long from the top.
+pub(crate) fn pop_long<F: FrameStore>(frames: &mut F, s: SegmentNo) -> i64
+    requires { (n : ℤ) × OnTop (F.content frames.old) s (Long n ∷ []) }
+    ensures { Turns (F.content frames.old) (F.content frames.new) s (Long result ∷ []) [] }
+{
+    match pop(frames, s) {
+        Value::Long(n) => n,
+        _ => unreachable!(),
+    }
+}
+
+/// The int on top.
+pub(crate) fn top_int<F: FrameStore>(frames: &F, s: SegmentNo) -> i32
+    requires { (n : ℤ) × OnTop (F.content frames.now) s (Int n ∷ []) }
+    ensures { (n : ℤ) → OnTop (F.content frames.now) s (Int n ∷ []) → result ≡ n }
+{
+    match frames.peek(s, 0) {
+        Value::Int(n) => n,
+        _ => unreachable!(),
+    }
+}
+
+/// The long on top.
+pub(crate) fn top_long<F: FrameStore>(frames: &F, s: SegmentNo) -> i64
+    requires { (n : ℤ) × OnTop (F.content frames.now) s (Long n ∷ []) }
+    ensures { (n : ℤ) → OnTop (F.content frames.now) s (Long n ∷ []) → result ≡ n }
+{
+    match frames.peek(s, 0) {
+        Value::Long(n) => n,
+        _ => unreachable!(),
+    }
+}
