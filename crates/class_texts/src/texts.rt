@@ -1,9 +1,9 @@
 //! The texts of a pool.
 
-ghost use Rattle.std.specs.Prelude.{◌≡◌, ℕ, IfOk, List, MatchOption, Option, Some, slice_get};
+ghost use Rattle.std.specs.Prelude.{◌≡◌, ◌<◌, ◌^◌, ℕ, IfOk, length, List, MatchOption, Option, Some, slice_get};
 ghost use Rattle.std.specs.List.{AllByRecursion};
 ghost use Rattle.jk_model.specs.declared.class_file.PoolEntry.TheVariants.{Class};
-ghost use Rattle.jk_model.specs.ClassFile.{IsGoodEntry};
+ghost use Rattle.jk_model.specs.ClassFile.{IsEntry, IsGoodEntry};
 ghost use Rattle.jk_model.specs.Text.{IsModifiedUtf8, Spells};
 ghost use Rattle.jk_model_classes.specs.Members.{ClassAt};
 ghost use Rattle.class_texts.specs.EntryTexts.{IsText, IsTextOf};
@@ -31,9 +31,10 @@ impl Model for ClassTexts {
 }
 
 impl ClassTexts {
-    /// The texts of a pool whose entries are good. It takes time and memory in proportion to the pool.
+    /// The texts of a pool as a class file has it, whose entries are good. It takes time and memory in proportion to the pool.
     pub fn of(alloc: Global, pool: &[PoolEntry]) -> Result<ClassTexts, OutOfMemory>
-        requires { AllByRecursion (IsGoodEntry pool.now) pool.now }
+        requires good { AllByRecursion (IsGoodEntry pool.now) pool.now }
+        requires entries { AllByRecursion IsEntry pool.now }
         ensures { IfOk result (λ t. AreTextsOf pool.now t) }
     {
         let mut texts = Vec::new(alloc);
@@ -74,17 +75,12 @@ fn name_index(entry: &PoolEntry) -> Option<u16>
     }
 }
 
-/// The bytes of no class file's text are as many, and no memory is taken for them.
-const TOO_MANY_BYTES: usize = 1 << 32;
-
 /// The text of bytes that are known to be one.
 fn text_of_bytes(alloc: Global, bytes: &[u8]) -> Result<Text, OutOfMemory>
-    requires { IsModifiedUtf8 bytes.now }
+    requires text { IsModifiedUtf8 bytes.now }
+    requires short { length bytes.now < 2 ^ 32 }
     ensures { IfOk result (λ text. Spells bytes.now text) }
 {
-    if bytes.len() >= TOO_MANY_BYTES {
-        return Err(OutOfMemory);
-    }
     match units_of(alloc, bytes) {
         Ok(units) => Text::new(alloc, units.as_slice()),
         Err(UnitsError::BadForm(_)) => unreachable!(),
@@ -94,7 +90,8 @@ fn text_of_bytes(alloc: Global, bytes: &[u8]) -> Result<Text, OutOfMemory>
 
 /// What an entry spells.
 fn text_of(alloc: Global, entry: &PoolEntry) -> Result<Option<Text>, OutOfMemory>
-    requires { IsText entry.now }
+    requires text { IsText entry.now }
+    requires is_entry { IsEntry entry.now }
     ensures { IfOk result (λ text. IsTextOf entry.now text) }
 {
     match entry {

@@ -130,8 +130,7 @@ pub(crate) fn read_file<F: Files>(
     match files.read(whole.as_str(), MOST_BYTES) {
         Ok(bytes) => Ok(bytes),
         Err(FilesError::TooLong) => Err(FolderError::TooLarge),
-        Err(FilesError::Absent) => Err(FolderError::ReadFault),
-        Err(FilesError::Failed) => Err(FolderError::ReadFault),
+        Err(FilesError::Absent | FilesError::Failed) => Err(FolderError::ReadFault),
         Err(FilesError::OutOfMemory) => Err(FolderError::OutOfMemory),
     }
 }

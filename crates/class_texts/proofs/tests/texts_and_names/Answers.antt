@@ -1,9 +1,9 @@
--- The entries of the small pool are good.
+-- The entries of the small pool are those of a class file, and good.
 use Rattle.std.proofs.Common.{◌≡◌, List, [], ◌∷◌, refl, sym, subst, arith}
 use Rattle.std.specs.List.{AllByRecursion}
 use Rattle.jk_model.specs.declared.class_file.PoolEntry.{PoolEntry}
 use Rattle.jk_model.specs.declared.class_file.PoolEntry.TheVariants.{Utf8}
-use Rattle.jk_model.specs.ClassFile.{IsGoodEntry}
+use Rattle.jk_model.specs.ClassFile.{IsEntry, IsGoodEntry}
 use Rattle.class_texts.specs.SmallPool.{small_pool}
 use Rattle.class_texts.proofs.tests.texts_and_names.Goals as goal
 
@@ -11,7 +11,15 @@ small_is_good : AllByRecursion (IsGoodEntry small_pool) small_pool
 small_is_good =
     (tt, ((65 ∷ [], (65 ∷ [], [], (omega arith, omega arith, refl), refl, refl)), ((Utf8 (65 ∷ []), refl, tt), tt)))
 
-pub of-requires : goal.of-requires
-of-requires g c =
+small_are_entries : AllByRecursion IsEntry small_pool
+small_are_entries = (tt, ((omega arith, (omega arith, tt)), (omega arith, tt)))
+
+pub of-requires-clause-good : goal.of-requires-clause-good
+of-requires-clause-good g c =
     let same : c.as_slice.result.now ≡ small_pool = cc (c.as_slice.ensures, c.pool.view_is, c.in_ok-pool.ensures) in
     subst (λ (pool : List PoolEntry). AllByRecursion (IsGoodEntry pool) pool) (sym same) small_is_good
+
+pub of-requires-clause-entries : goal.of-requires-clause-entries
+of-requires-clause-entries g c =
+    let same : c.as_slice.result.now ≡ small_pool = cc (c.as_slice.ensures, c.pool.view_is, c.in_ok-pool.ensures) in
+    subst (λ (pool : List PoolEntry). AllByRecursion IsEntry pool) (sym same) small_are_entries
