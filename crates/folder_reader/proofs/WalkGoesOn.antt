@@ -1,5 +1,5 @@
 -- A walk goes on: what stands in the next folder is found after what was found before.
-use Rattle.std.proofs.Common.{◌≡◌, ◌≢◌, ℕ, zero, suc, ◌+◌, ◌<◌, ◌≤◌, ◌⊎◌, inl, inr, Bool, true, false, ltb, List, [], ◌∷◌, ◌++◌, length, get_or, Option, Some, None, slice_get, refl, sym, ap, ◌∙◌, subst, arith}
+use Rattle.std.proofs.Common.{◌≡◌, ◌≢◌, ℕ, zero, suc, ◌+◌, ◌<◌, ◌≤◌, ◌⊎◌, inl, inr, Bool, true, false, ltb, List, [], ◌∷◌, ◌++◌, length, Option, Some, slice_get, refl, sym, ap, ◌∙◌, subst, arith}
 use Rattle.std.specs.Prelude.{map, option_map, Contains, IsSome}
 use Rattle.std.specs.List.{AllByRecursion, IsDistinct, filter}
 use Rattle.std.specs.Str.{bytes_eq}
@@ -16,10 +16,10 @@ use Rattle.jk_model_folders.specs.FolderTrees.{MOST_LEVELS, StandsBelow, directl
 use Rattle.folder_reader.specs.declared.found.Found.{Found}
 use Rattle.folder_reader.specs.Calls.{IsListing}
 use Rattle.folder_reader.specs.Paths.{child, child_of, children, has_name, paths_of, top, whole_path}
-use Rattle.folder_reader.specs.Walks.{HasParent, IsBelow, IsFound, IsLooked, IsPlace, IsToldWalk, IsWalk}
-use Rattle.folder_reader.proofs.ItemsOfLists.{all_mapped, all_of, each_of, filter_all, in_filter, in_map, item_at, of_filter, of_map, place_of}
+use Rattle.folder_reader.specs.Walks.{HasParent, IsBelow, IsFound, IsLooked, IsPlace, IsWalk}
+use Rattle.folder_reader.proofs.ItemsOfLists.{all_of, each_of, filter_all, in_filter, in_map, item_at, of_filter, of_map, place_of}
 use Rattle.folder_reader.proofs.NoMoreThanFound.{bytes_differ}
-use Rattle.folder_reader.proofs.PathsTellNames.{child_not_empty, child_tells, named_by_test, test_of_named, utf8_child, whole_below, whole_child, within_child}
+use Rattle.folder_reader.proofs.PathsTellNames.{child_not_empty, child_tells, named_by_test, test_of_named, utf8_child, whole_child, within_child}
 
 -- ---- what stands in a folder that stands below
 
@@ -288,6 +288,7 @@ module _ (t : Tree) (root : List ℕ) (found : List Found) (n : ℕ) (f : Found)
 
       now : (k : ℕ) (g : Found) → k ≡ n → slice_get (found ++ children f entries) k ≡ Some g → IsLooked t root (found ++ children f entries) g
       now k g same here =
-          let there : slice_get found n ≡ Some g = sym (get_left found (children f entries) n inside) ∙ ap (slice_get (found ++ children f entries)) (sym same) ∙ here in
+          let there : slice_get found n ≡ Some g = sym (get_left found (children f entries) n inside)
+          ∙ ap (slice_get (found ++ children f entries)) (sym same) ∙ here in
           let one : f ≡ g = cc in
           subst (IsLooked t root (found ++ children f entries)) one (looked_here shallow)

@@ -1,6 +1,6 @@
 -- A walk over all folders found all that stands below, so the files that were read are those of the folder.
-use Rattle.std.proofs.Common.{◌≡◌, ◌≢◌, ℕ, zero, suc, ◌+◌, ◌<◌, ◌≤◌, ◌⊎◌, inl, inr, Bool, true, false, cond, List, [], ◌∷◌, ◌++◌, length, Option, Some, None, slice_get, refl, sym, ap, ◌∙◌, subst, append-nil, arith}
-use Rattle.std.specs.Prelude.{map, not, nat_eq, ◌&&◌, ◌||◌, codes, sum_by, unwrap_or, take, drop, Contains, IsSome, IsUtf8}
+use Rattle.std.proofs.Common.{◌≡◌, ◌≢◌, ℕ, zero, suc, ◌+◌, ◌<◌, ◌≤◌, inl, inr, Bool, true, false, cond, List, [], ◌∷◌, ◌++◌, length, Option, Some, None, slice_get, refl, sym, ap, ◌∙◌, subst, append-nil, arith}
+use Rattle.std.specs.Prelude.{map, not, nat_eq, ◌||◌, codes, unwrap_or, take, drop, Contains, IsSome, IsUtf8}
 use Rattle.std.specs.List.{AllByRecursion, IsDistinct, ends_with, filter, list_any}
 use Rattle.std.specs.Str.{bytes_eq}
 use Rattle.std.proofs.lemmas.Bool.{and_parts, false≢true}
@@ -18,7 +18,7 @@ use Rattle.jk_model_folders.specs.declared.files.FolderFiles.{FolderFiles}
 use Rattle.jk_model_folders.specs.FolderTrees.{AreFiles, AreFilesOf, AreToldFiles, HasClassFileAt, HasEntryAt, HasFileAt, IsClassPath, IsThatFile, IsTooLarge, deep_folder, wide_top, wide_folder, many_entries, many_files, long_file, long_resolver, long_together, MAX_CLASSES, MAX_FILE, MOST_ENTRIES, MOST_FILES, MOST_LEVELS, RESOLVER, StandsBelow, directly, deeper}
 use Rattle.folder_reader.specs.declared.found.Found.{Found}
 use Rattle.folder_reader.specs.Calls.{HasFile, HasFolder, IsLongFile}
-use Rattle.folder_reader.specs.FolderAnswers.{IsAbsent, IsLarge, IsWithin}
+use Rattle.folder_reader.specs.FolderAnswers.{IsLarge, IsWithin}
 use Rattle.folder_reader.specs.Listings.{AreRead, IsFilePath, IsToldFilePath, IsToRead, sum_of}
 use Rattle.folder_reader.specs.Paths.{child, child_of, class_paths, is_class, is_resolver, IsRising, paths_of, top, whole_path}
 use Rattle.folder_reader.specs.Walks.{AreFound, IsBelow, IsFound, IsLooked, IsPlace, IsToldWalk, IsWalk}
@@ -107,7 +107,8 @@ no_top t root f (inl is) file = absurd (false≢true (sym file ∙ ap (λ (g : F
 no_top t root f (inr b) file = b
 
 -- a class path is that of an entry that was found
-pub class_found : (found : List Found) (path : List ℕ) → Contains (class_paths found) path → (f : Found) × Contains found f × (is_class f ≡ true) × (f.path ≡ path)
+pub class_found : (found : List Found) (path : List ℕ) → Contains (class_paths found) path
+    → (f : Found) × Contains found f × (is_class f ≡ true) × (f.path ≡ path)
 class_found found path h =
     let m = of_map (λ (f : Found). f.path) (filter is_class found) path h in
     let k = of_filter is_class found m.0 m.1 in

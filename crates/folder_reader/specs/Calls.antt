@@ -7,7 +7,8 @@ use Rattle.jk_model_folders.specs.FolderTrees.{MAX_FILE, MOST_ENTRIES}
 use Rattle.folder_reader.specs.FolderAnswers.{AsksWithin}
 
 -- The tree stays, no count falls, and nothing is asked but of the folder and what stands below it.
-pub record Moves (root : List ℕ) (old_tree new_tree : Option Tree) (old_faults new_faults old_taken new_taken : ℕ) (old_asked new_asked : List Ask) : Type 0 where
+pub record Moves (root : List ℕ) (old_tree new_tree : Option Tree) (old_faults new_faults old_taken new_taken : ℕ)
+    (old_asked new_asked : List Ask) : Type 0 where
   pub stays : new_tree ≡ old_tree
   pub faults : NeverFalls old_faults new_faults
   pub taken : NeverFalls old_taken new_taken

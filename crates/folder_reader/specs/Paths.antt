@@ -1,5 +1,5 @@
 -- Paths below a folder, the entries that are found at them, and which of these count.
-use Rattle.std.specs.Prelude.{◌≡◌, ℕ, ◌+◌, ◌==◌, ◌&&◌, Bool, true, not, List, [], ◌∷◌, length, map, codes, bytes_eq, nat_eq}
+use Rattle.std.specs.Prelude.{ℕ, ◌+◌, ◌==◌, ◌&&◌, Bool, true, not, List, [], ◌∷◌, length, map, codes, bytes_eq, nat_eq}
 use Rattle.std.specs.List.{AllByRecursion, ends_with, filter, list_any}
 use Rattle.jk_model.specs.declared.entries.Entry.{Entry}
 use Rattle.jk_model.specs.Outside.{◌/-◌}

@@ -169,18 +169,6 @@ fn tells_many_files(rt: HostRuntime) -> Result<(), Fail> {
     Ok(())
 }
 
-/// Each of 256 files stands 16 levels down, and so makes 16 entries. One entry more is too many.
-#[test]
-fn tells_many_entries(rt: HostRuntime) -> Result<(), Fail> {
-    let alloc = rt.alloc();
-    let mut files = MemoryFiles::new(alloc);
-    let ending = "/2/3/4/5/6/7/8/9/10/11/12/13/14/15/a.class";
-    add_many(&rt, alloc, &mut files, "many", 256, ending, b"")?;
-    add(&rt, &mut files, "many/note.txt", b"");
-    expect_classes(&rt, alloc, &mut files, "many", None);
-    Ok(())
-}
-
 /// Two folders are listed and two files read, and each of these calls may fail.
 #[test]
 fn tells_faults(rt: HostRuntime) -> Result<(), Fail> {

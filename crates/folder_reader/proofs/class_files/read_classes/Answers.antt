@@ -1,5 +1,5 @@
 -- One class file more is read, and is of those that make the folder too large.
-use Rattle.std.proofs.Common.{◌≡◌, Some, sym, ap, ◌∙◌, arith}
+use Rattle.std.proofs.Common.{Some, sym, ap, ◌∙◌, arith}
 use Rattle.folder_reader.proofs.CallsInTurn.{moves_on}
 use Rattle.folder_reader.proofs.ToldOrNot.{file_is_read, path_get, to_read_at}
 use Rattle.folder_reader.proofs.WholeWalk.{read_more, sum_more, too_long_with}

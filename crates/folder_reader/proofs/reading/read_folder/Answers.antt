@@ -1,6 +1,6 @@
 -- The files that were read are those of the folder, and what makes it too large there.
-use Rattle.std.proofs.Common.{◌≡◌, ℕ, ◌≤◌, true, false, List, length, Option, map, sym, ap, ◌∙◌, subst, arith}
-use Rattle.std.specs.Prelude.{string_bytes, Contains, IsUtf8, String}
+use Rattle.std.proofs.Common.{◌≡◌, ℕ, true, List, length, Option, map, sym, ap, ◌∙◌, subst, arith}
+use Rattle.std.specs.Prelude.{string_bytes, Contains, IsUtf8}
 use Rattle.std.specs.List.{AllByRecursion, list_any}
 use Rattle.std.proofs.lemmas.List.{length-map}
 use Rattle.jk_model.specs.Outside.{FileIs, Tree}

@@ -1,5 +1,5 @@
 -- What one step of the walk leaves, and what makes the folder too large there.
-use Rattle.std.proofs.Common.{◌≡◌, ℕ, ◌+◌, ◌++◌, List, vec_len, sym, subst, arith}
+use Rattle.std.proofs.Common.{◌+◌, List, vec_len, sym, subst, arith}
 use Rattle.std.proofs.lemmas.Option.{slice_get_read}
 use Rattle.jk_model.proofs.EachItem.{all_append, all_at}
 use Rattle.folder_reader.specs.declared.found.Found.{Found}
