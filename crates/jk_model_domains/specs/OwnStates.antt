@@ -1,6 +1,6 @@
 -- What a domain has for itself beside its heap: how far each of its classes is initialised, their static fields, the text
 -- objects of its literals, and the objects that stand in its heap from the opening on.
-use Rattle.std.specs.Prelude.{◌≡◌, ◌≢◌, ℕ, zero, suc, ◌==◌, ◌⊎◌, ◌↔◌, Bool, List, [], length, filter, map, find, Contains, Option, Some, None, option_map, option_and_then, slice_get, bytes_eq, replicate, IsPermutation, pos, if◌then◌else◌}
+use Rattle.std.specs.Prelude.{◌≡◌, ◌≢◌, ℕ, zero, suc, ◌==◌, ◌⊎◌, Bool, List, [], length, filter, map, find, Contains, Option, Some, None, option_map, option_and_then, slice_get, bytes_eq, replicate, IsPermutation, pos, if◌then◌else◌}
 use Rattle.std.specs.List.{enumerate_from}
 use Rattle.std.specs.Option.{option_map_or}
 use Rattle.jk_model.specs.declared.identifiers.ClassId.{ClassId}
@@ -49,7 +49,7 @@ pub record Literal : Type 0 where
 pub record OwnState : Type 0 where
   -- the parts of the classes of its name table that aren't system classes
   pub classes : List ClassPart
-  -- the texts to which the pools of its classes lead, each once
+  -- the texts that may have an object, each once: those to which its classes lead, and maybe others
   pub texts : List (List ℕ)
   -- those of them that have an object
   pub literals : List Literal
@@ -101,11 +101,16 @@ with_field index v statics = map (λ (f : StaticField). if f.index == index then
 abbrev pub with_static : OwnState → MemberId → Value → OwnState
 with_static own m v = record own { classes = with_part m.class (λ e. record e { statics = with_field m.index v e.statics }) own.classes }
 
--- ---- Literals: the texts to which the pools of the domain's classes lead, system classes having none.
+-- ---- Literals: the texts to which the pools of the domain's classes and the constants of their fields lead, system
+-- classes having none.
+
+-- the pool of a class leads to the text, or it is the constant of one of its fields
+abbrev pub IsTextOf : ClassRecord → List ℕ → Type 0
+IsTextOf r text = Contains r.links (To.Text text) ⊎ ((f : FieldRecord) × Contains r.fields f × (f.constant ≡ To.Text text))
 
 abbrev pub IsLiteralOf : List ClassRecord → List NamedClass → List ℕ → Type 0
 IsLiteralOf classes table text =
-    (c : ClassId) × (r : ClassRecord) × IsNamed table c × (record_of classes c ≡ Some r) × Contains r.links (To.Text text)
+    (c : ClassId) × (r : ClassRecord) × IsNamed table c × (record_of classes c ≡ Some r) × IsTextOf r text
 
 -- the name of the object of a literal; nothing where it has none yet
 abbrev pub literal_named : OwnState → List ℕ → Option ℕ
@@ -170,7 +175,7 @@ pub record IsOwnState (classes : List ClassRecord) (table : List NamedClass) (ow
   pub all : (c : ClassId) (r : ClassRecord) → HasPart classes table c r → HasState own c
   pub classes_differ : (i j : ℕ) (a b : ClassPart) → slice_get own.classes i ≡ Some a → slice_get own.classes j ≡ Some b
       → a.class ≡ b.class → i ≡ j
-  pub texts : (text : List ℕ) → Contains own.texts text ↔ IsLiteralOf classes table text
+  pub texts : (text : List ℕ) → IsLiteralOf classes table text → Contains own.texts text
   pub texts_differ : (i j : ℕ) (text : List ℕ) → slice_get own.texts i ≡ Some text → slice_get own.texts j ≡ Some text → i ≡ j
   pub literals : (l : Literal) → Contains own.literals l → Contains own.texts l.text
   pub literals_differ : (i j : ℕ) (a b : Literal) → slice_get own.literals i ≡ Some a → slice_get own.literals j ≡ Some b
@@ -183,6 +188,7 @@ pub record IsFirstState (classes : List ClassRecord) (table : List NamedClass) (
   pub untouched : (e : ClassPart) → Contains own.classes e → e.state ≡ State.Untouched
   pub statics : (e : ClassPart) (r : ClassRecord) → Contains own.classes e → record_of classes e.class ≡ Some r
       → e.statics ≡ first_statics r
+  pub texts : (text : List ℕ) → Contains own.texts text → IsLiteralOf classes table text
   pub no_literals : own.literals ≡ []
   pub out : own.out ≡ 0
   pub standing : own.standing ≡ replicate 8 0
