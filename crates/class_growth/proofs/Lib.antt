@@ -1,0 +1,6 @@
+-- What more classes, and other links, leave as it is. The kernel cites these lemmas by import.
+pub mod ItemsOfLists
+pub mod RecordsAgree
+pub mod WalksAgree
+pub mod MembersFound
+pub mod MoreClasses

@@ -1,0 +1,1 @@
+-- When every class that the records mention is there.

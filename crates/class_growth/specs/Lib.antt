@@ -1,0 +1,3 @@
+-- What is kept of classes, types, frames and values where more classes are put behind them, or where classes get other links.
+pub mod ClassesKept
+pub mod ClosedClasses
