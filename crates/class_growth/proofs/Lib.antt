@@ -4,3 +4,7 @@ pub mod RecordsAgree
 pub mod WalksAgree
 pub mod MembersFound
 pub mod MoreClasses
+pub mod TypesKept
+pub mod ValuesKept
+pub mod ScopesKept
+pub mod ShapesKept
