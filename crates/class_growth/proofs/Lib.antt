@@ -8,3 +8,5 @@ pub mod TypesKept
 pub mod ValuesKept
 pub mod ScopesKept
 pub mod ShapesKept
+pub mod RowsKept
+pub mod TypingsKept
