@@ -10,3 +10,4 @@ pub mod ScopesKept
 pub mod ShapesKept
 pub mod RowsKept
 pub mod TypingsKept
+pub mod LayoutsKept

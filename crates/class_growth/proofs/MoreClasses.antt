@@ -22,6 +22,9 @@ use Rattle.class_growth.proofs.MembersFound.{finds_field-there, finds_field-back
 pub agree-more : (classes more : List ClassRecord) → AgreeBelow (length classes) classes (classes ++ more)
 agree-more classes more c below = agree-from_same classes (classes ++ more) c (sym (slice_get-front classes more c.0 below))
 
+pub ordered-before : (classes more : List ClassRecord) → AreOrdered (classes ++ more) → AreOrdered classes
+ordered-before classes more ordered c r is = ordered c r (slice_get-longer classes more c.0 r is)
+
 -- ---- One class, and its members.
 
 pub record-kept : (classes more : List ClassRecord) (c : ClassId) → HasClass classes c → record_of (classes ++ more) c ≡ record_of classes c

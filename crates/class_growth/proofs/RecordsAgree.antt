@@ -14,10 +14,8 @@ use Rattle.jk_model_classes.specs.declared.records.Member.{Member}
 use Rattle.jk_model_classes.specs.declared.records.Member.TheVariants.{Field, Method}
 use Rattle.jk_model_classes.specs.ClassFlags.{has, INTERFACE}
 use Rattle.jk_model_classes.specs.Classes.{record_of, parents_of, listed_interfaces, is_interface_record, IsInterface}
+use Rattle.class_growth.specs.OtherLinks.{without_links}
 use Rattle.jk_model_classes.specs.Lookups.{FieldIs, MethodIs, FlagsAre, AreInOnePackage, IsPackageOf, class_of}
-
-abbrev pub without_links : ClassRecord → ClassRecord
-without_links r = record r { links = [] }
 
 -- both lists have the same record at this number but for its links, or both have none
 abbrev pub AgreeAt : List ClassRecord → List ClassRecord → ClassId → Type 0
@@ -38,13 +36,13 @@ module _ (a b : List ClassRecord) (c : ClassId) (agree : AgreeAt a b c) where
       → (q : ClassRecord) × (record_of b c ≡ Some q) × (without_links r ≡ without_links q)
   record-there r is = record_in (record_of b c) r (sym (ap (option_map without_links) is) ∙ agree)
 
-  interface-same : IsInterface a c → IsInterface b c
-  interface-same (r, is, flag) =
+  pub is_interface-there : IsInterface a c → IsInterface b c
+  is_interface-there (r, is, flag) =
       let there = record-there r is in
       (there.0, there.1, subst (λ n. IsTrue (has n INTERFACE)) (ap (λ (x : ClassRecord). x.flags) there.2) flag)
 
   -- what doesn't read links is the same
-  says : {X : Type 0} (say : Option ClassRecord → X) → ((o : Option ClassRecord) → say o ≡ say (option_map without_links o))
+  pub says : {X : Type 0} (say : Option ClassRecord → X) → ((o : Option ClassRecord) → say o ≡ say (option_map without_links o))
       → say (record_of a c) ≡ say (record_of b c)
   says say blind = blind (record_of a c) ∙ ap say agree ∙ sym (blind (record_of b c))
 
@@ -62,9 +60,6 @@ module _ (a b : List ClassRecord) (c : ClassId) (agree : AgreeAt a b c) where
 
   pub interfaces-agree : listed_interfaces a c ≡ listed_interfaces b c
   interfaces-agree = says interfaces_in (λ o. elim o as (λ o. interfaces_in o ≡ interfaces_in (option_map without_links o)) [ None ↦ refl | Some r ↦ refl ])
-
-  pub is_interface-there : IsInterface a c → IsInterface b c
-  is_interface-there = interface-same
 
 -- ---- Members.
 

@@ -30,7 +30,7 @@ interfaces_below_by n None h = tt
 interfaces_below_by n (Some r) h = (h r refl).1
 
 module _ (classes : List ClassRecord) (ordered : AreOrdered classes) where
-  parents-below : (c : ClassId) → AllByRecursion (IsBelow c.0) (parents_of classes c)
+  pub parents-below : (c : ClassId) → AllByRecursion (IsBelow c.0) (parents_of classes c)
   parents-below c = parents_below_by c.0 (record_of classes c) (ordered c)
 
   interfaces-below : (c : ClassId) → AllByRecursion (IsBelow c.0) (listed_interfaces classes c)

@@ -1,6 +1,6 @@
 -- What is said of classes, of their members and of what stands above them, where more classes are put behind them. A class that
 -- was there is one of those that stand in front.
-use Rattle.std.specs.Prelude.{◌≡◌, ◌↔◌, ℕ, List, ◌++◌, Option}
+use Rattle.std.specs.Prelude.{◌≡◌, ◌↔◌, ⊤, ℕ, List, ◌++◌, Option}
 use Rattle.jk_model.specs.declared.descriptors.MethodType.{MethodType}
 use Rattle.jk_model.specs.declared.identifiers.ClassId.{ClassId}
 use Rattle.jk_model.specs.declared.identifiers.MemberId.{MemberId}
@@ -11,6 +11,8 @@ use Rattle.jk_model_classes.specs.declared.records.MethodRecord.{MethodRecord}
 use Rattle.jk_model_classes.specs.declared.records.TypeRef.{TypeRef}
 use Rattle.jk_model_classes.specs.Classes.{record_of, HasClass, AreOrdered, IsInterface, IsSubclass, Implements, superclasses, with_interfaces, own_interfaces, field_walk, method_walk}
 use Rattle.jk_model_classes.specs.Lookups.{FieldIs, MethodIs, FlagsAre, AreInOnePackage, FindsField, FindsMethod, Selects, class_of}
+use Rattle.jk_model_classes.specs.Layouts.{layout_of}
+use Rattle.jk_model_domains.specs.Objects.{Object, Plain, object_words}
 
 -- It is said of the classes exactly where it is said of them with more behind.
 abbrev pub IsKept : (List ClassRecord → Type 0) → List ClassRecord → List ClassRecord → Type 0
@@ -76,3 +78,19 @@ abbrev pub SelectedMethodsStay : Type 0
 SelectedMethodsStay =
     (classes more : List ClassRecord) (c : ClassId) (m : MemberId) (selected : Option MemberId) → AreOrdered classes → HasClass classes c
     → HasClass classes m.class → IsKept (λ all. Selects all c m selected) classes more
+
+-- ---- What objects are made of.
+
+-- the class of a plain object is there
+abbrev pub HasObject : List ClassRecord → Object → Type 0
+HasObject classes (Plain class fields) = HasClass classes class
+HasObject classes _ = ⊤
+
+abbrev pub LayoutsStay : Type 0
+LayoutsStay =
+    (classes more : List ClassRecord) (c : ClassId) → AreOrdered classes → HasClass classes c → layout_of (classes ++ more) c ≡ layout_of classes c
+
+abbrev pub CostsStay : Type 0
+CostsStay =
+    (classes more : List ClassRecord) (object : Object) → AreOrdered classes → HasObject classes object
+    → object_words (classes ++ more) object ≡ object_words classes object
