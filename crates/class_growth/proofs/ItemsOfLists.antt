@@ -30,6 +30,11 @@ module _ {X : Type 0} where
   pub Contains-at : (xs : List X) (k : ℕ) (x : X) → slice_get xs k ≡ Some x → Contains xs x
   Contains-at xs k x e = (k, slice_get_within xs k x e, get_or_from_slice_get xs k x x e)
 
+  pub slice_get-append_cases : (xs ys : List X) (k : ℕ) (x : X) → slice_get (xs ++ ys) k ≡ Some x → (slice_get xs k ≡ Some x) ⊎ Contains ys x
+  slice_get-append_cases [] ys k x e = inr (Contains-at ys k x e)
+  slice_get-append_cases (z ∷ xs) ys zero x e = inl e
+  slice_get-append_cases (z ∷ xs) ys (suc k) x e = slice_get-append_cases xs ys k x e
+
   -- what holds of each item holds of one that stands in the list
   pub each-of : (P : X → Type 0) (xs : List X) (x : X) → AllByRecursion P xs → Contains xs x → P x
   each-of P [] x all h = absurd (Contains-none x h)

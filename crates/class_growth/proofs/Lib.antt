@@ -11,3 +11,5 @@ pub mod ShapesKept
 pub mod RowsKept
 pub mod TypingsKept
 pub mod LayoutsKept
+pub mod ClosedClassesKept
+pub mod LinksDontMatter

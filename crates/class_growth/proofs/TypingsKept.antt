@@ -11,9 +11,10 @@ use Rattle.jk_model_typing.specs.declared.frames.VType.{VType}
 use Rattle.jk_model_typing.specs.declared.frames.VType.TheVariants.{FreshThis}
 use Rattle.jk_model_typing.specs.declared.frames.FrameType.{FrameType}
 use Rattle.jk_model_typing.specs.FrameTypes.{of_class, throwable}
+use Rattle.jk_model_typing.specs.Rows.{Row}
 use Rattle.jk_model_typing.specs.Scopes.{CodeScope, IsScopeOf, own_receiver, parameter_values, is_static, is_init}
 use Rattle.jk_model_typing.specs.Typing.{GoesOnAt, FitsAt, IsStart, GoesWell, IsTyping, as_locals, caught_value, handler_frame}
-use Rattle.class_growth.specs.ScopesOver.{with_more}
+use Rattle.class_growth.specs.ScopesOver.{among, with_more}
 use Rattle.class_growth.specs.ClosedClasses.{HasCaught, IsClosed}
 use Rattle.class_growth.proofs.MoreClasses.{record-still}
 use Rattle.class_growth.proofs.TypesKept.{of_class-kept, frame_fits-still}
@@ -99,3 +100,35 @@ typing-still classes more ordered closed m frames typing =
       first = fits_at-still s more frames 0 typing.start typing.first;
       each = λ place i f is at. goes_well-still s more in_order there frames place i f (typing.each place i f is at);
     }
+
+-- ---- In the scope of a method of a class that was there.
+
+module _ (classes more : List ClassRecord) (m : MemberId) (s : CodeScope) (scope : IsScopeOf classes m s) where
+  -- what is judged in the scope with more classes behind its own
+  among_all : (Judged : CodeScope → Type 0) → Judged (with_more s more) → Judged (among s (classes ++ more))
+  among_all Judged h = subst (λ all. Judged (among s (all ++ more))) scope.all h
+
+  pub fits_at-in_scope : (frames : List (Option FrameType)) (place : ℕ) (f : FrameType) → FitsAt s frames place f
+      → FitsAt (among s (classes ++ more)) frames place f
+  fits_at-in_scope frames place f h = among_all (λ t. FitsAt t frames place f) (fits_at-still s more frames place f h)
+
+  module _ (closed : IsClosed classes) where
+    there : IsClosedScope s
+    there = closed-scope classes closed m s scope
+
+    pub start-in_scope : (f : FrameType) → IsStart s f → IsStart (among s (classes ++ more)) f
+    start-in_scope f h = among_all (λ t. IsStart t f) (start-still s more f there h)
+
+    module _ (ordered : AreOrdered classes) where
+      in_order : AreOrdered s.classes
+      in_order = subst AreOrdered (sym scope.all) ordered
+
+      pub row-in_scope : (place : ℕ) (i : Instr) (before after : FrameType) → Row s place i before after
+          → Row (among s (classes ++ more)) place i before after
+      row-in_scope place i before after h =
+          among_all (λ t. Row t place i before after) (row-still s more in_order there place i before after h)
+
+      pub goes_well-in_scope : (frames : List (Option FrameType)) (place : ℕ) (i : Instr) (f : FrameType) → GoesWell s frames place i f
+          → GoesWell (among s (classes ++ more)) frames place i f
+      goes_well-in_scope frames place i f h =
+          among_all (λ t. GoesWell t frames place i f) (goes_well-still s more in_order there frames place i f h)
