@@ -1,6 +1,5 @@
 -- Closed classes stay closed where each class that a new record mentions is there too.
-use Rattle.std.proofs.Common.{◌≡◌, List, ◌++◌, Some, Contains, inl, inr}
-use Rattle.jk_model.specs.declared.identifiers.ClassId.{ClassId}
+use Rattle.std.proofs.Common.{List, ◌++◌, Contains, inl, inr}
 use Rattle.jk_model_classes.specs.declared.records.BaseRef.{BaseRef}
 use Rattle.jk_model_classes.specs.declared.records.BaseRef.TheVariants as Base
 use Rattle.jk_model_classes.specs.declared.records.ClassRecord.{ClassRecord}
@@ -8,7 +7,6 @@ use Rattle.jk_model_classes.specs.declared.records.Link.{Link}
 use Rattle.jk_model_classes.specs.declared.records.Link.TheVariants as To
 use Rattle.jk_model_classes.specs.declared.records.MethodRecord.{MethodRecord}
 use Rattle.jk_model_classes.specs.declared.records.TypeRef.{TypeRef}
-use Rattle.jk_model_classes.specs.Classes.{record_of}
 use Rattle.class_growth.specs.ClosedClasses.{HasBase, HasType, HasLink, HasClassesOfMethod, HasClassesOf, IsClosed}
 use Rattle.class_growth.proofs.ItemsOfLists.{slice_get-append_cases}
 use Rattle.class_growth.proofs.MoreClasses.{has_class-still}

@@ -7,7 +7,7 @@ use Rattle.std.specs.Option.{option_map_or}
 use Rattle.jk_model.specs.declared.identifiers.ClassId.{ClassId}
 use Rattle.jk_model_classes.specs.declared.records.ClassRecord.{ClassRecord}
 use Rattle.jk_model_classes.specs.declared.records.FieldRecord.{FieldRecord}
-use Rattle.jk_model_classes.specs.Classes.{record_of, HasClass, parents_of, IsBelow, AreOrdered}
+use Rattle.jk_model_classes.specs.Classes.{HasClass, parents_of, IsBelow, AreOrdered}
 use Rattle.jk_model_classes.specs.Layouts.{InstanceField, own_fields, fields_within, instance_fields, is_instance_field, layout_of, up_to_32_bits, words_of, HEADER_WORDS, cost_of, type_words}
 use Rattle.jk_model_domains.specs.Objects.{Object, Plain, Array, Text, Task, object_words}
 use Rattle.class_growth.specs.ClassesKept.{HasObject}

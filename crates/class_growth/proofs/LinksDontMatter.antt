@@ -1,6 +1,5 @@
 -- What is said of classes whatever their links are: members, packages, what stands above a class, and what is found there.
-use Rattle.std.proofs.Common.{◌≡◌, ℕ, zero, suc, ◌+◌, ◌<◌, List, [], ◌∷◌, Option, Some, None, map, slice_get, set, refl, sym, ap, subst, ◌∙◌, inl, inr, arith}
-use Rattle.std.specs.Prelude.{option_map}
+use Rattle.std.proofs.Common.{◌≡◌, ℕ, zero, suc, ◌+◌, ◌<◌, List, [], ◌∷◌, Option, Some, map, slice_get, set, sym, ap, subst, ◌∙◌, arith}
 use Rattle.std.proofs.lemmas.Option.{slice_get-map, same_Some}
 use Rattle.jk_model.specs.declared.descriptors.MethodType.{MethodType}
 use Rattle.jk_model.specs.declared.identifiers.ClassId.{ClassId}
@@ -11,7 +10,7 @@ use Rattle.jk_model_classes.specs.declared.records.Link.{Link}
 use Rattle.jk_model_classes.specs.declared.records.Member.{Member}
 use Rattle.jk_model_classes.specs.declared.records.MethodRecord.{MethodRecord}
 use Rattle.jk_model_classes.specs.declared.records.TypeRef.{TypeRef}
-use Rattle.jk_model_classes.specs.Classes.{record_of, GetsLinks, AreOrdered, StandsAbove, superclasses, IsSubclass, IsInterface, with_interfaces, own_interfaces, Implements, field_walk, method_walk}
+use Rattle.jk_model_classes.specs.Classes.{GetsLinks, AreOrdered, StandsAbove, superclasses, IsSubclass, IsInterface, with_interfaces, own_interfaces, Implements, field_walk, method_walk}
 use Rattle.jk_model_classes.specs.Lookups.{FieldIs, MethodIs, FlagsAre, AreInOnePackage, FindsField, FindsMethod, Selects, class_of}
 use Rattle.class_growth.specs.OtherLinks.{without_links, DifferInLinks}
 use Rattle.class_growth.proofs.RecordsAgree.{AgreeAt, record-there, field-there, method-there, flags-there, package-there, is_interface-there}

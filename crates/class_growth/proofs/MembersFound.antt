@@ -1,13 +1,13 @@
 -- Which member a name and a type find, and which method a call runs, is the same over two lists of records that agree below a
 -- number but for links, for a class below that number.
-use Rattle.std.proofs.Common.{◌≡◌, ℕ, suc, ◌+◌, ◌<◌, List, Option, Some, None, slice_get, Contains, refl, sym, subst, inl, inr, ◌⊎◌, arith}
+use Rattle.std.proofs.Common.{◌≡◌, ℕ, suc, ◌<◌, List, Option, Some, None, Contains, refl, sym, subst, inl, inr, arith}
 use Rattle.jk_model.specs.declared.descriptors.MethodType.{MethodType}
 use Rattle.jk_model.specs.declared.identifiers.ClassId.{ClassId}
 use Rattle.jk_model.specs.declared.identifiers.MemberId.{MemberId}
 use Rattle.jk_model_classes.specs.declared.records.ClassRecord.{ClassRecord}
 use Rattle.jk_model_classes.specs.declared.records.TypeRef.{TypeRef}
 use Rattle.jk_model_classes.specs.Classes.{AreOrdered, field_walk, method_walk, superclasses}
-use Rattle.jk_model_classes.specs.Lookups.{IsFieldOf, IsMethodOf, IsFirstOf, IsFirstOn, FindsOn, FindsField, FindsMethod, IsAbstract, IsUnlessAbstract, IsOverriddenIn, RunsFor, Selects}
+use Rattle.jk_model_classes.specs.Lookups.{IsFieldOf, IsMethodOf, IsFirstOn, FindsOn, FindsField, FindsMethod, IsAbstract, IsUnlessAbstract, IsOverriddenIn, RunsFor, Selects}
 use Rattle.class_growth.proofs.ItemsOfLists.{Contains-at}
 use Rattle.class_growth.proofs.RecordsAgree.{AgreeAt, field-there, method-there, package-there, is_interface-there}
 use Rattle.class_growth.proofs.WalksAgree.{AgreeBelow, superclasses-below, field_walk-below, method_walk-below, superclasses-agree, field_walk-agree, method_walk-agree}
@@ -126,9 +126,9 @@ module _ (n : ℕ) (a b : List ClassRecord) (ordered : AreOrdered a) (agree : Ag
     selects-there (found, on, unless) = (
       found,
       subst (λ walk. FindsOn (RunsFor b m) walk found) (superclasses-agree n a b ordered agree c below)
-      (finds-same (RunsFor a m) (RunsFor b m) (superclasses a c)
-      (λ other at. runs-there a b m other (agree m.class low) (on_way_up other.class at))
-      (λ other at. runs-there b a m other (sym (agree m.class low)) (sym (on_way_up other.class at))) found on),
+          (finds-same (RunsFor a m) (RunsFor b m) (superclasses a c)
+          (λ other at. runs-there a b m other (agree m.class low) (on_way_up other.class at))
+          (λ other at. runs-there b a m other (sym (agree m.class low)) (sym (on_way_up other.class at))) found on),
       unless_abstract-there a b found selected (found_on_way_up (RunsFor a m) found on) unless,
     )
 
@@ -138,7 +138,7 @@ module _ (n : ℕ) (a b : List ClassRecord) (ordered : AreOrdered a) (agree : Ag
         = subst (λ walk. FindsOn (RunsFor b m) walk found) (sym (superclasses-agree n a b ordered agree c below)) on in (
           found,
           finds-same (RunsFor b m) (RunsFor a m) (superclasses a c)
-          (λ other at. runs-there b a m other (sym (agree m.class low)) (sym (on_way_up other.class at)))
-          (λ other at. runs-there a b m other (agree m.class low) (on_way_up other.class at)) found here,
+              (λ other at. runs-there b a m other (sym (agree m.class low)) (sym (on_way_up other.class at)))
+              (λ other at. runs-there a b m other (agree m.class low) (on_way_up other.class at)) found here,
           unless_abstract-there b a found selected (λ d e. sym (found_on_way_up (RunsFor b m) found here d e)) unless,
         )

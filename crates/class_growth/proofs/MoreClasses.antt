@@ -1,6 +1,6 @@
 -- What is said of classes, of their members and of what stands above them stays where more classes are put behind them, and of
 -- a class that was there it was said before.
-use Rattle.std.proofs.Common.{◌≡◌, ℕ, zero, suc, ◌+◌, ◌<◌, List, [], ◌∷◌, ◌++◌, length, Option, Some, None, slice_get, flat_map, Contains, refl, sym, subst, inl, inr, arith, length-append}
+use Rattle.std.proofs.Common.{◌≡◌, ℕ, zero, suc, ◌+◌, List, [], ◌∷◌, ◌++◌, length, Option, Some, None, flat_map, Contains, refl, sym, subst, inl, inr, arith, length-append}
 use Rattle.std.specs.Option.{option_map_or}
 use Rattle.std.proofs.lemmas.Option.{slice_get_within}
 use Rattle.jk_model.specs.declared.descriptors.MethodType.{MethodType}
@@ -51,8 +51,8 @@ pub field-still : (classes more : List ClassRecord) (m : MemberId) (field : Fiel
 field-still classes more m field h =
     field-there classes (classes ++ more) m (agree-more classes more m.class (has_class-by_record classes m.class h.0 h.1)) field h
 
-pub field-before : (classes more : List ClassRecord) (m : MemberId) (field : FieldRecord) → HasClass classes m.class → FieldIs (classes ++ more) m field
-    → FieldIs classes m field
+pub field-before : (classes more : List ClassRecord) (m : MemberId) (field : FieldRecord) → HasClass classes m.class
+    → FieldIs (classes ++ more) m field → FieldIs classes m field
 field-before classes more m field there h = field-there (classes ++ more) classes m (sym (agree-more classes more m.class there)) field h
 
 pub method-still : (classes more : List ClassRecord) (m : MemberId) (method : MethodRecord) → MethodIs classes m method

@@ -1,11 +1,10 @@
 -- Two lists of records that agree at a class but for its links say the same of its members, its flags and its package, and of
 -- what is directly above it.
-use Rattle.std.proofs.Common.{◌≡◌, ◌≢◌, ℕ, Bool, IsTrue, List, [], ◌∷◌, Option, Some, None, slice_get, refl, sym, ap, subst, ◌∙◌}
+use Rattle.std.proofs.Common.{◌≡◌, ℕ, IsTrue, List, [], ◌∷◌, Option, Some, None, slice_get, refl, sym, ap, subst, ◌∙◌}
 use Rattle.std.specs.Prelude.{option_map}
 use Rattle.std.specs.Option.{option_map_or}
 use Rattle.std.proofs.lemmas.Option.{same_Some}
 use Rattle.jk_model.specs.declared.identifiers.ClassId.{ClassId}
-use Rattle.jk_model.specs.declared.identifiers.DomainId.{DomainId}
 use Rattle.jk_model.specs.declared.identifiers.MemberId.{MemberId}
 use Rattle.jk_model_classes.specs.declared.records.ClassRecord.{ClassRecord}
 use Rattle.jk_model_classes.specs.declared.records.FieldRecord.{FieldRecord}
@@ -47,7 +46,8 @@ module _ (a b : List ClassRecord) (c : ClassId) (agree : AgreeAt a b c) where
   says say blind = blind (record_of a c) ∙ ap say agree ∙ sym (blind (record_of b c))
 
   pub is_interface-agree : is_interface_record (record_of a c) ≡ is_interface_record (record_of b c)
-  is_interface-agree = says is_interface_record (λ o. elim o as (λ o. is_interface_record o ≡ is_interface_record (option_map without_links o)) [ None ↦ refl | Some r ↦ refl ])
+  is_interface-agree =
+      says is_interface_record (λ o. elim o as (λ o. is_interface_record o ≡ is_interface_record (option_map without_links o)) [ None ↦ refl | Some r ↦ refl ])
 
   abbrev parents_in : Option ClassRecord → List ClassId
   parents_in o = option_map_or (λ (r : ClassRecord). option_map_or (λ p. p ∷ []) r.parent []) o []
@@ -56,10 +56,12 @@ module _ (a b : List ClassRecord) (c : ClassId) (agree : AgreeAt a b c) where
   interfaces_in o = option_map_or (λ (r : ClassRecord). r.interfaces) o []
 
   pub parents-agree : parents_of a c ≡ parents_of b c
-  parents-agree = says parents_in (λ o. elim o as (λ o. parents_in o ≡ parents_in (option_map without_links o)) [ None ↦ refl | Some r ↦ refl ])
+  parents-agree =
+      says parents_in (λ o. elim o as (λ o. parents_in o ≡ parents_in (option_map without_links o)) [ None ↦ refl | Some r ↦ refl ])
 
   pub interfaces-agree : listed_interfaces a c ≡ listed_interfaces b c
-  interfaces-agree = says interfaces_in (λ o. elim o as (λ o. interfaces_in o ≡ interfaces_in (option_map without_links o)) [ None ↦ refl | Some r ↦ refl ])
+  interfaces-agree =
+      says interfaces_in (λ o. elim o as (λ o. interfaces_in o ≡ interfaces_in (option_map without_links o)) [ None ↦ refl | Some r ↦ refl ])
 
 -- ---- Members.
 

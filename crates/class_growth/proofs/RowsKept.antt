@@ -1,6 +1,6 @@
 -- An instruction that may begin with a frame and leaves another may do so still with more classes behind, in the scope of a
 -- method of closed, ordered classes.
-use Rattle.std.proofs.Common.{◌≡◌, ℕ, List, [], ◌∷◌, ◌++◌, refl, sym, ap, subst, ◌∙◌, inl, inr}
+use Rattle.std.proofs.Common.{ℕ, List, [], ◌∷◌, ◌++◌, sym, ap, subst, ◌∙◌, inl, inr}
 use Rattle.std.specs.Prelude.{Bool}
 use Rattle.std.specs.List.{AllByRecursion}
 use Rattle.jk_model.specs.declared.identifiers.ClassId.{ClassId}
@@ -17,7 +17,7 @@ use Rattle.jk_model_typing.specs.declared.frames.Demand.{Demand}
 use Rattle.jk_model_typing.specs.declared.frames.Demand.TheVariants.{Fitting, FittingEither, FittingBoth, Receiver, PutReceiver}
 use Rattle.jk_model_typing.specs.FrameTypes.{Fits, of_class}
 use Rattle.jk_model_typing.specs.Groups.{Shape, Takes, Loads, Stores, Constructs, group_of}
-use Rattle.jk_model_typing.specs.Rows.{IsGuarded, IsReceiver, Meets, AllMeet, MayConstruct, IsOwnOrParent, ConstructsObject, ConstructsThis, replaced, is_made_at, is_fresh_this, Does, Row}
+use Rattle.jk_model_typing.specs.Rows.{IsGuarded, IsReceiver, Meets, AllMeet, IsOwnOrParent, ConstructsObject, ConstructsThis, replaced, is_made_at, is_fresh_this, Does, Row}
 use Rattle.jk_model_typing.specs.Scopes.{CodeScope}
 use Rattle.class_growth.specs.ScopesOver.{with_more}
 use Rattle.class_growth.proofs.MoreClasses.{record-still, flags-still, flags-before, package-still, subclass-before}
@@ -76,9 +76,9 @@ module _ (s : CodeScope) (more : List ClassRecord) (ordered : AreOrdered s.class
     made,
     (flags, flags-still s.classes more (Method m) flags are, λ protected. package-still s.classes more s.self m.class (may protected)),
     e
-    ∙ ap
-    (λ new. record before { locals = replaced (is_made_at place) new before.locals; stack = replaced (is_made_at place) new below })
-    (sym (of_class-kept s.classes more c there)),
+        ∙ ap
+        (λ new. record before { locals = replaced (is_made_at place) new before.locals; stack = replaced (is_made_at place) new below })
+        (sym (of_class-kept s.classes more c there)),
   )
 
   own_or_parent-still : (c : ClassId) → IsOwnOrParent s c → IsOwnOrParent (with_more s more) c
@@ -91,9 +91,9 @@ module _ (s : CodeScope) (more : List ClassRecord) (ordered : AreOrdered s.class
     fresh,
     own_or_parent-still c own,
     e
-    ∙ ap
-    (λ new. record { locals = replaced is_fresh_this new before.locals; stack = replaced is_fresh_this new below; fresh = Bool.false })
-    (sym (of_class-kept s.classes more s.self closed.self)),
+        ∙ ap
+        (λ new. record { locals = replaced is_fresh_this new before.locals; stack = replaced is_fresh_this new below; fresh = Bool.false })
+        (sym (of_class-kept s.classes more s.self closed.self)),
   )
 
   -- ---- Rows.

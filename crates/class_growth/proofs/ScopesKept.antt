@@ -1,14 +1,13 @@
 -- The scope of a method's code stays its scope with more classes behind, and of a class that was there it was its scope before.
 -- Among closed classes, whatever class a scope mentions is there.
-use Rattle.std.proofs.Common.{◌≡◌, ℕ, List, ◌++◌, Some, slice_get, Contains, refl, sym, ap, subst, ◌∙◌}
-use Rattle.jk_model.specs.declared.identifiers.ClassId.{ClassId}
+use Rattle.std.proofs.Common.{◌≡◌, ℕ, List, ◌++◌, Some, slice_get, Contains, refl, sym, subst, ◌∙◌}
 use Rattle.jk_model.specs.declared.identifiers.MemberId.{MemberId}
 use Rattle.jk_model_classes.specs.declared.records.Caught.{Caught}
 use Rattle.jk_model_classes.specs.declared.records.ClassRecord.{ClassRecord}
 use Rattle.jk_model_classes.specs.declared.records.FieldRecord.{FieldRecord}
 use Rattle.jk_model_classes.specs.declared.records.Link.{Link}
 use Rattle.jk_model_classes.specs.declared.records.MethodRecord.{MethodRecord}
-use Rattle.jk_model_classes.specs.Classes.{record_of, HasClass}
+use Rattle.jk_model_classes.specs.Classes.{HasClass}
 use Rattle.jk_model_classes.specs.Lookups.{FieldIs, MethodIs}
 use Rattle.jk_model_typing.specs.Scopes.{CodeScope, IsScopeOf}
 use Rattle.class_growth.specs.ClosedClasses.{HasType, HasLink, HasCaught, HasClassesOfMethod, IsClosed}

@@ -1,7 +1,7 @@
 -- In a scope whose classes are there, an instruction keeps its shape with more classes behind, and the classes that the shape
 -- itself speaks of are there.
-use Rattle.std.proofs.Common.{◌≡◌, ℕ, zero, suc, ◌+◌, Bool, true, false, IsTrue, List, [], ◌∷◌, ◌++◌, Option, Some, None, map, refl, sym, ap, subst, ◌∙◌, inl, inr, Contains, replicate, if◌then◌else◌}
-use Rattle.std.specs.Prelude.{◌&&◌, ⊤, pos, nat_le, find, option_map}
+use Rattle.std.proofs.Common.{◌≡◌, ℕ, zero, suc, ◌+◌, Bool, true, false, List, [], ◌∷◌, ◌++◌, Option, Some, None, map, refl, sym, ap, subst, ◌∙◌, inl, inr, Contains, replicate, if◌then◌else◌}
+use Rattle.std.specs.Prelude.{◌&&◌, ⊤, nat_le, find, option_map}
 use Rattle.std.specs.List.{AllByRecursion, list_all}
 use Rattle.std.specs.Option.{option_map_or, unwrap_or}
 use Rattle.jk_model.specs.declared.identifiers.ClassId.{ClassId}
@@ -11,8 +11,7 @@ use Rattle.jk_model.specs.Instructions.{Row, format_among}
 use Rattle.jk_model_classes.specs.declared.records.ClassRecord.{ClassRecord}
 use Rattle.jk_model_classes.specs.declared.records.FieldRecord.{FieldRecord}
 use Rattle.jk_model_classes.specs.declared.records.Link.TheVariants as Link
-use Rattle.jk_model_classes.specs.declared.records.Member.{Member}
-use Rattle.jk_model_classes.specs.declared.records.Member.TheVariants.{Field, Method}
+use Rattle.jk_model_classes.specs.declared.records.Member.TheVariants.{Method}
 use Rattle.jk_model_classes.specs.declared.records.MethodRecord.{MethodRecord}
 use Rattle.jk_model_classes.specs.declared.records.TypeRef.{TypeRef}
 use Rattle.jk_model_classes.specs.Classes.{HasClass}
@@ -20,9 +19,9 @@ use Rattle.jk_model_classes.specs.Lookups.{class_of}
 use Rattle.jk_model_typing.specs.declared.frames.VType.{VType}
 use Rattle.jk_model_typing.specs.declared.frames.VType.TheVariants.{Int, Long, Ref}
 use Rattle.jk_model_typing.specs.declared.frames.Demand.{Demand}
-use Rattle.jk_model_typing.specs.declared.frames.Demand.TheVariants.{Fitting, FittingEither, FittingBoth, Reference, AnyReference, ReferenceArray, Array, Receiver, PutReceiver}
-use Rattle.jk_model_typing.specs.FrameTypes.{array_type, of_class, of_type, value_of}
-use Rattle.jk_model_typing.specs.Groups.{Group, Shape, Always, LoadsLocal, StoresLocal, IncrementsLocal, LoadsConstant, LoadsLong, ReturnsInt, ReturnsLong, ReturnsReference, ReturnsNothing, GetsStatic, PutsStatic, GetsField, PutsField, CallsVirtual, CallsSpecial, CallsStatic, CallsInterface, MakesObject, MakesArray, MakesArrays, Casts, Tests, MakesNumbers, NoGroup, Takes, Loads, Stores, Increments, Drops, Copies, Swaps, LoadsElement, Makes, Constructs, Leaves, group_of, groups}
+use Rattle.jk_model_typing.specs.declared.frames.Demand.TheVariants.{Fitting, FittingBoth, Reference, Receiver, PutReceiver}
+use Rattle.jk_model_typing.specs.FrameTypes.{array_type, of_class, value_of}
+use Rattle.jk_model_typing.specs.Groups.{Group, Shape, Always, LoadsLocal, StoresLocal, IncrementsLocal, LoadsConstant, LoadsLong, ReturnsInt, ReturnsLong, ReturnsReference, ReturnsNothing, GetsStatic, PutsStatic, GetsField, PutsField, CallsVirtual, CallsSpecial, CallsStatic, CallsInterface, MakesObject, MakesArray, MakesArrays, Casts, Tests, MakesNumbers, NoGroup, Takes, Loads, Stores, Constructs, group_of, groups}
 use Rattle.jk_model_typing.specs.Rows.{HasShape, UsesField, UsesMethod, Answers, arguments}
 use Rattle.jk_model_typing.specs.Scopes.{CodeScope, LeadsToLink, parameter_values, result_values}
 use Rattle.class_growth.specs.ClosedClasses.{HasType, HasClassesOfMethod}

@@ -1,6 +1,5 @@
 -- A typing of a method of closed, ordered classes is one still with more classes behind.
-use Rattle.std.proofs.Common.{◌≡◌, ℕ, Bool, List, [], ◌∷◌, ◌++◌, Option, Some, None, slice_get, flat_map, Contains, refl, sym, ap, subst, ◌∙◌, if◌then◌else◌}
-use Rattle.std.specs.Prelude.{ℤ, pos}
+use Rattle.std.proofs.Common.{◌≡◌, ℕ, Bool, List, [], ◌∷◌, ◌++◌, Option, Some, None, flat_map, refl, sym, ap, subst, ◌∙◌, if◌then◌else◌}
 use Rattle.jk_model.specs.declared.identifiers.ClassId.{ClassId}
 use Rattle.jk_model.specs.declared.identifiers.MemberId.{MemberId}
 use Rattle.jk_model.specs.declared.instructions.Instr.{Instr}
@@ -13,7 +12,7 @@ use Rattle.jk_model_typing.specs.declared.frames.FrameType.{FrameType}
 use Rattle.jk_model_typing.specs.FrameTypes.{of_class, throwable}
 use Rattle.jk_model_typing.specs.Rows.{Row}
 use Rattle.jk_model_typing.specs.Scopes.{CodeScope, IsScopeOf, own_receiver, parameter_values, is_static, is_init}
-use Rattle.jk_model_typing.specs.Typing.{GoesOnAt, FitsAt, IsStart, GoesWell, IsTyping, as_locals, caught_value, handler_frame}
+use Rattle.jk_model_typing.specs.Typing.{FitsAt, IsStart, GoesWell, IsTyping, as_locals, caught_value, handler_frame}
 use Rattle.class_growth.specs.ScopesOver.{among, with_more}
 use Rattle.class_growth.specs.ClosedClasses.{HasCaught, IsClosed}
 use Rattle.class_growth.proofs.MoreClasses.{record-still}

@@ -6,8 +6,8 @@ use Rattle.std.specs.Option.{option_map_or}
 use Rattle.std.proofs.lemmas.List.Elements.{Contains-append_cases}
 use Rattle.jk_model.specs.declared.identifiers.ClassId.{ClassId}
 use Rattle.jk_model_classes.specs.declared.records.ClassRecord.{ClassRecord}
-use Rattle.jk_model_classes.specs.Classes.{record_of, parents_of, listed_interfaces, is_interface_record, IsBelow, ParentIsBelow, StandsAbove, AreOrdered, IsSubclass, Implements, IsInterface, OBJECT, superclasses_within, superclasses, with_interfaces_within, with_interfaces, own_interfaces, field_walk, class_method_walk, interface_method_walk, method_walk}
-use Rattle.class_growth.proofs.ItemsOfLists.{Contains-here, Contains-cases, Contains-none, Contains-flat_map_from, each-of, each-from, each-weaker, flat_map-same}
+use Rattle.jk_model_classes.specs.Classes.{record_of, parents_of, listed_interfaces, is_interface_record, IsBelow, ParentIsBelow, StandsAbove, AreOrdered, IsSubclass, Implements, OBJECT, superclasses_within, superclasses, with_interfaces_within, with_interfaces, own_interfaces, field_walk, class_method_walk, interface_method_walk, method_walk}
+use Rattle.class_growth.proofs.ItemsOfLists.{Contains-cases, Contains-none, Contains-flat_map_from, each-of, each-from, each-weaker, flat_map-same}
 use Rattle.class_growth.proofs.RecordsAgree.{AgreeAt, parents-agree, interfaces-agree, is_interface-agree, is_interface-there}
 
 abbrev pub AgreeBelow : ℕ → List ClassRecord → List ClassRecord → Type 0

@@ -9,7 +9,7 @@ use Rattle.jk_model_classes.specs.declared.records.FieldRecord.{FieldRecord}
 use Rattle.jk_model_classes.specs.declared.records.Member.{Member}
 use Rattle.jk_model_classes.specs.declared.records.MethodRecord.{MethodRecord}
 use Rattle.jk_model_classes.specs.declared.records.TypeRef.{TypeRef}
-use Rattle.jk_model_classes.specs.Classes.{record_of, HasClass, AreOrdered, IsInterface, IsSubclass, Implements, superclasses, with_interfaces, own_interfaces, field_walk, method_walk}
+use Rattle.jk_model_classes.specs.Classes.{record_of, HasClass, AreOrdered, IsInterface, IsSubclass}
 use Rattle.jk_model_classes.specs.Lookups.{FieldIs, MethodIs, FlagsAre, AreInOnePackage, FindsField, FindsMethod, Selects, class_of}
 use Rattle.jk_model_classes.specs.Layouts.{layout_of}
 use Rattle.jk_model_domains.specs.Objects.{Object, Plain, object_words}

@@ -1,13 +1,9 @@
 -- What is said of classes where some get other links, as new ones do after all of a folder have been added.
-use Rattle.std.specs.Prelude.{◌≡◌, ℕ, List, [], map, Option}
-use Rattle.jk_model.specs.declared.descriptors.MethodType.{MethodType}
+use Rattle.std.specs.Prelude.{◌≡◌, List, [], map}
 use Rattle.jk_model.specs.declared.identifiers.ClassId.{ClassId}
-use Rattle.jk_model.specs.declared.identifiers.MemberId.{MemberId}
 use Rattle.jk_model_classes.specs.declared.records.ClassRecord.{ClassRecord}
 use Rattle.jk_model_classes.specs.declared.records.Link.{Link}
-use Rattle.jk_model_classes.specs.declared.records.TypeRef.{TypeRef}
 use Rattle.jk_model_classes.specs.Classes.{GetsLinks, AreOrdered}
-use Rattle.jk_model_classes.specs.Lookups.{FindsField, FindsMethod, Selects}
 
 abbrev pub without_links : ClassRecord → ClassRecord
 without_links r = record r { links = [] }

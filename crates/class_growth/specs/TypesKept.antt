@@ -3,13 +3,9 @@ use Rattle.std.specs.Prelude.{◌≡◌, List, ◌++◌}
 use Rattle.jk_model.specs.declared.values.Value.{Value}
 use Rattle.jk_model_classes.specs.declared.records.ClassRecord.{ClassRecord}
 use Rattle.jk_model_classes.specs.declared.records.TypeRef.{TypeRef}
-use Rattle.jk_model_typing.specs.declared.frames.FrameType.{FrameType}
-use Rattle.jk_model_typing.specs.declared.frames.VType.{VType}
-use Rattle.jk_model_typing.specs.FrameTypes.{RefFits, Fits, EachFits, FrameFits}
 use Rattle.jk_model_typing.specs.Scopes.{CodeScope}
-use Rattle.jk_model_domains.specs.Frames.{FrameState}
 use Rattle.jk_model_domains.specs.Objects.{NamedObject}
-use Rattle.jk_model_domains.specs.ValueTypes.{ValueFits, EachValueFits, FrameHolds, HoldsDeclared}
+use Rattle.jk_model_domains.specs.ValueTypes.{HoldsDeclared}
 use Rattle.class_growth.specs.ClosedClasses.{HasType}
 use Rattle.class_growth.specs.ScopesOver.{with_more}
 
