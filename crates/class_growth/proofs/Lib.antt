@@ -13,3 +13,5 @@ pub mod TypingsKept
 pub mod LayoutsKept
 pub mod ClosedClassesKept
 pub mod LinksDontMatter
+pub mod OwnStatesKept
+pub mod StubsKept

@@ -1,5 +1,6 @@
 -- Classes among which every class is there that their records mention: as a parent or an interface, in the type of a field, of a
--- parameter or of a result, behind an entry of a pool, or in a catch entry.
+-- parameter or of a result, behind an entry of a pool, or in a catch entry. The list of all to which a class file refers is
+-- spoken of in `Worlds`.
 use Rattle.std.specs.Prelude.{◌≡◌, ⊤, List, Contains, Some}
 use Rattle.jk_model.specs.declared.identifiers.ClassId.{ClassId}
 use Rattle.jk_model_classes.specs.declared.records.BaseRef.{BaseRef}

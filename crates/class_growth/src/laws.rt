@@ -12,8 +12,10 @@ ghost use Rattle.jk_model_classes.specs.declared.records.TypeRef.{TypeRef};
 ghost use Rattle.jk_model_classes.specs.Classes.{AreOrdered, IsInterface, IsSubclass, Implements, superclasses, with_interfaces, own_interfaces, field_walk, method_walk};
 ghost use Rattle.jk_model_classes.specs.Lookups.{FieldIs, MethodIs, FlagsAre, AreInOnePackage, FindsField, FindsMethod, Selects};
 ghost use Rattle.jk_model_typing.specs.FrameTypes.{erased, of_type, value_of, RefFits, Fits, EachFits, FrameFits};
+ghost use Rattle.jk_model_domains.specs.OwnStates.{IsOwnState, IsFirstState};
 ghost use Rattle.jk_model_domains.specs.ValueTypes.{ValueFits, EachValueFits, FrameHolds};
 ghost use Rattle.class_growth.specs.ClassesKept.{ClassesStay, RecordsStay, InterfacesStay, FieldsStay, MethodsStay, FlagsStay, PackagesStay, SubclassesStay, IsSameFor, IsKeptFor, FoundFieldsStay, FoundMethodsStay, SelectedMethodsStay, LayoutsStay, CostsStay};
+ghost use Rattle.class_growth.specs.DomainsKept.{StaysInDomain, StubsStay, TargetsStay};
 ghost use Rattle.class_growth.specs.OtherLinks.{GettingLinksChangesLinks, RestsOnNoLinks, RestsOnNoLinksInOrder, HasNoLinksFor};
 ghost use Rattle.class_growth.specs.TypesKept.{IsSameForTypes, StillFits, StillHolds, DeclaredStillHolds};
 ghost use Rattle.class_growth.specs.TypingsKept.{ClosedClassesStay, ScopesStay, ScopesWereThere, RowsStay, StartsStay, FitsStay, GoingWellStays, TypingsStay};
@@ -71,6 +73,18 @@ pub fn values_stay()
     ensures each { StillHolds EachValueFits }
     ensures frames { StillHolds FrameHolds }
     ensures declared { DeclaredStillHolds }
+{}
+
+/// The state of a domain whose names mean classes that were there is one still.
+pub fn own_states_stay()
+    ensures states { StaysInDomain IsOwnState }
+    ensures first_states { StaysInDomain IsFirstState }
+{}
+
+/// The stub of a class that was there stays its stub, and each method of it keeps its target.
+pub fn stubs_stay()
+    ensures stubs { StubsStay }
+    ensures targets { TargetsStay }
 {}
 
 /// Closed classes stay closed where the new ones mention only classes that are there.
