@@ -1,8 +1,8 @@
 -- Where an item stands in a list that grew, or that is put together from others.
-use Rattle.std.proofs.Common.{◌≡◌, ℕ, zero, suc, ◌<◌, List, [], ◌∷◌, ◌++◌, length, Some, slice_get, refl, subst, inl, inr, ◌⊎◌, arith, flat_map, Contains}
+use Rattle.std.proofs.Common.{◌≡◌, ℕ, zero, suc, ◌<◌, List, [], ◌∷◌, ◌++◌, length, Some, slice_get, refl, ap, ◌∙◌, subst, inl, inr, ◌⊎◌, arith, flat_map, Contains}
 use Rattle.std.specs.List.{AllByRecursion}
 use Rattle.std.proofs.lemmas.List.Elements.{Contains-append_cases, Contains-append_left, Contains-append_right}
-use Rattle.std.proofs.lemmas.Option.{get_or_from_slice_get, slice_get_within}
+use Rattle.std.proofs.lemmas.Option.{get_or_from_slice_get, slice_get-get_or, slice_get_within}
 
 module _ {X : Type 0} where
   pub slice_get-front : (xs ys : List X) (k : ℕ) → k < length xs → slice_get (xs ++ ys) k ≡ slice_get xs k
@@ -29,6 +29,15 @@ module _ {X : Type 0} where
 
   pub Contains-at : (xs : List X) (k : ℕ) (x : X) → slice_get xs k ≡ Some x → Contains xs x
   Contains-at xs k x e = (k, slice_get_within xs k x e, get_or_from_slice_get xs k x x e)
+
+  -- a place at which an item stands, and the item at a place
+  pub place-of : (xs : List X) (x : X) → Contains xs x → (k : ℕ) × (slice_get xs k ≡ Some x)
+  place-of xs x (k, within, e) = (k, slice_get-get_or xs k x within ∙ ap Some e)
+
+  pub item-at : (xs : List X) (k : ℕ) → k < length xs → (x : X) × (slice_get xs k ≡ Some x)
+  item-at [] k h = absurd (omega arith)
+  item-at (x ∷ xs) zero h = (x, refl)
+  item-at (x ∷ xs) (suc k) h = item-at xs k (omega arith)
 
   pub slice_get-append_cases : (xs ys : List X) (k : ℕ) (x : X) → slice_get (xs ++ ys) k ≡ Some x → (slice_get xs k ≡ Some x) ⊎ Contains ys x
   slice_get-append_cases [] ys k x e = inr (Contains-at ys k x e)

@@ -15,3 +15,4 @@ pub mod ClosedClassesKept
 pub mod LinksDontMatter
 pub mod OwnStatesKept
 pub mod StubsKept
+pub mod SystemClassesClosed

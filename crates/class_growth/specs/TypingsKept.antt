@@ -5,6 +5,7 @@ use Rattle.jk_model.specs.declared.identifiers.MemberId.{MemberId}
 use Rattle.jk_model.specs.declared.instructions.Instr.{Instr}
 use Rattle.jk_model_classes.specs.declared.records.ClassRecord.{ClassRecord}
 use Rattle.jk_model_classes.specs.Classes.{HasClass, AreOrdered}
+use Rattle.jk_model_classes.specs.SystemRecords.{AreSystemRecords}
 use Rattle.jk_model_typing.specs.declared.frames.FrameType.{FrameType}
 use Rattle.jk_model_typing.specs.Rows.{Row}
 use Rattle.jk_model_typing.specs.Scopes.{CodeScope, IsScopeOf}
@@ -13,6 +14,10 @@ use Rattle.class_growth.specs.ClosedClasses.{HasClassesOf, IsClosed}
 use Rattle.class_growth.specs.ScopesOver.{among}
 
 -- ---- Closed classes.
+
+-- the system classes by themselves are closed
+abbrev pub SystemClassesAreClosed : Type 0
+SystemClassesAreClosed = (classes : List ClassRecord) → AreSystemRecords classes → IsClosed classes
 
 -- they stay closed where each class that a new record mentions is there too
 abbrev pub ClosedClassesStay : Type 0

@@ -18,7 +18,7 @@ ghost use Rattle.class_growth.specs.ClassesKept.{ClassesStay, RecordsStay, Inter
 ghost use Rattle.class_growth.specs.DomainsKept.{StaysInDomain, StubsStay, TargetsStay};
 ghost use Rattle.class_growth.specs.OtherLinks.{GettingLinksChangesLinks, RestsOnNoLinks, RestsOnNoLinksInOrder, HasNoLinksFor};
 ghost use Rattle.class_growth.specs.TypesKept.{IsSameForTypes, StillFits, StillHolds, DeclaredStillHolds};
-ghost use Rattle.class_growth.specs.TypingsKept.{ClosedClassesStay, ScopesStay, ScopesWereThere, RowsStay, StartsStay, FitsStay, GoingWellStays, TypingsStay};
+ghost use Rattle.class_growth.specs.TypingsKept.{SystemClassesAreClosed, ClosedClassesStay, ScopesStay, ScopesWereThere, RowsStay, StartsStay, FitsStay, GoingWellStays, TypingsStay};
 
 /// A class that was there keeps its record, its members with their flags, and its package.
 pub fn members_stay()
@@ -87,9 +87,10 @@ pub fn stubs_stay()
     ensures targets { TargetsStay }
 {}
 
-/// Closed classes stay closed where the new ones mention only classes that are there.
+/// The system classes are closed, and closed classes stay so where the new ones mention only classes that are there.
 pub fn closed_classes_stay()
-    ensures { ClosedClassesStay }
+    ensures system { SystemClassesAreClosed }
+    ensures more { ClosedClassesStay }
 {}
 
 /// A scope of a method's code stays its scope, and of a method of a class that was there it was its scope before.
