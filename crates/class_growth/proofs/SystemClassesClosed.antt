@@ -19,7 +19,11 @@ use Rattle.class_growth.proofs.ItemsOfLists.{Contains-cases, Contains-none, item
 
 -- ---- Types whose names mean classes that are there.
 
-module _ (classes : List ClassRecord) (meaning : List ℕ → Option ClassId) (there : (name : List ℕ) (c : ClassId) → meaning name ≡ Some c → HasClass classes c) where
+-- each class that a name means is there
+abbrev pub MeansThere : List ClassRecord → (List ℕ → Option ClassId) → Type 0
+MeansThere classes meaning = (name : List ℕ) (c : ClassId) → meaning name ≡ Some c → HasClass classes c
+
+module _ (classes : List ClassRecord) (meaning : List ℕ → Option ClassId) (there : MeansThere classes meaning) where
   base_meant : (b : ABase) (base : BaseRef) → IsBaseFor meaning b base → HasBase classes base
   base_meant (Said.Class name) base (c, meant, e) = subst (HasBase classes) (sym e) (there name c meant)
   base_meant Said.Byte base e = subst (HasBase classes) (sym e) tt
@@ -78,7 +82,7 @@ module _ (classes : List ClassRecord) (system : AreSystemRecords classes) where
       let same : record { 0 = n } ≡ c = same_Some (record { 0 = n }) c e in
       subst (HasClass classes) same (named_there name n is)
 
-  meant : (name : List ℕ) (c : ClassId) → system_meaning name ≡ Some c → HasClass classes c
+  meant : MeansThere classes system_meaning
   meant name c e = meant_by name c (number_named name) refl e
 
   method_there : (number : ℕ) (entry : SystemMethod) (method : MethodRecord) → IsSystemMethodAt number entry method → HasClassesOfMethod classes method
