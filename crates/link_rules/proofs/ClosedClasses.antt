@@ -1,5 +1,5 @@
 -- A closed class of the system without a constructor is found by its name.
-use Rattle.std.proofs.Common.{◌≡◌, ◌≢◌, ℕ, zero, suc, ◌+◌, ◌<◌, ◌≤◌, ◌↔◌, Bool, true, false, IsTrue, List, [], ◌∷◌, length, map, get_or, Option, Some, None, refl, sym, ◌∙◌, ap, subst, arith}
+use Rattle.std.proofs.Common.{◌≡◌, ℕ, zero, suc, ◌+◌, ◌<◌, ◌↔◌, Bool, true, false, IsTrue, List, [], ◌∷◌, length, map, get_or, Option, Some, None, refl, sym, ◌∙◌, ap, subst, arith}
 use Rattle.std.specs.Prelude.{bytes_eq, not, position, slice_get}
 use Rattle.std.specs.List.{position_or_len}
 use Rattle.std.proofs.lemmas.List.Quantifiers.{position-Some}
@@ -14,7 +14,7 @@ use Rattle.jk_model_classes.specs.LinkRules.{HasNoConstructor}
 use Rattle.jk_model_classes.specs.Members.{INIT}
 use Rattle.system_table.specs.declared.entry.SystemClass.{SystemClass}
 use Rattle.system_table.specs.declared.entry.SystemMethod.{SystemMethod}
-use Rattle.system_table.specs.Entry.{IsEntry, Shows, method_of}
+use Rattle.system_table.specs.Entry.{IsEntry, method_of}
 use Rattle.system_table.specs.Laws.{IsAt}
 use Rattle.link_rules.proofs.ItemsInTurn.{none_more}
 

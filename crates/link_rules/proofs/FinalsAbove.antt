@@ -1,10 +1,8 @@
 -- A final method of a class properly above is one of the classes from the parent upwards.
-use Rattle.std.proofs.Common.{◌≡◌, ◌≢◌, ℕ, ◌+◌, ◌<◌, ◌≤◌, ◌⊎◌, inl, inr, Bool, true, false, ◌↔◌, IsTrue, List, [], ◌∷◌, length, Option, Some, None, Contains, refl, sym, ap, subst, ◌∙◌, arith}
+use Rattle.std.proofs.Common.{◌≡◌, ◌≢◌, ℕ, ◌+◌, ◌<◌, ◌≤◌, inl, inr, Bool, false, ◌↔◌, IsTrue, List, [], ◌∷◌, length, Option, Some, None, Contains, refl, sym, ap, subst, ◌∙◌, arith}
 use Rattle.std.specs.Prelude.{slice_get}
 use Rattle.std.specs.Option.{is_some, option_map, option_to_list}
-use Rattle.std.proofs.Math.ListN.{get_or}
-use Rattle.std.proofs.lemmas.Bool.{cases_lt}
-use Rattle.std.proofs.lemmas.Option.{slice_get_within, slice_get-get_or, get_or_from_slice_get, same_Some}
+use Rattle.std.proofs.lemmas.Option.{slice_get_within, get_or_from_slice_get, same_Some}
 use Rattle.class_table.proofs.StandingAbove.{parent-lower, superclasses-cases, superclasses-lower, superclasses-of_parent}
 use Rattle.class_table.proofs.ItemsOfLists.{Contains-here}
 use Rattle.jk_model.specs.declared.identifiers.ClassId.{ClassId}
@@ -14,7 +12,7 @@ use Rattle.jk_model_classes.specs.declared.records.MethodRecord.{MethodRecord}
 use Rattle.jk_model_classes.specs.Classes.{AreOrdered, parents_of, record_of, superclasses}
 use Rattle.jk_model_classes.specs.Items.{HasItem, HasItemBefore, IsBefore, Member, Entry, Spot}
 use Rattle.jk_model_classes.specs.LinkRules.{HasFinalOverridden, LinkScope, OverridesFinal}
-use Rattle.jk_model_classes.specs.Lookups.{FindsOn, MethodIs}
+use Rattle.jk_model_classes.specs.Lookups.{FindsOn}
 use Rattle.link_rules.specs.FinalMethods.{IsFinalFor, IsFirstPlace, scope_of}
 use Rattle.link_rules.specs.LinkFaults.{IsLeastNumber}
 

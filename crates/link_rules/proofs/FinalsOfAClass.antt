@@ -1,15 +1,13 @@
 -- The final methods of a class that another overrides are found by its name and type, one after the other.
-use Rattle.std.proofs.Common.{◌≡◌, ℕ, ◌+◌, ◌<◌, ◌≤◌, ◌⊎◌, inl, inr, List, [], ◌∷◌, length, Option, Some, None, Contains, flat_map, refl, sym, ap, subst, ◌∙◌, arith}
-use Rattle.std.specs.Prelude.{slice_get}
-use Rattle.std.specs.Option.{option_to_list}
+use Rattle.std.proofs.Common.{◌≡◌, ℕ, ◌+◌, ◌<◌, ◌≤◌, inl, inr, List, length, Some, None, subst, arith}
 use Rattle.std.proofs.lemmas.Bool.{cases_eq, cases_lt}
-use Rattle.std.proofs.lemmas.Option.{slice_get_within, same_Some}
+use Rattle.std.proofs.lemmas.Option.{slice_get_within}
 use Rattle.jk_model.specs.declared.descriptors.MethodType.{MethodType}
 use Rattle.jk_model.specs.declared.identifiers.ClassId.{ClassId}
 use Rattle.jk_model.specs.declared.identifiers.MemberId.{MemberId}
 use Rattle.jk_model_classes.specs.declared.records.ClassRecord.{ClassRecord}
 use Rattle.jk_model_classes.specs.declared.records.MethodRecord.{MethodRecord}
-use Rattle.jk_model_classes.specs.Classes.{AreOrdered, parents_of, record_of, superclasses}
+use Rattle.jk_model_classes.specs.Classes.{record_of}
 use Rattle.jk_model_classes.specs.Lookups.{FindsFrom, IsMethodOf, MethodIs}
 use Rattle.member_lookup.proofs.OneRecord.{one-method}
 use Rattle.link_rules.specs.FinalMethods.{IsFinalFor, IsFinalIn}
@@ -49,7 +47,8 @@ module _ (classes : List ClassRecord) (class : ClassId) (name : List ℕ) (kind 
   pub none-before_next : (d : ClassId) (from i : ℕ) → NoneBefore classes class name kind d from → FindsFrom (IsMethodOf classes name kind) d from (Some i)
       → (IsFinalIn classes class (record { class = d; index = i }) → ⊥) → NoneBefore classes class name kind d (i + 1)
   none-before_next d from i before found never j lt h = elim (cases_eq j i) [
-    | inl same ↦ never (final_in (record { class = d; index = i }) (subst (λ (k : ℕ). IsFinalFor classes class name kind (record { class = d; index = k })) same h))
+    | inl same ↦ never (final_in (record { class = d; index = i })
+        (subst (λ (k : ℕ). IsFinalFor classes class name kind (record { class = d; index = k })) same h))
     | inr other ↦
         elim (cases_lt j from) [
           | inl early ↦ before j early h

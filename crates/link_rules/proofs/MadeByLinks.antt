@@ -1,5 +1,5 @@
 -- `new` makes the class to which the link of its entry leads. It names no array in a class file that breaks no rule alone.
-use Rattle.std.proofs.Common.{◌≡◌, ◌≢◌, ℕ, ◌≤◌, ◌⊎◌, inl, inr, Bool, ◌↔◌, IsTrue, List, Option, Some, None, length, arith, refl, sym, ◌∙◌, ap, subst}
+use Rattle.std.proofs.Common.{◌≡◌, ◌≢◌, ℕ, ◌≤◌, ◌⊎◌, inl, inr, Bool, ◌↔◌, IsTrue, List, Option, Some, arith, sym, ◌∙◌, ap, subst}
 use Rattle.std.specs.Prelude.{pos, slice_get}
 use Rattle.std.proofs.lemmas.Option.{same_Some, slice_get_within}
 use Rattle.jk_model.specs.declared.class_file.ClassFile.{ClassFile}
@@ -25,7 +25,7 @@ use Rattle.jk_model_classes.specs.OneClassRules.{HasNoFault}
 use Rattle.jk_model_folders.specs.LinkedClasses.{AreLinksFor, IsEntryType, IsLinkFor}
 use Rattle.class_texts.proofs.OneText.{one_text}
 use Rattle.class_texts.specs.PoolTexts.{AreTextsOf}
-use Rattle.link_rules.specs.LinkedInstrs.{BreaksAccess, IsClassLink, IsNamedEntry, IsUnmakable, LeadsUnmakable, MakesUnmakable}
+use Rattle.link_rules.specs.LinkedInstrs.{BreaksAccess, IsClassLink, LeadsUnmakable, MakesUnmakable}
 use Rattle.link_rules.proofs.NamesOfArrays.{array_begins, no_array}
 use Rattle.link_rules.proofs.WrongByLinks.{some_entry}
 
@@ -37,12 +37,14 @@ no_array_name name t own text some = absurd (no_array name (array_begins name (t
 
 -- ---- What stands at the entry that `new` names.
 
-module _ (s : LinkScope) (c : ClassFile) (texts : List (Option (List ℕ))) (spelled : AreTextsOf c.pool texts) (links : List Link) (h : AreLinksFor s c links) where
+module _ (s : LinkScope) (c : ClassFile) (texts : List (Option (List ℕ))) (spelled : AreTextsOf c.pool texts) (links : List Link)
+    (h : AreLinksFor s c links) where
   one_name : (n : ℕ) (units name : List ℕ) → TextAt c.pool n units → slice_get texts n ≡ Some (Some name) → units ≡ name
   one_name n units name at there = one_text c.pool n units name at ((spelled.each n name).1 there)
 
   -- a link to a class is that of the name's class
-  class_meant : (units : List ℕ) (t : TypeRef) (class : ClassId) → IsEntryType s units t → t ≡ class_type class → IsClassName units × (s.meaning units ≡ Some class)
+  class_meant : (units : List ℕ) (t : TypeRef) (class : ClassId) → IsEntryType s units t → t ≡ class_type class
+      → IsClassName units × (s.meaning units ≡ Some class)
   class_meant units t class (inl (own, (other, means, e))) is =
       let both : Base.Class other ≡ Base.Class class = ap (λ (w : TypeRef). w.base) (sym e ∙ is) in
       let same : other ≡ class = cc in
@@ -95,7 +97,7 @@ module _ (s : LinkScope) (c : ClassFile) (texts : List (Option (List ℕ))) (spe
     linked_made : MakesUnmakable s c instr → LeadsUnmakable s.classes texts entry link
     linked_made (j, name, class, op, other, (n, stands, text), own, means, bad) =
         let here : slice_get c.pool i ≡ Some (Entry.Class n) =
-            subst (λ (w : ℕ). slice_get c.pool w ≡ Some (Entry.Class n)) (one_index j other) stands in
+        subst (λ (w : ℕ). slice_get c.pool w ≡ Some (Entry.Class n)) (one_index j other) stands in
         let same : entry ≡ Entry.Class n = same_Some entry (Entry.Class n) (sym at ∙ here) in
         let is = link_of_class n name class text own means (h.each i (Entry.Class n) link here there) in
         (name, class, (n, same, (spelled.each n name).0 text), is, bad)
@@ -104,7 +106,7 @@ module _ (s : LinkScope) (c : ClassFile) (texts : List (Option (List ℕ))) (spe
         → IsTrue made ↔ MakesUnmakable s c instr
     unmakable_by_link classes made same says =
         let own : IsTrue made ↔ LeadsUnmakable s.classes texts entry link =
-            subst (λ (w : List ClassRecord). IsTrue made ↔ LeadsUnmakable w texts entry link) (sym same) says in
+        subst (λ (w : List ClassRecord). IsTrue made ↔ LeadsUnmakable w texts entry link) (sym same) says in
         (λ t. made_by_link (own.0 t), λ m. own.1 (linked_made m))
 
 -- no such entry, or no such link
@@ -137,8 +139,20 @@ module _ (s : LinkScope) (c : ClassFile) (links : List Link) (h : AreLinksFor s 
         | inr array ↦
             let some : 1 ≤ (array.0).dims = omega (arith, array.1) in
             let begins = array_begins name (array.0, some, subst (λ (w : List ℕ). IsFieldText w array.0) same array.2) in
-            absurd (alone C15 (Member n) (code, at, inr (inl (instrs, decodes, (k, x, there,
-            inr (inr (inr (inl (name, (i, names, (m, here, text)), inl (new, begins))))))))))
+            absurd (alone C15 (Member n) (
+              code,
+              at,
+              inr (inl (
+                instrs,
+                decodes,
+                (
+                  k,
+                  x,
+                  there,
+                  inr (inr (inr (inl (name, (i, names, (m, here, text)), inl (new, begins))))),
+                ),
+              )),
+            ))
       ]
 
   breaks_plainly : HasCode (HasInstr (λ instr. PutsFinal s c instr ⊎ MakesWhatItMayNot s c instr)) c n → HasCode (HasInstr (BreaksAccess s c)) c n

@@ -1,6 +1,6 @@
 -- A method of a class file has an instruction that is so where the method of the record has one.
-use Rattle.std.proofs.Common.{◌≡◌, ◌≢◌, ℕ, ◌+◌, ◌^◌, ◌<◌, ◌≤◌, ◌⊎◌, inl, inr, ◌↔◌, Bool, true, false, IsTrue, List, [], ◌∷◌, ◌++◌, length, Option, Some, None, Contains, refl, sym, ap, subst, ◌∙◌, append_assoc, arith}
-use Rattle.std.specs.Prelude.{◌&&◌, ◌||◌, ℤ, not, pos, slice_get}
+use Rattle.std.proofs.Common.{◌≡◌, ℕ, ◌+◌, ◌<◌, inl, inr, ◌↔◌, Bool, true, IsTrue, List, ◌++◌, length, Some, None, refl, sym, ap, subst, ◌∙◌, append_assoc, arith}
+use Rattle.std.specs.Prelude.{◌&&◌, ◌||◌, not, slice_get}
 use Rattle.std.proofs.lemmas.Bool.{and_parts, cases_Bool, cases_order}
 use Rattle.std.proofs.lemmas.Option.{same_Some, slice_get_within}
 use Rattle.jk_model.specs.declared.class_file.Attribute.{Attribute}
@@ -11,20 +11,19 @@ use Rattle.jk_model.specs.declared.identifiers.DomainId.{DomainId}
 use Rattle.jk_model.specs.declared.instructions.Instr.{Instr}
 use Rattle.jk_model.specs.declared.output.Rule.TheVariants.{C13, C9}
 use Rattle.jk_model.specs.ClassFile.{CodeLayout, attributes_bytes, handlers_bytes, u2, u4}
-use Rattle.jk_model.specs.Instructions.{AreInstrs, Decodes}
+use Rattle.jk_model.specs.Instructions.{Decodes}
 use Rattle.jk_model_classes.specs.declared.records.Body.{Body}
 use Rattle.jk_model_classes.specs.declared.records.ClassRecord.{ClassRecord}
 use Rattle.jk_model_classes.specs.declared.records.Link.{Link}
-use Rattle.jk_model_classes.specs.declared.records.LinkedCode.{LinkedCode}
 use Rattle.jk_model_classes.specs.declared.records.MethodRecord.{MethodRecord}
 use Rattle.jk_model_classes.specs.Classes.{record_of}
 use Rattle.jk_model_classes.specs.ClassFlags.{ABSTRACT, MethodFlags, NATIVE, has}
 use Rattle.jk_model_classes.specs.Items.{Entry, HasItem, HasTwoItems, IsBefore, Member, MethodAt, Spot}
 use Rattle.jk_model_classes.specs.LinkRules.{LinkScope}
 use Rattle.jk_model_classes.specs.MemberAttributes.{IsCodeAttribute}
-use Rattle.jk_model_classes.specs.MemberCode.{CodeAt, HasCode, HasInstr, is_jump, is_switch}
+use Rattle.jk_model_classes.specs.MemberCode.{HasCode, HasInstr, is_jump, is_switch}
 use Rattle.jk_model_classes.specs.OneClassRules.{HasNoFault}
-use Rattle.jk_model_folders.specs.LinkedClasses.{GoAlong, IsBodyFor, IsInstrFor, IsLinkedCode, IsMethodFor, IsRecordFor}
+use Rattle.jk_model_folders.specs.LinkedClasses.{GoAlong, IsBodyFor, IsInstrFor, IsRecordFor}
 use Rattle.byte_fields.specs.OneReading.{one_u4}
 use Rattle.link_rules.specs.FinalMethods.{IsFirstPlace}
 use Rattle.link_rules.specs.LinkedInstrs.{BodyHas, HasLinkedInstr}
@@ -74,7 +73,7 @@ module _ (P : Instr → Type 0) (told : IsTold P) where
       let d = some_entry decoded k (omega (arith, slice_get_within linked k x at, along.as_many)) in
       let is = along.each k d.0 x d.1 at in
       let plain : IsTrue (not (is_jump d.0.op || is_switch d.0.op)) =
-          subst (λ (o : ℕ). IsTrue (not (is_jump o || is_switch o))) is.op (told.plain x p) in
+      subst (λ (o : ℕ). IsTrue (not (is_jump o || is_switch o))) is.op (told.plain x p) in
       (k, d.0, d.1, told.alike x d.0 is.op (is.names plain) p)
 
   linked_item : (decoded linked : List Instr) → GoAlong (IsInstrFor decoded) decoded linked → HasItem P decoded → HasItem P linked
@@ -131,12 +130,13 @@ module _ (P : Instr → Type 0) (told : IsTold P) where
         → HasItem (λ (a : Attribute). IsCodeAttribute c.pool a × CodeLayout a.body code) info.attributes → HasInstr P code → BodyHas P body
     body_of_code code flags body counted (inl (abstract, none)) concrete own of h =
         let no : IsTrue (not true) = subst (λ (b : Bool). IsTrue (not b)) abstract concrete in absurd cc
-    body_of_code code flags body counted (inr (too, (a, mine, linked, there, called, layout, is, e))) concrete own (i, b, listed, (also, laid)) (instrs, decodes, item) =
+    body_of_code code flags body counted (inr (too, (a, mine, linked, there, called, layout, is, e))) concrete own (i, b, listed, (also, laid))
+        (instrs, decodes, item) =
         let (j, placed_a) = placed info.attributes a there in
         let same : a ≡ b = one_attribute flags counted concrete own j i a b placed_a listed called also in
         let one : code.code ≡ mine.code = one_code b.body code mine laid (subst (λ (w : Attribute). CodeLayout w.body mine) same layout) in
         let decoded : HasItem P is.decoded =
-            alike_item mine.code instrs is.decoded (subst (λ (w : List ℕ). Decodes w instrs) one decodes) is.decodes item in
+        alike_item mine.code instrs is.decoded (subst (λ (w : List ℕ). Decodes w instrs) one decodes) is.decodes item in
         subst (BodyHas P) (sym e) (linked_item is.decoded linked.instrs is.instrs decoded)
 
   -- ---- All methods.

@@ -1,5 +1,5 @@
 -- An entry that leads to nothing, or to a method of a class of the wrong sort, is one that misses its member.
-use Rattle.std.proofs.Common.{◌≡◌, ◌≢◌, ℕ, zero, suc, ◌+◌, ◌^◌, ◌<◌, ◌≤◌, ◌⊎◌, inl, inr, Bool, true, false, ◌↔◌, IsTrue, List, [], ◌∷◌, length, arith, Some, None, refl, sym, ◌∙◌, ap, subst}
+use Rattle.std.proofs.Common.{◌≡◌, ◌≢◌, ℕ, zero, suc, ◌+◌, ◌^◌, ◌<◌, ◌≤◌, inl, inr, Bool, true, false, ◌↔◌, IsTrue, List, [], ◌∷◌, length, arith, Some, None, refl, sym, ◌∙◌, ap, subst}
 use Rattle.std.specs.Prelude.{slice_get}
 use Rattle.std.specs.List.{AllByRecursion}
 use Rattle.std.proofs.lemmas.Bool.{cases_lt}
@@ -14,7 +14,6 @@ use Rattle.jk_model.specs.ReadFaults.{IsWritable}
 use Rattle.jk_model_classes.specs.declared.records.ClassRecord.{ClassRecord}
 use Rattle.jk_model_classes.specs.declared.records.Link.{Link}
 use Rattle.jk_model_classes.specs.declared.records.Link.TheVariants as To
-use Rattle.jk_model_classes.specs.Classes.{IsInterface}
 use Rattle.jk_model_classes.specs.Items.{Entry as AtEntry}
 use Rattle.jk_model_classes.specs.LinkRules.{FindsFieldAt, FindsMethodAt, IsReferenceAt, LinkScope, MissesMember, NamesRightSort}
 use Rattle.jk_model_classes.specs.Members.{ClassAt, MemberKind, Field, Method, InterfaceMethod, NameAndTypeAt, TextAt, reference}
@@ -32,7 +31,8 @@ all_at P (y ∷ xs) (suc i) x h e = all_at P xs i x h.1 e
 abbrev AreGood : List PoolEntry → Type 0
 AreGood pool = AllByRecursion (IsGoodEntry pool) pool
 
-text_of : (pool : List PoolEntry) (i : ℕ) (e : PoolEntry) → slice_get pool i ≡ Some e → IsGoodEntry pool e → IsUtf8Entry e → (units : List ℕ) × TextAt pool i units
+text_of : (pool : List PoolEntry) (i : ℕ) (e : PoolEntry) → slice_get pool i ≡ Some e → IsGoodEntry pool e → IsUtf8Entry e
+    → (units : List ℕ) × TextAt pool i units
 text_of pool i (Entry.Utf8 bytes) at good k = (good.0, (bytes, at, good.1))
 text_of pool i _ at good k = absurd k
 
@@ -138,7 +138,8 @@ module _ (s : LinkScope) (c : ClassFile) (i : ℕ) (writable : IsWritable c) (cl
       no_field s c i k class pair at other,
       λ n g sort.
           let at_method : Says (To.Method f.class m) = subst Says e (to t) in
-          let sort_k : NamesRightSort s.classes k g.class = subst (λ (w : MemberKind). NamesRightSort s.classes w g.class) (kind_is s c i k class pair at n g) sort in
+          let sort_k : NamesRightSort s.classes k g.class =
+          subst (λ (w : MemberKind). NamesRightSort s.classes w g.class) (kind_is s c i k class pair at n g) sort in
           wrong f.class m at_method
           (subst (λ (w : ClassId). NamesRightSort s.classes k w) (one_named s c i k class pair at n m g f) sort_k),
     ),
@@ -192,7 +193,8 @@ module _ (s : LinkScope) (c : ClassFile) (i : ℕ) (writable : IsWritable c) whe
       method_misses s c i writable class pair link Method missing (NamesInterface s.classes) method_no_field at h says tt (λ cls m is right. right is)
       (λ cls m not wrong. wrong not)
   misses (Entry.InterfaceMethodRef class pair) link missing at h says =
-      method_misses s c i writable class pair link InterfaceMethod missing (NamesNoInterface s.classes) interface_no_field at h says tt (λ cls m is right. is right)
+      method_misses s c i writable class pair link InterfaceMethod missing (NamesNoInterface s.classes) interface_no_field at h says tt
+      (λ cls m is right. is right)
       (λ cls m not wrong. not wrong)
   misses Entry.Unusable link missing at h says =
       no_reference missing Entry.Unusable at (no_ref Entry.Unusable refl) says
@@ -215,8 +217,9 @@ module _ (s : LinkScope) (c : ClassFile) (i : ℕ) (writable : IsWritable c) whe
 
 -- ---- The walk over all entries.
 
-pub entry_misses : (classes : List ClassRecord) (s : LinkScope) (c : ClassFile) (pool : List PoolEntry) (links all : List Link) (i : ℕ) (entry : PoolEntry) (link : Link)
-    (missing : Bool) → s.classes ≡ classes → IsWritable c → pool ≡ c.pool → links ≡ all → slice_get pool i ≡ Some entry → slice_get links i ≡ Some link
+pub entry_misses : (classes : List ClassRecord) (s : LinkScope) (c : ClassFile) (pool : List PoolEntry) (links all : List Link) (i : ℕ)
+    (entry : PoolEntry) (link : Link) (missing : Bool) → s.classes ≡ classes → IsWritable c → pool ≡ c.pool → links ≡ all
+    → slice_get pool i ≡ Some entry → slice_get links i ≡ Some link
     → AreLinksFor s c all → IsMissingBy classes entry link missing → IsTrue missing ↔ MissesMember s c (AtEntry i)
 entry_misses classes s c pool links all i entry link missing same writable own kept at there h says =
     let at_own : slice_get c.pool i ≡ Some entry = subst (λ (w : List PoolEntry). slice_get w i ≡ Some entry) own at in

@@ -1,8 +1,7 @@
 -- The name of a class never begins as an array's.
-use Rattle.std.proofs.Common.{◌≡◌, ◌≢◌, ℕ, zero, suc, ◌≤◌, ◌⊎◌, inl, inr, Bool, true, false, List, [], ◌∷◌, ◌++◌, refl, arith, append-nil, replicate}
+use Rattle.std.proofs.Common.{◌≡◌, ℕ, zero, suc, ◌≤◌, ◌⊎◌, inl, inr, Bool, true, false, List, [], ◌∷◌, ◌++◌, refl, arith, append-nil, replicate}
 use Rattle.std.specs.List.{AllByRecursion, join_with_byte}
-use Rattle.jk_model.specs.declared.descriptors.FieldType.{FieldType}
-use Rattle.jk_model.specs.Descriptors.{IsNameUnit, IsName, IsClassName, IsFieldText, base_text}
+use Rattle.jk_model.specs.Descriptors.{IsNameUnit, IsName, IsClassName, base_text}
 use Rattle.jk_model_classes.specs.ClassNames.{BeginsArray, IsArrayDescriptor}
 
 -- the units go on to the end of a class's name, where one of its names starts or within one

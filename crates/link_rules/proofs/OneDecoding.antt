@@ -1,13 +1,13 @@
 -- Two decodings of one code have the same opcodes and first operands.
-use Rattle.std.proofs.Common.{◌≡◌, ◌≢◌, ℕ, zero, suc, ◌+◌, ◌*◌, ◌^◌, ◌<◌, List, [], ◌∷◌, ◌++◌, length, take, drop, map, Some, refl, sym, ap, subst, ◌∙◌, append_assoc, length-append, arith}
-use Rattle.std.specs.Prelude.{ℤ, pos, negsuc, ◌+ℤ◌, ◌-ℤ◌, slice_get}
+use Rattle.std.proofs.Common.{◌≡◌, ℕ, zero, suc, ◌+◌, ◌*◌, List, [], ◌∷◌, ◌++◌, length, take, drop, Some, refl, sym, ap, subst, ◌∙◌, append_assoc, length-append, arith}
+use Rattle.std.specs.Prelude.{ℤ, pos, ◌+ℤ◌, ◌-ℤ◌, slice_get}
 use Rattle.std.specs.List.{flat_map}
 use Rattle.std.specs.Int.{w8, w32, cast_signed, from_be_bytes}
 use Rattle.std.proofs.lemmas.List.{drop_at, take_at}
 use Rattle.std.proofs.lemmas.Option.{none-some, same_Some}
 use Rattle.jk_model.specs.declared.instructions.Instr.{Instr}
 use Rattle.jk_model.specs.ClassFile.{u4}
-use Rattle.jk_model.specs.Instructions.{AreInstrs, Format, IsInstr, IsLookupSwitch, IsTableSwitch, Means, WideFormat, WideMeans, format_of, pair_bytes, plain, short, signed_int, signed_short, switch, target, wide_format_of}
+use Rattle.jk_model.specs.Instructions.{AreInstrs, Format, IsInstr, IsLookupSwitch, IsTableSwitch, Means, WideFormat, WideMeans, format_of, pair_bytes, plain, short, signed_int, signed_short, target, wide_format_of}
 use Rattle.byte_fields.specs.OneReading.{one_u4}
 
 -- ---- Lists whose fronts are as long.
@@ -156,9 +156,9 @@ same_pos m n e = cc
 both_tables : (at op : ℕ) (xs ys r s : List ℕ) (i j : Instr) → IsTableSwitch at op xs i → IsTableSwitch at op ys j → xs ++ r ≡ ys ++ s → Alike xs ys i j
 both_tables at op xs ys r s i j h k e =
     let left : xs ++ r ≡ h.filling ++ (u4 h.default ++ (u4 h.low ++ (u4 h.high ++ (flat_map u4 h.offsets ++ r)))) =
-        ap (λ (w : List ℕ). w ++ r) h.layout ∙ front_of h.filling (u4 h.default) (u4 h.low) (u4 h.high) (flat_map u4 h.offsets) r in
+    ap (λ (w : List ℕ). w ++ r) h.layout ∙ front_of h.filling (u4 h.default) (u4 h.low) (u4 h.high) (flat_map u4 h.offsets) r in
     let right : ys ++ s ≡ k.filling ++ (u4 k.default ++ (u4 k.low ++ (u4 k.high ++ (flat_map u4 k.offsets ++ s)))) =
-        ap (λ (w : List ℕ). w ++ s) k.layout ∙ front_of k.filling (u4 k.default) (u4 k.low) (u4 k.high) (flat_map u4 k.offsets) s in
+    ap (λ (w : List ℕ). w ++ s) k.layout ∙ front_of k.filling (u4 k.default) (u4 k.low) (u4 k.high) (flat_map u4 k.offsets) s in
     let filled = cancel h.filling k.filling _ _ (h.filled ∙ sym k.filled) (sym left ∙ e ∙ right) in
     let default = one_u4 h.default k.default _ _ h.numbers.0 k.numbers.0 filled.1 in
     let low = one_u4 h.low k.low _ _ h.numbers.1 k.numbers.1 default.1 in
@@ -166,9 +166,18 @@ both_tables at op xs ys r s i j h k e =
     let span : (signed_int h.high -ℤ signed_int h.low) +ℤ pos 1 ≡ (signed_int k.high -ℤ signed_int k.low) +ℤ pos 1 = rw (low.0, high.0) refl in
     let count : length h.offsets ≡ length k.offsets = same_pos (length h.offsets) (length k.offsets) (h.count ∙ span ∙ sym k.count) in
     record {
-      long = omega (arith, ap length h.layout, ap length k.layout, h.filled, k.filled, count, long_offsets h.offsets, long_offsets k.offsets,
-          long_table h.filling (u4 h.default) (u4 h.low) (u4 h.high) (flat_map u4 h.offsets),
-          long_table k.filling (u4 k.default) (u4 k.low) (u4 k.high) (flat_map u4 k.offsets));
+      long = omega (
+        arith,
+        ap length h.layout,
+        ap length k.layout,
+        h.filled,
+        k.filled,
+        count,
+        long_offsets h.offsets,
+        long_offsets k.offsets,
+        long_table h.filling (u4 h.default) (u4 h.low) (u4 h.high) (flat_map u4 h.offsets),
+        long_table k.filling (u4 k.default) (u4 k.low) (u4 k.high) (flat_map u4 k.offsets),
+      );
       op = ap (λ (w : Instr). w.op) h.says ∙ sym (ap (λ (w : Instr). w.op) k.says);
       a = ap (λ (w : Instr). w.a) h.says ∙ ap (λ (n : ℕ). target at (signed_int n)) default.0 ∙ sym (ap (λ (w : Instr). w.a) k.says);
     }
@@ -176,16 +185,25 @@ both_tables at op xs ys r s i j h k e =
 both_lookups : (at op : ℕ) (xs ys r s : List ℕ) (i j : Instr) → IsLookupSwitch at op xs i → IsLookupSwitch at op ys j → xs ++ r ≡ ys ++ s → Alike xs ys i j
 both_lookups at op xs ys r s i j h k e =
     let left : xs ++ r ≡ h.filling ++ (u4 h.default ++ (u4 (length h.pairs) ++ (flat_map pair_bytes h.pairs ++ r))) =
-        ap (λ (w : List ℕ). w ++ r) h.layout ∙ front_of_pairs h.filling (u4 h.default) (u4 (length h.pairs)) (flat_map pair_bytes h.pairs) r in
+    ap (λ (w : List ℕ). w ++ r) h.layout ∙ front_of_pairs h.filling (u4 h.default) (u4 (length h.pairs)) (flat_map pair_bytes h.pairs) r in
     let right : ys ++ s ≡ k.filling ++ (u4 k.default ++ (u4 (length k.pairs) ++ (flat_map pair_bytes k.pairs ++ s))) =
-        ap (λ (w : List ℕ). w ++ s) k.layout ∙ front_of_pairs k.filling (u4 k.default) (u4 (length k.pairs)) (flat_map pair_bytes k.pairs) s in
+    ap (λ (w : List ℕ). w ++ s) k.layout ∙ front_of_pairs k.filling (u4 k.default) (u4 (length k.pairs)) (flat_map pair_bytes k.pairs) s in
     let filled = cancel h.filling k.filling _ _ (h.filled ∙ sym k.filled) (sym left ∙ e ∙ right) in
     let default = one_u4 h.default k.default _ _ h.numbers.0 k.numbers.0 filled.1 in
     let count = one_u4 (length h.pairs) (length k.pairs) _ _ h.numbers.1 k.numbers.1 default.1 in
     record {
-      long = omega (arith, ap length h.layout, ap length k.layout, h.filled, k.filled, count.0, long_pairs h.pairs, long_pairs k.pairs,
-          long_lookup h.filling (u4 h.default) (u4 (length h.pairs)) (flat_map pair_bytes h.pairs),
-          long_lookup k.filling (u4 k.default) (u4 (length k.pairs)) (flat_map pair_bytes k.pairs));
+      long = omega (
+        arith,
+        ap length h.layout,
+        ap length k.layout,
+        h.filled,
+        k.filled,
+        count.0,
+        long_pairs h.pairs,
+        long_pairs k.pairs,
+        long_lookup h.filling (u4 h.default) (u4 (length h.pairs)) (flat_map pair_bytes h.pairs),
+        long_lookup k.filling (u4 k.default) (u4 (length k.pairs)) (flat_map pair_bytes k.pairs),
+      );
       op = ap (λ (w : Instr). w.op) h.says ∙ sym (ap (λ (w : Instr). w.op) k.says);
       a = ap (λ (w : Instr). w.a) h.says ∙ ap (λ (n : ℕ). target at (signed_int n)) default.0 ∙ sym (ap (λ (w : Instr). w.a) k.says);
     }
@@ -202,7 +220,8 @@ both_wide WideFormat.WideFloat at op xs ys r s i j h k e = absurd h
 both_wide WideFormat.WideSubroutine at op xs ys r s i j h k e = absurd h
 both_wide WideFormat.NotWide at op xs ys r s i j h k e = absurd h
 
-both_widened : (at op : ℕ) (xs ys r s : List ℕ) (i j : Instr) → Means Format.Wide at op xs i → Means Format.Wide at op ys j → xs ++ r ≡ ys ++ s → Alike xs ys i j
+both_widened : (at op : ℕ) (xs ys r s : List ℕ) (i j : Instr) → Means Format.Wide at op xs i → Means Format.Wide at op ys j → xs ++ r ≡ ys ++ s
+    → Alike xs ys i j
 both_widened at op [] ys r s i j h k e = absurd h
 both_widened at op (v ∷ xs) [] r s i j h k e = absurd k
 both_widened at op (v ∷ xs) (w ∷ ys) r s i j h k e =

@@ -1,5 +1,5 @@
 -- A reference finds one member at most.
-use Rattle.std.proofs.Common.{◌≡◌, ◌≢◌, ℕ, ◌<◌, ◌⊎◌, inl, inr, List, Option, Some, None, refl, sym, ◌∙◌, ap, subst}
+use Rattle.std.proofs.Common.{◌≡◌, ℕ, inl, inr, List, Option, Some, refl, sym, ◌∙◌, ap, subst}
 use Rattle.std.specs.Prelude.{slice_get}
 use Rattle.std.proofs.lemmas.Bool.{cases_order}
 use Rattle.std.proofs.lemmas.Option.{same_Some}
@@ -18,7 +18,7 @@ use Rattle.jk_model_classes.specs.declared.records.TypeRef.{TypeRef}
 use Rattle.jk_model_classes.specs.LinkRules.{FindsFieldAt, FindsMethodAt, LinkScope, MemberRefAt}
 use Rattle.jk_model_classes.specs.Classes.{field_walk, method_walk}
 use Rattle.jk_model_classes.specs.Lookups.{FindsField, FindsMethod, IsFieldOf, IsFirstOn, IsMethodOf}
-use Rattle.jk_model_classes.specs.Members.{ClassAt, Field, InterfaceMethod, MemberKind, Method, NameAndTypeAt, TextAt, reference}
+use Rattle.jk_model_classes.specs.Members.{ClassAt, Field, InterfaceMethod, MemberKind, Method, TextAt, reference}
 use Rattle.jk_model_classes.specs.SystemRecords.{IsBaseFor, IsTypeFor}
 use Rattle.class_texts.proofs.OneText.{one_class, one_text}
 use Rattle.descriptors.proofs.NoTextBeginsAnother.{one_field, one_method}

@@ -1,5 +1,5 @@
 -- An entry that leads to a class or a member that may not be accessed is one at which access is refused.
-use Rattle.std.proofs.Common.{◌≡◌, ◌≢◌, ℕ, zero, suc, ◌+◌, ◌^◌, ◌<◌, ◌≤◌, ◌⊎◌, inl, inr, Bool, true, false, ◌↔◌, IsTrue, List, [], ◌∷◌, Option, Some, None, length, arith, refl, sym, ◌∙◌, ap, subst}
+use Rattle.std.proofs.Common.{◌≡◌, ◌≢◌, ℕ, zero, suc, ◌+◌, ◌^◌, ◌<◌, ◌≤◌, ◌⊎◌, inl, inr, Bool, true, false, ◌↔◌, IsTrue, List, [], ◌∷◌, Some, None, length, arith, refl, sym, ◌∙◌, ap, subst}
 use Rattle.std.specs.Prelude.{not, slice_get}
 use Rattle.std.proofs.lemmas.Bool.{cases_lt}
 use Rattle.std.proofs.lemmas.Option.{same_Some, slice_get_within}
@@ -14,7 +14,6 @@ use Rattle.jk_model.specs.declared.identifiers.MemberId.{MemberId}
 use Rattle.jk_model.specs.Descriptors.{IsClassName, IsFieldText}
 use Rattle.jk_model.specs.ReadFaults.{IsWritable}
 use Rattle.jk_model_classes.specs.declared.records.BaseRef.{BaseRef}
-use Rattle.jk_model_classes.specs.declared.records.BaseRef.TheVariants as Ref
 use Rattle.jk_model_classes.specs.declared.records.ClassRecord.{ClassRecord}
 use Rattle.jk_model_classes.specs.declared.records.Link.{Link}
 use Rattle.jk_model_classes.specs.declared.records.Link.TheVariants as To
@@ -231,7 +230,8 @@ module _ (s : LinkScope) where
         subst (λ (w : Link). RefusesLink s.classes s.self w ↔ Breaks) (sym e) (class_says n units t at text is)
     link_refused (Entry.FieldRef class pair) link at h = field_says class pair link at h
     link_refused (Entry.MethodRef class pair) link at h = method_says Method class pair link method_no_field (method_no_class class pair) at h
-    link_refused (Entry.InterfaceMethodRef class pair) link at h = method_says InterfaceMethod class pair link interface_no_field (interface_no_class class pair) at h
+    link_refused (Entry.InterfaceMethodRef class pair) link at h =
+        method_says InterfaceMethod class pair link interface_no_field (interface_no_class class pair) at h
     link_refused (Entry.Integer n) link at e = nothing_says (Entry.Integer n) link _ at refl e (λ h. h)
     link_refused (Entry.Long n) link at e = nothing_says (Entry.Long n) link _ at refl e (λ h. h)
     link_refused (Entry.Str text) link at (units, there, e) = nothing_says (Entry.Str text) link _ at refl e (λ h. h)

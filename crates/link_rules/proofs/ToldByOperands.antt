@@ -1,11 +1,11 @@
 -- What an instruction finds, puts or makes is told by its opcode and its first operand, and is no jump's.
-use Rattle.std.proofs.Common.{◌≡◌, ℕ, ◌⊎◌, inl, inr, IsTrue, refl, subst, ◌∙◌, sym}
+use Rattle.std.proofs.Common.{◌≡◌, ℕ, inl, inr, IsTrue, refl, subst, sym}
 use Rattle.std.specs.Prelude.{◌||◌, ◌==◌, ℤ, not, pos}
 use Rattle.std.proofs.lemmas.Bool.{eqb-true, or_cases}
 use Rattle.jk_model.specs.declared.class_file.ClassFile.{ClassFile}
 use Rattle.jk_model.specs.declared.instructions.Instr.{Instr}
 use Rattle.jk_model.specs.Instructions.{plain}
-use Rattle.jk_model_classes.specs.LinkRules.{INVOKESTATIC, LinkScope, is_instance_access, is_instance_call, is_put, is_static_access}
+use Rattle.jk_model_classes.specs.LinkRules.{INVOKESTATIC, LinkScope}
 use Rattle.jk_model_classes.specs.MemberCode.{INVOKEINTERFACE, INVOKESPECIAL, NEW, is_jump, is_switch}
 use Rattle.link_rules.specs.LinkedInstrs.{BreaksAccess, FindsWrong}
 use Rattle.link_rules.proofs.MethodsByRecord.{IsTold}

@@ -1,5 +1,5 @@
 -- An instruction finds what the entry that it names leads to.
-use Rattle.std.proofs.Common.{◌≡◌, ◌≢◌, ℕ, zero, suc, ◌<◌, ◌⊎◌, inl, inr, Bool, true, false, ◌↔◌, IsTrue, List, [], ◌∷◌, length, arith, Some, None, refl, sym, ◌∙◌, ap, subst, ℤ, pos}
+use Rattle.std.proofs.Common.{◌≡◌, ◌≢◌, ℕ, zero, suc, ◌<◌, ◌⊎◌, inl, inr, Bool, ◌↔◌, IsTrue, List, [], ◌∷◌, length, arith, Some, refl, sym, ◌∙◌, ap, subst, pos}
 use Rattle.std.specs.Prelude.{slice_get}
 use Rattle.std.proofs.lemmas.Option.{same_Some, slice_get_within}
 use Rattle.jk_model.specs.declared.class_file.ClassFile.{ClassFile}
@@ -18,7 +18,7 @@ use Rattle.jk_model_classes.specs.Lookups.{FieldIs, MethodIs}
 use Rattle.jk_model_classes.specs.Members.{Field, InterfaceMethod, MemberKind, Method, reference}
 use Rattle.jk_model_folders.specs.LinkedClasses.{AreLinksFor, IsFieldLink, IsLinkFor, IsMethodLink}
 use Rattle.link_rules.specs.WrongMembers.{LeadsWrong}
-use Rattle.link_rules.proofs.OneMember.{one_field_found, one_method_found, same_reference}
+use Rattle.link_rules.proofs.OneMember.{one_field_found, one_method_found}
 
 module _ (s : LinkScope) (c : ClassFile) (i : ℕ) where
   -- ---- What a link says is found.

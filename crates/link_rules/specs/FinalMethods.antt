@@ -5,7 +5,6 @@ use Rattle.jk_model.specs.declared.identifiers.ClassId.{ClassId}
 use Rattle.jk_model.specs.declared.identifiers.MemberId.{MemberId}
 use Rattle.jk_model_classes.specs.declared.records.ClassRecord.{ClassRecord}
 use Rattle.jk_model_classes.specs.declared.records.MethodRecord.{MethodRecord}
-use Rattle.jk_model_classes.specs.Classes.{superclasses}
 use Rattle.jk_model_classes.specs.ClassFlags.{has, FINAL}
 use Rattle.jk_model_classes.specs.Items.{HasItem, HasItemBefore}
 use Rattle.jk_model_classes.specs.Lookups.{IsOverriddenIn, MethodIs}

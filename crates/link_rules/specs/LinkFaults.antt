@@ -1,12 +1,11 @@
 -- A class among all others whose references are judged, and the least number at which it breaks a rule.
-use Rattle.std.specs.Prelude.{◌≡◌, ℕ, List, Option, Some, None, MatchOption}
+use Rattle.std.specs.Prelude.{◌≡◌, ℕ, List, Option, Some, MatchOption}
 use Rattle.jk_model.specs.declared.class_file.ClassFile.{ClassFile}
-use Rattle.jk_model.specs.declared.identifiers.ClassId.{ClassId}
 use Rattle.jk_model.specs.declared.identifiers.DomainId.{DomainId}
 use Rattle.jk_model.specs.ReadFaults.{IsWritable}
 use Rattle.jk_model_classes.specs.declared.records.ClassRecord.{ClassRecord}
 use Rattle.jk_model_classes.specs.declared.records.Link.{Link}
-use Rattle.jk_model_classes.specs.Classes.{AreOrdered, record_of}
+use Rattle.jk_model_classes.specs.Classes.{record_of}
 use Rattle.jk_model_classes.specs.Items.{Spot, IsBefore, spot_number}
 use Rattle.jk_model_classes.specs.LinkRules.{LinkScope}
 use Rattle.jk_model_classes.specs.OneClassRules.{HasNoFault}

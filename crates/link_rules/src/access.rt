@@ -21,7 +21,8 @@ use jk_model::{ClassFile, ClassId, Instr, List};
 use jk_model_classes::{Body, Link, MethodRecord};
 
 /// The least number at which the class breaks the rule, members before entries of the pool; none where it doesn't. It takes
-/// no memory, and time in proportion to the file and to what looking up each of its references costs.
+/// no memory, and the same time for each instruction and each entry, but that an entry may ask for a search upwards where it
+/// names a protected member.
 pub fn access_fault(
     t: &ClassTable,
     class: ClassId,

@@ -1,5 +1,5 @@
 -- The number is counted from the place.
-use Rattle.std.proofs.Common.{◌≡◌, ◌+◌, List, Option, ℕ, Some, None, arith, length, subst}
+use Rattle.std.proofs.Common.{◌≡◌, ◌+◌, List, ℕ, Some, None, arith, length, subst}
 use Rattle.jk_model_classes.specs.declared.records.MethodRecord.{MethodRecord}
 use Rattle.jk_model_classes.specs.LinkRules.{HasFinalOverridden, OverridesFinal}
 use Rattle.link_rules.specs.FinalMethods.{IsFirstPlace, scope_of}

@@ -1,6 +1,5 @@
 -- One is found, or none is there.
 use Rattle.std.proofs.Common.{arith}
-use Rattle.std.proofs.Math.ListN.{get_or}
 use Rattle.jk_model_classes.specs.LinkRules.{OverridesFinal}
 use Rattle.link_rules.specs.FinalMethods.{scope_of}
 use Rattle.link_rules.proofs.ItemsInTurn.{none_yet, none_more, none_at_all, item_at}

@@ -1,5 +1,5 @@
 -- The method has one record.
-use Rattle.std.proofs.Common.{◌≡◌, IsTrue, true, false, sym, ◌∙◌, ap, subst}
+use Rattle.std.proofs.Common.{◌≡◌, IsTrue, true, false, sym, ◌∙◌, subst}
 use Rattle.jk_model_classes.specs.declared.records.MethodRecord.{MethodRecord}
 use Rattle.jk_model_classes.specs.ClassFlags.{has, FINAL}
 use Rattle.member_lookup.proofs.OneRecord.{one-method}

@@ -1,5 +1,4 @@
 -- The classes from the parent upwards are those properly above.
-use Rattle.std.proofs.Common.{Some, None, ◌≡◌, ◌∙◌, subst}
 use Rattle.link_rules.proofs.FinalsAbove.{above_says, no_parent}
 use Rattle.link_rules.proofs.final_methods.overrides_final.Goals as goal
 

@@ -15,7 +15,7 @@ pub returns-else-class : goal.returns-else-class
 returns-else-class c = (
   λ t. let z : true ≡ false = sym t ∙ c.if-class.false in absurd cc,
   λ h. absurd (open_says c.args.name.now c.class_named.result c.in-Some.n c.class_named.ensures c.in-Some.is c.names_differ.ensures c.system_class-class.result
-  c.system_class-class.ensures c.if-class.false h),
+      c.system_class-class.ensures c.if-class.false h),
 )
 
 pub returns-in-None : goal.returns-in-None

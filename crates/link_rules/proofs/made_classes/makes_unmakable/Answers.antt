@@ -1,5 +1,5 @@
 -- The entry and its link are there, or one of them isn't.
-use Rattle.std.proofs.Common.{◌≡◌, Some, ap, sym, subst, ◌∙◌, ℕ, pos}
+use Rattle.std.proofs.Common.{◌≡◌, Some, sym, subst, ◌∙◌, ℕ, pos}
 use Rattle.std.specs.Prelude.{slice_get}
 use Rattle.link_rules.proofs.MadeByLinks.{no_made_link, unmakable_by_link}
 use Rattle.link_rules.proofs.made_classes.makes_unmakable.Goals as goal

@@ -1,5 +1,5 @@
 -- The number is a method's where one finds a member of the wrong sort, and an entry's otherwise.
-use Rattle.std.proofs.Common.{◌≡◌, ℕ, List, Option, Some, None, arith, length, refl, subst, sym}
+use Rattle.std.proofs.Common.{ℕ, List, Some, None, arith, refl, subst, sym}
 use Rattle.jk_model.specs.declared.identifiers.ClassId.{ClassId}
 use Rattle.jk_model_classes.specs.declared.records.ClassRecord.{ClassRecord}
 use Rattle.jk_model_classes.specs.declared.records.MethodRecord.{MethodRecord}
@@ -33,8 +33,11 @@ method_number-requires c =
 pub overflow_cast-result : goal.overflow_cast-result
 overflow_cast-result c =
     let s = scope c.args.names.now c.args.t.now c.args.class in
-    omega (arith, missing_within s c.args.c.now c.in-Some-first_missing.i c.requires.linked.writable
-    (c.in-Some-first_missing.ensures s refl c.requires.linked.links_are).0)
+    omega (
+      arith,
+      missing_within s c.args.c.now c.in-Some-first_missing.i c.requires.linked.writable
+          (c.in-Some-first_missing.ensures s refl c.requires.linked.links_are).0,
+    )
 
 pub returns-in-Some : goal.returns-in-Some
 returns-in-Some c =

@@ -1,5 +1,5 @@
 -- One more doesn't miss its member, or does.
-use Rattle.std.proofs.Common.{ap, arith, length, sym}
+use Rattle.std.proofs.Common.{ap, arith, length}
 use Rattle.link_rules.proofs.ItemsInTurn.{item_at}
 use Rattle.link_rules.proofs.MissingByLinks.{missing_found, none_missing_more, nothing_missing}
 use Rattle.link_rules.proofs.missing_members.first_missing.Goals as goal
