@@ -2,20 +2,17 @@
 
 ghost use Rattle.std.specs.Prelude.{◌≡◌, ◌↔◌, IsTrue, Some};
 ghost use Rattle.std.specs.Option.{option_to_list};
-ghost use Rattle.jk_model_classes.specs.declared.records.ClassRecord.{ClassRecord as AClass};
-ghost use Rattle.jk_model_classes.specs.ClassFlags.{has};
 ghost use Rattle.jk_model_classes.specs.Classes.{parents_of, record_of, superclasses};
 ghost use Rattle.jk_model_classes.specs.LinkRules.{LinkScope, HasFinalOverridden, OverridesFinal};
 ghost use Rattle.jk_model_classes.specs.Lookups.{FindsFrom, FindsOn};
 ghost use Rattle.link_rules.specs.FinalMethods.{IsFinalFor, IsFinalIn, IsFirstPlace, scope_of};
 ghost use Rattle.link_rules.specs.LinkFaults.{IsLeastNumber};
 
+use crate::flags::{FINAL, has};
 use class_table::{ClassTable, MethodKey};
 use jk_model::{ClassId, MemberId};
 use jk_model_classes::{ClassRecord, MethodRecord};
 use member_lookup::{method_record, overrides};
-
-const FINAL: u16 = 0x0010;
 
 /// The least number of a method of the class that overrides a final one of a class above; none where there is none. It takes
 /// no memory, and for each method a search in each class above.
@@ -121,11 +118,4 @@ fn is_final_in(t: &ClassTable, class: ClassId, m: MemberId) -> bool
         }
         None => false,
     }
-}
-
-/// Whether a flag is set.
-fn has(flags: u16, flag: u16) -> bool
-    ensures { result ≡ has flags flag }
-{
-    flags & flag == flag
 }

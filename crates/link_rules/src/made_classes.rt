@@ -3,7 +3,6 @@
 ghost use Rattle.std.specs.Prelude.{◌≡◌, ◌↔◌, IsTrue, List, MatchOption, Some, pos, slice_get, ℕ};
 ghost use Rattle.jk_model.specs.declared.class_file.PoolEntry.{PoolEntry as AnEntry};
 ghost use Rattle.jk_model.specs.declared.identifiers.ClassId.{ClassId as AClassId};
-ghost use Rattle.jk_model_classes.specs.ClassFlags.{ABSTRACT, INTERFACE, has};
 ghost use Rattle.jk_model_classes.specs.Items.{HasItem};
 ghost use Rattle.jk_model_classes.specs.LinkRules.{HasNoConstructor, LinkScope};
 ghost use Rattle.jk_model_classes.specs.Members.{INIT};
@@ -12,6 +11,7 @@ ghost use Rattle.class_texts.specs.PoolTexts.{AreTextsOf};
 ghost use Rattle.system_table.specs.declared.entry.SystemMethod.{SystemMethod as AMethod};
 ghost use Rattle.link_rules.specs.LinkedInstrs.{IsClassLink, IsNamedEntry, IsUnmakable, LeadsUnmakable, MakesUnmakable};
 
+use crate::flags::{ABSTRACT, INTERFACE, has};
 use crate::wrong_members::named_link;
 use class_table::ClassTable;
 use class_texts::ClassTexts;
@@ -19,10 +19,6 @@ use jk_model::{ClassFile, ClassId, Instr, List, PoolEntry};
 use jk_model_classes::{BaseRef, Link};
 use shared_values::Text;
 use system_table::{SystemMethod, class_named, laws, system_class};
-
-const INTERFACE: u16 = 0x0200;
-
-const ABSTRACT: u16 = 0x0400;
 
 const NEW: u8 = 0xbb;
 
@@ -130,11 +126,4 @@ fn has_init(methods: &[SystemMethod]) -> bool
         }
     }
     false
-}
-
-/// Whether a flag is set.
-fn has(flags: u16, flag: u16) -> bool
-    ensures { result ≡ has flags flag }
-{
-    flags & flag == flag
 }

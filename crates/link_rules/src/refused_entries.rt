@@ -1,6 +1,6 @@
 //! C21 at the entries of a pool: classes and members that may not be accessed.
 
-ghost use Rattle.std.specs.Prelude.{◌≡◌, ◌↔◌, IsTrue, length};
+ghost use Rattle.std.specs.Prelude.{◌≡◌, ◌↔◌, IsTrue};
 ghost use Rattle.jk_model.specs.declared.class_file.ClassFile.{ClassFile as AClassFile};
 ghost use Rattle.jk_model_classes.specs.LinkRules.{LinkScope};
 ghost use Rattle.jk_model_folders.specs.LinkedClasses.{AreLinksFor};

@@ -3,19 +3,15 @@
 ghost use Rattle.std.specs.Prelude.{◌≡◌, ◌⊎◌, ◌↔◌, IsTrue, MatchOption, Some, pos, slice_get, ℕ};
 ghost use Rattle.jk_model.specs.declared.class_file.ClassFile.{ClassFile as AClassFile};
 ghost use Rattle.jk_model_classes.specs.declared.records.Link.{Link as ALink};
-ghost use Rattle.jk_model_classes.specs.ClassFlags.{has};
 ghost use Rattle.jk_model_classes.specs.LinkRules.{FindsWrongField, FindsWrongMethod, LinkScope, is_instance_access, is_instance_call, is_static_access};
 ghost use Rattle.jk_model_folders.specs.LinkedClasses.{AreLinksFor};
 ghost use Rattle.link_rules.specs.WrongMembers.{IsWrongField, IsWrongMethod, LeadsWrong};
 
+use crate::flags::{ABSTRACT, STATIC, has};
 use class_table::ClassTable;
 use jk_model::{Instr, List};
 use jk_model_classes::Link;
 use member_lookup::{field_record, method_record};
-
-const STATIC: u16 = 0x0008;
-
-const ABSTRACT: u16 = 0x0400;
 
 const INVOKESPECIAL: u8 = 0xb7;
 
@@ -95,11 +91,4 @@ fn is_instance_call(op: u8) -> bool
     ensures { result ≡ is_instance_call op }
 {
     op == 0xb6 || op == 0xb7 || op == 0xb9
-}
-
-/// Whether a flag is set.
-fn has(flags: u16, flag: u16) -> bool
-    ensures { result ≡ has flags flag }
-{
-    flags & flag == flag
 }
