@@ -1,3 +1,4 @@
+-- What contracts say of what references find, at entries, at instructions and over whole classes.
 pub mod FinalFields
 pub mod FinalMethods
 pub mod LinkFaults
