@@ -1,0 +1,15 @@
+-- Lemmas on the rules on what references find: methods, entries, members, and final methods that are overridden.
+mod ClosedClasses
+mod FinalByLinks
+mod FinalsAbove
+mod FinalsOfAClass
+mod ItemsInTurn
+mod MadeByLinks
+mod MethodsByRecord
+mod MissingByLinks
+mod NamesOfArrays
+mod OneDecoding
+mod OneMember
+mod RefusedByLinks
+mod ToldByOperands
+mod WrongByLinks

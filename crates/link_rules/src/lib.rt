@@ -1,0 +1,18 @@
+//! The rules on what the references of a class find, judged where all classes of its folder have records: C20, members that
+//! are missing or of the wrong sort; C21, access; C22, final methods that are overridden.
+#![tactic(auto)]
+
+mod access;
+mod final_fields;
+mod final_methods;
+mod flags;
+mod made_classes;
+mod members;
+mod missing_members;
+mod numbers;
+mod refused_entries;
+mod wrong_members;
+
+pub use access::access_fault;
+pub use final_methods::final_fault;
+pub use members::member_fault;
