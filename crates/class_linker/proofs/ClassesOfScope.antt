@@ -9,8 +9,7 @@ use Rattle.jk_model_classes.specs.ClassNames.{NamesClass}
 use Rattle.jk_model_classes.specs.Members.{TextAt}
 use Rattle.jk_model_classes.specs.Worlds.{NamedClass, class_named}
 use Rattle.class_linker.specs.LinkedFiles.{IsLinkable}
-use Rattle.class_linker.specs.Scopes.{IsClassOf}
-use Rattle.class_linker.specs.TextsSaid.{SaysClass}
+use Rattle.class_linker.specs.TextsSaid.{NamesClassBy, SaysClass}
 use Rattle.class_linker.proofs.GoodMembers.{class_known}
 
 some_item : {T : Type 0} (o : Option T) → IsSome o → (x : T) × (o ≡ Some x)
@@ -33,6 +32,7 @@ module _ (c : ClassFile) (names : List NamedClass) (i : ℕ) (pool : List PoolEn
   has_name none named = named (λ (units, (n, own, text), plain).
       none n (subst (λ (es : List PoolEntry). slice_get es i ≡ Some (Class n)) (sym same) own))
 
-  pub class_by_text : (name : ℕ) (class : ClassId) → slice_get pool i ≡ Some (Class name) → SaysClass names c.pool name class → IsClassOf c.pool names i class
+  pub class_by_text : (name : ℕ) (class : ClassId) → slice_get pool i ≡ Some (Class name) → SaysClass names c.pool name class
+      → NamesClassBy names c.pool i class
   class_by_text name class at (units, text, means) =
       (units, (name, subst (λ (es : List PoolEntry). slice_get es i ≡ Some (Class name)) same at, text), means)

@@ -20,7 +20,8 @@ use Rattle.class_linker.proofs.ItemByItem.{all_at}
 abbrev AreGood : List PoolEntry → Type 0
 AreGood pool = AllByRecursion (IsGoodEntry pool) pool
 
-text_of : (pool : List PoolEntry) (i : ℕ) (e : PoolEntry) → slice_get pool i ≡ Some e → IsGoodEntry pool e → IsUtf8Entry e → (units : List ℕ) × TextAt pool i units
+text_of : (pool : List PoolEntry) (i : ℕ) (e : PoolEntry) → slice_get pool i ≡ Some e → IsGoodEntry pool e → IsUtf8Entry e
+    → (units : List ℕ) × TextAt pool i units
 text_of pool i (Utf8 bytes) at good k = (good.0, (bytes, at, good.1))
 text_of pool i _ at good k = absurd k
 

@@ -50,7 +50,13 @@ module _ (names : List NamedClass) (classes : List ClassRecord) (self : ClassId)
         named = (f.target, subst (λ (w : ℕ). ClassAt c.pool w f.target) same.0 target, f.class_is);
         name = f.name;
         kind = f.kind;
-        looks = (n, d, subst (λ (w : ℕ). slice_get c.pool w ≡ Some (Entry.NameAndType n d)) same.1 pair_at, name, (f.descriptor, descriptor, (f.type, f.text, f.resolved)));
+        looks = (
+          n,
+          d,
+          subst (λ (w : ℕ). slice_get c.pool w ≡ Some (Entry.NameAndType n d)) same.1 pair_at,
+          name,
+          (f.descriptor, descriptor, (f.type, f.text, f.resolved)),
+        );
         finds = f.found;
       }
 

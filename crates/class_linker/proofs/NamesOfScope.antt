@@ -13,7 +13,7 @@ use Rattle.jk_model_classes.specs.Worlds.{NamedClass}
 use Rattle.jk_model_folders.specs.LinkedClasses.{NamesClassAt}
 use Rattle.class_linker.specs.KnownTypes.{Meaning}
 use Rattle.class_linker.specs.LinkedFiles.{HasNames}
-use Rattle.class_linker.specs.Scopes.{IsClassOf}
+use Rattle.class_linker.specs.TextsSaid.{NamesClassBy}
 
 base_for : (m n : Meaning) (base : Base) (ref : BaseRef) → ((name : List ℕ) → n name ≡ m name) → IsBaseFor m base ref → IsBaseFor n base ref
 base_for m n Byte ref same h = h
@@ -37,6 +37,6 @@ pub result_for : (m n : Meaning) (t : Option FieldType) (ref : Option TypeRef) �
 result_for m n None ref same h = h
 result_for m n (Some t) ref same (r, e, is) = (r, e, type_for m n t r same is)
 
-pub class_for : (c : ClassFile) (names : List NamedClass) (i : ℕ) (class : ClassId) (s : LinkScope) → HasNames names s → IsClassOf c.pool names i class
+pub class_for : (c : ClassFile) (names : List NamedClass) (i : ℕ) (class : ClassId) (s : LinkScope) → HasNames names s → NamesClassBy names c.pool i class
     → NamesClassAt s c i class
 class_for c names i class s same (name, at, is) = (name, at, same name ∙ is)

@@ -149,7 +149,8 @@ old_or_new (z ∷ xs) x zero y e = inl e
 old_or_new (z ∷ xs) x (suc k) y e = elim (old_or_new xs x k y e) [ inl old ↦ inl old | inr new ↦ inr (ap (λ n. suc n) new.0, new.1) ]
 
 -- one item more
-pub at_more : {X : Type 0} (P : ℕ → X → Type 0) (xs longer : List X) (n : ℕ) (x : X) → length xs ≡ n → P n x → longer ≡ xs ++ x ∷ [] → AreAt P xs → AreAt P longer
+pub at_more : {X : Type 0} (P : ℕ → X → Type 0) (xs longer : List X) (n : ℕ) (x : X) → length xs ≡ n → P n x → longer ≡ xs ++ x ∷ [] → AreAt P xs
+    → AreAt P longer
 at_more {X = X} P xs longer n x long here e h i y at = elim (old_or_new xs x i y (subst (λ (w : List X). slice_get w i ≡ Some y) e at)) [
   | inl old ↦ h i y old
   | inr new ↦

@@ -1,9 +1,8 @@
 -- A class file that is being linked.
-use Rattle.std.specs.Prelude.{◌≡◌, ℕ, List, length, Option, Some}
+use Rattle.std.specs.Prelude.{◌≡◌, List, length, Option}
 use Rattle.jk_model.specs.declared.class_file.PoolEntry.{PoolEntry}
 use Rattle.jk_model.specs.declared.identifiers.ClassId.{ClassId}
-use Rattle.jk_model_classes.specs.Members.{ClassAt}
-use Rattle.jk_model_classes.specs.Worlds.{NamedClass, class_named}
+use Rattle.jk_model_classes.specs.Worlds.{NamedClass}
 use Rattle.class_texts.specs.PoolTexts.{AreTextsOf}
 use Rattle.class_linker.specs.LinkedFiles.{IsLinkable}
 use Rattle.class_linker.specs.TextsSaid.{Answers, AreAt, SaysClass}
@@ -19,7 +18,3 @@ pub record IsScope (x : Scope) : Type 0 where
   pub linkable : IsLinkable x.file.now x.names.now
   pub texts : AreTextsOf x.file.now.pool x.texts.now
   pub classes : AreNamed x.names.now x.file.now.pool x.classes.now
-
--- the Class entry at this index has a name that means this class
-abbrev pub IsClassOf : List PoolEntry → List NamedClass → ℕ → ClassId → Type 0
-IsClassOf pool names i class = (name : List ℕ) × ClassAt pool i name × (class_named names name ≡ Some class)

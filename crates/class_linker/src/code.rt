@@ -10,7 +10,8 @@ ghost use Rattle.jk_model_classes.specs.MemberCode.{is_jump, is_switch};
 ghost use Rattle.jk_model_folders.specs.LinkedClasses.{GoAlong, IsCaseFor, IsCaughtFor, IsEndFor, IsInstrFor, IsLinkedCode, IsPlaceOf};
 ghost use Rattle.class_linker.specs.KnownCodes.{AreInOrder, HasEnd, HasPlace, HasPlaces, IsDecodable, IsGoodCode, IsReading, LeadWithin, LeadsWithin};
 ghost use Rattle.class_linker.specs.LinkedFiles.{HasNames};
-ghost use Rattle.class_linker.specs.Scopes.{IsClassOf, IsScope};
+ghost use Rattle.class_linker.specs.Scopes.{IsScope};
+ghost use Rattle.class_linker.specs.TextsSaid.{NamesClassBy};
 
 use crate::scope::Scope;
 use jk_model::{ClassId, Code, Handler, Instr, List, OutOfMemory, SwitchCase};
@@ -162,7 +163,7 @@ fn caught_class(scope: &Scope, index: u16) -> Option<ClassId>
     requires scope { IsScope scope.now }
     requires named { index ≢ 0 → (NamesClass scope.now.file.now.pool index → ⊥) → ⊥ }
     ensures any { index ≡ 0 → result ≡ None }
-    ensures class { index ≢ 0 → (class : ClassId) × IsClassOf scope.now.file.now.pool scope.now.names.now index class × (result ≡ Some class) }
+    ensures class { index ≢ 0 → (class : ClassId) × NamesClassBy scope.now.names.now scope.now.file.now.pool index class × (result ≡ Some class) }
 {
     if index == 0 {
         None

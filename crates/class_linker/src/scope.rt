@@ -5,8 +5,8 @@ ghost use Rattle.jk_model.specs.declared.identifiers.ClassId.{ClassId as AClass}
 ghost use Rattle.jk_model_classes.specs.ClassNames.{NamesClass};
 ghost use Rattle.jk_model_classes.specs.Members.{ClassAt, TextAt};
 ghost use Rattle.jk_model_classes.specs.Worlds.{class_named};
-ghost use Rattle.class_linker.specs.Scopes.{IsClassOf, IsScope};
-ghost use Rattle.class_linker.specs.TextsSaid.{Answers, SaysClass};
+ghost use Rattle.class_linker.specs.Scopes.{IsScope};
+ghost use Rattle.class_linker.specs.TextsSaid.{Answers, NamesClassBy, SaysClass};
 
 use crate::linking::name_at;
 use class_texts::ClassTexts;
@@ -63,7 +63,7 @@ impl<'a> Scope<'a> {
     pub(crate) fn class(&self, i: u16) -> ClassId
         requires scope { IsScope self.now }
         requires named { (NamesClass self.now.file.now.pool i → ⊥) → ⊥ }
-        ensures { IsClassOf self.now.file.now.pool self.now.names.now i result }
+        ensures { NamesClassBy self.now.names.now self.now.file.now.pool i result }
     {
         match name_at(self.file.pool.as_slice(), i) {
             Some(name) => self.class_by(name),

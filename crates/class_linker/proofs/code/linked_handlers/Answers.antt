@@ -9,7 +9,8 @@ use Rattle.class_linker.proofs.code.linked_handlers.Goals as goal
 pub caught-requires-clause-places : goal.caught-requires-clause-places
 caught-requires-clause-places c =
     read_at
-    (HasPlaces c.args.scope.now.file.now.pool c.args.code.now c.args.instrs.now) c.as_slice-handler-items.result.now c.args.code.now.handlers c.as_slice-handler-items.ensures
+    (HasPlaces c.args.scope.now.file.now.pool c.args.code.now c.args.instrs.now) c.as_slice-handler-items.result.now c.args.code.now.handlers
+    c.as_slice-handler-items.ensures
     c.requires.places c.loop-handler.handler-index _ (omega arith)
 
 pub loop-handler-preserved : goal.loop-handler-preserved

@@ -13,10 +13,16 @@ class-parent-requires-clause-named c = names_super c.args.scope.now.file.now c.a
 
 pub returns-clause-record : goal.returns-clause-record
 returns-clause-record c = λ s names. record {
-  name = subst (λ (units : List ℕ). ClassAt c.args.scope.now.file.now.pool c.args.scope.now.file.now.this_class units) (sym c.in_ok-name.ensures) c.class_name.ensures;
+  name = subst (λ (units : List ℕ). ClassAt c.args.scope.now.file.now.pool c.args.scope.now.file.now.this_class units) (sym c.in_ok-name.ensures)
+      c.class_name.ensures;
   at_home = refl;
   flags = refl;
-  parent = (c.class-parent.result, class_for c.args.scope.now.file.now c.args.scope.now.names.now c.args.scope.now.file.now.super_class c.class-parent.result s names c.class-parent.ensures, refl);
+  parent = (
+    c.class-parent.result,
+    class_for c.args.scope.now.file.now c.args.scope.now.names.now c.args.scope.now.file.now.super_class c.class-parent.result s names
+        c.class-parent.ensures,
+    refl,
+  );
   interfaces = c.in_ok-interfaces.ensures s names;
   fields = c.in_ok-fields.ensures s names;
   methods = c.in_ok-methods.ensures s names;

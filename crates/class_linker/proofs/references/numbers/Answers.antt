@@ -23,7 +23,8 @@ add_at-requires-clause-name c =
 pub add_at-requires-clause-descriptor : goal.add_at-requires-clause-descriptor
 add_at-requires-clause-descriptor c =
     let file = c.args.scope.now.file.now in
-    marked_is (IsDescriptorEntry file) file.pool c.in_ok-descriptors.descriptors.items c.as_slice-in-loop-i.result.now c.loop-i.i c.is_marked-is_descriptor.result
+    marked_is (IsDescriptorEntry file) file.pool c.in_ok-descriptors.descriptors.items c.as_slice-in-loop-i.result.now c.loop-i.i
+    c.is_marked-is_descriptor.result
     c.in_ok-descriptors.ensures c.as_slice-in-loop-i.ensures.value (omega arith) c.is_marked-is_descriptor.ensures
 
 pub loop-i-preserved : goal.loop-i-preserved

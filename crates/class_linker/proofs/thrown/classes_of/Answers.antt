@@ -12,7 +12,8 @@ loop-i-init c = λ s named. c.new-thrown.ensures
 
 pub class_of_entry-class-requires-clause-class : goal.class_of_entry-class-requires-clause-class
 class_of_entry-class-requires-clause-class c =
-    all_at (NamesEntry IsClassEntry c.args.scope.now.file.now.pool) c.args.indices.now c.loop-i.i-index (get_or c.args.indices.now c.loop-i.i-index 0) c.requires.classes
+    all_at (NamesEntry IsClassEntry c.args.scope.now.file.now.pool) c.args.indices.now c.loop-i.i-index (get_or c.args.indices.now c.loop-i.i-index 0)
+    c.requires.classes
     (slice_get-get_or c.args.indices.now c.loop-i.i-index 0 c.loop-i-test.true)
 
 pub loop-i-preserved : goal.loop-i-preserved

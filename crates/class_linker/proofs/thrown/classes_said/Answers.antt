@@ -9,7 +9,8 @@ use Rattle.class_linker.proofs.thrown.classes_said.Goals as goal
 
 pub classes_of-requires-clause-classes : goal.classes_of-requires-clause-classes
 classes_of-requires-clause-classes c =
-    let said = body_read c.args.scope.now.file.now.pool c.args.body.now c.in-Ok.read.0 c.in-Ok.read.1.now c.in-Ok.ensures.gives c.in-Ok.ensures.layout c.requires.body in
+    let said = body_read c.args.scope.now.file.now.pool c.args.body.now c.in-Ok.read.0 c.in-Ok.read.1.now c.in-Ok.ensures.gives c.in-Ok.ensures.layout
+    c.requires.body in
     subst (λ (w : List ℕ). AllByRecursion (NamesEntry IsClassEntry c.args.scope.now.file.now.pool) w) (sym c.as_slice.ensures) said.1
 
 pub unreachable-requires : goal.unreachable-requires
@@ -18,6 +19,8 @@ unreachable-requires c =
 
 pub returns-in-Ok : goal.returns-in-Ok
 returns-in-Ok c =
-    let said = body_read c.args.scope.now.file.now.pool c.args.body.now c.in-Ok.read.0 c.in-Ok.read.1.now c.in-Ok.ensures.gives c.in-Ok.ensures.layout c.requires.body in
+    let said = body_read c.args.scope.now.file.now.pool c.args.body.now c.in-Ok.read.0 c.in-Ok.read.1.now c.in-Ok.ensures.gives c.in-Ok.ensures.layout
+    c.requires.body in
     classes_read c.args.scope.now.names.now c.args.scope.now.file.now c.args.body.now c.in-Ok.read.0 c.classes_of.result c.in-Ok.ensures.values said.0
-    (subst (λ (w : List ℕ). IfOk c.classes_of.result (λ thrown. AreClassesOf c.args.scope.now.names.now c.args.scope.now.file.now w thrown)) c.as_slice.ensures c.classes_of.ensures)
+    (subst (λ (w : List ℕ). IfOk c.classes_of.result (λ thrown. AreClassesOf c.args.scope.now.names.now c.args.scope.now.file.now w thrown))
+    c.as_slice.ensures c.classes_of.ensures)

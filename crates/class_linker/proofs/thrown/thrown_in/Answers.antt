@@ -16,10 +16,12 @@ thrown_by-requires-clause-own c = (
 
 pub loop-method-preserved : goal.loop-method-preserved
 loop-method-preserved c =
-    zip_more (AreClassesThrown c.args.scope.now.names.now c.args.scope.now.file.now) c.as_slice-method-items.result.now c.loop-method.lists _ c.loop-method.method-index c.method-item.result
+    zip_more (AreClassesThrown c.args.scope.now.names.now c.args.scope.now.file.now) c.as_slice-method-items.result.now c.loop-method.lists _
+    c.loop-method.method-index c.method-item.result
     c.in_ok-thrown.thrown c.loop-method-test.true c.method-item.is c.loop-method.invariant c.in_ok-thrown.ensures c.in_ok-push.ensures.ok
 
 pub returns : goal.returns
 returns c =
-    all_thrown c.args.scope.now.names.now c.args.scope.now.file.now c.as_slice-method-items.result.now c.loop-method.lists c.loop-method.method-index c.as_slice-method-items.ensures (omega arith)
+    all_thrown c.args.scope.now.names.now c.args.scope.now.file.now c.as_slice-method-items.result.now c.loop-method.lists c.loop-method.method-index
+    c.as_slice-method-items.ensures (omega arith)
     c.loop-method.invariant
