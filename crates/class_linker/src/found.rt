@@ -1,20 +1,21 @@
 //! Members by name and type. What was found of a class and a name and type is remembered, so that many references to one
 //! member cost one search.
 
-ghost use Rattle.std.specs.Prelude.{◌≡◌, IfOk, OnOk, Some, nat_eq};
-ghost use Rattle.indexmap.specs.IndexMap.{Updates, get};
+ghost use Rattle.std.specs.Prelude.{◌≡◌, ◌==◌, ℕ, IfOk, OnOk, Some, if◌then◌else◌};
+ghost use Rattle.std.specs.BTreeMap.{get};
+ghost use Rattle.std.specs.Ordering.{nat_cmp};
 ghost use Rattle.jk_model_classes.specs.Lookups.{FindsField, FindsMethod};
 ghost use Rattle.class_linker.specs.LinkParts.{AreFields, AreMethods, key_of};
 ghost use Rattle.class_linker.specs.TextsSaid.{IsPairOf, SaysField, SaysMethod};
 
 use crate::linking::Linking;
-use indexmap::IndexMap;
 use jk_model::{ClassId, MemberId, MethodType, OutOfMemory};
 use jk_model_classes::TypeRef;
 use member_lookup::{find_field, find_method};
+use std::collections::BTreeMap;
 
-/// What was found before.
-pub(crate) type Found = IndexMap<u64, Option<MemberId>>;
+/// What was found before. It goes by order, and not by a hash: a file could pick its references so that their hashes meet.
+pub(crate) type Found = BTreeMap<u64, Option<MemberId>>;
 
 /// Where it is kept what a class and the name and type at an index find.
 fn key_of(class: ClassId, pair: u16) -> u64
@@ -25,14 +26,14 @@ fn key_of(class: ClassId, pair: u16) -> u64
 
 /// What was found before at a key.
 fn found_at(found: &Found, key: u64) -> Option<Option<MemberId>>
-    ensures { result ≡ get nat_eq found.now key }
+    ensures { result ≡ get nat_cmp found.now key }
 {
     found.get(&key).copied()
 }
 
 /// Remembers what was found at a key.
 fn remember(found: &mut Found, key: u64, m: Option<MemberId>) -> Result<(), OutOfMemory>
-    ensures { OnOk result (Updates nat_eq found.old found.new key (Some m)) }
+    ensures { OnOk result ((q : ℕ) → get nat_cmp found.new q ≡ (if key == q then Some m else get nat_cmp found.old q)) }
 {
     found.insert(key, m)?;
     Ok(())
@@ -48,9 +49,9 @@ pub(crate) fn field_found(
     kind: TypeRef,
 ) -> Result<Option<MemberId>, OutOfMemory>
     requires pair { IsPairOf (SaysField l.now.names.now l.now.pool.now) l.now.pool.now pair name.now kind }
-    requires known { AreFields l.now (λ key. get nat_eq found.old key) }
+    requires known { AreFields l.now (λ key. get nat_cmp found.old key) }
     ensures found { IfOk result (λ m. FindsField l.now.t.now class name.now kind m) }
-    ensures known { OnOk result (AreFields l.now (λ key. get nat_eq found.new key)) }
+    ensures known { OnOk result (AreFields l.now (λ key. get nat_cmp found.new key)) }
 {
     let key = key_of(class, pair);
     if let Some(m) = found_at(found, key) {
@@ -71,9 +72,9 @@ pub(crate) fn method_found(
     kind: &MethodType,
 ) -> Result<Option<MemberId>, OutOfMemory>
     requires pair { IsPairOf (SaysMethod l.now.pool.now) l.now.pool.now pair name.now kind.now }
-    requires known { AreMethods l.now (λ key. get nat_eq found.old key) }
+    requires known { AreMethods l.now (λ key. get nat_cmp found.old key) }
     ensures found { IfOk result (λ m. FindsMethod l.now.t.now class name.now kind.now m) }
-    ensures known { OnOk result (AreMethods l.now (λ key. get nat_eq found.new key)) }
+    ensures known { OnOk result (AreMethods l.now (λ key. get nat_cmp found.new key)) }
 {
     let key = key_of(class, pair);
     if let Some(m) = found_at(found, key) {

@@ -1,7 +1,8 @@
 //! What the entries of a pool lead to.
 
-ghost use Rattle.std.specs.Prelude.{◌≡◌, IfOk, OnOk, nat_eq, slice_get, Some};
-ghost use Rattle.indexmap.specs.IndexMap.{get};
+ghost use Rattle.std.specs.Prelude.{◌≡◌, IfOk, OnOk, slice_get, Some};
+ghost use Rattle.std.specs.BTreeMap.{get};
+ghost use Rattle.std.specs.Ordering.{nat_cmp};
 ghost use Rattle.jk_model.specs.declared.class_file.PoolEntry.TheVariants.{Class, Str};
 ghost use Rattle.jk_model_classes.specs.LinkRules.{LinkScope};
 ghost use Rattle.jk_model_folders.specs.LinkedClasses.{AreLinksFor};
@@ -17,16 +18,16 @@ use crate::said::{Said, said_in};
 use class_table::ClassTable;
 use class_texts::ClassTexts;
 use domain_resolver::NameTable;
-use indexmap::IndexMap;
 use jk_model::{ClassFile, ClassId, List, MethodType, OutOfMemory, PoolEntry};
 use jk_model_classes::{BaseRef, Link, TypeRef};
 use std::alloc::Global;
+use std::collections::BTreeMap;
 
 /// What each entry of a class file's pool leads to: a reference to the member that it finds among all classes, and to
 /// nothing where it finds none.
 ///
-/// Each text is read once, and each class and name and type is looked for once. It takes time and memory in proportion to the
-/// pool, and to what these searches cost.
+/// Each text is read once, and each class and name and type is looked for once. It takes memory in proportion to the pool, and
+/// time in proportion to it too, but for halving among what was found before, and to what these searches cost.
 pub fn class_links(
     alloc: Global,
     t: &ClassTable,
@@ -56,8 +57,8 @@ fn links_of(alloc: Global, c: &ClassFile, l: &Linking<'_>) -> Result<List<Link>,
     requires ready { IsReady l.now }
     ensures { IfOk result (λ links. (s : LinkScope) → HasNames l.now.names.now s → s.classes ≡ l.now.t.now → AreLinksFor s c.now links) }
 {
-    let mut fields = IndexMap::new(alloc);
-    let mut methods = IndexMap::new(alloc);
+    let mut fields = BTreeMap::new(alloc);
+    let mut methods = BTreeMap::new(alloc);
     let mut links = List::new(alloc);
     for entry in l.pool {
         let link = link_of(c, l, &mut fields, &mut methods, entry)?;
@@ -78,11 +79,11 @@ fn link_of(
     requires own { l.now.pool.now ≡ c.now.pool }
     requires item { IsItemOf c.now.pool entry.now }
     requires ready { IsReady l.now }
-    requires fields { AreFields l.now (λ key. get nat_eq fields.old key) }
-    requires methods { AreMethods l.now (λ key. get nat_eq methods.old key) }
+    requires fields { AreFields l.now (λ key. get nat_cmp fields.old key) }
+    requires methods { AreMethods l.now (λ key. get nat_cmp methods.old key) }
     ensures link { IfOk result (λ link. LeadsTo l.now entry.now link) }
-    ensures fields { OnOk result (AreFields l.now (λ key. get nat_eq fields.new key)) }
-    ensures methods { OnOk result (AreMethods l.now (λ key. get nat_eq methods.new key)) }
+    ensures fields { OnOk result (AreFields l.now (λ key. get nat_cmp fields.new key)) }
+    ensures methods { OnOk result (AreMethods l.now (λ key. get nat_cmp methods.new key)) }
 {
     match entry {
         PoolEntry::Integer(bits) => Ok(Link::Int(bits.cast_signed())),
@@ -163,9 +164,9 @@ fn field_link(
     pair: u16,
 ) -> Result<Link, OutOfMemory>
     requires ready { IsReady l.now }
-    requires known { AreFields l.now (λ key. get nat_eq found.old key) }
+    requires known { AreFields l.now (λ key. get nat_cmp found.old key) }
     ensures link { IfOk result (λ link. IsFieldLinkOf l.now class pair link) }
-    ensures known { OnOk result (AreFields l.now (λ key. get nat_eq found.new key)) }
+    ensures known { OnOk result (AreFields l.now (λ key. get nat_cmp found.new key)) }
 {
     match class_named_at(l, class) {
         Some(class) => field_link_in(l, found, class, pair),
@@ -181,9 +182,9 @@ fn field_link_in(
     pair: u16,
 ) -> Result<Link, OutOfMemory>
     requires ready { IsReady l.now }
-    requires known { AreFields l.now (λ key. get nat_eq found.old key) }
+    requires known { AreFields l.now (λ key. get nat_cmp found.old key) }
     ensures link { IfOk result (λ link. FieldLinksIn l.now pair class link) }
-    ensures known { OnOk result (AreFields l.now (λ key. get nat_eq found.new key)) }
+    ensures known { OnOk result (AreFields l.now (λ key. get nat_cmp found.new key)) }
 {
     match field_pair(l, pair) {
         Some(named) => field_link_by(l, found, class, pair, named.0, named.1),
@@ -201,9 +202,9 @@ fn field_link_by(
     kind: TypeRef,
 ) -> Result<Link, OutOfMemory>
     requires pair { IsPairOf (SaysField l.now.names.now l.now.pool.now) l.now.pool.now pair name.now kind }
-    requires known { AreFields l.now (λ key. get nat_eq found.old key) }
+    requires known { AreFields l.now (λ key. get nat_cmp found.old key) }
     ensures link { IfOk result (λ link. FieldLinksIn l.now pair class link) }
-    ensures known { OnOk result (AreFields l.now (λ key. get nat_eq found.new key)) }
+    ensures known { OnOk result (AreFields l.now (λ key. get nat_cmp found.new key)) }
 {
     let m = field_found(l, found, class, pair, name, kind)?;
     match m {
@@ -220,9 +221,9 @@ fn method_link(
     pair: u16,
 ) -> Result<Link, OutOfMemory>
     requires ready { IsReady l.now }
-    requires known { AreMethods l.now (λ key. get nat_eq found.old key) }
+    requires known { AreMethods l.now (λ key. get nat_cmp found.old key) }
     ensures link { IfOk result (λ link. IsMethodLinkOf l.now class pair link) }
-    ensures known { OnOk result (AreMethods l.now (λ key. get nat_eq found.new key)) }
+    ensures known { OnOk result (AreMethods l.now (λ key. get nat_cmp found.new key)) }
 {
     match class_named_at(l, class) {
         Some(class) => method_link_in(l, found, class, pair),
@@ -238,9 +239,9 @@ fn method_link_in(
     pair: u16,
 ) -> Result<Link, OutOfMemory>
     requires ready { IsReady l.now }
-    requires known { AreMethods l.now (λ key. get nat_eq found.old key) }
+    requires known { AreMethods l.now (λ key. get nat_cmp found.old key) }
     ensures link { IfOk result (λ link. MethodLinksIn l.now pair class link) }
-    ensures known { OnOk result (AreMethods l.now (λ key. get nat_eq found.new key)) }
+    ensures known { OnOk result (AreMethods l.now (λ key. get nat_cmp found.new key)) }
 {
     match method_pair(l, pair) {
         Some(named) => method_link_by(l, found, class, pair, named.0, named.1),
@@ -258,9 +259,9 @@ fn method_link_by(
     kind: &MethodType,
 ) -> Result<Link, OutOfMemory>
     requires pair { IsPairOf (SaysMethod l.now.pool.now) l.now.pool.now pair name.now kind.now }
-    requires known { AreMethods l.now (λ key. get nat_eq found.old key) }
+    requires known { AreMethods l.now (λ key. get nat_cmp found.old key) }
     ensures link { IfOk result (λ link. MethodLinksIn l.now pair class link) }
-    ensures known { OnOk result (AreMethods l.now (λ key. get nat_eq found.new key)) }
+    ensures known { OnOk result (AreMethods l.now (λ key. get nat_cmp found.new key)) }
 {
     let m = method_found(l, found, class, pair, name, kind)?;
     match m {
