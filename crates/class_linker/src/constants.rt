@@ -1,6 +1,6 @@
 //! The constants with which static fields begin.
 
-ghost use Rattle.std.specs.Prelude.{◌≡◌, ℕ, IfOk, MatchOption, Some, slice_get};
+ghost use Rattle.std.specs.Prelude.{◌≡◌, ℕ, IfOk, MatchOption, Some};
 ghost use Rattle.jk_model.specs.declared.class_file.Attribute.{Attribute};
 ghost use Rattle.jk_model.specs.declared.class_file.PoolEntry.{PoolEntry};
 ghost use Rattle.jk_model.specs.declared.class_file.PoolEntry.TheVariants.{Str};

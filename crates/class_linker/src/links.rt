@@ -1,6 +1,6 @@
 //! What the entries of a pool lead to.
 
-ghost use Rattle.std.specs.Prelude.{◌≡◌, IfOk, OnOk, slice_get, Some};
+ghost use Rattle.std.specs.Prelude.{◌≡◌, IfOk, OnOk, Some};
 ghost use Rattle.std.specs.BTreeMap.{get};
 ghost use Rattle.std.specs.Ordering.{nat_cmp};
 ghost use Rattle.jk_model.specs.declared.class_file.PoolEntry.TheVariants.{Class, Str};

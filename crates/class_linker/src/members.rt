@@ -1,6 +1,6 @@
 //! The records of a class's fields and methods.
 
-ghost use Rattle.std.specs.Prelude.{◌≡◌, IfOk, IsTrue, not};
+ghost use Rattle.std.specs.Prelude.{◌≡◌, IfOk};
 ghost use Rattle.jk_model.specs.declared.class_file.Attribute.{Attribute};
 ghost use Rattle.jk_model.specs.ClassFile.{CodeLayout};
 ghost use Rattle.jk_model_classes.specs.ClassFlags.{ABSTRACT, MethodFlags, has};

@@ -1,6 +1,6 @@
 //! What the texts of a pool say. Each is read once, so that it does not count how many entries name it.
 
-ghost use Rattle.std.specs.Prelude.{◌≡◌, ◌<◌, ◌^◌, IfOk, length};
+ghost use Rattle.std.specs.Prelude.{◌<◌, ◌^◌, IfOk, length};
 ghost use Rattle.jk_model.specs.declared.descriptors.Base.TheVariants as Base;
 ghost use Rattle.jk_model.specs.Descriptors.{IsMethodText};
 ghost use Rattle.jk_model_classes.specs.SystemRecords.{IsBaseFor, IsTypeFor};
