@@ -1,0 +1,23 @@
+-- Lemmas on class files that are linked: what their parts can't but be, and what is made of them item by item.
+mod ClassEntryTypes
+mod ClassNamesDecided
+mod ClassesOfScope
+mod EntriesAreGood
+mod EntriesAreLinked
+mod GoodConstants
+mod GoodMembers
+mod ItemByItem
+mod ItemsInTurn
+mod KnownOnce
+mod MarkedEntries
+mod MembersAreFound
+mod NamesOfEntries
+mod NamesOfScope
+mod NumbersAdded
+mod OnlyMemory
+mod PlacesOfCode
+mod ShortBodies
+mod SortedReferences
+mod TextsAreSaid
+mod TextsSpelt
+mod ThrownInTurn

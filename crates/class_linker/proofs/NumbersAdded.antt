@@ -1,0 +1,129 @@
+-- The numbers of classes that are added in turn.
+use Rattle.std.proofs.Common.{◌≡◌, ℕ, zero, suc, ◌+◌, ◌<◌, ◌≤◌, ◌⊎◌, inl, inr, List, ◌∷◌, ◌++◌, length, replicate, sym, ◌∙◌, subst, arith, Option, Some, Result, Ok, Err, slice_get}
+use Rattle.std.specs.Prelude.{OnOk}
+use Rattle.std.proofs.lemmas.Bool.{cases_lt}
+use Rattle.std.proofs.lemmas.Option.{same_Some, slice_get_within}
+use Rattle.jk_model.specs.declared.descriptors.Base.{Base}
+use Rattle.jk_model.specs.declared.descriptors.Base.TheVariants.{Byte, Char, Double, Float, Int, Long, Short, Bool as Boolean, Class}
+use Rattle.jk_model.specs.declared.descriptors.FieldType.{FieldType}
+use Rattle.jk_model.specs.declared.descriptors.MethodType.{MethodType}
+use Rattle.jk_model.specs.Descriptors.{IsFieldText, IsMethodText, base_text}
+use Rattle.jk_model_classes.specs.Items.{HasItem, HasItemBefore}
+use Rattle.jk_model_classes.specs.References.{IsOfClass, IsResultOfClass, Mentions}
+use Rattle.descriptors.proofs.NoTextBeginsAnother.{one_field, one_method}
+use Rattle.class_linker.specs.KnownReferences.{Adds}
+use Rattle.class_linker.specs.KnownTypes.{Meaning}
+
+pub on_map : {T E : Type 0} (P Q : Type 0) (r : Result T E) → (P → Q) → OnOk r P → OnOk r Q
+on_map P Q (Ok x) f h = f h
+on_map P Q (Err e) f h = tt
+
+pub adds_as : (m : Meaning) (P Q : List ℕ → Type 0) (a b : List ℕ) → ((name : List ℕ) → P name → Q name) → ((name : List ℕ) → Q name → P name)
+    → Adds m P a b → Adds m Q a b
+adds_as m P Q a b to from h = record {
+  kept = h.kept;
+  each = λ n there. elim (h.each n there) [
+    | inl old ↦ inl old
+    | inr new ↦ inr (new.0, to new.0 new.1, new.2)
+  ];
+  all = λ name class q is. h.all name class (from name q) is;
+}
+
+pub adds_then : (m : Meaning) (P Q R : List ℕ → Type 0) (a b c : List ℕ) → ((name : List ℕ) → P name → R name) → ((name : List ℕ) → Q name → R name)
+    → ((name : List ℕ) → R name → P name ⊎ Q name) → Adds m P a b → Adds m Q b c → Adds m R a c
+adds_then m P Q R a b c from_p from_q split first second = record {
+  kept = λ n there. second.kept n (first.kept n there);
+  each = λ n there. elim (second.each n there) [
+    | inl old ↦ elim (first.each n old) [
+      | inl older ↦ inl older
+      | inr new ↦ inr (new.0, from_p new.0 new.1, new.2)
+    ]
+    | inr new ↦ inr (new.0, from_q new.0 new.1, new.2)
+  ];
+  all = λ name class r is. elim (split name r) [
+    | inl p ↦ second.kept class.0 (first.all name class p is)
+    | inr q ↦ second.all name class q is
+  ];
+}
+
+-- nothing is added
+pub adds_none : (m : Meaning) (P : List ℕ → Type 0) (a : List ℕ) → ((name : List ℕ) → P name → ⊥) → Adds m P a a
+adds_none m P a never = record { kept = λ n there. there; each = λ n there. inl there; all = λ name class p is. absurd (never name p) }
+
+-- ---- By places.
+
+module _ (m : Meaning) (By : ℕ → List ℕ → Type 0) where
+  pub adds_more : (k : ℕ) (a b c : List ℕ) → Adds m (λ name. (j : ℕ) × (j < k) × By j name) a b → Adds m (By k) b c
+      → Adds m (λ name. (j : ℕ) × (j < k + 1) × By j name) a c
+  adds_more k a b c first second =
+      adds_then m (λ name. (j : ℕ) × (j < k) × By j name) (By k) (λ name. (j : ℕ) × (j < k + 1) × By j name) a b c
+      (λ name (j, below, by). (j, omega arith, by)) (λ name by. (k, omega arith, by))
+      (λ name (j, below, by). elim (cases_lt j k) [
+        | inl less ↦ inl (j, less, by)
+        | inr least ↦ let place : j ≡ k = omega arith in inr (subst (λ (n : ℕ). By n name) place by)
+      ])
+      first second
+
+  pub adds_all : (k : ℕ) (a b : List ℕ) → ((j : ℕ) (name : List ℕ) → By j name → j < k) → Adds m (λ name. (j : ℕ) × (j < k) × By j name) a b
+      → Adds m (λ name. (j : ℕ) × By j name) a b
+  adds_all k a b within h =
+      adds_as m (λ name. (j : ℕ) × (j < k) × By j name) (λ name. (j : ℕ) × By j name) a b (λ name (j, below, by). (j, by))
+      (λ name (j, by). (j, within j name by, by)) h
+
+-- ---- Items so far.
+
+pub before_split : {X : Type 0} (P : X → Type 0) (xs : List X) (k : ℕ) (x : X) → slice_get xs k ≡ Some x → HasItemBefore (k + 1) P xs
+    → HasItemBefore k P xs ⊎ P x
+before_split P xs k x at (i, y, below, found, p) =
+    elim (cases_lt i k) [
+      | inl less ↦ inl (i, y, less, found, p)
+      | inr least ↦
+          let place : i ≡ k = omega arith in
+          let one : y ≡ x = same_Some y x (sym found ∙ subst (λ n. slice_get xs n ≡ Some x) (sym place) at) in
+          inr (subst P one p)
+    ]
+
+pub before_old : {X : Type 0} (P : X → Type 0) (xs : List X) (k : ℕ) → HasItemBefore k P xs → HasItemBefore (k + 1) P xs
+before_old P xs k (i, y, below, found, p) = (i, y, omega arith, found, p)
+
+pub before_new : {X : Type 0} (P : X → Type 0) (xs : List X) (k : ℕ) (x : X) → slice_get xs k ≡ Some x → P x → HasItemBefore (k + 1) P xs
+before_new P xs k x at p = (k, x, omega arith, at, p)
+
+pub all_before : {X : Type 0} (P : X → Type 0) (xs : List X) (k : ℕ) → length xs ≤ k → HasItem P xs → HasItemBefore k P xs
+all_before P xs k all (i, y, found, p) = let within = slice_get_within xs i y found in (i, y, omega arith, found, p)
+
+pub some_before : {X : Type 0} (P : X → Type 0) (xs : List X) (k : ℕ) → HasItemBefore k P xs → HasItem P xs
+some_before P xs k (i, y, below, found, p) = (i, y, found, p)
+
+-- ---- Classes in descriptors.
+
+pub differ : (a b : ℕ) (xs ys : List ℕ) → b < a → a ∷ xs ≡ b ∷ ys → ⊥
+differ a b xs ys above e = let first : a ≡ b = cc in omega arith
+
+no_parenthesis : (n : ℕ) (base : Base) (rest : List ℕ) → replicate n 91 ++ base_text base ≡ 40 ∷ rest → ⊥
+no_parenthesis (suc n) base rest e = differ 91 40 _ _ (omega arith) e
+no_parenthesis zero Byte rest e = differ 66 40 _ _ (omega arith) e
+no_parenthesis zero Char rest e = differ 67 40 _ _ (omega arith) e
+no_parenthesis zero Double rest e = differ 68 40 _ _ (omega arith) e
+no_parenthesis zero Float rest e = differ 70 40 _ _ (omega arith) e
+no_parenthesis zero Int rest e = differ 73 40 _ _ (omega arith) e
+no_parenthesis zero Long rest e = differ 74 40 _ _ (omega arith) e
+no_parenthesis zero Short rest e = differ 83 40 _ _ (omega arith) e
+no_parenthesis zero Boolean rest e = differ 90 40 _ _ (omega arith) e
+no_parenthesis zero (Class name) rest e = differ 76 40 _ _ (omega arith) e
+
+not_both : (units : List ℕ) (t : FieldType) (k : MethodType) → IsFieldText units t → IsMethodText units k → ⊥
+not_both units t k field method = no_parenthesis t.dims t.base _ (sym field.1 ∙ method.1)
+
+pub field_mentions : (units name : List ℕ) (t : FieldType) → IsFieldText units t → Mentions units name → t.base ≡ Class name
+field_mentions units name t text (inl (u, other, is)) = subst (λ (x : FieldType). x.base ≡ Class name) (one_field units u t other text) is
+field_mentions units name t text (inr (k, method, is)) = absurd (not_both units t k text method)
+
+pub method_mentions : (units name : List ℕ) (m : MethodType) → IsMethodText units m → Mentions units name
+    → HasItem (IsOfClass name) m.params ⊎ IsResultOfClass name m.result
+method_mentions units name m text (inl (t, field, is)) = absurd (not_both units t m field text)
+method_mentions units name m text (inr (k, method, is)) =
+    subst (λ (x : MethodType). HasItem (IsOfClass name) x.params ⊎ IsResultOfClass name x.result) (one_method units k m method text) is
+
+pub result_names : (name : List ℕ) (of : Option FieldType) (t : FieldType) → of ≡ Some t → IsResultOfClass name of → t.base ≡ Class name
+result_names name of t is (u, e, k) = subst (λ (x : FieldType). x.base ≡ Class name) (same_Some u t (sym e ∙ is)) k
