@@ -1,6 +1,6 @@
 -- What a table says of a name is what its one entry of that name says; and which entries system classes have.
-use Rattle.std.proofs.Common.{◌≡◌, ℕ, zero, suc, ◌+◌, ◌<◌, ◌≤◌, ◌⊎◌, inl, inr, Bool, true, false, true≢false, not, cond, nat_lt, List, [], ◌∷◌, length, take, refl, sym, ◌∙◌, ap, arith, Option, Some, None, slice_get, get_or, Bor}
-use Rattle.std.specs.Prelude.{Contains, IsTrue}
+use Rattle.std.proofs.Common.{◌≡◌, ℕ, zero, suc, ◌<◌, Bool, true, false, nat_lt, List, [], ◌∷◌, length, refl, sym, ◌∙◌, ap, arith, Option, Some, None, slice_get, get_or, Bor}
+use Rattle.std.specs.Prelude.{Contains}
 use Rattle.std.specs.List.{position_or_len}
 use Rattle.std.specs.Option.{option_map}
 use Rattle.std.specs.Slice.{IsItemAt}
@@ -9,7 +9,7 @@ use Rattle.std.proofs.lemmas.Bool.{ltb-true}
 use Rattle.std.proofs.lemmas.List.Sums.{passes_at_first}
 use Rattle.std.proofs.lemmas.Option.{cond_some, slice_get_within, slice_get_read, slice_get_past, get_or_from_slice_get, same_Some}
 use Rattle.std.proofs.lemmas.Slice.Eq.{bytes_eq-Decides}
-use Rattle.class_table.proofs.ItemsOfLists.{Contains-here, Contains-there}
+use Rattle.class_table.proofs.ItemsOfLists.{Contains-there}
 use Rattle.jk_model.specs.declared.identifiers.ClassId.{ClassId}
 use Rattle.jk_model.specs.SystemTable.{SystemClass, system_classes, number_named}
 use Rattle.jk_model_classes.specs.SystemRecords.{system_meaning}
@@ -38,7 +38,6 @@ none_lent xs i h = slice_get_past xs i h.3
 
 pub same_class : (a b : ClassId) → a.0 ≡ b.0 → a ≡ b
 same_class a b e = let of : (m n : ℕ) → m ≡ n → (let x : ClassId = record { 0 = m } in x) ≡ record { 0 = n } = λ m n q. cc in of a.0 b.0 e
-
 
 -- ---- Names of a table.
 
@@ -117,11 +116,13 @@ pub class_at : (name : List ℕ) (n : ℕ) → number_named name ≡ Some n → 
 class_at name n found =
     let p : SystemClass → Bool = λ c. bytes_eq c.name name in
     let (inside, is) = cond_some (nat_lt (position_or_len p system_classes) (length system_classes)) (position_or_len p system_classes) n found in
-    let low : position_or_len p system_classes < length system_classes = ltb-true _ _ inside in
-    (rw (← is) low, λ e at. (
-      let passes = passes_at_first p system_classes e low in
-      let here : get_or system_classes (position_or_len p system_classes) e ≡ e = rw is (get_or_from_slice_get system_classes n e e at) in
-      (bytes_eq-Decides e.name name).0 (rw here at passes)))
+    let low : position_or_len p system_classes < length system_classes = ltb-true _ _ inside in (
+      rw (← is) low,
+      λ e at. (
+          let passes = passes_at_first p system_classes e low in
+          let here : get_or system_classes (position_or_len p system_classes) e ≡ e = rw is (get_or_from_slice_get system_classes n e e at) in
+          (bytes_eq-Decides e.name name).0 (rw here at passes)),
+    )
 
 number_of : (o : Option ℕ) (c : ClassId) → option_map (λ (n : ℕ). let x : ClassId = record { 0 = n } in x) o ≡ Some c → o ≡ Some c.0
 number_of None c e = absurd cc

@@ -1,6 +1,6 @@
 -- What the lines up to a place bring in, in turn: a line that imports keeps L7 where what it imports is offered and no name
 -- that it brings in means something else, and breaks it otherwise.
-use Rattle.std.proofs.Common.{◌≡◌, ◌≢◌, ℕ, zero, suc, ◌+◌, ◌<◌, ◌≤◌, ◌⊎◌, ◌↔◌, inl, inr, List, [], ◌∷◌, ◌++◌, length, refl, sym, ◌∙◌, ap, subst, arith, Bool, true, false, Option, Result, Ok, Err, Some, None, slice_get}
+use Rattle.std.proofs.Common.{◌≡◌, ◌≢◌, ℕ, zero, suc, ◌+◌, ◌<◌, ◌≤◌, ◌⊎◌, inl, inr, List, [], ◌∷◌, ◌++◌, length, refl, sym, ◌∙◌, ap, subst, arith, Bool, true, false, Option, Result, Ok, Err, Some, slice_get}
 use Rattle.std.specs.Prelude.{Contains, IfOk, MatchBool}
 use Rattle.std.proofs.lemmas.Bool.{cases_lt}
 use Rattle.std.proofs.lemmas.List.Elements.{Contains-append_left, Contains-append_cases}
@@ -12,16 +12,16 @@ use Rattle.jk_model.specs.declared.identifiers.DomainId.{DomainId}
 use Rattle.jk_model_classes.specs.declared.records.ClassRecord.{ClassRecord}
 use Rattle.jk_model_classes.specs.declared.sharing.ResolverLine.{ResolverLine}
 use Rattle.jk_model_classes.specs.declared.sharing.ResolverWord.TheVariants.{Share, Import}
-use Rattle.jk_model_classes.specs.Classes.{HasClass, record_of}
+use Rattle.jk_model_classes.specs.Classes.{HasClass}
 use Rattle.jk_model_classes.specs.Resolver.{resolver_of}
 use Rattle.jk_model_classes.specs.ResolverRules.{BreaksL6, BringsIn, HasFileOf, ImportsClass, IsBroughtBefore}
 use Rattle.jk_model_classes.specs.SystemRecords.{system_meaning}
-use Rattle.jk_model_classes.specs.Worlds.{DomainRecord, IsNamed, IsWorld, NamedClass, WorldRecord, class_named, domain_of, IsLiveNamed, IsOfferedTo}
+use Rattle.jk_model_classes.specs.Worlds.{DomainRecord, IsWorld, NamedClass, WorldRecord, class_named, domain_of, IsLiveNamed, IsOfferedTo}
 use Rattle.jk_model_folders.specs.declared.files.FolderFiles.{FolderFiles}
 use Rattle.jk_model_folders.specs.FolderRules.{BreaksL7, HasGoodLines, class_paths}
-use Rattle.domain_resolver.specs.Imports.{Imported, IsClash, IsOwnName, references_of}
+use Rattle.domain_resolver.specs.Imports.{Imported, IsClash, IsOwnName}
 use Rattle.resolver_rules.specs.Faults.{IsFirstNotOffered}
-use Rattle.resolver_rules.specs.Imported.{AreBrought, HasOtherMeaning, HasTakenFrom, IsFreeImport, IsOffered, IsTakenImport, NamesDiffer}
+use Rattle.resolver_rules.specs.Imported.{AreBrought, HasOtherMeaning, HasTakenFrom, IsFreeImport, IsOffered, IsTakenImport}
 use Rattle.resolver_rules.proofs.ClassesOfNames.{contains_at, stands_at, something_at, named_entry, same_meaning}
 use Rattle.resolver_rules.proofs.ReachedByImport.{IsClosed, is_reached, reached_further, reached_is_named, refers}
 

@@ -1,5 +1,5 @@
 -- The lines of a text are its first line and the lines of what follows that, and each line by itself is one line.
-use Rattle.std.proofs.Common.{◌≡◌, ℕ, ◌+◌, ◌-◌, ◌<◌, ◌≤◌, Bool, true, false, not, List, [], ◌∷◌, length, take, drop, refl, sym, ◌∙◌, ap, arith, Some, None, cond, get_or, slice_index, get_or-take, length-drop, length-take, nat_eq, nat_lt}
+use Rattle.std.proofs.Common.{◌≡◌, ℕ, ◌+◌, ◌-◌, ◌<◌, ◌≤◌, Bool, true, false, not, List, [], ◌∷◌, length, take, drop, refl, sym, ◌∙◌, ap, arith, Some, None, cond, slice_index, get_or-take, length-drop, length-take, nat_eq, nat_lt}
 use Rattle.std.specs.List.{slice_split, onto_first, position_or_len, position, All}
 use Rattle.std.specs.Str.Lines.{lines, lines_of_parts, strip_carriage_return}
 use Rattle.std.proofs.lemmas.Bool.{ltb-true, ltb-false, ne_eqb}
@@ -7,7 +7,6 @@ use Rattle.std.proofs.lemmas.List.Elements.{All-take}
 use Rattle.std.proofs.lemmas.List.Splits.{slice_split_first, slice_split_none, slice_split-cons_yes, slice_split-cons_no}
 use Rattle.std.proofs.lemmas.List.Sums.{fails_before_first, prefix_len-le-length}
 use Rattle.std.proofs.lemmas.Option.{cond_some}
-use Rattle.jk_model.specs.Script.{script_lines}
 use Rattle.jk_model_classes.specs.Resolver.{lines_say}
 use Rattle.resolver_rules.specs.Lines.{IsFirstOf, IsOneLine}
 

@@ -1,7 +1,6 @@
 -- Which names an index has after a name is put into it, and after all class files were taken in.
-use Rattle.std.proofs.Common.{◌≡◌, ℕ, ◌+◌, ◌<◌, ◌≤◌, ◌⊎◌, ◌↔◌, inl, inr, Bool, true, false, ◌||◌, List, [], ◌∷◌, ◌++◌, length, map, refl, sym, ◌∙◌, ap, arith, Option, Some, None, Ordering, get_or, slice_get, codes, subst}
+use Rattle.std.proofs.Common.{◌≡◌, ℕ, ◌+◌, ◌<◌, ◌≤◌, ◌⊎◌, ◌↔◌, inl, inr, Bool, true, false, ◌||◌, List, [], ◌∷◌, ◌++◌, length, map, refl, sym, ◌∙◌, ap, arith, Option, Some, None, Ordering, slice_get, codes, subst}
 use Rattle.std.specs.Prelude.{IsTrue}
-use Rattle.std.specs.Str.{bytes_eq}
 use Rattle.std.specs.List.{list_any}
 use Rattle.std.specs.Option.{option_map}
 use Rattle.std.specs.Ordering.{nat_cmp, is_eq}
@@ -12,11 +11,11 @@ use Rattle.std.proofs.lemmas.Bool.{or_cases, or_left, or_right, cases_lt}
 use Rattle.std.proofs.lemmas.List.{append_cancel_right}
 use Rattle.std.proofs.lemmas.Map.Lookups.{exact_bytes}
 use Rattle.std.proofs.lemmas.Map.Text.{is_eq-slice_cmp}
-use Rattle.std.proofs.lemmas.Option.{slice_get_within, slice_get-map, slice_get-get_or, same_Some}
+use Rattle.std.proofs.lemmas.Option.{slice_get_within, slice_get-map, same_Some}
 use Rattle.std.proofs.lemmas.Slice.Eq.{bytes_eq-Decides}
 use Rattle.jk_model.specs.Text.{utf16_of}
 use Rattle.jk_model_folders.specs.declared.files.FolderFile.{FolderFile}
-use Rattle.jk_model_classes.specs.Items.{HasItem, HasItemBefore}
+use Rattle.jk_model_classes.specs.Items.{HasItemBefore}
 use Rattle.jk_model_classes.specs.ResolverRules.{HasFileOf}
 
 module _ {K : Type 0} (items : K → List ℕ) where
@@ -134,10 +133,10 @@ pub names_end : (has : List ℕ → Bool) (files : List FolderFile) (n : ℕ) �
     → IsTrue (has name) ↔ HasFileOf (map (λ (f : FolderFile). f.path) files) name
 names_end has files n end h name = (
   λ b. (
-    let i = (h name).0 b in
-    (i.0, i.1.path, slice_get-map (λ (f : FolderFile). f.path) files i.0 ∙ ap (option_map (λ (f : FolderFile). f.path)) i.3, i.4)),
+      let i = (h name).0 b in
+      (i.0, i.1.path, slice_get-map (λ (f : FolderFile). f.path) files i.0 ∙ ap (option_map (λ (f : FolderFile). f.path)) i.3, i.4)),
   λ i. (
-    let from = mapped (λ (f : FolderFile). f.path) (slice_get files i.0) i.1 (sym (slice_get-map (λ (f : FolderFile). f.path) files i.0) ∙ i.2) in
-    let is : utf16_of from.0.path ≡ name ++ codes ".class" = rw from.2 i.3 in
-    (h name).1 (i.0, from.0, omega (arith, slice_get_within files i.0 from.0 from.1, end), from.1, is)),
+      let from = mapped (λ (f : FolderFile). f.path) (slice_get files i.0) i.1 (sym (slice_get-map (λ (f : FolderFile). f.path) files i.0) ∙ i.2) in
+      let is : utf16_of from.0.path ≡ name ++ codes ".class" = rw from.2 i.3 in
+      (h name).1 (i.0, from.0, omega (arith, slice_get_within files i.0 from.0 from.1, end), from.1, is)),
 )

@@ -1,5 +1,5 @@
 -- Whether names that are brought in mean something else, one by one and all of an import.
-use Rattle.std.proofs.Common.{◌≡◌, ◌≢◌, ℕ, ◌+◌, ◌<◌, ◌≤◌, ◌⊎◌, ◌↔◌, inl, inr, Bool, true, false, not, List, ◌++◌, length, refl, sym, ◌∙◌, ap, subst, arith, Option, Some, None, slice_get, nat_eq}
+use Rattle.std.proofs.Common.{◌≡◌, ◌≢◌, ℕ, ◌+◌, ◌<◌, ◌≤◌, ◌⊎◌, ◌↔◌, inl, inr, Bool, true, false, not, List, ◌++◌, length, refl, sym, ◌∙◌, ap, subst, arith, Some, None, slice_get, nat_eq}
 use Rattle.std.specs.Prelude.{Contains, IsTrue, MatchBool}
 use Rattle.std.proofs.lemmas.Bool.{cases_lt, eqb-false, ne_eqb, not-true}
 use Rattle.std.proofs.lemmas.List.Elements.{Contains-append_cases}
@@ -10,7 +10,7 @@ use Rattle.jk_model_classes.specs.declared.records.ClassRecord.{ClassRecord}
 use Rattle.jk_model_classes.specs.Classes.{record_of}
 use Rattle.jk_model_classes.specs.SystemRecords.{system_meaning}
 use Rattle.jk_model_classes.specs.Worlds.{NamedClass}
-use Rattle.domain_resolver.specs.Imports.{Imported, IsClash, IsImport, IsOwnName}
+use Rattle.domain_resolver.specs.Imports.{Imported, IsImport, IsOwnName}
 use Rattle.resolver_rules.specs.Imported.{AreFreeFrom, HasOtherMeaning, HasTakenFrom, IsFreeImport, IsTakenClass, IsTakenImport, NamesDiffer}
 use Rattle.resolver_rules.proofs.ClassesOfNames.{EntryAt, contains_at, meaning_number, number_meaning, same_class}
 
@@ -21,9 +21,9 @@ pub another_class : (name : List ℕ) (n : ℕ) (class : ClassId) → number_nam
 another_class name n class is = (
   λ t. (record { 0 = n }, number_meaning name n is, λ same. eqb-false n class.0 (not-true (nat_eq n class.0) t) (ap (λ (c : ClassId). c.0) same)),
   λ h. (
-    let number : n ≡ h.0.0 = same_Some n h.0.0 (sym is ∙ meaning_number name h.0 h.1) in
-    let differs : nat_eq n class.0 ≡ false = ne_eqb n class.0 (λ same. h.2 (same_class h.0 class (sym number ∙ same))) in
-    rw differs refl),
+      let number : n ≡ h.0.0 = same_Some n h.0.0 (sym is ∙ meaning_number name h.0 h.1) in
+      let differs : nat_eq n class.0 ≡ false = ne_eqb n class.0 (λ same. h.2 (same_class h.0 class (sym number ∙ same))) in
+      rw differs refl),
 )
 
 pub no_system_class : (name : List ℕ) (class : ClassId) → number_named name ≡ None
@@ -31,8 +31,8 @@ pub no_system_class : (name : List ℕ) (class : ClassId) → number_named name 
 no_system_class name class none = (
   λ t. absurd cc,
   λ h. (
-    let both : None ≡ Some h.0.0 = sym none ∙ meaning_number name h.0 h.1 in
-    absurd cc),
+      let both : None ≡ Some h.0.0 = sym none ∙ meaning_number name h.0 h.1 in
+      absurd cc),
 )
 
 -- ---- One class.

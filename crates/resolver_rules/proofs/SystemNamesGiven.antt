@@ -1,5 +1,5 @@
 -- The names of the system classes are given one after the other, and then a table has what names mean outside of a folder.
-use Rattle.std.proofs.Common.{◌≡◌, ◌≢◌, ℕ, ◌+◌, ◌<◌, ◌≤◌, ◌⊎◌, ◌↔◌, inl, inr, Bool, List, [], ◌∷◌, ◌++◌, length, take, refl, sym, ◌∙◌, ap, subst, arith, Option, Some, None, slice_get}
+use Rattle.std.proofs.Common.{◌≡◌, ℕ, ◌+◌, ◌<◌, ◌≤◌, ◌⊎◌, inl, inr, Bool, List, [], ◌∷◌, length, take, refl, sym, ◌∙◌, ap, subst, arith, Some, slice_get}
 use Rattle.std.specs.Prelude.{Contains}
 use Rattle.std.proofs.lemmas.Bool.{cases_eq, cases_lt}
 use Rattle.std.proofs.lemmas.List.{length-take}
@@ -7,10 +7,10 @@ use Rattle.std.proofs.lemmas.List.Elements.{Contains-append_left, Contains-push,
 use Rattle.std.proofs.lemmas.Option.{slice_get_within, same_Some}
 use Rattle.class_table.proofs.ItemsByPlace.{slice_get-take}
 use Rattle.jk_model.specs.declared.identifiers.ClassId.{ClassId}
-use Rattle.jk_model.specs.SystemTable.{SystemClass, system_classes, number_named}
+use Rattle.jk_model.specs.SystemTable.{system_classes, number_named}
 use Rattle.jk_model_classes.specs.declared.records.ClassRecord.{ClassRecord}
 use Rattle.jk_model_classes.specs.declared.sharing.ResolverLine.{ResolverLine}
-use Rattle.jk_model_classes.specs.Classes.{HasClass, record_of}
+use Rattle.jk_model_classes.specs.Classes.{HasClass}
 use Rattle.jk_model_classes.specs.ResolverRules.{BringsIn}
 use Rattle.jk_model_classes.specs.SystemRecords.{AreSystemRecords, system_meaning}
 use Rattle.jk_model_classes.specs.Worlds.{Gives, NamedClass, WorldRecord, class_named}

@@ -1,5 +1,5 @@
 -- No line so far breaks L6, and there are no more lines than bytes.
-use Rattle.std.proofs.Common.{ℕ, ◌+◌, ◌≤◌, length}
+use Rattle.std.proofs.Common.{◌+◌, ◌≤◌, length}
 use Rattle.jk_model_folders.specs.FolderRules.{class_paths}
 use Rattle.resolver_rules.specs.Lines.{ArePassed}
 use Rattle.resolver_rules.proofs.grammar.first_bad_line.Given as goal

@@ -1,5 +1,5 @@
 -- A line outside the grammar would break L6.
-use Rattle.std.proofs.Common.{◌≡◌, ap, Err}
+use Rattle.std.proofs.Common.{ap, Err}
 use Rattle.jk_model_folders.specs.FolderRules.{class_paths}
 use Rattle.resolver_rules.proofs.WhatLinesSay.{outside_breaks}
 use Rattle.resolver_rules.proofs.grammar.good_lines.Goals as goal

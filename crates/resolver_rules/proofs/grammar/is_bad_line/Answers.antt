@@ -4,7 +4,7 @@ use Rattle.jk_model_classes.specs.Resolver.{Reading}
 use Rattle.jk_model_classes.specs.ResolverRules.{IsBadReading}
 use Rattle.jk_model_folders.specs.FolderRules.{class_paths}
 use Rattle.resolver_rules.proofs.ClassesOfNames.{item_lent}
-use Rattle.resolver_rules.proofs.WhatLinesSay.{is_outside, says_nothing, says_this}
+use Rattle.resolver_rules.proofs.WhatLinesSay.{says_this}
 use Rattle.resolver_rules.proofs.grammar.is_bad_line.Goals as goal
 
 pub returns-in-Some : goal.returns-in-Some

@@ -1,7 +1,6 @@
 -- The classes of the table are those of the world; what the import says, and what is said of the names that are new.
 use Rattle.std.proofs.Common.{inl}
 use Rattle.jk_model_folders.specs.FolderRules.{class_paths}
-use Rattle.domain_resolver.specs.Imports.{Imported, IsClash, IsImport}
 use Rattle.resolver_rules.proofs.NamesJudged.{judged, own_after}
 use Rattle.resolver_rules.proofs.imports.bring.Goals as goal
 

@@ -1,7 +1,5 @@
 -- Nothing is offered where there is no such live domain, or it doesn't offer what the name means.
 use Rattle.std.proofs.Common.{◌≡◌, ◌∙◌, ap, sym, subst, Some, None}
-use Rattle.std.specs.Prelude.{IsTrue}
-use Rattle.std.specs.Option.{option_copied}
 use Rattle.std.proofs.lemmas.Bool.{iff_false}
 use Rattle.std.proofs.lemmas.Option.{same_Some}
 use Rattle.jk_model.specs.declared.identifiers.ClassId.{ClassId}

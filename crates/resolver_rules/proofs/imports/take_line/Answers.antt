@@ -1,8 +1,7 @@
 -- A line that shares brings in nothing; one that imports brings in what is offered.
-use Rattle.std.proofs.Common.{◌≡◌, ◌∙◌, ap, length, refl, slice_get, Some}
+use Rattle.std.proofs.Common.{◌∙◌, ap, length, refl}
 use Rattle.std.proofs.lemmas.Option.{slice_get_read}
 use Rattle.jk_model_classes.specs.declared.sharing.ResolverLine.{ResolverLine}
-use Rattle.resolver_rules.specs.Imported.{IsOffered}
 use Rattle.resolver_rules.proofs.LinesBringIn.{import_judged, not_offered, offered_is_there, offered_under, own_names, share_keeps}
 use Rattle.resolver_rules.proofs.imports.take_line.Goals as goal
 
