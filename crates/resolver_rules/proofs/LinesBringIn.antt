@@ -48,7 +48,8 @@ module _ (w : WorldRecord) (into : List ℕ) where
       (subst (λ (x : DomainRecord). IsOfferedTo x.offers c into) records to)
 
   -- what a line imports is what is offered under the names that it says
-  imports_offered : (line : ResolverLine) (from class : List ℕ) (c : ClassId) → line.says ≡ Import from class → ImportsClass w into line c → IsOffered w into from class c
+  imports_offered : (line : ResolverLine) (from class : List ℕ) (c : ClassId) → line.says ≡ Import from class → ImportsClass w into line c
+      → IsOffered w into from class c
   imports_offered line from class c says (from_2, class_2, says_2, offered) =
       let both : Import from_2 class_2 ≡ Import from class = sym says_2 ∙ says in
       let domains : from_2 ≡ from = cc in
@@ -286,8 +287,10 @@ module _ (f : FolderFiles) (w : WorldRecord) (into : List ℕ) where
         → AreBrought f w into lines place old → (r : Result Bool E)
         → IfOk r (λ free. MatchBool free (IsFreeImport (class_paths f) w.classes old c new) (IsTakenImport (class_paths f) w.classes old c new))
         → IfOk r (λ good. MatchBool good (AreBrought f w into lines (place + 1) new) (BreaksL7 f w into lines place))
-    import_judged place line from class here says world c old new offered h (Ok true) t = import_keeps place line from class here says world c old new offered h t
-    import_judged place line from class here says world c old new offered h (Ok false) t = import_breaks place line from class here says c old new offered h t
+    import_judged place line from class here says world c old new offered h (Ok true) t =
+        import_keeps place line from class here says world c old new offered h t
+    import_judged place line from class here says world c old new offered h (Ok false) t =
+        import_breaks place line from class here says c old new offered h t
     import_judged place line from class here says world c old new offered h (Err e) t = tt
 
     -- ---- All lines, or those before the first that breaks L7.

@@ -13,7 +13,8 @@ returns c = λ name.
     ap utf16_of (sym c.text_of.ensures) ∙ sym c.in_ok-units.ensures ∙ sym c.as_slice.ensures.value in
     elim c.match-stem.branch [
       | in-Some+in_ok-name+in_ok-insert w ↦ (
-          let after = has_after (λ (k : Vec ℕ Global). k.items) c.args.names.now.keys w.insert.new.self.keys w.in_ok-name.name w.in_ok-insert.ensures.keys name in
+          let after = has_after (λ (k : Vec ℕ Global). k.items) c.args.names.now.keys w.insert.new.self.keys w.in_ok-name.name
+          w.in_ok-insert.ensures.keys name in
           let stem = whole ∙ w.in-Some.ensures ∙ ap (λ (n : List ℕ). n ++ codes ".class") (sym w.in_ok-name.ensures.items) in
           rw w.names-is (by_stem (IsTrue (has_name c.args.names.now name)) (IsTrue (has_name w.insert.new.self name)) (utf16_of c.args.path.now)
           w.in_ok-name.name.items name (codes ".class") stem after))

@@ -27,4 +27,5 @@ returns-else-is_offered_to c =
     λ to. iff_false c.is_offered_to.ensures c.if-is_offered_to.false (rw c.offers.ensures to) in
     none_offered c.args.w.now c.args.into.now c.requires c.args.from.now c.args.name.now c.in_ok-number.number c.in_ok-domain.domain.now
     c.in_ok-number.ensures at
-    (λ x means to. not_to (subst (λ (y : ClassId). IsOfferedTo c.in_ok-domain.domain.now.offers y c.args.into.now) (same_Some x c.in_ok-class.class (sym means ∙ sym found)) to))
+    (λ x means to. not_to (subst (λ (y : ClassId). IsOfferedTo c.in_ok-domain.domain.now.offers y c.args.into.now)
+    (same_Some x c.in_ok-class.class (sym means ∙ sym found)) to))
