@@ -1,5 +1,6 @@
 -- Lemmas on the lines of a `resolver.txt`, on the names of class files, and on what lines bring in.
 mod ClassesOfNames
+mod FirstWorld
 mod LinesBringIn
 mod LinesInTurn
 mod NamesInTheIndex
