@@ -1,0 +1,10 @@
+-- Lemmas on the lines of a `resolver.txt`, on the names of class files, and on what lines bring in.
+mod ClassesOfNames
+mod FirstWorld
+mod LinesBringIn
+mod LinesInTurn
+mod NamesInTheIndex
+mod NamesJudged
+mod ReachedByImport
+mod SystemNamesGiven
+mod WhatLinesSay
