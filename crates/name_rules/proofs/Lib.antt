@@ -1,0 +1,12 @@
+-- Lemmas on the names that class files say, on marks, and on graphs over places.
+mod ClassNamesDecided
+mod ClassesInDescriptors
+mod EdgesOfRows
+mod HeightsRise
+mod ItemsSoFar
+mod MarksInTurn
+mod NamesLacking
+mod PathsThroughPlaces
+mod PlacesInOrder
+mod PlacesLeft
+mod ShortTexts

@@ -1,0 +1,5 @@
+-- What contracts say of the names of classes in a folder.
+pub mod FolderNames
+pub mod Graphs
+pub mod KnownNames
+pub mod Marks
