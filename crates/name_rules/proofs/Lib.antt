@@ -1,7 +1,9 @@
 -- Lemmas on the names that class files say, on marks, and on graphs over places.
 mod ClassNamesDecided
 mod ClassesInDescriptors
+mod EdgesMarked
 mod EdgesOfRows
+mod FolderGraph
 mod HeightsRise
 mod ItemsSoFar
 mod MarksInTurn

@@ -1,4 +1,5 @@
 -- What contracts say of the names of classes in a folder.
+pub mod FolderEdges
 pub mod FolderNames
 pub mod Graphs
 pub mod KnownNames

@@ -5,7 +5,9 @@ ghost use Rattle.jk_model_classes.specs.References.{StandsOver};
 ghost use Rattle.jk_model_folders.specs.ClassOrder.{IsClassOrder};
 ghost use Rattle.name_rules.specs.FolderNames.{AreOwnNames, AreReadClasses, files_of};
 
+use crate::edges::edges;
 use crate::folder_class::FolderClass;
+use crate::heights::{by_height, heights};
 use domain_resolver::NameTable;
 use jk_model::OutOfMemory;
 use std::alloc::Global;
@@ -24,5 +26,7 @@ pub fn class_order(
     requires no_ring { (name : List ℕ) → StandsOver (files_of folder.now) name name → ⊥ }
     ensures { IfOk result (λ order. IsClassOrder (files_of folder.now) order.items) }
 {
-    unreachable!()
+    let rows = edges(alloc, folder, own)?;
+    let heights = heights(alloc, &rows)?;
+    by_height(alloc, &heights)
 }

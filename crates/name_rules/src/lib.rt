@@ -2,8 +2,9 @@
 //! list; and the order in which the classes of a folder are put behind those that are loaded.
 #![tactic(auto)]
 
-mod folder_order;
+mod edges;
 mod folder_class;
+mod folder_order;
 mod heights;
 mod hierarchies;
 mod known_names;
