@@ -1,4 +1,5 @@
 -- What contracts say of the names of classes in a folder.
+pub mod BadHierarchies
 pub mod FolderEdges
 pub mod FolderNames
 pub mod Graphs

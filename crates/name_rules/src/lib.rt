@@ -12,6 +12,7 @@ mod marks;
 mod mentions;
 mod names;
 mod rings;
+mod scope;
 
 pub use folder_order::class_order;
 pub use folder_class::FolderClass;
