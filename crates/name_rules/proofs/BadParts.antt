@@ -1,9 +1,9 @@
 -- What a class may not extend or list, by what the names mean.
-use Rattle.std.proofs.Common.{◌≡◌, ◌≢◌, ℕ, ◌+◌, ◌<◌, ◌≤◌, ◌⊎◌, ◌↔◌, inl, inr, Bool, true, false, not, IsTrue, List, [], ◌∷◌, length, get_or, Option, Some, None, slice_get, bytes_eq, refl, sym, ◌∙◌, ap, subst, arith}
+use Rattle.std.proofs.Common.{◌≡◌, ◌≢◌, ℕ, ◌+◌, ◌<◌, ◌≤◌, ◌↔◌, inl, inr, Bool, true, false, not, IsTrue, List, [], length, get_or, Option, Some, None, slice_get, bytes_eq, refl, sym, ◌∙◌, ap, subst, arith}
 use Rattle.std.specs.Prelude.{codes}
 use Rattle.std.specs.Global.{Vec}
 use Rattle.std.specs.Vec.{with_items}
-use Rattle.std.proofs.lemmas.Bool.{cases_lt, iff_false}
+use Rattle.std.proofs.lemmas.Bool.{cases_lt}
 use Rattle.std.proofs.lemmas.List.{with_items_is}
 use Rattle.std.proofs.lemmas.List.Quantifiers.{position-Some}
 use Rattle.std.proofs.lemmas.Option.{get_or_from_slice_get, same_Some, slice_get_within}
@@ -16,17 +16,17 @@ use Rattle.jk_model.specs.SystemTable.{SystemClass, interface_without_members, n
 use Rattle.jk_model_classes.specs.ClassFlags.{has, INTERFACE}
 use Rattle.jk_model_classes.specs.Items.{HasItem, Spot, Member, Entry}
 use Rattle.jk_model_classes.specs.Members.{ClassAt, TextAt}
-use Rattle.jk_model_classes.specs.References.{FlagsOfNamed, FolderScope, HasBadHierarchy, HasBadInterface, HasBadParent, IsCalledClass, IsClosedNamed, StandsOver}
+use Rattle.jk_model_classes.specs.References.{FlagsOfNamed, FolderScope, HasBadHierarchy, HasBadInterface, HasBadParent, IsCalledClass, IsClosedNamed}
 use Rattle.jk_model_classes.specs.Worlds.{NamedClass, class_named}
 use Rattle.class_texts.proofs.OneText.{one_class, one_text}
 use Rattle.system_table.proofs.LawsOfTheTable.{each, has_own_name, own_name}
 use Rattle.name_rules.specs.BadHierarchies.{AnswersFlags, HasOwnNames, IsBadAt, IsBadParent, IsNoInterface, IsUnfit, LoadedFlags, TextIsBad, folder_scope}
 use Rattle.name_rules.specs.FolderEdges.{AreEdges, IsListedName}
 use Rattle.name_rules.specs.FolderNames.{AreOwnNames, files_of}
-use Rattle.name_rules.specs.Graphs.{HasEdge, IsClosure, Path, Rows}
+use Rattle.name_rules.specs.Graphs.{HasEdge, IsClosure, Rows}
 use Rattle.name_rules.specs.declared.folder_class.FolderClass.{FolderClass}
 use Rattle.name_rules.specs.declared.scope.Scope.{Scope}
-use Rattle.name_rules.proofs.FolderGraph.{as_many_files, at_file, item_there, ring_stands, stands_path}
+use Rattle.name_rules.proofs.FolderGraph.{as_many_files, at_file, ring_stands, stands_path}
 
 -- ---- Closed classes of the system.
 
@@ -77,8 +77,7 @@ module _ (x : Scope) (owns : HasOwnNames x) (name : List ℕ) where
       let here : slice_get files i ≡ Some f.file = at_file x.folder.now i f at in
       let file = (owns name i).0 (sym means) in
       let same : file.0 ≡ f.file = same_Some file.0 f.file (sym file.1 ∙ here) in
-      let called : IsCalledClass f.file name = subst (λ (c : ClassFile). IsCalledClass c name) same file.2 in
-      (
+      let called : IsCalledClass f.file name = subst (λ (c : ClassFile). IsCalledClass c name) same file.2 in (
         λ e. inl (i, f.file, here, (called, sym (same_Some f.file.flags flags e))),
         λ known. elim known [
           | inl (j, d, at_d, (called_d, is)) ↦
@@ -104,11 +103,10 @@ module _ (x : Scope) (owns : HasOwnNames x) (name : List ℕ) where
   outer_flags answer means loaded flags =
       let none : HasItem (λ (c : ClassFile). IsCalledClass c name) (files_of x.folder.now) → ⊥ =
       λ (i, c, at, called).
-          let place : ClassId = record { 0 = i } in
-          let found : class_named x.own.now name ≡ Some place = (owns name i).1 (c, at, called) in
-          let never : None ≡ Some place = means ∙ found in
-          absurd cc in
-      (
+      let place : ClassId = record { 0 = i } in
+      let found : class_named x.own.now name ≡ Some place = (owns name i).1 (c, at, called) in
+      let never : None ≡ Some place = means ∙ found in
+      absurd cc in (
         λ e. inr (none, (loaded flags).0 e),
         λ known. elim known [
           | inl (i, c, at, (called, is)) ↦ absurd (none (i, c, at, called))
@@ -157,8 +155,7 @@ module _ (s : FolderScope) (c : ClassFile) (name : List ℕ) where
 pub parent_tells : (s : FolderScope) (c : ClassFile) (entries : List PoolEntry) (name : List ℕ) (b : Bool) → entries ≡ c.pool
     → ClassAt entries c.super_class name → IsTrue b ↔ IsBadParent s c name → IsTrue b ↔ HasBadParent s c
 parent_tells s c entries name b same at h =
-    let here : ClassAt c.pool c.super_class name = subst (λ (p : List PoolEntry). ClassAt p c.super_class name) same at in
-    (
+    let here : ClassAt c.pool c.super_class name = subst (λ (p : List PoolEntry). ClassAt p c.super_class name) same at in (
       λ t. (name, here, h.0 t),
       λ (other, parent, bad). h.1 (subst (λ (n : List ℕ). IsBadParent s c n) (one_class c.pool c.super_class other name parent here) bad),
     )
@@ -175,8 +172,7 @@ no_parent_tells s c entries same none = (
 pub text_bad_tells : (s : FolderScope) (c : ClassFile) (n : ℕ) (units name : List ℕ) (b : Bool) → units ≡ name → TextAt c.pool n name
     → IsTrue b ↔ IsNoInterface s units → IsTrue b ↔ TextIsBad s c n
 text_bad_tells s c n units name b same at h =
-    let here : TextAt c.pool n units = subst (λ (us : List ℕ). TextAt c.pool n us) (sym same) at in
-    (
+    let here : TextAt c.pool n units = subst (λ (us : List ℕ). TextAt c.pool n us) (sym same) at in (
       λ t. (units, here, h.0 t),
       λ (other, text, bad). h.1 (subst (λ (us : List ℕ). IsNoInterface s us) (one_text c.pool n other units text here) bad),
     )

@@ -1,7 +1,6 @@
 -- The classes in the descriptor of a field are that of its type, and those in the descriptor of a method the ones of its
 -- parameters and of what it returns.
-use Rattle.std.proofs.Common.{◌≡◌, ◌≢◌, ℕ, zero, suc, ◌<◌, ◌≤◌, ◌⊎◌, inl, inr, List, ◌∷◌, ◌++◌, replicate, Option, Some, sym, ◌∙◌, subst, arith}
-use Rattle.std.proofs.lemmas.Option.{same_Some}
+use Rattle.std.proofs.Common.{◌≡◌, ◌≢◌, ℕ, zero, suc, ◌<◌, ◌⊎◌, inl, inr, List, ◌∷◌, ◌++◌, replicate, sym, ◌∙◌, subst, arith}
 use Rattle.jk_model.specs.declared.descriptors.Base.{Base}
 use Rattle.jk_model.specs.declared.descriptors.Base.TheVariants.{Byte, Char, Double, Float, Int, Long, Short, Bool as Boolean, Class}
 use Rattle.jk_model.specs.declared.descriptors.FieldType.{FieldType}

@@ -1,19 +1,18 @@
 -- The marks of the files that a class file extends or lists, as they are set.
-use Rattle.std.proofs.Common.{◌≡◌, ℕ, ◌+◌, ◌<◌, ◌≤◌, ◌⊎◌, ◌↔◌, inl, inr, Bool, true, List, [], ◌∷◌, ◌++◌, length, Some, slice_get, refl, sym, ◌∙◌, ap, subst, arith}
+use Rattle.std.proofs.Common.{◌≡◌, ℕ, ◌+◌, ◌<◌, ◌≤◌, inl, inr, Bool, List, [], ◌∷◌, ◌++◌, length, Some, slice_get, refl, sym, ◌∙◌, subst, arith}
 use Rattle.std.specs.Global.{Vec}
 use Rattle.std.proofs.lemmas.Bool.{cases_lt}
 use Rattle.std.proofs.lemmas.Option.{same_Some, slice_get_within}
 use Rattle.jk_model.specs.declared.class_file.ClassFile.{ClassFile}
 use Rattle.jk_model.specs.declared.class_file.PoolEntry.{PoolEntry}
-use Rattle.jk_model.specs.declared.class_file.PoolEntry.TheVariants.{Class, Utf8}
-use Rattle.jk_model_classes.specs.Items.{HasItem}
+use Rattle.jk_model.specs.declared.class_file.PoolEntry.TheVariants.{Utf8}
 use Rattle.jk_model_classes.specs.Members.{ClassAt, TextAt}
 use Rattle.jk_model_classes.specs.Worlds.{NamedClass}
 use Rattle.class_table.proofs.ItemsByPlace.{slice_get-push_cases}
 use Rattle.class_texts.proofs.OneText.{one_class, one_text}
 use Rattle.name_rules.specs.FolderEdges.{AreEdges, ExtendsPlace, GoesTo, IsListedName, ListsPlace, MeansPlace, TextMeans}
 use Rattle.name_rules.specs.FolderNames.{files_of}
-use Rattle.name_rules.specs.Graphs.{HasEdge, Rows}
+use Rattle.name_rules.specs.Graphs.{Rows}
 use Rattle.name_rules.specs.Marks.{Marks, MarksOf}
 use Rattle.name_rules.specs.declared.folder_class.FolderClass.{FolderClass}
 use Rattle.name_rules.proofs.FolderGraph.{as_many_files, file_at, item_there}
@@ -79,8 +78,8 @@ module _ (c : ClassFile) (own : List NamedClass) (n : ℕ) where
       marks_as (ListedBefore c own n) (ListsPlace c own) a b
       (λ j (k, below, (i, x, at, is), (name, text, means)). (name, (i, x, at, (k, is, text)), means))
       (λ j (name, (i, x, at, (k, is, text)), means).
-          let within = slice_get_within c.pool k (Utf8 text.0) text.1 in
-          (k, omega arith, (i, x, at, is), (name, text, means))) h
+      let within = slice_get_within c.pool k (Utf8 text.0) text.1 in
+      (k, omega arith, (i, x, at, is), (name, text, means))) h
 
 -- ---- All rows.
 
@@ -112,8 +111,7 @@ are_edges folder own rows long each = record {
       (each i f row at_f at).as_many ∙ sym long;
   at = λ i j c at below.
       let few : j < length folder = omega (arith, as_many_files folder) in
-      let (f, at_f, same) = file_at folder i c at in
-      (
+      let (f, at_f, same) = file_at folder i c at in (
         λ (row, at_row, marked).
             subst (λ (d : ClassFile). GoesTo d own j) same (((each i f row at_f at_row).at j few).0 marked),
         λ goes.

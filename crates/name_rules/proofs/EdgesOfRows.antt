@@ -1,10 +1,10 @@
 -- The edges of rows of marks, before and after marks are set.
-use Rattle.std.proofs.Common.{◌≡◌, ◌≢◌, ℕ, ◌+◌, ◌<◌, ◌≤◌, ◌⊎◌, ◌↔◌, inl, inr, Bool, true, false, List, length, set, get_or, Some, refl, sym, ◌∙◌, ap, subst, arith, length-set}
+use Rattle.std.proofs.Common.{◌≡◌, ℕ, ◌+◌, ◌<◌, ◌≤◌, ◌⊎◌, ◌↔◌, inl, inr, Bool, true, length, set, Some, refl, sym, ◌∙◌, ap, subst, arith, length-set}
 use Rattle.std.specs.Prelude.{IsTrue, slice_get}
 use Rattle.std.specs.Global.{Vec}
 use Rattle.std.specs.Vec.{with_item}
 use Rattle.std.proofs.lemmas.Bool.{cases_eq, cases_lt}
-use Rattle.std.proofs.lemmas.Option.{same_Some, slice_get_read, slice_get_within, slice_get-get_or}
+use Rattle.std.proofs.lemmas.Option.{same_Some, slice_get_within}
 use Rattle.name_rules.specs.Graphs.{GoThrough, GoesAlso, HasEdge, HasOneMore, IsSquare, Rows}
 use Rattle.class_table.proofs.ItemsByPlace.{slice_get-set_cases, slice_get-set_other, slice_get-set_same}
 
@@ -53,8 +53,11 @@ module _ (rows : Rows) (i j : ℕ) (row : Vec Bool) (square : IsSquare rows) (at
   ]
 
   marked_edge : HasEdge new_rows i j
-  marked_edge = (with_item row j true, slice_get-set_same rows i (with_item row j true) i_below,
-    slice_get-set_same row.items j true (omega (arith, square i row at_row)))
+  marked_edge = (
+    with_item row j true,
+    slice_get-set_same rows i (with_item row j true) i_below,
+    slice_get-set_same row.items j true (omega (arith, square i row at_row)),
+  )
 
   mark_kept : (b : ℕ) → slice_get row.items b ≡ Some true → slice_get (set row.items j true) b ≡ Some true
   mark_kept b marked = elim (cases_eq j b) [
@@ -67,9 +70,11 @@ module _ (rows : Rows) (i j : ℕ) (row : Vec Bool) (square : IsSquare rows) (at
     | inr ne ↦ (r, slice_get-set_other rows i a (with_item row j true) ne ∙ at, marked)
     | inl e ↦
         let same : r ≡ row = same_Some r row (sym at ∙ subst (λ (n : ℕ). slice_get rows n ≡ Some row) e at_row) in
-        let here : slice_get row.items b ≡ Some true = subst (λ (v : Vec Bool). slice_get v.items b ≡ Some true) same marked in
-        (with_item row j true, subst (λ (n : ℕ). slice_get new_rows n ≡ Some (with_item row j true)) e (slice_get-set_same rows i (with_item row j true) i_below),
-        mark_kept b here)
+        let here : slice_get row.items b ≡ Some true = subst (λ (v : Vec Bool). slice_get v.items b ≡ Some true) same marked in (
+          with_item row j true,
+          subst (λ (n : ℕ). slice_get new_rows n ≡ Some (with_item row j true)) e (slice_get-set_same rows i (with_item row j true) i_below),
+          mark_kept b here,
+        )
   ]
 
   pub one_more : HasOneMore i j rows new_rows

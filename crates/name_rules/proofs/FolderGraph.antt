@@ -1,29 +1,23 @@
 -- The graph of a folder's class files says what stands over what, and how high each class stands.
-use Rattle.std.proofs.Common.{◌≡◌, ℕ, zero, suc, ◌+◌, ◌<◌, ◌≤◌, ◌⊎◌, ◌↔◌, inl, inr, List, [], ◌∷◌, ◌++◌, length, map, Option, Some, None, slice_get, refl, sym, ◌∙◌, ap, subst, arith}
-use Rattle.std.specs.Global.{Vec}
-use Rattle.std.specs.List.{AllByRecursion}
-use Rattle.std.proofs.Math.ListN.{get_or}
-use Rattle.std.proofs.lemmas.Option.{same_Some, slice_get_within, slice_get-get_or, slice_get_past}
+use Rattle.std.proofs.Common.{◌≡◌, ℕ, zero, suc, ◌<◌, inl, inr, List, [], ◌∷◌, length, Option, Some, None, slice_get, refl, sym, ◌∙◌, ap, subst, arith}
+use Rattle.std.proofs.lemmas.Option.{same_Some, slice_get_within}
 use Rattle.jk_model.specs.declared.class_file.ClassFile.{ClassFile}
 use Rattle.jk_model.specs.declared.class_file.PoolEntry.{PoolEntry}
 use Rattle.jk_model.specs.declared.class_file.PoolEntry.TheVariants.{Class}
 use Rattle.jk_model.specs.declared.identifiers.ClassId.{ClassId}
 use Rattle.jk_model.specs.declared.output.Rule.TheVariants.{C7}
-use Rattle.jk_model.specs.ClassFile.{IsClassEntry}
 use Rattle.jk_model.proofs.EachItem.{all_at}
 use Rattle.jk_model_classes.specs.ClassNames.{NamesClass}
-use Rattle.jk_model_classes.specs.Items.{HasItem, Member}
-use Rattle.jk_model_classes.specs.Members.{ClassAt, TextAt}
-use Rattle.jk_model_classes.specs.References.{HasParentNamed, IsCalledClass, ListsNamed, StandsOver, StepsUp, higher, next}
+use Rattle.jk_model_classes.specs.Items.{Member}
+use Rattle.jk_model_classes.specs.Members.{ClassAt}
+use Rattle.jk_model_classes.specs.References.{IsCalledClass, StandsOver, StepsUp, higher, next}
 use Rattle.jk_model_classes.specs.Worlds.{NamedClass, class_named}
-use Rattle.jk_model_folders.specs.ClassOrder.{ClimbsTo, ComesBefore, HasHeight, IsClassOrder, IsOfFiles}
-use Rattle.class_table.proofs.ItemsByPlace.{slice_get-front, slice_get-push_cases}
+use Rattle.jk_model_folders.specs.ClassOrder.{ClimbsTo, HasHeight, IsClassOrder, IsOfFiles}
 use Rattle.class_texts.proofs.OneText.{one_class}
 use Rattle.class_texts.specs.PoolTexts.{AreTextsOf}
-use Rattle.name_rules.specs.FolderEdges.{AreEdges, ExtendsPlace, GoesTo, ListsPlace, MeansPlace}
+use Rattle.name_rules.specs.FolderEdges.{AreEdges, MeansPlace}
 use Rattle.name_rules.specs.FolderNames.{AreOwnNames, AreReadClasses, IsReadClass, files_of}
-use Rattle.name_rules.specs.Graphs.{AreHeights, Climb, HasEdge, HasNoRing, IsEarlier, IsHeight, IsOrderOf, IsSquare, Path, Rows, edge, further}
-use Rattle.name_rules.specs.Marks.{MarksOf}
+use Rattle.name_rules.specs.Graphs.{AreHeights, Climb, HasEdge, HasNoRing, IsHeight, IsOrderOf, Path, Rows, edge, further}
 use Rattle.name_rules.specs.declared.folder_class.FolderClass.{FolderClass}
 use Rattle.name_rules.proofs.EdgesOfRows.{edge_within}
 
@@ -226,7 +220,21 @@ module _ (files : List ClassFile) (own : List NamedClass) (rows : Rows) (owns : 
           let a = names i c at_c in
           let b = names j d at_d in
           let (m, at_m) = item_there heights i below_i in
-          let (n, at_n) = item_there heights j below_j in
-          (c, d, at_c, at_d, (a.0, b.0, m, n, a.1, b.1, height_of_class m i c a.0 at_c a.1 (high.each i m at_m).0,
-          height_of_class n j d b.0 at_d b.1 (high.each j n at_n).0, h.rising k l i j m n below at_k at_l at_m at_n));
+          let (n, at_n) = item_there heights j below_j in (
+            c,
+            d,
+            at_c,
+            at_d,
+            (
+              a.0,
+              b.0,
+              m,
+              n,
+              a.1,
+              b.1,
+              height_of_class m i c a.0 at_c a.1 (high.each i m at_m).0,
+              height_of_class n j d b.0 at_d b.1 (high.each j n at_n).0,
+              h.rising k l i j m n below at_k at_l at_m at_n,
+            ),
+          );
     }

@@ -1,5 +1,5 @@
 -- How heights rise, round by round, to what they are.
-use Rattle.std.proofs.Common.{◌≡◌, ◌≢◌, ℕ, zero, suc, ◌+◌, ◌<◌, ◌≤◌, ◌⊎◌, inl, inr, Bool, true, false, List, [], ◌∷◌, length, replicate, set, Some, slice_get, refl, sym, ◌∙◌, ap, subst, arith, length-set}
+use Rattle.std.proofs.Common.{◌≡◌, ℕ, zero, suc, ◌+◌, ◌<◌, ◌≤◌, inl, inr, Bool, true, false, List, length, replicate, set, Some, slice_get, refl, sym, ◌∙◌, ap, subst, arith, length-set}
 use Rattle.std.proofs.Math.ListN.{get_or}
 use Rattle.std.proofs.lemmas.Bool.{cases_lt}
 use Rattle.std.proofs.lemmas.Option.{same_Some, slice_get_within, slice_get-get_or}
@@ -44,8 +44,8 @@ module _ (rows : Rows) (height place : ℕ) (raised : Bool) (heights : List ℕ)
       subst (λ (k : ℕ). Climb (HasEdge rows) k place rest.0) one_more climb in
       let now : (bound a m : ℕ) → bound ≤ height + 1 → (place ≡ a) × (height + 1 ≡ m) → IsHeightBelow (HasEdge rows) bound a m =
       λ bound a m le (same, value).
-          subst (λ (k : ℕ). IsHeightBelow (HasEdge rows) bound k m) same
-          (subst (λ (k : ℕ). IsHeightBelow (HasEdge rows) bound place k) value ((rest.0, here), λ below. absurd (omega arith))) in
+      subst (λ (k : ℕ). IsHeightBelow (HasEdge rows) bound k m) same
+      (subst (λ (k : ℕ). IsHeightBelow (HasEdge rows) bound place k) value ((rest.0, here), λ below. absurd (omega arith))) in
       record {
         as_many = length-set heights place (height + 1) ∙ h.as_many;
         each = λ a m found. elim (slice_get-set_cases heights place a (height + 1) m found) [
@@ -80,19 +80,22 @@ module _ (rows : Rows) (height place : ℕ) (raised : Bool) (heights : List ℕ)
 
   is_height_here : ((j n : ℕ) → HasEdge rows place j → slice_get heights j ≡ Some n → n < height) → (n : ℕ) → slice_get heights place ≡ Some n
       → IsHeight (HasEdge rows) place n
-  is_height_here low n at = ((h.each place n at).0, elim (cases_lt n height) [
-    | inl less ↦ (h.each place n at).1 less
-    | inr least ↦ λ b climb. none_longer (HasEdge rows) (suc height) (suc n) place b (omega arith) (top_here low) climb
-  ])
+  is_height_here low n at = (
+    (h.each place n at).0,
+    elim (cases_lt n height) [
+      | inl less ↦ (h.each place n at).1 less
+      | inr least ↦ λ b climb. none_longer (HasEdge rows) (suc height) (suc n) place b (omega arith) (top_here low) climb
+    ],
+  )
 
   pub stays_here : ((j n : ℕ) → HasEdge rows place j → slice_get heights j ≡ Some n → n < height)
       → RaisedBefore rows height (place + 1) raised heights
   stays_here low =
       let own : (a n : ℕ) → place ≤ a → a < place + 1 → slice_get heights a ≡ Some n → IsHeight (HasEdge rows) a n =
       λ a n least below found.
-          let same : place ≡ a = omega arith in
-          subst (λ (k : ℕ). IsHeight (HasEdge rows) k n) same
-          (is_height_here low n (subst (λ (k : ℕ). slice_get heights k ≡ Some n) (sym same) found)) in
+      let same : place ≡ a = omega arith in
+      subst (λ (k : ℕ). IsHeight (HasEdge rows) k n) same
+      (is_height_here low n (subst (λ (k : ℕ). slice_get heights k ≡ Some n) (sym same) found)) in
       record {
         as_many = h.as_many;
         each = h.each;
@@ -153,7 +156,7 @@ pub heights_end : (rows : Rows) (bound : ℕ) (heights : List ℕ) → IsSquare 
 heights_end rows bound heights square no_ring all h =
     are_heights rows heights square no_ring h.as_many
     (λ a n found.
-        let within = slice_get_within heights a n found in
-        let here = h.each a n found in
-        let short = climb_is_short rows n a here.0.0 square no_ring (omega (arith, h.as_many)) here.0.1 in
-        (here.0, here.1 (omega arith)))
+    let within = slice_get_within heights a n found in
+    let here = h.each a n found in
+    let short = climb_is_short rows n a here.0.0 square no_ring (omega (arith, h.as_many)) here.0.1 in
+    (here.0, here.1 (omega arith)))

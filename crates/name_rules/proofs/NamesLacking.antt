@@ -12,11 +12,11 @@ use Rattle.jk_model.specs.declared.descriptors.MethodType.{MethodType}
 use Rattle.jk_model.specs.declared.identifiers.ClassId.{ClassId}
 use Rattle.jk_model.specs.declared.output.Rule.TheVariants.{C7}
 use Rattle.jk_model.specs.Descriptors.{IsClassName, IsFieldText, IsMethodText}
-use Rattle.jk_model_classes.specs.ClassNames.{BeginsArray, IsArrayDescriptor, IsClassEntryName}
+use Rattle.jk_model_classes.specs.ClassNames.{BeginsArray, IsClassEntryName}
 use Rattle.jk_model_classes.specs.Items.{Spot, Member, Entry, HasItem, HasItemBefore}
-use Rattle.jk_model_classes.specs.Members.{ClassAt, TextAt}
+use Rattle.jk_model_classes.specs.Members.{TextAt}
 use Rattle.jk_model_classes.specs.OneClassRules.{HasNoFault}
-use Rattle.jk_model_classes.specs.References.{ClassEntryAt, FolderScope, IsDescriptorEntry, IsKnownName, IsOfClass, IsResultOfClass, Mentions, MissesClass, RefersAt}
+use Rattle.jk_model_classes.specs.References.{FolderScope, IsDescriptorEntry, IsKnownName, IsOfClass, IsResultOfClass, Mentions, MissesClass, RefersAt}
 use Rattle.jk_model_classes.specs.Worlds.{NamedClass, class_named}
 use Rattle.class_table.proofs.ItemsByPlace.{slice_get-front, slice_get-last}
 use Rattle.class_texts.proofs.OneText.{one_text}
@@ -26,7 +26,7 @@ use Rattle.name_rules.specs.Marks.{IsMarked}
 use Rattle.name_rules.specs.declared.names.Names.{Names}
 use Rattle.name_rules.proofs.ClassNamesDecided.{array_begins, class_or_not}
 use Rattle.name_rules.proofs.ClassesInDescriptors.{field_mentions, is_array, method_mentions}
-use Rattle.name_rules.proofs.ItemsSoFar.{before_split, some_before}
+use Rattle.name_rules.proofs.ItemsSoFar.{before_split}
 
 abbrev pub Tells : Names → (List ℕ → Type 0) → Bool → Type 0
 Tells x Says r = IsTrue r ↔ LacksOne x Says

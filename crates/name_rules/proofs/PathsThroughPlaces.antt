@@ -1,6 +1,6 @@
 -- The paths of a graph, by the places that they go through: once an edge stands for each path through the places below a
 -- bound, those through one place more need but one place to go through.
-use Rattle.std.proofs.Common.{◌≡◌, ℕ, suc, ◌+◌, ◌<◌, ◌≤◌, ◌⊎◌, inl, inr, length, refl, sym, ◌∙◌, subst, arith}
+use Rattle.std.proofs.Common.{◌≡◌, ℕ, ◌+◌, ◌<◌, ◌≤◌, ◌⊎◌, inl, inr, length, refl, ◌∙◌, subst, arith}
 use Rattle.std.proofs.lemmas.Bool.{cases_lt}
 use Rattle.name_rules.specs.Graphs.{GoThrough, HasEdge, IsClosure, IsSquare, Path, Rows, edge, further}
 use Rattle.name_rules.proofs.EdgesOfRows.{edge_within}

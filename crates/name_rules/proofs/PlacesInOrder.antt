@@ -1,5 +1,5 @@
 -- The places are put in order one by one: those of a lower height first.
-use Rattle.std.proofs.Common.{◌≡◌, ◌≢◌, ℕ, ◌+◌, ◌<◌, ◌≤◌, ◌⊎◌, inl, inr, List, [], ◌∷◌, ◌++◌, length, Some, slice_get, refl, sym, ◌∙◌, subst, arith}
+use Rattle.std.proofs.Common.{◌≡◌, ◌≢◌, ℕ, ◌+◌, ◌<◌, ◌≤◌, inl, inr, List, [], ◌∷◌, ◌++◌, length, Some, slice_get, sym, ◌∙◌, subst, arith}
 use Rattle.std.proofs.Math.ListN.{get_or}
 use Rattle.std.proofs.lemmas.Bool.{cases_lt}
 use Rattle.std.proofs.lemmas.Option.{same_Some, slice_get_within, slice_get-get_or}
@@ -103,14 +103,14 @@ order_of heights height order all low h =
     let places : (k i : ℕ) → slice_get order k ≡ Some i → i < length heights =
     λ k i at. let old = h.only k i at in slice_get_within heights i old.0 old.1 in
     let few = differing_below order (length heights) (λ k l b below at also.
-        let old = h.only k b at in
-        not_itself old.0 b (h.rising k l b b old.0 old.0 below at also old.1 old.1)) places in
+    let old = h.only k b at in
+    not_itself old.0 b (h.rising k l b b old.0 old.0 below at also old.1 old.1)) places in
     let many = all_are_many (length heights) order (λ b below.
-        let n = get_or heights b 0 in
-        let at : slice_get heights b ≡ Some n = slice_get-get_or heights b 0 below in
-        let lower = low b n at in
-        let found = h.all b n at (inl (omega arith)) in
-        in_from order found.0 b found.1) in
+    let n = get_or heights b 0 in
+    let at : slice_get heights b ≡ Some n = slice_get-get_or heights b 0 below in
+    let lower = low b n at in
+    let found = h.all b n at (inl (omega arith)) in
+    in_from order found.0 b found.1) in
     record {
       as_many = omega (arith, few, many);
       places = places;

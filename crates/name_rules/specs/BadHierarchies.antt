@@ -1,5 +1,5 @@
 -- The parts of C19 that are judged of one class file.
-use Rattle.std.specs.Prelude.{◌≡◌, ◌≢◌, ℕ, ◌⊎◌, ◌↔◌, List, Option, Some, IsTrue, not, codes, slice_get}
+use Rattle.std.specs.Prelude.{◌≡◌, ◌≢◌, ℕ, ◌⊎◌, ◌↔◌, List, Option, Some, IsTrue, not, codes}
 use Rattle.jk_model.specs.declared.class_file.ClassFile.{ClassFile}
 use Rattle.jk_model.specs.declared.identifiers.ClassId.{ClassId}
 use Rattle.jk_model_classes.specs.declared.records.ClassRecord.{ClassRecord}

@@ -1,8 +1,7 @@
 -- The class files of a folder with their texts, and the names of their classes.
-use Rattle.std.specs.Prelude.{◌≡◌, ℕ, ◌↔◌, List, length, map, Option, Some, slice_get}
+use Rattle.std.specs.Prelude.{◌≡◌, ℕ, ◌↔◌, List, map, Some, slice_get}
 use Rattle.std.specs.List.{AllByRecursion}
 use Rattle.jk_model.specs.declared.class_file.ClassFile.{ClassFile}
-use Rattle.jk_model.specs.declared.identifiers.ClassId.{ClassId}
 use Rattle.jk_model.specs.ReadFaults.{IsWritable}
 use Rattle.jk_model_classes.specs.OneClassRules.{HasNoFault}
 use Rattle.jk_model_classes.specs.References.{IsCalledClass}

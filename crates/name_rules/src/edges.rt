@@ -3,7 +3,6 @@
 ghost use Rattle.std.specs.Prelude.{◌≡◌, ℕ, IfOk, MatchOption, Some, length, slice_get};
 ghost use Rattle.jk_model.specs.declared.class_file.PoolEntry.TheVariants.{Class};
 ghost use Rattle.jk_model_classes.specs.Items.{HasItem};
-
 ghost use Rattle.name_rules.specs.FolderEdges.{AreEdges, ExtendsPlace, GoesTo, IsListedName, ListsPlace, MeansPlace, TextMeans};
 ghost use Rattle.name_rules.specs.FolderNames.{AreReadClasses, IsReadClass, files_of};
 ghost use Rattle.name_rules.specs.Marks.{Marks, MarksOf};

@@ -58,11 +58,7 @@ pub(crate) fn heights(alloc: Global, rows: &[Vec<bool>]) -> Result<Vec<usize>, O
 }
 
 /// Adds the places of this height.
-fn add_height(
-    order: &mut Vec<usize>,
-    heights: &[usize],
-    height: usize,
-) -> Result<(), OutOfMemory>
+fn add_height(order: &mut Vec<usize>, heights: &[usize], height: usize) -> Result<(), OutOfMemory>
     requires { AreInOrder heights.now height 0 order.old.items }
     ensures { OnOk result (AreInOrder heights.now (height + 1) 0 order.new.items) }
 {

@@ -14,7 +14,7 @@ mod names;
 mod rings;
 mod scope;
 
-pub use folder_order::class_order;
 pub use folder_class::FolderClass;
+pub use folder_order::class_order;
 pub use hierarchies::first_bad_hierarchy;
 pub use known_names::first_missing_class;

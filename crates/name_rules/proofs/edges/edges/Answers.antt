@@ -1,11 +1,9 @@
 -- One row more.
-use Rattle.std.proofs.Common.{◌≡◌, ◌+◌, ◌<◌, ◌≤◌, ◌∙◌, ◌∷◌, [], ◌++◌, ℕ, List, length, refl, ap, arith, Some, slice_get, subst, sym, Bool, length-append}
+use Rattle.std.proofs.Common.{◌≡◌, ◌+◌, ◌∙◌, ◌∷◌, [], ◌++◌, ℕ, List, length, refl, ap, arith, Some, slice_get, subst, Bool, length-append}
 use Rattle.std.specs.Global.{Vec}
 use Rattle.std.proofs.lemmas.Option.{slice_get_read}
 use Rattle.jk_model.proofs.EachItem.{all_at}
 use Rattle.name_rules.specs.FolderNames.{IsReadClass}
-use Rattle.name_rules.specs.FolderEdges.{GoesTo}
-use Rattle.name_rules.specs.Marks.{MarksOf}
 use Rattle.name_rules.proofs.EdgesMarked.{are_edges, rows_more}
 use Rattle.name_rules.proofs.edges.edges.Goals as goal
 

@@ -10,5 +10,5 @@ abbrev pub invariant-loop-f : goal.invariant-loop-f
 invariant-loop-f l = record {
   as_many : length l.rows.items ≡ l.f-index;
   each : (i : ℕ) (f : FolderClass) (row : Vec Bool) → slice_get l.folder i ≡ Some f → slice_get l.rows.items i ≡ Some row
-      → MarksOf (length l.folder) (GoesTo f.file l.own) row.items
+      → MarksOf (length l.folder) (GoesTo f.file l.own) row.items;
 }

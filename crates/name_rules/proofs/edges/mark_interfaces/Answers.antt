@@ -1,5 +1,5 @@
 -- One text more is looked at.
-use Rattle.std.proofs.Common.{◌≡◌, ◌+◌, ◌<◌, ◌≤◌, ◌∙◌, ℕ, List, Bool, true, false, length, refl, ap, arith, Some, slice_get, subst, sym, get_or}
+use Rattle.std.proofs.Common.{◌+◌, ◌<◌, ◌∙◌, List, Bool, false, length, refl, ap, arith, Some, subst, sym}
 use Rattle.std.proofs.lemmas.Option.{slice_get-get_or}
 use Rattle.name_rules.specs.Marks.{IsMarked, Marks}
 use Rattle.name_rules.proofs.EdgesMarked.{ListedBefore, listed_all, listed_more, listed_skipped}

@@ -1,7 +1,6 @@
 -- One name more is marked.
-use Rattle.std.proofs.Common.{◌≡◌, ◌+◌, ◌≤◌, ℕ, List, Bool, length, get_or, arith, Some, slice_get, subst, sym, ◌∙◌, ap}
-use Rattle.std.proofs.lemmas.Option.{slice_get-get_or, same_Some}
-use Rattle.jk_model.specs.declared.class_file.PoolEntry.{PoolEntry}
+use Rattle.std.proofs.Common.{◌≡◌, ◌+◌, ℕ, List, Bool, get_or, arith, Some, slice_get, subst, sym, ◌∙◌, ap}
+use Rattle.std.proofs.lemmas.Option.{slice_get-get_or}
 use Rattle.jk_model.specs.declared.class_file.PoolEntry.TheVariants.{Class}
 use Rattle.jk_model_classes.specs.Items.{HasItemBefore}
 use Rattle.name_rules.specs.Marks.{Marks}
@@ -26,9 +25,9 @@ loop-i-preserved c =
           (marks_more P indices (λ (j : ℕ). j ≡ w.from.result) k item c.args.marks.now c.loop-i.marks w.set_mark.new.marks at
           (λ n e. is ∙ ap (λ (m : ℕ). Some (Class m)) (sym index ∙ sym e))
           (λ n h.
-              let both : Some (Class w.in-Some.name) ≡ Some (Class n) = sym is ∙ h in
-              let same : w.in-Some.name ≡ n = cc in
-              sym same ∙ sym index)
+          let both : Some (Class w.in-Some.name) ≡ Some (Class n) = sym is ∙ h in
+          let same : w.in-Some.name ≡ n = cc in
+          sym same ∙ sym index)
           c.loop-i.invariant w.set_mark.ensures)
       | in_default w ↦
           subst Fine (sym w.marks-is) (marks_skipped P indices k item c.args.marks.now c.loop-i.marks at w.in_default.ensures c.loop-i.invariant)

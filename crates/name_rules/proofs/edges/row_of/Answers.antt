@@ -1,5 +1,5 @@
 -- The marks of the parent and of the interfaces together.
-use Rattle.std.proofs.Common.{◌≡◌, ◌⊎◌, ◌∙◌, inl, inr, ℕ, List, Bool, false, length, replicate, sym, ap, subst}
+use Rattle.std.proofs.Common.{◌≡◌, ◌∙◌, inl, inr, List, Bool, false, replicate, sym, subst}
 use Rattle.std.specs.Vec.{with_items}
 use Rattle.name_rules.specs.FolderEdges.{ExtendsPlace, GoesTo, ListsPlace}
 use Rattle.name_rules.specs.Marks.{Marks, MarksOf}

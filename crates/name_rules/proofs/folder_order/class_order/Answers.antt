@@ -1,5 +1,5 @@
 -- The order of the graph's places is that of the classes.
-use Rattle.std.proofs.Common.{◌≡◌, ◌<◌, ◌∙◌, ℕ, List, length, Some, slice_get, subst, sym, ap, arith}
+use Rattle.std.proofs.Common.{◌≡◌, ◌<◌, ℕ, List, length, Some, slice_get, subst, sym, arith}
 use Rattle.std.specs.Global.{Vec}
 use Rattle.jk_model_folders.specs.ClassOrder.{IsClassOrder}
 use Rattle.name_rules.specs.FolderNames.{files_of}

@@ -1,6 +1,6 @@
 -- All heights are gone through.
-use Rattle.std.proofs.Common.{◌≤◌, length, arith}
-use Rattle.name_rules.proofs.PlacesInOrder.{none_in_order, order_of}
+use Rattle.std.proofs.Common.{arith}
+use Rattle.name_rules.proofs.PlacesInOrder.{order_of}
 use Rattle.name_rules.proofs.heights.by_height.Goals as goal
 
 pub returns : goal.returns

@@ -1,5 +1,5 @@
 -- One place more to which it goes is lower, or it doesn't go there.
-use Rattle.std.proofs.Common.{◌≡◌, ℕ, ◌+◌, ◌<◌, ◌≤◌, inl, inr, Some, slice_get, get_or, subst, arith, length}
+use Rattle.std.proofs.Common.{◌≡◌, ℕ, inl, inr, Some, slice_get, get_or, subst, arith}
 use Rattle.std.proofs.lemmas.Bool.{cases_lt, iff_false}
 use Rattle.std.proofs.lemmas.Option.{get_or_from_slice_get, slice_get_within}
 use Rattle.name_rules.specs.Graphs.{HasEdge}

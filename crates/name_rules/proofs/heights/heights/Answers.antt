@@ -1,5 +1,5 @@
 -- After all rounds, or one that raises nothing, the heights are right.
-use Rattle.std.proofs.Common.{◌≡◌, ◌≤◌, ℕ, List, length, replicate, refl, sym, subst, arith}
+use Rattle.std.proofs.Common.{◌≡◌, ℕ, List, length, sym, subst, arith}
 use Rattle.std.specs.Global.{Vec}
 use Rattle.std.proofs.lemmas.List.{with_items_is}
 use Rattle.name_rules.specs.Graphs.{AreHeights, AreHeightsBelow}

@@ -1,5 +1,5 @@
 -- One place more is raised or stays.
-use Rattle.std.proofs.Common.{◌≡◌, ◌+◌, ◌≤◌, ℕ, List, Bool, true, false, length, set, sym, subst, arith}
+use Rattle.std.proofs.Common.{◌+◌, ℕ, List, Bool, set, sym, subst, arith}
 use Rattle.name_rules.proofs.HeightsRise.{RaisedBefore, none_raised, raised_all, raised_here, raised_none, stays_here}
 use Rattle.name_rules.proofs.heights.raise.Goals as goal
 use Rattle.name_rules.proofs.heights.raise.Goals.{then-goes_high, else-goes_high}

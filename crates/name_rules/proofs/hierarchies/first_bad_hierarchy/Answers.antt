@@ -1,19 +1,15 @@
 -- The first file that is bad.
-use Rattle.std.proofs.Common.{◌≡◌, ◌+◌, ◌<◌, ◌≤◌, ◌∙◌, ℕ, List, Bool, length, refl, arith, Some, slice_get, sym, subst, ap, inl, inr}
-use Rattle.std.specs.Global.{Vec}
+use Rattle.std.proofs.Common.{◌≡◌, ◌<◌, ◌∙◌, ℕ, length, refl, arith, Some, slice_get, sym, subst, inl, inr}
 use Rattle.std.specs.Vec.{with_items}
 use Rattle.std.proofs.lemmas.Bool.{cases_lt, iff_false}
-use Rattle.std.proofs.lemmas.List.{with_items_is}
 use Rattle.std.proofs.lemmas.Option.{same_Some, slice_get_read, slice_get_within}
 use Rattle.jk_model.specs.declared.class_file.ClassFile.{ClassFile}
-use Rattle.jk_model_classes.specs.References.{FolderScope}
 use Rattle.name_rules.specs.BadHierarchies.{IsBadAt, folder_scope}
-use Rattle.name_rules.specs.FolderNames.{files_of}
-use Rattle.name_rules.specs.Graphs.{IsClosure, Rows}
+use Rattle.name_rules.specs.Graphs.{Rows}
 use Rattle.name_rules.specs.declared.folder_class.FolderClass.{FolderClass}
 use Rattle.name_rules.specs.declared.scope.Scope.{Scope}
 use Rattle.name_rules.proofs.BadParts.{bad_hierarchy, closed_rows, good_hierarchy}
-use Rattle.name_rules.proofs.FolderGraph.{as_many_files, at_file, file_at, names_of}
+use Rattle.name_rules.proofs.FolderGraph.{at_file, file_at, names_of}
 use Rattle.name_rules.proofs.hierarchies.first_bad_hierarchy.Goals as goal
 
 pub returns-then-branch-clause-bad : goal.returns-then-branch-clause-bad

@@ -1,5 +1,5 @@
 -- The three ways in which a class may not be a parent.
-use Rattle.std.proofs.Common.{◌≡◌, ◌↔◌, ◌∙◌, ℕ, List, Bool, true, false, IsTrue, not, subst, sym, refl}
+use Rattle.std.proofs.Common.{◌≡◌, ◌∙◌, ℕ, List, true, false, not, subst, sym}
 use Rattle.std.specs.Prelude.{codes}
 use Rattle.std.proofs.lemmas.Bool.{iff_false}
 use Rattle.jk_model_classes.specs.References.{IsClosedNamed}
@@ -24,9 +24,10 @@ returns-then-has_flag c =
     let name = c.args.name.now in
     last_parent s c.args.c.now name (not c.is.result)
     (λ closed. iff_false c.is_closed.ensures c.if-is_closed.false (subst (λ (n : List ℕ). IsClosedNamed n) (sym c.as_slice.ensures) closed))
-    (λ unfit. iff_false c.is_unfit.ensures c.if-is_unfit.false (subst (λ (n : List ℕ). IsUnfit s n) (sym c.as_slice-2.ensures) unfit))
-    (λ t. (sym c.has_flag.ensures ∙ c.if-has_flag.true, (denied (name ≡ codes "java/lang/Object") c.is.result c.is.ensures).0 t),
-      λ (low, other). (denied (name ≡ codes "java/lang/Object") c.is.result c.is.ensures).1 other)
+    (λ unfit. iff_false c.is_unfit.ensures c.if-is_unfit.false (subst (λ (n : List ℕ). IsUnfit s n) (sym c.as_slice-2.ensures) unfit)) (
+      λ t. (sym c.has_flag.ensures ∙ c.if-has_flag.true, (denied (name ≡ codes "java/lang/Object") c.is.result c.is.ensures).0 t),
+      λ (low, other). (denied (name ≡ codes "java/lang/Object") c.is.result c.is.ensures).1 other,
+    )
 
 pub returns-else-has_flag : goal.returns-else-has_flag
 returns-else-has_flag c =

@@ -1,5 +1,5 @@
 -- The first entry that refers to a class that isn't known.
-use Rattle.std.proofs.Common.{◌≡◌, ◌+◌, ◌≤◌, inl, inr, ℕ, List, length, ap, arith, subst, sym}
+use Rattle.std.proofs.Common.{◌≡◌, inl, inr, ℕ, List, length, ap, arith, subst}
 use Rattle.std.proofs.lemmas.Bool.{cases_lt, iff_false}
 use Rattle.jk_model.specs.declared.class_file.PoolEntry.{PoolEntry}
 use Rattle.jk_model_classes.specs.References.{RefersAt}

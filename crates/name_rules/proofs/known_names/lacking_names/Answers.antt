@@ -1,5 +1,5 @@
 -- One name more is marked where it says a class that isn't known.
-use Rattle.std.proofs.Common.{◌≡◌, ◌+◌, ◌<◌, ◌≤◌, ◌↔◌, ◌∙◌, ℕ, List, [], ◌∷◌, ◌++◌, Bool, true, false, length, refl, ap, arith, Some, slice_get, subst, sym, length-append}
+use Rattle.std.proofs.Common.{◌+◌, ◌<◌, ◌↔◌, ◌∙◌, ℕ, List, [], ◌∷◌, Bool, length, ap, arith, subst, sym, length-append}
 use Rattle.name_rules.specs.KnownNames.{IsEntryName, IsSaidBy, LacksOne}
 use Rattle.name_rules.specs.Marks.{IsMarked}
 use Rattle.name_rules.proofs.MarksInTurn.{unmarked}

@@ -1,5 +1,5 @@
 -- The descriptors of the members so far are marked.
-use Rattle.std.proofs.Common.{◌≡◌, ℕ}
+use Rattle.std.proofs.Common.{◌≡◌}
 use Rattle.jk_model.specs.declared.class_file.MemberInfo.{MemberInfo}
 use Rattle.jk_model_classes.specs.Items.{HasItemBefore}
 use Rattle.name_rules.specs.Marks.{Marks}

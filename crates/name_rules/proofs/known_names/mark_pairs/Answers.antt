@@ -1,5 +1,5 @@
 -- One descriptor more is marked.
-use Rattle.std.proofs.Common.{◌≡◌, ◌+◌, ◌≤◌, ℕ, List, Bool, length, refl, arith, Some, slice_get, subst, sym, ◌∙◌, ap}
+use Rattle.std.proofs.Common.{◌≡◌, ◌+◌, ℕ, List, Bool, length, refl, arith, Some, slice_get, subst, sym, ◌∙◌, ap}
 use Rattle.jk_model_classes.specs.Items.{HasItemBefore}
 use Rattle.name_rules.specs.Marks.{Marks}
 use Rattle.std.proofs.lemmas.Option.{slice_get_read}
@@ -25,9 +25,9 @@ loop-entry-preserved c =
           (marks_more P pool (λ (j : ℕ). j ≡ w.from.result) k entry c.args.marks.now c.loop-entry.marks w.set_mark.new.marks at
           (λ i e. (w.in-NameAndType.field-0, is ∙ ap (λ (d : ℕ). NameAndType w.in-NameAndType.field-0 d) (sym index ∙ sym e)))
           (λ i (name, e).
-              let both : NameAndType w.in-NameAndType.field-0 w.in-NameAndType.descriptor ≡ NameAndType name i = sym is ∙ e in
-              let same : w.in-NameAndType.descriptor ≡ i = cc in
-              sym same ∙ sym index)
+          let both : NameAndType w.in-NameAndType.field-0 w.in-NameAndType.descriptor ≡ NameAndType name i = sym is ∙ e in
+          let same : w.in-NameAndType.descriptor ≡ i = cc in
+          sym same ∙ sym index)
           c.loop-entry.invariant w.set_mark.ensures)
       | in_default w ↦
           subst Fine (sym w.marks-is)

@@ -1,5 +1,5 @@
 -- The classes in a method's descriptor are those of its parameters and of what it returns.
-use Rattle.std.proofs.Common.{◌≡◌, ℕ, List, Bool, subst, sym}
+use Rattle.std.proofs.Common.{ℕ, List, Bool, subst, sym}
 use Rattle.jk_model.specs.declared.descriptors.FieldType.{FieldType}
 use Rattle.jk_model_classes.specs.Items.{HasItem}
 use Rattle.jk_model_classes.specs.References.{IsOfClass, Mentions}

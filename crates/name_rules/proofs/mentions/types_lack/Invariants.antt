@@ -1,5 +1,4 @@
 -- None of the types so far is of a class without a meaning.
-use Rattle.std.proofs.Common.{ℕ}
 use Rattle.jk_model_classes.specs.Items.{HasItemBefore}
 use Rattle.jk_model_classes.specs.References.{IsOfClass}
 use Rattle.name_rules.specs.KnownNames.{LacksOne}

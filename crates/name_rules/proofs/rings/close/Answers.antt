@@ -1,5 +1,5 @@
 -- One place more to go through.
-use Rattle.std.proofs.Common.{◌≤◌, length, arith}
+use Rattle.std.proofs.Common.{arith}
 use Rattle.name_rules.proofs.PathsThroughPlaces.{closed_all, closed_more, closed_none}
 use Rattle.name_rules.proofs.rings.close.Goals as goal
 

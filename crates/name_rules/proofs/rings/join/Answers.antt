@@ -1,7 +1,7 @@
 -- One place more to which the other one may go.
-use Rattle.std.proofs.Common.{◌+◌, ◌≤◌, length, sym, subst, arith, false, true, ◌≡◌}
+use Rattle.std.proofs.Common.{◌+◌, sym, subst, arith}
 use Rattle.std.proofs.lemmas.Bool.{iff_false}
-use Rattle.name_rules.specs.Graphs.{HasEdge, Rows}
+use Rattle.name_rules.specs.Graphs.{Rows}
 use Rattle.name_rules.proofs.EdgesOfRows.{AlsoBefore, also_all, also_none, also_with, also_without}
 use Rattle.name_rules.proofs.rings.join.Goals as goal
 use Rattle.name_rules.proofs.rings.join.Goals.{then-has_edge, else-has_edge}

@@ -1,8 +1,8 @@
 -- One place more that goes on through the one.
-use Rattle.std.proofs.Common.{◌+◌, ◌≤◌, length, sym, subst, arith, false, true, ◌≡◌}
+use Rattle.std.proofs.Common.{◌+◌, sym, subst, arith}
 use Rattle.std.proofs.lemmas.Bool.{iff_false}
-use Rattle.name_rules.specs.Graphs.{HasEdge, Rows}
-use Rattle.name_rules.proofs.EdgesOfRows.{ThroughBefore, through_all, through_none, through_with, through_without}
+use Rattle.name_rules.specs.Graphs.{Rows}
+use Rattle.name_rules.proofs.EdgesOfRows.{ThroughBefore, through_all, through_with, through_without}
 use Rattle.name_rules.proofs.rings.join_all.Goals as goal
 use Rattle.name_rules.proofs.rings.join_all.Goals.{then-has_edge, else-has_edge}
 

@@ -1,7 +1,5 @@
 -- One mark more is one edge more.
-use Rattle.std.proofs.Common.{◌≡◌, ℕ, true, length, get_or, set, refl, sym, subst, Some, slice_get, Bool}
-use Rattle.std.specs.Global.{Vec}
-use Rattle.std.specs.Vec.{with_item}
+use Rattle.std.proofs.Common.{get_or}
 use Rattle.std.proofs.lemmas.Option.{slice_get-get_or}
 use Rattle.name_rules.proofs.EdgesOfRows.{one_more}
 use Rattle.name_rules.proofs.rings.mark.Goals as goal

@@ -1,5 +1,5 @@
 -- The flags are those of the folder's class, or else of a loaded one.
-use Rattle.std.proofs.Common.{◌≡◌, ◌<◌, length, refl, Some, slice_get}
+use Rattle.std.proofs.Common.{length, refl}
 use Rattle.std.proofs.lemmas.Option.{slice_get_read}
 use Rattle.name_rules.proofs.BadParts.{no_own_file, outer_flags, own_flags}
 use Rattle.name_rules.proofs.scope.flags_of.Goals as goal
