@@ -227,8 +227,9 @@ module _ (x : Names) (c : ClassFile) (i : ℕ) where
 module _ (x : Names) (s : FolderScope) (outer : s.names ≡ x.outer.now) (own : AreOwnNames s.files x.own.now) where
   pub lacking_unknown : (name : List ℕ) → Lacks x name → IsKnownName s name → ⊥
   lacking_unknown name lacks (inl (i, c, at, called)) =
-      let found : class_named x.own.now name ≡ Some (record { 0 = i }) = (own name i).1 (c, at, called) in
-      let both : None ≡ Some (record { 0 = i }) = sym lacks.0 ∙ found in
+      let place : ClassId = record { 0 = i } in
+      let found : class_named x.own.now name ≡ Some place = (own name i).1 (c, at, called) in
+      let both : None ≡ Some place = sym lacks.0 ∙ found in
       cc
   lacking_unknown name lacks (inr (class, found)) =
       let also : class_named x.outer.now name ≡ Some class = subst (λ (names : List NamedClass). class_named names name ≡ Some class) outer found in

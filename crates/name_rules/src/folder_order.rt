@@ -14,8 +14,8 @@ use std::alloc::Global;
 
 /// The places of the class files in the order in which their classes are put behind those that are loaded: each after its
 /// parent and its interfaces, those with fewer classes of the folder in a row above them first, and those with equally many
-/// in the order of the files. It takes time in proportion to the files, and to the square of their number, of which there
-/// are few.
+/// in the order of the files. It takes time in proportion to the files, and to the square of their number for each class that
+/// stands above another in the longest row; there are few files.
 pub fn class_order(
     alloc: Global,
     folder: &[FolderClass],

@@ -42,7 +42,7 @@ fn raise(rows: &[Vec<bool>], heights: &mut [usize], height: usize) -> bool
 }
 
 /// How many places stand above each in a row, at the most. It takes time in proportion to the square of the number of
-/// places and to the greatest height.
+/// places times the greatest height.
 pub(crate) fn heights(alloc: Global, rows: &[Vec<bool>]) -> Result<Vec<usize>, OutOfMemory>
     requires square { IsSquare rows.now }
     requires no_ring { HasNoRing rows.now }

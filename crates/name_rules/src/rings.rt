@@ -50,8 +50,7 @@ fn join_all(rows: &mut [Vec<bool>], from: usize)
     }
 }
 
-/// Puts an edge for each path. It takes no memory, and time in proportion to the square of the number of places and to that
-/// of those that others go to.
+/// Puts an edge for each path. It takes no memory, and time in proportion to the cube of the number of places, at the most.
 pub(crate) fn close(rows: &mut [Vec<bool>])
     requires { IsSquare rows.old }
     ensures { IsClosure rows.old rows.new }

@@ -20,7 +20,8 @@ loop-n-preserved c =
       | then-is_listed w ↦
           let mark : IsMarked listed n = slice_get-get_or listed n false within ∙ ap (λ (b : Bool). Some b) w.if-is_listed.true in
           subst Fine (sym w.row-is)
-          (listed_more file own n c.args.row.now c.loop-n.row w.mark_text.new.row ((c.requires.listed.at n below).0 mark) c.loop-n.invariant w.mark_text.ensures)
+          (listed_more file own n c.args.row.now c.loop-n.row w.mark_text.new.row ((c.requires.listed.at n below).0 mark) c.loop-n.invariant
+          w.mark_text.ensures)
       | else-is_listed w ↦
           subst Fine (sym w.row-is)
           (listed_skipped file own n c.args.row.now c.loop-n.row

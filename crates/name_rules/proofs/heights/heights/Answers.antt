@@ -18,7 +18,8 @@ returns c =
     elim c.loop-height-test.branch [
       | else-loop-height-test w ↦
           subst (λ (v : Vec ℕ). AreHeights rows v.items) (sym w.heights-is)
-          (heights_end rows c.loop-height.height c.loop-height.heights.items c.requires.square c.requires.no_ring w.loop-height-test.false c.loop-height.invariant)
+          (heights_end rows c.loop-height.height c.loop-height.heights.items c.requires.square c.requires.no_ring w.loop-height-test.false
+          c.loop-height.invariant)
       | then-loop-height-test+then-not-raise w ↦
           let v = c.loop-height.heights in
           let now = w.raise.new.heights in

@@ -26,7 +26,9 @@ returns-then-branch-clause-bad c =
     let here = at_file folder i f at in
     let bad : IsBadAt s above i f.file =
     subst (λ (rows : Rows). IsBadAt s rows i f.file) c.deref.ensures.value (c.in_ok-is_bad.ensures.0 c.if-branch.true) in
-    (f.file, here, bad_hierarchy s c.args.own.now edges.items above c.requires.own c.in_ok-above.ensures closed (names_of folder c.requires.read) i f.file here bad)
+    let broken =
+    bad_hierarchy s c.args.own.now edges.items above c.requires.own c.in_ok-above.ensures closed (names_of folder c.requires.read) i f.file here bad in
+    (f.file, here, broken)
 
 pub returns-then-branch-clause-first : goal.returns-then-branch-clause-first
 returns-then-branch-clause-first c = λ j file spot below at.
