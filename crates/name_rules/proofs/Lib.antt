@@ -1,0 +1,15 @@
+-- Lemmas on the names that class files say, on marks, and on graphs over places.
+mod BadParts
+mod ClassNamesDecided
+mod ClassesInDescriptors
+mod EdgesMarked
+mod EdgesOfRows
+mod FolderGraph
+mod HeightsRise
+mod ItemsSoFar
+mod MarksInTurn
+mod NamesLacking
+mod PathsThroughPlaces
+mod PlacesInOrder
+mod PlacesLeft
+mod ShortTexts

@@ -1,0 +1,10 @@
+-- The names of the Class entries so far are marked.
+use Rattle.std.proofs.Common.{◌≡◌}
+use Rattle.jk_model.specs.declared.class_file.PoolEntry.{PoolEntry}
+use Rattle.jk_model.specs.declared.class_file.PoolEntry.TheVariants.{Class}
+use Rattle.jk_model_classes.specs.Items.{HasItemBefore}
+use Rattle.name_rules.specs.Marks.{Marks}
+use Rattle.name_rules.proofs.known_names.mark_names.Given as goal
+
+abbrev pub invariant-loop-entry : goal.invariant-loop-entry
+invariant-loop-entry l = Marks (λ i. HasItemBefore l.entry-index (λ (e : PoolEntry). e ≡ Class i) l.pool) l.initial.marks l.marks
