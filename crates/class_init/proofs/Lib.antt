@@ -1,0 +1,16 @@
+-- Lemmas on a domain's own state.
+mod BegunInTurn
+mod ByKey
+mod FieldOfAnIndex
+mod FirstState
+mod ListedInOrder
+mod LiteralsByPlace
+mod PartAdded
+mod PartChanged
+mod PartOfAClass
+mod PlaceOfAText
+mod PlacesInLists
+mod RestoredState
+mod SameElements
+mod TextAdded
+mod WhatIsThere
