@@ -1,5 +1,5 @@
 -- One name after the other brings the part of its class, and its texts.
-use Rattle.std.proofs.Common.{◌≡◌, ◌≢◌, ℕ, ◌+◌, ◌<◌, ◌≤◌, ◌⊎◌, inl, inr, List, [], ◌∷◌, ◌++◌, length, refl, sym, ◌∙◌, ap, arith, Option, Some, None, slice_get}
+use Rattle.std.proofs.Common.{◌≡◌, ◌≢◌, ℕ, ◌+◌, ◌<◌, ◌≤◌, ◌⊎◌, inl, inr, List, [], ◌∷◌, ◌++◌, length, refl, sym, ◌∙◌, ap, subst, arith, Option, Some, None, slice_get}
 use Rattle.std.specs.Prelude.{Contains}
 use Rattle.std.specs.Option.{option_map}
 use Rattle.std.proofs.lemmas.Bool.{cases_lt}
@@ -7,83 +7,15 @@ use Rattle.std.proofs.lemmas.List.Elements.{Contains-append_left, Contains-push,
 use Rattle.std.proofs.lemmas.Option.{slice_get-get_or, same_Some}
 use Rattle.jk_model.specs.declared.identifiers.ClassId.{ClassId}
 use Rattle.jk_model_classes.specs.declared.records.ClassRecord.{ClassRecord}
-use Rattle.jk_model_classes.specs.declared.records.Link.{Link}
-use Rattle.jk_model_classes.specs.declared.records.Link.TheVariants as To
 use Rattle.jk_model_classes.specs.Classes.{HasClass, record_of}
 use Rattle.jk_model_classes.specs.Worlds.{NamedClass, IsNamed}
-use Rattle.jk_model_domains.specs.OwnStates.{ClassPart}
+use Rattle.jk_model_domains.specs.OwnStates.{ClassPart, IsTextOf}
 use Rattle.class_init.specs.Parts.{part_in, HasPartOf, first_part}
-use Rattle.class_init.specs.Texts.{AddsText}
-use Rattle.class_init.specs.Beginning.{AddsPart, AddsTexts, IsNamedBefore, HasRecordBefore, IsFirstPart, IsTextBefore, IsBegun}
+use Rattle.class_init.specs.Beginning.{AddsPart, IsNamedBefore, HasRecordBefore, IsFirstPart, IsTextBefore, IsBegun}
+use Rattle.class_init.specs.TextsAdded.{AddsTexts}
 use Rattle.class_init.proofs.ByKey.{Found, found_stands, none_lacks}
 use Rattle.class_init.proofs.PartOfAClass.{number}
 use Rattle.class_init.proofs.PlacesInLists.{contains_at, in_none, stays}
-
--- ---- Texts.
-
-pub no_texts : (texts : List (List ℕ)) → AddsTexts [] texts texts
-no_texts texts = record { has = λ text. (λ has. inl has, λ (h : Contains texts text ⊎ Contains [] (To.Text text)). by_side text h) }
-  where
-    by_side : (text : List ℕ) → Contains texts text ⊎ Contains [] (To.Text text) → Contains texts text
-    by_side text (inl has) = has
-    by_side text (inr has) = absurd (in_none (To.Text text) has)
-
-added_has : (cur : List (List ℕ)) (text : List ℕ) (new : List (List ℕ)) → AddsText cur text new → (t : List ℕ) → Contains new t → Contains cur t ⊎ (text ≡ t)
-added_has cur text new (inl (known, same)) t has = inl (rw same at has)
-added_has cur text new (inr (absent, is)) t has = Contains-push_cases cur text t (rw is at has)
-
-kept_has : (cur : List (List ℕ)) (text : List ℕ) (new : List (List ℕ)) → AddsText cur text new → (t : List ℕ) → Contains cur t → Contains new t
-kept_has cur text new (inl (known, same)) t has = rw same has
-kept_has cur text new (inr (absent, is)) t has = rw is (Contains-append_left cur (text ∷ []) t has)
-
-itself_has : (cur : List (List ℕ)) (text : List ℕ) (new : List (List ℕ)) → AddsText cur text new → Contains new text
-itself_has cur text new (inl (known, same)) = rw same known
-itself_has cur text new (inr (absent, is)) = rw is (Contains-push cur text)
-
-same_text : (a b : List ℕ) → To.Text a ≡ To.Text b → a ≡ b
-same_text a b e = cc
-
-pub text_more : (links : List Link) (old cur new : List (List ℕ)) (text : List ℕ) → AddsTexts links old cur → AddsText cur text new
-    → AddsTexts (links ++ To.Text text ∷ []) old new
-text_more links old cur new text h adds = record { has = λ t. (there t, back t) }
-  where
-    there : (t : List ℕ) → Contains new t → Contains old t ⊎ Contains (links ++ To.Text text ∷ []) (To.Text t)
-    there t has = by_side (added_has cur text new adds t has)
-      where
-        of_links : Contains old t ⊎ Contains links (To.Text t) → Contains old t ⊎ Contains (links ++ To.Text text ∷ []) (To.Text t)
-        of_links (inl x) = inl x
-        of_links (inr x) = inr (Contains-append_left links (To.Text text ∷ []) (To.Text t) x)
-
-        by_side : Contains cur t ⊎ (text ≡ t) → Contains old t ⊎ Contains (links ++ To.Text text ∷ []) (To.Text t)
-        by_side (inl x) = of_links ((h.has t).0 x)
-        by_side (inr same) = inr (rw (← same) (Contains-push links (To.Text text)))
-
-    back : (t : List ℕ) → Contains old t ⊎ Contains (links ++ To.Text text ∷ []) (To.Text t) → Contains new t
-    back t (inl x) = kept_has cur text new adds t ((h.has t).1 (inl x))
-    back t (inr x) = by_place (Contains-push_cases links (To.Text text) (To.Text t) x)
-      where
-        by_place : Contains links (To.Text t) ⊎ (To.Text text ≡ To.Text t) → Contains new t
-        by_place (inl y) = kept_has cur text new adds t ((h.has t).1 (inr y))
-        by_place (inr y) = rw (← same_text text t y) (itself_has cur text new adds)
-
-pub other_link_more : (links : List Link) (old cur : List (List ℕ)) (link : Link) → AddsTexts links old cur → ((text : List ℕ) → link ≡ To.Text text → ⊥)
-    → AddsTexts (links ++ link ∷ []) old cur
-other_link_more links old cur link h other = record { has = λ t. (there t, back t) }
-  where
-    there : (t : List ℕ) → Contains cur t → Contains old t ⊎ Contains (links ++ link ∷ []) (To.Text t)
-    there t has = of_links ((h.has t).0 has)
-      where
-        of_links : Contains old t ⊎ Contains links (To.Text t) → Contains old t ⊎ Contains (links ++ link ∷ []) (To.Text t)
-        of_links (inl x) = inl x
-        of_links (inr x) = inr (Contains-append_left links (link ∷ []) (To.Text t) x)
-
-    back : (t : List ℕ) → Contains old t ⊎ Contains (links ++ link ∷ []) (To.Text t) → Contains cur t
-    back t (inl x) = (h.has t).1 (inl x)
-    back t (inr x) = by_place (Contains-push_cases links link (To.Text t) x)
-      where
-        by_place : Contains links (To.Text t) ⊎ (link ≡ To.Text t) → Contains cur t
-        by_place (inl y) = (h.has t).1 (inr y)
-        by_place (inr y) = absurd (other t y)
 
 -- ---- Names.
 
@@ -170,7 +102,7 @@ part_cases parts new c r e (inr (inr (own, free, is))) has = by_place (Contains-
 
 pub begun_more : (classes : List ClassRecord) (table : List NamedClass) (i : ℕ) (parts new : List ClassPart) (texts texts' : List (List ℕ)) (n : NamedClass)
     (r : ClassRecord) → IsBegun classes table i parts texts → slice_get table i ≡ Some n → record_of classes n.class ≡ Some r → AddsPart n.class r parts new
-    → AddsTexts r.links texts texts' → IsBegun classes table (i + 1) new texts'
+    → AddsTexts (IsTextOf r) texts texts' → IsBegun classes table (i + 1) new texts'
 begun_more classes table i parts new texts texts' n r h at is adds leads = record {
   each = λ e has. by_part e (part_cases parts new n.class r e adds has);
   all = λ c x before own. by_name c x before own (one_name_more table i n c at before.named);
@@ -195,7 +127,7 @@ begun_more classes table i parts new texts texts' n r h at is adds leads = recor
     there : (text : List ℕ) → Contains texts' text → IsTextBefore classes table (i + 1) text
     there text has = by_side ((leads.has text).0 has)
       where
-        by_side : Contains texts text ⊎ Contains r.links (To.Text text) → IsTextBefore classes table (i + 1) text
+        by_side : Contains texts text ⊎ IsTextOf r text → IsTextBefore classes table (i + 1) text
         by_side (inl x) =
             let t = (h.leads text).0 x in record { class = t.class; of = t.of; has = record_later classes table i t.class t.of t.has; leads = t.leads }
         by_side (inr x) = record { class = n.class; of = r; has = last; leads = x }
@@ -208,7 +140,7 @@ begun_more classes table i parts new texts texts' n r h at is adds leads = recor
             (leads.has text).1 (inl ((h.leads text).1 (record { class = t.class; of = t.of; has = record { named = old; is = t.has.is }; leads = t.leads })))
         by_name_of (inr same) =
             let record_is : t.of ≡ r = same_Some t.of r (sym t.has.is ∙ ap (record_of classes) (sym same) ∙ is) in
-            (leads.has text).1 (inr (rw record_is at t.leads))
+            (leads.has text).1 (inr (subst (λ (x : ClassRecord). IsTextOf x text) record_is t.leads))
 
 -- ---- The name at a place.
 

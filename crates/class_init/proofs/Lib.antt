@@ -5,6 +5,7 @@ mod FieldOfAnIndex
 mod FirstState
 mod ListedInOrder
 mod LiteralsByPlace
+mod OneLiteral
 mod PartAdded
 mod PartChanged
 mod PartOfAClass
@@ -12,5 +13,7 @@ mod PlaceOfAText
 mod PlacesInLists
 mod RestoredState
 mod SameElements
+pub mod StatesKept
 mod TextAdded
+mod TextsInTurn
 mod WhatIsThere

@@ -15,6 +15,7 @@ use Rattle.indexmap.proofs.CallerLemmas.{Contains-list_any}
 use Rattle.jk_model_domains.specs.OwnStates.{Literal}
 use Rattle.jk_model_domains.specs.declared.states.LiteralImage.{LiteralImage}
 use Rattle.class_init.specs.Literals.{LiteralTable, literal_of, literal_from, AreNamed}
+use Rattle.class_init.proofs.PartOfAClass.{differ_from_distinct}
 use Rattle.class_init.proofs.PlacesInLists.{comes_from, contains_at, goes_to, stands_at}
 
 abbrev has_text : List ℕ → Literal → Bool
@@ -178,3 +179,39 @@ pub key_within : (texts : List (List ℕ)) (names : List (ℕ × ℕ)) (p : ℕ 
 key_within texts names p h has =
     let s = stands_at names p has in
     h p.0 (contains_at (keys_of names) s.place p.0 (goes_to (λ (q : ℕ × ℕ). q.0) names s.place p s.there))
+
+-- ---- What holds of all literals.
+
+-- where the text of a literal stands
+record TextPlace (texts : List (List ℕ)) (names : List (ℕ × ℕ)) (k : ℕ) (l : Literal) : Type 0 where
+  from : ℕ × ℕ
+  there : slice_get names k ≡ Some from
+  text : slice_get texts from.0 ≡ Some l.text
+
+text_place : (texts : List (List ℕ)) (names : List (ℕ × ℕ)) (k : ℕ) (l : Literal) → Within texts names
+    → slice_get (map (literal_of texts) names) k ≡ Some l → TextPlace texts names k l
+text_place texts names k l within at =
+    let x = comes_from (literal_of texts) names k l at in
+    let low = key_within texts names x.from within (contains_at names k x.from x.there) in
+    record {
+      from = x.from;
+      there = x.there;
+      text = (text_at texts x.from low).there ∙ ap (λ (y : Literal). Some y.text) x.gives;
+    }
+
+-- no two have one text
+pub literals_differ : (texts : List (List ℕ)) (names : List (ℕ × ℕ)) (room : ℕ) → AreNamed texts names room → (i j : ℕ) (a b : Literal)
+    → slice_get (map (literal_of texts) names) i ≡ Some a → slice_get (map (literal_of texts) names) j ≡ Some b → a.text ≡ b.text → i ≡ j
+literals_differ texts names room h i j a b p q e =
+    let x = text_place texts names i a h.within p in
+    let y = text_place texts names j b h.within q in
+    let here : x.from.0 ≡ y.from.0 = h.texts_differ x.from.0 y.from.0 a.text x.text (y.text ∙ ap Some (sym e)) in
+    differ_from_distinct (λ (n : ℕ × ℕ). n.0) names h.apart i j x.from y.from x.there y.there here
+
+-- and each text is known
+pub text_known : (texts : List (List ℕ)) (names : List (ℕ × ℕ)) (room : ℕ) → AreNamed texts names room → (l : Literal)
+    → Contains (map (literal_of texts) names) l → Contains texts l.text
+text_known texts names room h l has =
+    let s = stands_at (map (literal_of texts) names) l has in
+    let x = text_place texts names s.place l h.within s.there in
+    contains_at texts x.from.0 l.text x.text

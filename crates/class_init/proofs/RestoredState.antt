@@ -82,16 +82,9 @@ lists own parts e are has =
     Contains-permutation (map own_class own.classes) parts.classes (own_class e) are.classes
     (contains_at (map own_class own.classes) s.place (own_class e) (goes_to own_class own.classes s.place e s.there))
 
-pub image_known : (classes : List ClassRecord) (table : List NamedClass) (first own : OwnState) (parts : OwnParts) → IsOwnState classes table first
-    → IsOwnState classes table own → ArePartsOf own parts → (l : LiteralImage) → Contains parts.literals l → Contains first.texts l.text
-image_known classes table first own parts f s are l has =
-    let back = Contains-permutation parts.literals (map literal_image own.literals) l (IsPermutation-sym _ _ are.literals) has in
-    let at = stands_at (map literal_image own.literals) l back in
-    let x = comes_from literal_image own.literals at.place l at.there in
-    let known : Contains own.texts x.from.text = s.literals x.from (contains_at own.literals at.place x.from x.there) in
-    let leads = (s.texts x.from.text).0 known in
-    let text : x.from.text ≡ l.text = ap (λ (i : LiteralImage). i.text) x.gives in
-    rw text at ((f.texts x.from.text).1 leads)
+-- the texts of the listed literals are known
+abbrev AreKnown : OwnState → OwnParts → Type 0
+AreKnown first parts = (l : LiteralImage) → Contains parts.literals l → Contains first.texts l.text
 
 -- ---- The values fit.
 
@@ -239,8 +232,8 @@ with_parts first parts = record {
 }
 
 pub restored_is_state : (classes : List ClassRecord) (table : List NamedClass) (first own : OwnState) (parts : OwnParts) → IsOwnState classes table first
-    → IsOwnState classes table own → ArePartsOf own parts → IsOwnState classes table (with_parts first parts)
-restored_is_state classes table first own parts f s are = record {
+    → IsOwnState classes table own → ArePartsOf own parts → AreKnown first parts → IsOwnState classes table (with_parts first parts)
+restored_is_state classes table first own parts f s are known = record {
   each = λ e has. let at = stands_at (restored_all parts.classes first.classes) e has in each_is e at.place at.there;
   all = λ c r h. still_has parts.classes first.classes c (f.all c r h);
   classes_differ =
@@ -254,8 +247,7 @@ restored_is_state classes table first own parts f s are = record {
       λ l has.
       let at = stands_at (map literal_from parts.literals) l has in
       let x = comes_from literal_from parts.literals at.place l at.there in
-      let known = image_known classes table first own parts f s are x.from (contains_at parts.literals at.place x.from x.there) in
-      rw (ap (λ (y : Literal). y.text) x.gives) at known;
+      rw (ap (λ (y : Literal). y.text) x.gives) at (known x.from (contains_at parts.literals at.place x.from x.there));
   literals_differ =
       λ i j a b p q e.
       let x = comes_from literal_from parts.literals i a p in
@@ -276,7 +268,7 @@ restored_is_state classes table first own parts f s are = record {
         let of : ClassId → Type 0 = λ c. HasPart classes table c x.0 in
         (x.0, subst of (sym h.class) x.1, same_indices_restored parts.classes first.classes k e h ∙ x.2)
 
-images_again : (images : List LiteralImage) → map literal_image (map literal_from images) ≡ images
+pub images_again : (images : List LiteralImage) → map literal_image (map literal_from images) ≡ images
 images_again [] = refl
 images_again (l ∷ images) = ap (λ (xs : List LiteralImage). l ∷ xs) (images_again images)
 
@@ -348,10 +340,10 @@ each_lists classes table first own parts f s are o has =
     rw (sym one.is ∙ x.gives) at one.has
 
 pub restored_has_parts : (classes : List ClassRecord) (table : List NamedClass) (first own : OwnState) (parts : OwnParts) → IsOwnState classes table first
-    → IsOwnState classes table own → ArePartsOf own parts → ArePartsOf (with_parts first parts) parts
-restored_has_parts classes table first own parts f s are =
+    → IsOwnState classes table own → ArePartsOf own parts → AreKnown first parts → ArePartsOf (with_parts first parts) parts
+restored_has_parts classes table first own parts f s are known =
     let new = restored_all parts.classes first.classes in
-    let state = restored_is_state classes table first own parts f s are in
+    let state = restored_is_state classes table first own parts f s are known in
     let differ = classes_of_parts_differ own parts s.classes_differ are in
     record {
       classes =

@@ -1,21 +1,27 @@
 //! A small world by hand: the system classes, and one class with four static fields and two literals.
 
-ghost use Rattle.std.specs.Prelude.{◌≡◌, IsTrue, Some, slice_get};
+ghost use Rattle.std.specs.Prelude.{◌≡◌, ◌∷◌, [], IfOk, IsTrue, Some, map, slice_get};
 ghost use Rattle.jk_model.specs.declared.identifiers.ClassId.{ClassId as AClassId};
 ghost use Rattle.jk_model_classes.specs.Classes.{HasClass};
 ghost use Rattle.jk_model_classes.specs.Worlds.{IsNamed, NamedClass};
+ghost use Rattle.class_init.specs.Literals.{literal_from};
 
 use super::*;
 use class_table::ClassTable;
 use domain_resolver::NameTable;
-use jk_model::{ClassId, DomainId, List, MemberId, OutOfMemory, Standing, ThreadNo, Value};
+use jk_model::{ClassId, DomainId, List, MemberId, OutOfMemory, Standing, ThreadNo, Units, Value};
 use jk_model_classes::{BaseRef, ClassRecord, FieldRecord, Link, TypeRef};
-use jk_model_domains::{ClassState, Look};
+use jk_model_domains::{ClassState, LiteralImage, Look, OwnParts};
 use shared_values::Text;
 use std::alloc::Global;
 use std::test::Fail;
 
 const OBJECT: ClassId = ClassId(0);
+
+// The numbers after those of the 45 system classes.
+const Z: ClassId = ClassId(45);
+
+const A: ClassId = ClassId(46);
 
 const STRING: BaseRef = BaseRef::Class(ClassId(1));
 
@@ -86,16 +92,33 @@ fn class(alloc: Global, name: &[u16]) -> Result<ClassRecord, OutOfMemory> {
 }
 
 /// Puts a class after the others, where it may stand there.
-fn add(table: &mut ClassTable, class: ClassRecord) -> Result<Option<ClassId>, OutOfMemory> {
+fn add(table: &mut ClassTable, class: ClassRecord) -> Result<(), OutOfMemory> {
     let few = class.fields.len() <= 65_535 && class.methods.len() <= 65_535;
     let n = table.len();
     if !few || n == 0 || n > 1000 || !class.interfaces.is_empty() {
-        return Ok(None);
+        return Ok(());
     }
-    match class.parent {
-        Some(ClassId(0)) => Ok(Some(table.add(class)?)),
-        _ => Ok(None),
+    if let Some(ClassId(0)) = class.parent {
+        table.add(class)?;
     }
+    Ok(())
+}
+
+/// The system classes, and two of the domain, whose names come in the other order.
+fn classes(alloc: Global) -> Result<ClassTable, OutOfMemory> {
+    let mut table = ClassTable::new(alloc)?;
+    add(&mut table, class(alloc, &[122])?)?;
+    add(&mut table, class(alloc, &[97])?)?;
+    Ok(table)
+}
+
+/// The names mean java/lang/Object and the two classes.
+fn names(alloc: Global) -> Result<NameTable, OutOfMemory> {
+    let mut names = NameTable::new(alloc);
+    names.give(&Text::new(alloc, &[79])?, OBJECT)?;
+    names.give(&Text::new(alloc, &[122])?, Z)?;
+    names.give(&Text::new(alloc, &[97])?, A)?;
+    Ok(names)
 }
 
 /// Whether the class of the name at a place is there.
@@ -120,33 +143,22 @@ fn are_there(t: &ClassTable, names: &NameTable) -> bool
     true
 }
 
-/// All classes, what the names mean, and two classes of the domain, whose names come in the other order.
-#[derive(Drop)]
-struct World {
-    t: ClassTable,
-    names: NameTable,
-    z: ClassId,
-    a: ClassId,
-}
-
-/// The names mean java/lang/Object and the two classes.
-fn make_world(alloc: Global) -> Result<World, Fail> {
-    let mut t = ClassTable::new(alloc)?;
-    let z = add(&mut t, class(alloc, &[122])?)?.ok_or("no class")?;
-    let a = add(&mut t, class(alloc, &[97])?)?.ok_or("no class")?;
-    let mut names = NameTable::new(alloc);
-    names.give(&Text::new(alloc, &[79])?, OBJECT)?;
-    names.give(&Text::new(alloc, &[122])?, z)?;
-    names.give(&Text::new(alloc, &[97])?, a)?;
-    Ok(World { t, names, z, a })
-}
-
-/// The state with which the domain begins.
-fn make_own(alloc: Global, w: &World) -> Result<Own, Fail> {
-    if are_there(&w.t, &w.names) {
-        return Ok(Own::make(alloc, &w.t, &w.names)?);
+/// The state with which a domain begins, where the classes of its names are there.
+fn begun(alloc: Global, t: &ClassTable, names: &NameTable) -> Result<Option<Own>, OutOfMemory> {
+    if are_there(t, names) {
+        return Ok(Some(Own::make(alloc, t, names)?));
     }
-    Err("a class isn't there")?
+    Ok(None)
+}
+
+/// The same after it went through its parts.
+fn again(alloc: Global, t: &ClassTable, names: &NameTable) -> Result<Option<Own>, OutOfMemory> {
+    if are_there(t, names) {
+        let own = Own::make(alloc, t, names)?;
+        let parts = own.parts(t)?;
+        return Ok(Some(Own::from_parts(alloc, t, names, parts)?));
+    }
+    Ok(None)
 }
 
 /// Sets how far a class is initialised, where it has a part.
@@ -187,73 +199,118 @@ fn set_literal(own: &mut Own, text: &Text, name: u32) -> bool {
     true
 }
 
-#[test]
-fn begins(rt: HostRuntime) -> Result<(), Fail> {
-    let w = make_world(rt.alloc())?;
-    let own = make_own(rt.alloc(), &w)?;
+/// Whether the fields have the values with which they begin.
+fn has_first_values(own: &Own) -> bool {
     let cases = [
-        (w.z, 0, Some(Value::Int(7))),
-        (w.z, 1, None),
-        (w.a, 2, Some(Value::Long(1_099_511_627_776))),
-        (w.a, 3, Some(Value::Null)),
-        (w.z, 4, Some(Value::Long(0))),
-        (w.z, 5, None),
+        (Z, 0, Some(Value::Int(7))),
+        (Z, 1, None),
+        (A, 2, Some(Value::Long(1_099_511_627_776))),
+        (A, 3, Some(Value::Null)),
+        (Z, 4, Some(Value::Long(0))),
+        (Z, 5, None),
         (OBJECT, 0, None),
     ];
     for (c, index, wanted) in cases {
-        assert!(rt; value(&own, c, index) == wanted);
+        if value(own, c, index) != wanted {
+            return false;
+        }
     }
-    assert_eq!(rt; look(&own, ThreadNo(3), OBJECT), Look::Ready);
-    assert_eq!(rt; look(&own, ThreadNo(3), w.z), Look::Untouched);
+    true
+}
+
+#[test]
+fn begins(rt: HostRuntime) -> Result<(), Fail> {
+    let t = classes(rt.alloc())?;
+    let names = names(rt.alloc())?;
+    let own = begun(rt.alloc(), &t, &names)?.ok_or("a class isn't there")?;
+    assert!(rt; has_first_values(&own));
+    assert!(rt; look(&own, ThreadNo(3), OBJECT) == Look::Ready);
+    assert!(rt; look(&own, ThreadNo(3), Z) == Look::Untouched);
     Ok(())
+}
+
+/// Whether threads meet what they should once thread 3 has class A in progress.
+fn looks_right(own: &Own) -> bool {
+    let ready = look(own, ThreadNo(3), A) == Look::Ready;
+    let waits = look(own, ThreadNo(4), A) == Look::Waits;
+    ready && waits && look(own, ThreadNo(3), Z) == Look::Untouched
 }
 
 #[test]
 fn changes(rt: HostRuntime) -> Result<(), Fail> {
-    let w = make_world(rt.alloc())?;
-    let mut own = make_own(rt.alloc(), &w)?;
-    assert!(rt; set_state(&mut own, w.a, ClassState::InProgress(ThreadNo(3))));
-    assert!(rt; set_value(&mut own, w.z, 3, Value::Obj(9)));
+    let t = classes(rt.alloc())?;
+    let names = names(rt.alloc())?;
+    let mut own = begun(rt.alloc(), &t, &names)?.ok_or("a class isn't there")?;
+    assert!(rt; set_state(&mut own, A, ClassState::InProgress(ThreadNo(3))));
+    assert!(rt; looks_right(&own));
+    assert!(rt; set_value(&mut own, Z, 3, Value::Obj(9)));
+    assert!(rt; value(&own, Z, 3) == Some(Value::Obj(9)));
     own.set_out(5);
     own.set_standing(Standing::Quota, 6);
-    let looks = [
-        (3, w.a, Look::Ready),
-        (4, w.a, Look::Waits),
-        (3, w.z, Look::Untouched),
-    ];
-    for (t, c, wanted) in looks {
-        assert_eq!(rt; look(&own, ThreadNo(t), c), wanted);
-    }
-    assert!(rt; value(&own, w.z, 3) == Some(Value::Obj(9)));
-    assert!(rt; value(&own, w.a, 3) == Some(Value::Null));
     assert_eq!(rt; own.out(), 5);
     assert_eq!(rt; own.standing(Standing::Quota), 6);
     Ok(())
 }
 
+/// Gives the two texts of the classes their objects.
+fn name_both(alloc: Global, own: &mut Own) -> Result<bool, OutOfMemory> {
+    let hi = Text::new(alloc, &HI)?;
+    let ho = Text::new(alloc, &HO)?;
+    let given = set_literal(own, &ho, 11) && set_literal(own, &hi, 12);
+    Ok(given && own.literal(&hi) == Some(12))
+}
+
+/// Whether the parts stand in the order of names and of texts.
+fn are_in_order(parts: &OwnParts) -> bool {
+    let text = parts.literals.get(1).map(|l| l.name) == Some(11);
+    text && parts.classes.get(0).map(|p| p.class) == Some(A)
+}
+
 #[test]
-fn literals_in_order(rt: HostRuntime) -> Result<(), Fail> {
-    let w = make_world(rt.alloc())?;
-    let mut own = make_own(rt.alloc(), &w)?;
-    let hi = Text::new(rt.alloc(), &HI)?;
-    let ho = Text::new(rt.alloc(), &HO)?;
-    assert!(rt; set_literal(&mut own, &ho, 11));
-    assert!(rt; set_literal(&mut own, &hi, 12));
-    assert!(rt; own.literal(&hi) == Some(12));
-    let parts = own.parts(&w.t)?;
-    assert!(rt; parts.literals.get(1).map(|l| l.name) == Some(11));
-    assert!(rt; parts.classes.get(0).map(|p| p.class) == Some(w.a));
+fn lists_in_order(rt: HostRuntime) -> Result<(), Fail> {
+    let t = classes(rt.alloc())?;
+    let names = names(rt.alloc())?;
+    let mut own = begun(rt.alloc(), &t, &names)?.ok_or("a class isn't there")?;
+    assert!(rt; name_both(rt.alloc(), &mut own)?);
+    let parts = own.parts(&t)?;
+    assert!(rt; are_in_order(&parts));
     Ok(())
 }
 
 #[test]
 fn back_from_parts(rt: HostRuntime) -> Result<(), Fail> {
-    let w = make_world(rt.alloc())?;
-    assert!(rt; are_there(&w.t, &w.names));
-    let own = Own::make(rt.alloc(), &w.t, &w.names)?;
-    own.holds();
-    let parts = own.parts(&w.t)?;
-    let again = Own::from_parts(rt.alloc(), &w.t, &w.names, parts)?;
-    assert!(rt; value(&again, w.z, 0) == Some(Value::Int(7)));
+    let t = classes(rt.alloc())?;
+    let names = names(rt.alloc())?;
+    let own = again(rt.alloc(), &t, &names)?.ok_or("a class isn't there")?;
+    assert!(rt; value(&own, Z, 0) == Some(Value::Int(7)));
+    Ok(())
+}
+
+/// Parts of a domain without classes, in which one text has an object.
+fn one_literal(alloc: Global) -> Result<OwnParts, OutOfMemory>
+    ensures classes { IfOk result (λ parts. parts.classes ≡ []) }
+    ensures literals { IfOk result (λ parts. map literal_from parts.literals ≡ record { text = HI; name = 9 } ∷ []) }
+{
+    let mut literals = List::new(alloc);
+    literals.push(LiteralImage {
+        text: Units::from_slice(alloc, &HI)?,
+        name: 9,
+    })?;
+    Ok(OwnParts {
+        classes: List::new(alloc),
+        literals,
+        out: 0,
+        standing: [0; 8],
+    })
+}
+
+#[test]
+fn keeps_other_texts(rt: HostRuntime) -> Result<(), Fail> {
+    let t = ClassTable::new(rt.alloc())?;
+    let names = NameTable::new(rt.alloc());
+    let parts = one_literal(rt.alloc())?;
+    let own = Own::from_parts(rt.alloc(), &t, &names, parts)?;
+    let hi = Text::new(rt.alloc(), &HI)?;
+    assert!(rt; own.literal(&hi) == Some(9));
     Ok(())
 }

@@ -2,7 +2,7 @@
 use Rattle.std.proofs.Common.{◌≡◌, ap}
 use Rattle.jk_model_domains.specs.OwnStates.{OwnState}
 use Rattle.class_init.specs.Parts.{FitsAll}
-use Rattle.class_init.proofs.RestoredState.{image_known, parts_fit, restored_has_parts, restored_is_state, texts_of_parts_differ}
+use Rattle.class_init.proofs.RestoredState.{parts_fit, restored_has_parts, restored_is_state, texts_of_parts_differ}
 use Rattle.class_init.proofs.own.Own.from_parts.Goals as goal
 
 pub restore_all-requires : goal.restore_all-requires

@@ -1,7 +1,0 @@
--- The texts of the first links are there.
-use Rattle.std.proofs.Common.{take}
-use Rattle.class_init.specs.Beginning.{AddsTexts}
-use Rattle.class_init.proofs.making.add_texts.Given as goal
-
-abbrev pub invariant-loop-link : goal.invariant-loop-link
-invariant-loop-link l = AddsTexts (take l.link-index l.links) l.fn.texts l.texts
