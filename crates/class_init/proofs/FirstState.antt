@@ -1,10 +1,9 @@
 -- What was begun is the first state of a domain.
 use Rattle.std.specs.Prelude.{Contains}
-use Rattle.std.proofs.Common.{◌≡◌, ℕ, inl, inr, List, [], length, map, refl, sym, ◌∙◌, ap, Some, slice_get, replicate}
+use Rattle.std.proofs.Common.{◌≡◌, ℕ, inl, inr, List, length, map, refl, sym, ◌∙◌, ap, Some, slice_get}
 use Rattle.jk_model.specs.declared.identifiers.ClassId.{ClassId}
 use Rattle.jk_model_classes.specs.declared.records.ClassRecord.{ClassRecord}
 use Rattle.jk_model_classes.specs.Worlds.{NamedClass, IsNamed}
-use Rattle.jk_model_domains.specs.declared.states.ClassState.TheVariants as State
 use Rattle.jk_model_domains.specs.OwnStates.{ClassPart, StaticField, HasPart, IsPartFor, IsLiteralOf, IsFirstState, IsOwnState, first_statics}
 use Rattle.jk_model_domains.specs.declared.states.LiteralImage.{LiteralImage}
 use Rattle.class_init.specs.Beginning.{IsNamedBefore, IsFirstPart, IsTextBefore, IsBegun, new_state}

@@ -2,9 +2,8 @@
 use Rattle.std.proofs.Common.{◌≡◌, ℕ, ◌<◌, ◌⊎◌, inl, inr, List, [], ◌∷◌, length, map, refl, sym, ◌∙◌, ap, subst, arith, Some, slice_get}
 use Rattle.std.specs.Prelude.{Contains}
 use Rattle.std.proofs.lemmas.List.Sorted.{IsPermutation-refl}
-use Rattle.std.proofs.lemmas.Option.{slice_get_within, same_Some}
+use Rattle.std.proofs.lemmas.Option.{slice_get_within}
 use Rattle.jk_model_classes.specs.declared.records.ClassRecord.{ClassRecord}
-use Rattle.jk_model_domains.specs.declared.states.LiteralImage.{LiteralImage}
 use Rattle.jk_model_domains.specs.declared.states.OwnParts.{OwnParts}
 use Rattle.jk_model_domains.specs.OwnStates.{OwnState, Literal, IsOwnState, ArePartsOf, literal_image}
 use Rattle.class_init.specs.Literals.{literal_from}

@@ -1,5 +1,5 @@
 -- A first state that gets the parts of a state of the same domain has these parts.
-use Rattle.std.proofs.Common.{◌≡◌, ◌≢◌, ℕ, suc, ◌⊎◌, inl, inr, Bool, true, false, true≢false, List, [], ◌∷◌, length, map, refl, sym, ◌∙◌, ap, subst, arith, Some, slice_get, nat_eq, if◌then◌else◌}
+use Rattle.std.proofs.Common.{◌≡◌, ℕ, suc, ◌⊎◌, inl, inr, Bool, true, false, true≢false, List, [], ◌∷◌, length, map, refl, sym, ◌∙◌, ap, subst, arith, Some, slice_get, nat_eq, if◌then◌else◌}
 use Rattle.std.specs.Prelude.{Contains, ◌==◌, bytes_eq}
 use Rattle.std.specs.Option.{option_map}
 use Rattle.std.proofs.lemmas.Bool.{eqb-true, eq-eqb}
@@ -83,7 +83,7 @@ lists own parts e are has =
     (contains_at (map own_class own.classes) s.place (own_class e) (goes_to own_class own.classes s.place e s.there))
 
 -- the texts of the listed literals are known
-abbrev AreKnown : OwnState → OwnParts → Type 0
+abbrev pub AreKnown : OwnState → OwnParts → Type 0
 AreKnown first parts = (l : LiteralImage) → Contains parts.literals l → Contains first.texts l.text
 
 -- ---- The values fit.

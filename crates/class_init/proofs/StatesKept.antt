@@ -1,5 +1,5 @@
 -- Each change of a domain's own state leaves a state of the same domain, and so do changes of other domains' classes.
-use Rattle.std.proofs.Common.{◌≡◌, ◌≢◌, ℕ, suc, ◌+◌, ◌<◌, ◌⊎◌, inl, inr, Bool, true, false, true≢false, List, [], ◌∷◌, ◌++◌, length, map, find, zero, refl, sym, ◌∙◌, ap, subst, Option, None, Some, slice_get, slice_set}
+use Rattle.std.proofs.Common.{◌≡◌, ℕ, suc, ◌<◌, ◌⊎◌, inl, inr, Bool, true, false, true≢false, List, [], ◌∷◌, ◌++◌, length, map, find, zero, refl, sym, ◌∙◌, ap, subst, None, Some, slice_get, slice_set}
 use Rattle.std.specs.Prelude.{Contains, ◌==◌, bytes_eq, if◌then◌else◌}
 use Rattle.std.specs.Option.{option_map}
 use Rattle.std.proofs.lemmas.Option.{same_Some}
@@ -16,7 +16,7 @@ use Rattle.jk_model_classes.specs.declared.records.Link.{Link}
 use Rattle.jk_model_classes.specs.Classes.{GetsLinks, HasClass, record_of}
 use Rattle.jk_model_classes.specs.Worlds.{NamedClass, IsNamed}
 use Rattle.jk_model_domains.specs.declared.states.ClassState.{ClassState}
-use Rattle.jk_model_domains.specs.OwnStates.{OwnState, ClassPart, StaticField, Literal, HasPart, HasState, IsLiteralOf, IsPartFor, IsOwnState, literal_named, part_of, standing_place, with_field, with_part, with_state, with_static}
+use Rattle.jk_model_domains.specs.OwnStates.{OwnState, ClassPart, StaticField, Literal, HasPart, IsPartFor, IsOwnState, literal_named, standing_place, with_field, with_part, with_state, with_static}
 use Rattle.class_init.proofs.PartChanged.{found_changed}
 use Rattle.class_init.proofs.PartOfAClass.{same_class}
 use Rattle.class_init.proofs.PlacesInLists.{comes_from, contains_at, old_or_last, slice_get-append, stands_at}
@@ -47,7 +47,11 @@ part_kept : (classes : List ClassRecord) (table : List NamedClass) (own : OwnSta
     → IsOwnState classes table own → IsOwnState classes table (record own { classes = with_part c change own.classes })
 part_kept classes table own c change keeps h = record {
   each = λ e has. let at = stands_at new e has in each e at.place at.there;
-  all = λ d r part. let x = h.all d r part in (some x.0, found_changed change c d own.classes (λ e. ap (λ (i : ClassId). i.0) (keeps.class e)) ∙ ap (option_map some) x.1);
+  all =
+      λ d r part.
+      let x = h.all d r part in
+      let found = found_changed change c d own.classes (λ e. ap (λ (i : ClassId). i.0) (keeps.class e)) in
+      (some x.0, found ∙ ap (option_map some) x.1);
   classes_differ =
       λ i j a b p q e.
       let x = comes_from some own.classes i a p in
@@ -88,11 +92,12 @@ state_kept classes table own c s h =
 
 indices_with : (index : ℕ) (v : Value) (statics : List StaticField) → indices (with_field index v statics) ≡ indices statics
 indices_with index v [] = refl
-indices_with index v (f ∷ statics) = by_test (f.index == index) refl
+indices_with index v (f ∷ statics) = by_test (f.index == index) refl (indices_with index v statics)
   where
-    by_test : (b : Bool) → f.index == index ≡ b → indices (with_field index v (f ∷ statics)) ≡ indices (f ∷ statics)
-    by_test true t = rw t (ap (λ (ns : List ℕ). f.index ∷ ns) (indices_with index v statics))
-    by_test false t = rw t (ap (λ (ns : List ℕ). f.index ∷ ns) (indices_with index v statics))
+    by_test : (b : Bool) → f.index == index ≡ b → indices (with_field index v statics) ≡ indices statics
+        → indices (with_field index v (f ∷ statics)) ≡ indices (f ∷ statics)
+    by_test true t rest = rw t (ap (λ (ns : List ℕ). f.index ∷ ns) rest)
+    by_test false t rest = rw t (ap (λ (ns : List ℕ). f.index ∷ ns) rest)
 
 -- a static field gets another value
 pub static_kept : (classes : List ClassRecord) (table : List NamedClass) (own : OwnState) (m : MemberId) (v : Value) → IsOwnState classes table own
@@ -109,14 +114,15 @@ has_text text l = bytes_eq l.text text
 unnamed : (ls : List Literal) (text : List ℕ) → option_map (λ (l : Literal). l.name) (find (has_text text) ls) ≡ None → (k : ℕ) (l : Literal)
     → slice_get ls k ≡ Some l → l.text ≡ text → ⊥
 unnamed [] text none k l at same = cc
-unnamed (x ∷ ls) text none k l at same = by_test (has_text text x) refl k at
+unnamed (x ∷ ls) text none k l at same = by_test (has_text text x) refl (λ t i there. unnamed ls text (rw t at none) i l there same) k at
   where
-    by_test : (b : Bool) → has_text text x ≡ b → (k : ℕ) → slice_get (x ∷ ls) k ≡ Some l → ⊥
-    by_test true t k at = let some : Some x.name ≡ None = rw t at none in cc
-    by_test false t zero at =
+    by_test : (b : Bool) → has_text text x ≡ b → (has_text text x ≡ false → (i : ℕ) → slice_get ls i ≡ Some l → ⊥) → (k : ℕ)
+        → slice_get (x ∷ ls) k ≡ Some l → ⊥
+    by_test true t later k at = let some : Some x.name ≡ None = rw t at none in cc
+    by_test false t later zero at =
         let here : x ≡ l = same_Some x l at in
         true≢false (sym ((bytes_eq-Decides x.text text).1 (ap (λ (y : Literal). y.text) here ∙ same)) ∙ t)
-    by_test false t (suc k) at = unnamed ls text (rw t at none) k l at same
+    by_test false t later (suc k) at = later t k at
 
 abbrev pub with_literal : OwnState → List ℕ → ℕ → OwnState
 with_literal own text name = record own { literals = own.literals ++ record { text = text; name = name } ∷ [] }

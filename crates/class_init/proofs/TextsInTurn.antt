@@ -1,9 +1,8 @@
 -- Texts are added one after the other.
-use Rattle.std.proofs.Common.{◌≡◌, ℕ, ◌⊎◌, inl, inr, List, [], ◌∷◌, ◌++◌, refl, sym, ap, subst}
-use Rattle.std.specs.Prelude.{Contains}
+use Rattle.std.proofs.Common.{◌≡◌, ℕ, ◌⊎◌, inl, inr, Result, Ok, Err, List, [], ◌∷◌, ◌++◌, refl, sym, ap, subst}
+use Rattle.std.specs.Prelude.{Contains, OnOk}
 use Rattle.std.proofs.lemmas.List.Elements.{Contains-append_left, Contains-push, Contains-push_cases}
 use Rattle.jk_model_classes.specs.declared.records.ClassRecord.{ClassRecord}
-use Rattle.jk_model_classes.specs.declared.records.Link.{Link}
 use Rattle.jk_model_classes.specs.declared.records.Link.TheVariants as To
 use Rattle.jk_model_domains.specs.OwnStates.{IsTextOf}
 use Rattle.class_init.specs.Texts.{AddsText}
@@ -117,3 +116,8 @@ of_class r old mid new h g =
     from : (text : List ℕ) → IsTextOf r text → IsOfSome LeadsTo r.links text ⊎ IsOfSome HasConstant r.fields text
     from text (inl there) = inl (To.Text text, there, refl)
     from text (inr is) = inr is
+
+pub class_added : {A E : Type 0} (result : Result A E) (r : ClassRecord) (old mid new : List (List ℕ)) → AddsTexts (IsOfSome LeadsTo r.links) old mid
+    → OnOk result (AddsTexts (IsOfSome HasConstant r.fields) mid new) → OnOk result (AddsTexts (IsTextOf r) old new)
+class_added (Ok x) r old mid new h g = of_class r old mid new h g
+class_added (Err e) r old mid new h g = tt
