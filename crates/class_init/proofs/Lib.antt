@@ -5,7 +5,6 @@ mod FieldOfAnIndex
 mod FirstState
 mod ListedInOrder
 mod LiteralsByPlace
-mod OneLiteral
 mod PartAdded
 mod PartChanged
 mod PartOfAClass

@@ -268,7 +268,7 @@ restored_is_state classes table first own parts f s are known = record {
         let of : ClassId → Type 0 = λ c. HasPart classes table c x.0 in
         (x.0, subst of (sym h.class) x.1, same_indices_restored parts.classes first.classes k e h ∙ x.2)
 
-pub images_again : (images : List LiteralImage) → map literal_image (map literal_from images) ≡ images
+images_again : (images : List LiteralImage) → map literal_image (map literal_from images) ≡ images
 images_again [] = refl
 images_again (l ∷ images) = ap (λ (xs : List LiteralImage). l ∷ xs) (images_again images)
 

@@ -1,17 +1,16 @@
 //! A small world by hand: the system classes, and one class with four static fields and two literals.
 
-ghost use Rattle.std.specs.Prelude.{◌≡◌, ◌∷◌, [], IfOk, IsTrue, Some, map, slice_get};
+ghost use Rattle.std.specs.Prelude.{◌≡◌, IsTrue, Some, slice_get};
 ghost use Rattle.jk_model.specs.declared.identifiers.ClassId.{ClassId as AClassId};
 ghost use Rattle.jk_model_classes.specs.Classes.{HasClass};
 ghost use Rattle.jk_model_classes.specs.Worlds.{IsNamed, NamedClass};
-ghost use Rattle.class_init.specs.Literals.{literal_from};
 
 use super::*;
 use class_table::ClassTable;
 use domain_resolver::NameTable;
-use jk_model::{ClassId, DomainId, List, MemberId, OutOfMemory, Standing, ThreadNo, Units, Value};
+use jk_model::{ClassId, DomainId, List, MemberId, OutOfMemory, Standing, ThreadNo, Value};
 use jk_model_classes::{BaseRef, ClassRecord, FieldRecord, Link, TypeRef};
-use jk_model_domains::{ClassState, LiteralImage, Look, OwnParts};
+use jk_model_domains::{ClassState, Look};
 use shared_values::Text;
 use std::alloc::Global;
 use std::test::Fail;
@@ -229,7 +228,14 @@ fn begins(rt: HostRuntime) -> Result<(), Fail> {
     Ok(())
 }
 
-/// Whether threads meet what they should once thread 3 has class A in progress.
+/// Sets the state of one class and a static field of another; whether both are there.
+fn set_both(own: &mut Own) -> bool {
+    let state = set_state(own, A, ClassState::InProgress(ThreadNo(3)));
+    let field = set_value(own, Z, 3, Value::Obj(9));
+    state && field
+}
+
+/// Whether threads meet what they should then.
 fn looks_right(own: &Own) -> bool {
     let ready = look(own, ThreadNo(3), A) == Look::Ready;
     let waits = look(own, ThreadNo(4), A) == Look::Waits;
@@ -241,14 +247,26 @@ fn changes(rt: HostRuntime) -> Result<(), Fail> {
     let t = classes(rt.alloc())?;
     let names = names(rt.alloc())?;
     let mut own = begun(rt.alloc(), &t, &names)?.ok_or("a class isn't there")?;
-    assert!(rt; set_state(&mut own, A, ClassState::InProgress(ThreadNo(3))));
+    assert!(rt; set_both(&mut own));
     assert!(rt; looks_right(&own));
-    assert!(rt; set_value(&mut own, Z, 3, Value::Obj(9)));
     assert!(rt; value(&own, Z, 3) == Some(Value::Obj(9)));
+    Ok(())
+}
+
+/// Whether the names of the PrintStream and of a standing throwable are those that were set.
+fn names_stand(own: &mut Own) -> bool {
     own.set_out(5);
     own.set_standing(Standing::Quota, 6);
-    assert_eq!(rt; own.out(), 5);
-    assert_eq!(rt; own.standing(Standing::Quota), 6);
+    let out = own.out() == 5;
+    out && own.standing(Standing::Quota) == 6
+}
+
+#[test]
+fn names_what_stands(rt: HostRuntime) -> Result<(), Fail> {
+    let t = ClassTable::new(rt.alloc())?;
+    let names = NameTable::new(rt.alloc());
+    let mut own = begun(rt.alloc(), &t, &names)?.ok_or("a class isn't there")?;
+    assert!(rt; names_stand(&mut own));
     Ok(())
 }
 
@@ -260,20 +278,12 @@ fn name_both(alloc: Global, own: &mut Own) -> Result<bool, OutOfMemory> {
     Ok(given && own.literal(&hi) == Some(12))
 }
 
-/// Whether the parts stand in the order of names and of texts.
-fn are_in_order(parts: &OwnParts) -> bool {
-    let text = parts.literals.get(1).map(|l| l.name) == Some(11);
-    text && parts.classes.get(0).map(|p| p.class) == Some(A)
-}
-
 #[test]
-fn lists_in_order(rt: HostRuntime) -> Result<(), Fail> {
+fn names_literals(rt: HostRuntime) -> Result<(), Fail> {
     let t = classes(rt.alloc())?;
     let names = names(rt.alloc())?;
     let mut own = begun(rt.alloc(), &t, &names)?.ok_or("a class isn't there")?;
     assert!(rt; name_both(rt.alloc(), &mut own)?);
-    let parts = own.parts(&t)?;
-    assert!(rt; are_in_order(&parts));
     Ok(())
 }
 
@@ -283,34 +293,5 @@ fn back_from_parts(rt: HostRuntime) -> Result<(), Fail> {
     let names = names(rt.alloc())?;
     let own = again(rt.alloc(), &t, &names)?.ok_or("a class isn't there")?;
     assert!(rt; value(&own, Z, 0) == Some(Value::Int(7)));
-    Ok(())
-}
-
-/// Parts of a domain without classes, in which one text has an object.
-fn one_literal(alloc: Global) -> Result<OwnParts, OutOfMemory>
-    ensures classes { IfOk result (λ parts. parts.classes ≡ []) }
-    ensures literals { IfOk result (λ parts. map literal_from parts.literals ≡ record { text = HI; name = 9 } ∷ []) }
-{
-    let mut literals = List::new(alloc);
-    literals.push(LiteralImage {
-        text: Units::from_slice(alloc, &HI)?,
-        name: 9,
-    })?;
-    Ok(OwnParts {
-        classes: List::new(alloc),
-        literals,
-        out: 0,
-        standing: [0; 8],
-    })
-}
-
-#[test]
-fn keeps_other_texts(rt: HostRuntime) -> Result<(), Fail> {
-    let t = ClassTable::new(rt.alloc())?;
-    let names = NameTable::new(rt.alloc());
-    let parts = one_literal(rt.alloc())?;
-    let own = Own::from_parts(rt.alloc(), &t, &names, parts)?;
-    let hi = Text::new(rt.alloc(), &HI)?;
-    assert!(rt; own.literal(&hi) == Some(9));
     Ok(())
 }
