@@ -8,7 +8,7 @@ ghost use Rattle.jk_model_classes.specs.Worlds.{IsNamed, NamedClass};
 use super::*;
 use class_table::ClassTable;
 use domain_resolver::NameTable;
-use jk_model::{ClassId, DomainId, List, MemberId, OutOfMemory, Standing, ThreadNo, Value};
+use jk_model::{ClassId, DomainId, List, MemberId, OutOfMemory, ThreadNo, Value};
 use jk_model_classes::{BaseRef, ClassRecord, FieldRecord, Link, TypeRef};
 use jk_model_domains::{ClassState, Look};
 use shared_values::Text;
@@ -188,16 +188,6 @@ fn set_value(own: &mut Own, class: ClassId, index: u16, v: Value) -> bool {
     has
 }
 
-/// Gives a text its object, where it is known and has none.
-fn set_literal(own: &mut Own, text: &Text, name: u32) -> bool {
-    let known = own.literals.knows(text.as_slice(), text.fingerprint());
-    if !known || own.literal(text).is_some() {
-        return false;
-    }
-    own.set_literal(text, name);
-    true
-}
-
 /// Whether the fields have the values with which they begin.
 fn has_first_values(own: &Own) -> bool {
     let cases = [
@@ -250,40 +240,6 @@ fn changes(rt: HostRuntime) -> Result<(), Fail> {
     assert!(rt; set_both(&mut own));
     assert!(rt; looks_right(&own));
     assert!(rt; value(&own, Z, 3) == Some(Value::Obj(9)));
-    Ok(())
-}
-
-/// Whether the names of the PrintStream and of a standing throwable are those that were set.
-fn names_stand(own: &mut Own) -> bool {
-    own.set_out(5);
-    own.set_standing(Standing::Quota, 6);
-    let out = own.out() == 5;
-    out && own.standing(Standing::Quota) == 6
-}
-
-#[test]
-fn names_what_stands(rt: HostRuntime) -> Result<(), Fail> {
-    let t = ClassTable::new(rt.alloc())?;
-    let names = NameTable::new(rt.alloc());
-    let mut own = begun(rt.alloc(), &t, &names)?.ok_or("a class isn't there")?;
-    assert!(rt; names_stand(&mut own));
-    Ok(())
-}
-
-/// Gives the two texts of the classes their objects.
-fn name_both(alloc: Global, own: &mut Own) -> Result<bool, OutOfMemory> {
-    let hi = Text::new(alloc, &HI)?;
-    let ho = Text::new(alloc, &HO)?;
-    let given = set_literal(own, &ho, 11) && set_literal(own, &hi, 12);
-    Ok(given && own.literal(&hi) == Some(12))
-}
-
-#[test]
-fn names_literals(rt: HostRuntime) -> Result<(), Fail> {
-    let t = classes(rt.alloc())?;
-    let names = names(rt.alloc())?;
-    let mut own = begun(rt.alloc(), &t, &names)?.ok_or("a class isn't there")?;
-    assert!(rt; name_both(rt.alloc(), &mut own)?);
     Ok(())
 }
 
