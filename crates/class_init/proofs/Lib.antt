@@ -1,0 +1,18 @@
+-- Lemmas on a domain's own state.
+mod BegunInTurn
+mod ByKey
+mod FieldOfAnIndex
+mod FirstState
+mod ListedInOrder
+mod LiteralsByPlace
+mod PartAdded
+mod PartChanged
+mod PartOfAClass
+mod PlaceOfAText
+mod PlacesInLists
+mod RestoredState
+mod SameElements
+pub mod StatesKept
+mod TextAdded
+mod TextsInTurn
+mod WhatIsThere
