@@ -6,10 +6,10 @@ use Rattle.jk_model.specs.declared.output.Line.TheVariants.{Said, Ended}
 use Rattle.jk_model.specs.declared.steps.After.TheVariants.{Goto, Return as Returns}
 use Rattle.jk_model.specs.declared.values.Value.{Value}
 use Rattle.jk_model.specs.declared.values.Value.TheVariants.{Obj}
-use Rattle.jk_model_machine.specs.Machine.{Machine, Thread, Segment, Frame, is_live}
-use Rattle.jk_model_machine.specs.Places.{RunningPlace, Working}
-use Rattle.jk_model_machine.specs.Run.{Turns}
-use Rattle.jk_model_machine.specs.Steps.{Steps}
+use Rattle.jk_first_machine.specs.Machine.{Machine, Thread, Segment, Frame, is_live}
+use Rattle.jk_first_machine.specs.Places.{RunningPlace, Working}
+use Rattle.jk_first_machine.specs.Run.{Turns}
+use Rattle.jk_first_machine.specs.Steps.{Steps}
 use Rattle.jk_kernel.specs.Examples.{hello_opened, hello_domain, hello_started}
 use Rattle.jk_kernel.specs.Execution.{GetOut, GetText, PrintLine, Return, with_stack, Executes}
 use Rattle.jk_kernel.proofs.StepsAreDetermined.{one_step}

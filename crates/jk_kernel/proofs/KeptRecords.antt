@@ -6,8 +6,8 @@ use Rattle.std.specs.Option.{option_map, option_and_then}
 use Rattle.std.proofs.lemmas.List.{length_push}
 use Rattle.std.proofs.lemmas.Option.{slice_get_past, slice_get_within, same_Some, MatchOption-at_none, MatchOption-at_some}
 use Rattle.std.proofs.lemmas.Slice.Eq.{bytes_eq-Decides}
-use Rattle.jk_model_machine.specs.Machine.{Machine, DomainState, live_domain, listed_class, is_live, is_live_thread}
-use Rattle.jk_model_machine.specs.Starts.{Starts, Begins, with_new_thread}
+use Rattle.jk_first_machine.specs.Machine.{Machine, DomainState, live_domain, listed_class, is_live, is_live_thread}
+use Rattle.jk_first_machine.specs.Starts.{Starts, Begins, with_new_thread}
 use Rattle.jk_kernel.specs.Opening.{opened}
 use Rattle.jk_model.specs.declared.output.Line.{Line}
 use Rattle.jk_model.specs.declared.output.Line.TheVariants.{Started, StartRefused}

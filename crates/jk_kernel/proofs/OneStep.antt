@@ -8,10 +8,10 @@ use Rattle.std.proofs.lemmas.Bool.{ltb-false, ltb-true}
 use Rattle.jk_model.specs.declared.output.Line.{Line}
 use Rattle.jk_model.specs.declared.output.Line.TheVariants.{Said, Ended}
 use Rattle.jk_model.specs.declared.steps.After.TheVariants.{Goto, Return as Returns}
-use Rattle.jk_model_machine.specs.Machine.{Machine, Thread, Segment, Text}
-use Rattle.jk_model_machine.specs.Places.{RunningPlace, Working}
-use Rattle.jk_model_machine.specs.Run.{Turns}
-use Rattle.jk_model_machine.specs.Steps.{Steps}
+use Rattle.jk_first_machine.specs.Machine.{Machine, Thread, Segment, Text}
+use Rattle.jk_first_machine.specs.Places.{RunningPlace, Working}
+use Rattle.jk_first_machine.specs.Run.{Turns}
+use Rattle.jk_first_machine.specs.Steps.{Steps}
 use Rattle.jk_kernel.specs.Events.{CanStep}
 use Rattle.jk_kernel.specs.Execution.{Instruction, GetOut, GetText, PrintLine, Return, main_from, with_stack, OnHeap, OnCalls, OnSystemMethods, Executes}
 use Rattle.jk_kernel.specs.declared.domain_records.DomainRecord.{DomainRecord}

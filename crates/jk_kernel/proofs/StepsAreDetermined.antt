@@ -7,9 +7,9 @@ use Rattle.std.proofs.lemmas.Option.{same_Some}
 use Rattle.jk_model.specs.declared.output.Line.{Line}
 use Rattle.jk_model.specs.declared.steps.After.{After}
 use Rattle.jk_model.specs.declared.steps.After.TheVariants.{Goto, Raise, Call, Crossing, Return as Returns, Terminate}
-use Rattle.jk_model_machine.specs.Machine.{Machine, LoadedClass, DomainState, Thread, Segment, Frame, is_live, is_live_thread, with_thread}
-use Rattle.jk_model_machine.specs.Places.{RunningPlace, Working, with_segments_at, with_working_at}
-use Rattle.jk_model_machine.specs.Steps.{Steps, Acts, Pays, Follows}
+use Rattle.jk_first_machine.specs.Machine.{Machine, LoadedClass, DomainState, Thread, Segment, Frame, is_live, is_live_thread, with_thread}
+use Rattle.jk_first_machine.specs.Places.{RunningPlace, Working, with_segments_at, with_working_at}
+use Rattle.jk_first_machine.specs.Steps.{Steps, Acts, Pays, Follows}
 use Rattle.jk_kernel.specs.Execution.{Instruction, GetOut, GetText, PrintLine, Return, OnHeap, OnCalls, OnSystemMethods, Executes}
 
 -- ---- Lists with one more item.

@@ -5,9 +5,9 @@ use Rattle.jk_model.specs.declared.output.Line.TheVariants.{Said, Loaded, Starte
 use Rattle.jk_model.specs.declared.script.Event.{Event}
 use Rattle.jk_model.specs.declared.script.Event.TheVariants.{Domain, Start, Turn}
 use Rattle.jk_model.specs.Script.{default_quotas}
-use Rattle.jk_model_machine.specs.Machine.{Machine, DomainState, PrintStream, Text, no_domains}
-use Rattle.jk_model_machine.specs.Run.{DomainEvent}
-use Rattle.jk_model_machine.specs.Starts.{with_new_thread}
+use Rattle.jk_first_machine.specs.Machine.{Machine, DomainState, PrintStream, Text, no_domains}
+use Rattle.jk_first_machine.specs.Run.{DomainEvent}
+use Rattle.jk_first_machine.specs.Starts.{with_new_thread}
 use Rattle.jk_kernel.specs.Opening.{opened}
 
 -- each domain event loads this class

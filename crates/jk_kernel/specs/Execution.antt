@@ -7,8 +7,8 @@ use Rattle.jk_model.specs.declared.steps.After.{After}
 use Rattle.jk_model.specs.declared.steps.After.TheVariants.{Goto, Return as Returns}
 use Rattle.jk_model.specs.declared.values.Value.{Value}
 use Rattle.jk_model.specs.declared.values.Value.TheVariants.{Obj}
-use Rattle.jk_model_machine.specs.Machine.{LoadedClass, PrintStream, Text}
-use Rattle.jk_model_machine.specs.Places.{Working}
+use Rattle.jk_first_machine.specs.Machine.{LoadedClass, PrintStream, Text}
+use Rattle.jk_first_machine.specs.Places.{Working}
 
 -- ---- The code. An instruction has what it names in place of a pool index.
 

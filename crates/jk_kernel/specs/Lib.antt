@@ -7,6 +7,6 @@ pub mod Opening
 pub mod PrintingClass
 pub mod State
 pub use Rattle.jk_model.specs.ClassFile
-pub use Rattle.jk_model_machine.specs.Machine
+pub use Rattle.jk_first_machine.specs.Machine
 pub use Rattle.jk_model.specs.Output
 pub use Rattle.jk_model.specs.Outside

@@ -3,7 +3,7 @@
 -- whose texts are made when they are first named; no instruction tells the two apart.
 use Rattle.std.specs.Prelude.{ℕ, true, List, [], ◌∷◌, ◌++◌, length, map}
 use Rattle.jk_model.specs.declared.script.Quotas.{Quotas}
-use Rattle.jk_model_machine.specs.Machine.{Machine, PrintStream, Text}
+use Rattle.jk_first_machine.specs.Machine.{Machine, PrintStream, Text}
 
 abbrev pub opened : Machine → List ℕ → Quotas → List ℕ → List (List ℕ) → Machine
 opened m name quotas class texts = record m {

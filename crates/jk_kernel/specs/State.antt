@@ -1,6 +1,6 @@
 -- The machine that the kernel's records stand for.
 use Rattle.std.specs.Prelude.{◌≡◌, ℕ, suc, ◌+◌, ◌*◌, ◌<◌, ◌≤◌, ◌^◌, true, List, [], ◌∷◌, length, map, Option, Some, None, slice_get, ⊤}
-use Rattle.jk_model_machine.specs.Machine.{Machine, LoadedClass, DomainState, Thread, Segment, Frame, PrintStream, Text}
+use Rattle.jk_first_machine.specs.Machine.{Machine, LoadedClass, DomainState, Thread, Segment, Frame, PrintStream, Text}
 use Rattle.jk_model.specs.Script.{default_quotas}
 use Rattle.jk_model.specs.declared.values.Value.{Value}
 use Rattle.jk_model.specs.declared.values.Value.TheVariants.{Obj}

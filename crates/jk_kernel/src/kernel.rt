@@ -5,9 +5,9 @@ ghost use Rattle.jk_model.specs.declared.output.Line.{Line};
 ghost use Rattle.jk_model.specs.Script.{default_quotas};
 ghost use Rattle.jk_model.specs.Outside.{Appends, AppendsPart, HasRisen, NeverFalls};
 ghost use Rattle.jk_model.specs.Output.{text_of};
-ghost use Rattle.jk_model_machine.specs.Machine.{Machine, no_domains, live_domain, is_live};
-ghost use Rattle.jk_model_machine.specs.Starts.{Starts, Begins};
-ghost use Rattle.jk_model_machine.specs.Steps.{Steps};
+ghost use Rattle.jk_first_machine.specs.Machine.{Machine, no_domains, live_domain, is_live};
+ghost use Rattle.jk_first_machine.specs.Starts.{Starts, Begins};
+ghost use Rattle.jk_first_machine.specs.Steps.{Steps};
 ghost use Rattle.jk_kernel.specs.Events.{CanStep};
 ghost use Rattle.jk_kernel.specs.Execution.{Executes};
 ghost use Rattle.jk_kernel.specs.FrameMoves.{beginning_line};
@@ -33,7 +33,7 @@ pub struct Kernel {
 }
 
 impl Model for Kernel {
-    ghost use Rattle.jk_model_machine.specs.Machine.{Machine};
+    ghost use Rattle.jk_first_machine.specs.Machine.{Machine};
     ghost use Rattle.jk_kernel.specs.State.{machine_of, IsSound};
 
     ghost Value = { Machine };

@@ -4,9 +4,9 @@
 ghost use Rattle.std.specs.Prelude.{◌≡◌, ℕ, List, codes, true, false};
 ghost use Rattle.jk_model.specs.declared.output.Line.{Line};
 ghost use Rattle.jk_model.specs.Output.{text_of};
-ghost use Rattle.jk_model_machine.specs.Machine.{Machine, no_domains, is_live};
-ghost use Rattle.jk_model_machine.specs.Run.{Turns, IsRun};
-ghost use Rattle.jk_model_machine.specs.Steps.{Steps};
+ghost use Rattle.jk_first_machine.specs.Machine.{Machine, no_domains, is_live};
+ghost use Rattle.jk_first_machine.specs.Run.{Turns, IsRun};
+ghost use Rattle.jk_first_machine.specs.Steps.{Steps};
 ghost use Rattle.jk_kernel.specs.Examples.{LoadsHello, hello_events, hello_lines, hello_started};
 ghost use Rattle.jk_kernel.specs.Execution.{Executes};
 

@@ -15,8 +15,8 @@ use Rattle.jk_model.specs.declared.script.Event.TheVariants.{Domain}
 use Rattle.jk_model.specs.Outside.{Tree, Ask, ◌/-◌}
 use Rattle.jk_model.specs.Script.{is_name_byte, default_quotas}
 use Rattle.script_reader.specs.Words.{IsName}
-use Rattle.jk_model_machine.specs.Machine.{Machine, live_domain}
-use Rattle.jk_model_machine.specs.Run.{DomainEvent, Happens}
+use Rattle.jk_first_machine.specs.Machine.{Machine, live_domain}
+use Rattle.jk_first_machine.specs.Run.{DomainEvent, Happens}
 use Rattle.jk_kernel.specs.Execution.{Executes}
 use Rattle.jkernel_program.specs.declared.folders.FolderContent.TheVariants.{Absent, NotYet, Class}
 use Rattle.jkernel_program.specs.declared.stop.Stop.{Stop}

@@ -10,10 +10,10 @@ use Rattle.jk_model.specs.Outside.{Tree, Ask, Appends, NeverFalls}
 use Rattle.jk_model.specs.Output.{text_of}
 use Rattle.jk_model.proofs.AppendsInTurn.{AppendsPart-whole}
 use Rattle.jk_model.proofs.CountsNeverFall.{HasRisen-after}
-use Rattle.jk_model_machine.specs.Machine.{Machine, no_domains}
-use Rattle.jk_model_machine.specs.Run.{DomainEvent, IsRun, RaisesAtMost, OpensOne}
-use Rattle.jk_model_machine.proofs.Continued.{run_more}
-use Rattle.jk_model_machine.proofs.Counts.{run_raises}
+use Rattle.jk_first_machine.specs.Machine.{Machine, no_domains}
+use Rattle.jk_first_machine.specs.Run.{DomainEvent, IsRun, RaisesAtMost, OpensOne}
+use Rattle.jk_first_machine.proofs.Continued.{run_more}
+use Rattle.jk_first_machine.proofs.Counts.{run_raises}
 use Rattle.jk_kernel.specs.Execution.{Executes}
 use Rattle.jkernel_program.specs.declared.stop.Stop.{Stop}
 use Rattle.jkernel_program.specs.declared.stop.Stop.TheVariants.{ReadFault, WriteFault, OutOfMemory}

@@ -8,7 +8,7 @@ use Rattle.jk_model.specs.declared.script.FaultKind.TheVariants as kinds
 use Rattle.jk_model.specs.declared.script.ScriptFault.{ScriptFault}
 use Rattle.jk_model.specs.Outside.{Tree, Ask, FileIs, FileIsLong, Appends, AppendsPart, HasRisen, NeverFalls}
 use Rattle.jk_model.proofs.CountsNeverFall.{HasRisen-after}
-use Rattle.jk_model_machine.specs.Machine.{Machine}
+use Rattle.jk_first_machine.specs.Machine.{Machine}
 use Rattle.jk_model.specs.Script.{MAX_BYTES}
 use Rattle.script_reader.specs.declared.script.ScriptError.{ScriptError}
 use Rattle.script_reader.specs.declared.script.ScriptError.TheVariants as errors

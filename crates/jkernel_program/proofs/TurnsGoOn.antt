@@ -6,10 +6,10 @@ use Rattle.jk_model.specs.Outside.{Appends, AppendsPart, HasRisen, NeverFalls}
 use Rattle.jk_model.specs.Output.{line_text, text_of}
 use Rattle.jk_model.proofs.AppendsInTurn.{Appends-append, AppendsPart-more, AppendsPart-after}
 use Rattle.jk_model.proofs.CountsNeverFall.{HasRisen-after}
-use Rattle.jk_model_machine.specs.Machine.{Machine}
-use Rattle.jk_model_machine.specs.Run.{Turns}
-use Rattle.jk_model_machine.specs.Steps.{Steps}
-use Rattle.jk_model_machine.proofs.Continued.{turns_join, turns_more}
+use Rattle.jk_first_machine.specs.Machine.{Machine}
+use Rattle.jk_first_machine.specs.Run.{Turns}
+use Rattle.jk_first_machine.specs.Steps.{Steps}
+use Rattle.jk_first_machine.proofs.Continued.{turns_join, turns_more}
 use Rattle.jk_kernel.specs.Events.{CanStep}
 use Rattle.jk_kernel.specs.Execution.{Executes}
 

@@ -8,8 +8,8 @@ use Rattle.jk_model.specs.Outside.{Ask, Appends, AppendsPart, HasRisen, ◌/-◌
 use Rattle.jk_model.specs.Output.{text_of}
 use Rattle.jk_model.specs.Script.{default_quotas}
 use Rattle.script_reader.specs.Words.{IsName}
-use Rattle.jk_model_machine.specs.Machine.{Machine, no_domains}
-use Rattle.jk_model_machine.specs.Run.{DomainEvent, Happens, IsRun}
+use Rattle.jk_first_machine.specs.Machine.{Machine, no_domains}
+use Rattle.jk_first_machine.specs.Run.{DomainEvent, Happens, IsRun}
 use Rattle.jk_kernel.specs.Execution.{Executes}
 use Rattle.jkernel_program.specs.Asked.{AsksForEvent, AsksForEvents, AsksForFolder}
 use Rattle.jkernel_program.specs.declared.stop.Stop.{Stop}

@@ -4,7 +4,7 @@ use Rattle.jk_model.specs.declared.class_file.ClassFile.{ClassFile}
 use Rattle.jk_model.specs.declared.output.Line.{Line}
 use Rattle.jk_model.specs.declared.output.Line.TheVariants.{Loaded}
 use Rattle.jk_model.specs.ClassFile.{IsClass}
-use Rattle.jk_model_machine.specs.Machine.{Machine}
+use Rattle.jk_first_machine.specs.Machine.{Machine}
 use Rattle.jk_kernel.specs.Opening.{opened}
 use Rattle.jk_model.specs.Script.{default_quotas}
 use Rattle.jkernel_program.specs.Asked.{AsksForFolder}

@@ -11,8 +11,8 @@ use Rattle.jk_model.specs.declared.output.Rule.TheVariants.{L1, L2, X1}
 use Rattle.jk_model.specs.declared.script.Quotas.{Quotas}
 use Rattle.jk_model.specs.ClassFile.{IsClass}
 use Rattle.jk_model.specs.Outside.{Tree, ◌/-◌}
-use Rattle.jk_model_machine.specs.Machine.{Machine, live_domain}
-use Rattle.jk_model_machine.specs.Run.{DomainEvent}
+use Rattle.jk_first_machine.specs.Machine.{Machine, live_domain}
+use Rattle.jk_first_machine.specs.Run.{DomainEvent}
 use Rattle.jk_kernel.specs.Opening.{opened}
 use Rattle.jk_kernel.specs.PrintingClass.{IsPrintingClass}
 

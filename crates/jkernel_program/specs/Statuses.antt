@@ -5,10 +5,10 @@ use Rattle.jk_model.specs.declared.script.Event.{Event}
 use Rattle.jk_model.specs.declared.script.Event.TheVariants.{Domain}
 use Rattle.jk_model.specs.declared.script.Quotas.{Quotas}
 use Rattle.jk_model.specs.declared.script.ScriptFault.{ScriptFault}
-use Rattle.jk_model_machine.specs.Machine.{Machine, no_domains}
+use Rattle.jk_first_machine.specs.Machine.{Machine, no_domains}
 use Rattle.jk_model.specs.Outside.{Tree, Ask, FileIs, Appends, AppendsPart, ◌/-◌}
 use Rattle.jk_model.specs.Output.{text_of}
-use Rattle.jk_model_machine.specs.Run.{IsRun}
+use Rattle.jk_first_machine.specs.Run.{IsRun}
 use Rattle.jk_kernel.specs.Execution.{Executes}
 use Rattle.script_reader.specs.Events.{IsScript, IsAtFault}
 use Rattle.jkernel_program.specs.Asked.{ask_for_script, AsksForEvents, AsksForFolder}

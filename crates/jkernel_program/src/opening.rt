@@ -7,7 +7,7 @@ ghost use Rattle.jk_model.specs.declared.script.Event.TheVariants.{Domain};
 ghost use Rattle.jk_model.specs.Outside.{◌/-◌, NeverFalls};
 ghost use Rattle.jk_model.specs.Script.{default_quotas};
 ghost use Rattle.script_reader.specs.Words.{IsName};
-ghost use Rattle.jk_model_machine.specs.Machine.{live_domain};
+ghost use Rattle.jk_first_machine.specs.Machine.{live_domain};
 ghost use Rattle.jk_outside.specs.LineRefs.{line_of};
 ghost use Rattle.jkernel_program.specs.Events.{GoesOut, IsPrinted, EventEnds, EventAsks, moment};
 ghost use Rattle.jkernel_program.specs.Folders.{Runs, SaysLoaded};

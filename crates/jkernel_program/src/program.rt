@@ -8,7 +8,7 @@ ghost use Rattle.script_reader.specs.Events.{IsScript, IsAtFault};
 ghost use Rattle.jkernel_program.specs.Calls.{IsCall};
 ghost use Rattle.jkernel_program.specs.declared.stop.Stop.TheVariants.{ReadFault, WriteFault};
 ghost use Rattle.jkernel_program.specs.Ends.{EndsSo, EndsWell, EndsRefused, HasText, IsNoCall};
-ghost use Rattle.jk_model_machine.specs.Machine.{no_domains};
+ghost use Rattle.jk_first_machine.specs.Machine.{no_domains};
 ghost use Rattle.jkernel_program.specs.Events.{moment};
 ghost use Rattle.jkernel_program.specs.Statuses.{HasFault, LacksScript, IsDone, IsStopped, IsStoppedBefore, IsUnread, Asks, Says, BeginsToSay};
 

@@ -1,8 +1,8 @@
 -- What a start and a turn leave, as events.
 use Rattle.std.proofs.Common.{refl}
 use Rattle.jk_model.specs.declared.script.Event.TheVariants.{Start, Turn}
-use Rattle.jk_model_machine.specs.Run.{Turns}
-use Rattle.jk_model_machine.specs.Starts.{Starts}
+use Rattle.jk_first_machine.specs.Run.{Turns}
+use Rattle.jk_first_machine.specs.Starts.{Starts}
 use Rattle.jk_kernel.specs.Execution.{Executes}
 use Rattle.jkernel_program.specs.Events.{moment}
 use Rattle.jkernel_program.specs.Loading.{Opens}

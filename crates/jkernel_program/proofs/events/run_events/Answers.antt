@@ -4,7 +4,7 @@ use Rattle.std.specs.Prelude.{IsSome}
 use Rattle.std.proofs.lemmas.Result.{err_from_is_err_and}
 use Rattle.jk_model.specs.Outside.{Tree}
 use Rattle.jk_model.proofs.CountsNeverFall.{NeverFalls-after}
-use Rattle.jk_model_machine.specs.Machine.{no_domains}
+use Rattle.jk_first_machine.specs.Machine.{no_domains}
 use Rattle.jkernel_program.specs.Events.{EventEnds, moment}
 use Rattle.jkernel_program.specs.Loading.{Opens}
 use Rattle.jkernel_program.proofs.EventsInTurn.{counts_so_far, goes_on, run_stops, runs_whole, asks_so_far, asks_to_stop}

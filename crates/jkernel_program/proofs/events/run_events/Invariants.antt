@@ -2,7 +2,7 @@
 use Rattle.std.proofs.Common.{◌≡◌, ◌≤◌, length}
 use Rattle.std.specs.Prelude.{IsSome}
 use Rattle.jk_model.specs.Outside.{NeverFalls}
-use Rattle.jk_model_machine.specs.Machine.{no_domains}
+use Rattle.jk_first_machine.specs.Machine.{no_domains}
 use Rattle.jkernel_program.specs.Events.{moment}
 use Rattle.jkernel_program.specs.Loading.{Opens}
 use Rattle.jkernel_program.proofs.EventsInTurn.{RunsSoFar}

@@ -2,7 +2,7 @@
 use Rattle.std.proofs.Common.{sym, ◌∙◌, ◌++◌, arith}
 use Rattle.std.proofs.lemmas.Result.{err_from_is_err_and}
 use Rattle.jk_model.proofs.CountsNeverFall.{NeverFalls-after}
-use Rattle.jk_model_machine.proofs.Continued.{turns_more, turns_rest}
+use Rattle.jk_first_machine.proofs.Continued.{turns_more, turns_rest}
 use Rattle.jk_kernel.specs.Execution.{Executes}
 use Rattle.jkernel_program.proofs.TurnsGoOn.{turn_fails, goes_out_then}
 use Rattle.jkernel_program.proofs.events.turn.Goals as goal

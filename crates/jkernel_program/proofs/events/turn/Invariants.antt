@@ -3,7 +3,7 @@ use Rattle.std.proofs.Common.{◌≡◌, ◌≤◌, List}
 use Rattle.jk_model.specs.declared.output.Line.{Line}
 use Rattle.jk_model.specs.Outside.{Appends, NeverFalls}
 use Rattle.jk_model.specs.Output.{text_of}
-use Rattle.jk_model_machine.specs.Run.{Turns}
+use Rattle.jk_first_machine.specs.Run.{Turns}
 use Rattle.jk_kernel.specs.Execution.{Executes}
 use Rattle.jkernel_program.proofs.events.turn.Given as goal
 

@@ -3,7 +3,7 @@ use Rattle.std.proofs.Common.{ℕ, List, Option, Ok, Err, map, refl, subst}
 use Rattle.std.specs.Prelude.{string_bytes}
 use Rattle.jk_model.specs.declared.script.Event.{Event}
 use Rattle.jk_model.specs.Outside.{Tree}
-use Rattle.jk_model_machine.specs.Machine.{no_domains}
+use Rattle.jk_first_machine.specs.Machine.{no_domains}
 use Rattle.jkernel_program.specs.Ends.{HasText}
 use Rattle.jkernel_program.specs.Events.{RunEnds, RunAsks, moment}
 use Rattle.jkernel_program.specs.Loading.{Opens}

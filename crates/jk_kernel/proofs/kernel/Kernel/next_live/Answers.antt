@@ -1,7 +1,7 @@
 use Rattle.std.proofs.Common.{◌≡◌, ◌∙◌, ◌<◌, ◌+◌, sym, false, arith, inl, inr, subst, refl, length}
 use Rattle.std.proofs.lemmas.Bool.{cases_lt}
 use Rattle.std.proofs.lemmas.Option.{slice_get_read}
-use Rattle.jk_model_machine.specs.Machine.{is_live}
+use Rattle.jk_first_machine.specs.Machine.{is_live}
 use Rattle.jk_kernel.proofs.KeptRecords.{is_live-here, is_live-beyond}
 use Rattle.jk_kernel.proofs.kernel.Kernel.next_live.Goals as goal
 

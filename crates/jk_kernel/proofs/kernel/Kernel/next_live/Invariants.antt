@@ -1,5 +1,5 @@
 use Rattle.std.proofs.Common.{◌≡◌, ℕ, ◌<◌, ◌≤◌, false}
-use Rattle.jk_model_machine.specs.Machine.{is_live}
+use Rattle.jk_first_machine.specs.Machine.{is_live}
 use Rattle.jk_kernel.proofs.kernel.Kernel.next_live.Given as goal
 
 abbrev pub invariant-loop-place : goal.invariant-loop-place

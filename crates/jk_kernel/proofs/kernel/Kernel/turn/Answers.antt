@@ -1,8 +1,8 @@
 use Rattle.std.proofs.Common.{[], sym, ap, ◌∙◌, subst, arith, refl}
 use Rattle.std.proofs.Common.{ltb}
 use Rattle.jk_model.proofs.AppendsInTurn.{Appends-nil}
-use Rattle.jk_model_machine.specs.Machine.{Machine}
-use Rattle.jk_model_machine.specs.Steps.{Steps}
+use Rattle.jk_first_machine.specs.Machine.{Machine}
+use Rattle.jk_first_machine.specs.Steps.{Steps}
 use Rattle.jk_kernel.specs.Execution.{Executes}
 use Rattle.jk_kernel.specs.FrameMoves.{next_of, frame_at, IsFrameIn}
 use Rattle.jk_kernel.proofs.Answered.{on_ok, on_err_both}

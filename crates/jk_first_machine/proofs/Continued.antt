@@ -3,9 +3,9 @@ use Rattle.std.proofs.Common.{◌≡◌, ℕ, zero, suc, ◌+◌, ◌-◌, ◌�
 use Rattle.std.proofs.lemmas.List.{append-nil}
 use Rattle.jk_model.specs.declared.output.Line.{Line}
 use Rattle.jk_model.specs.declared.script.Event.{Event}
-use Rattle.jk_model_machine.specs.Machine.{Machine, is_live}
-use Rattle.jk_model_machine.specs.Run.{DomainEvent, Turns, Happens, IsRun}
-use Rattle.jk_model_machine.specs.Steps.{Execution, Steps}
+use Rattle.jk_first_machine.specs.Machine.{Machine, is_live}
+use Rattle.jk_first_machine.specs.Run.{DomainEvent, Turns, Happens, IsRun}
+use Rattle.jk_first_machine.specs.Steps.{Execution, Steps}
 
 -- some steps and then some more
 pub turns_join : (executes : Execution) (a b : ℕ) (m mid last : Machine) (t : ℕ) (first rest : List Line)

@@ -5,11 +5,11 @@ use Rattle.jk_model.specs.declared.script.Event.{Event}
 use Rattle.jk_model.specs.declared.script.Event.TheVariants.{Domain, Start, Turn, Round, Kill}
 use Rattle.jk_model.specs.declared.steps.After.{After}
 use Rattle.jk_model.specs.declared.steps.After.TheVariants.{Goto, Raise, Call, Crossing, Return, Terminate}
-use Rattle.jk_model_machine.specs.Machine.{Machine}
-use Rattle.jk_model_machine.specs.Places.{RunningPlace, Working}
-use Rattle.jk_model_machine.specs.Run.{DomainEvent, Turns, Happens, IsRun, RaisesAtMost, OpensOne}
-use Rattle.jk_model_machine.specs.Starts.{Starts, Begins}
-use Rattle.jk_model_machine.specs.Steps.{Execution, Steps, Follows}
+use Rattle.jk_first_machine.specs.Machine.{Machine}
+use Rattle.jk_first_machine.specs.Places.{RunningPlace, Working}
+use Rattle.jk_first_machine.specs.Run.{DomainEvent, Turns, Happens, IsRun, RaisesAtMost, OpensOne}
+use Rattle.jk_first_machine.specs.Starts.{Starts, Begins}
+use Rattle.jk_first_machine.specs.Steps.{Execution, Steps, Follows}
 
 -- ---- A machine with the same counts as another.
 
