@@ -1,0 +1,4 @@
+pub mod FirstOfFiles
+pub mod JudgedFiles
+pub mod ReadFiles
+pub mod ReadingsOfFiles

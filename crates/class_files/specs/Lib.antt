@@ -1,0 +1,4 @@
+pub mod Faults
+pub mod FileAnswers
+pub mod FolderClasses
+pub mod RuleOrder
