@@ -22,9 +22,10 @@ use Rattle.class_texts.proofs.OneText.{one_class, one_text}
 use Rattle.system_table.proofs.LawsOfTheTable.{each, has_own_name, own_name}
 use Rattle.name_rules.specs.BadHierarchies.{AnswersFlags, HasOwnNames, IsBadAt, IsBadParent, IsNoInterface, IsUnfit, LoadedFlags, TextIsBad, folder_scope}
 use Rattle.name_rules.specs.FolderEdges.{AreEdges, IsListedName}
-use Rattle.name_rules.specs.FolderNames.{AreOwnNames, files_of}
+use Rattle.class_files.specs.FolderClasses.{files_of}
+use Rattle.name_rules.specs.FolderNames.{AreOwnNames}
 use Rattle.name_rules.specs.Graphs.{HasEdge, IsClosure, Rows}
-use Rattle.name_rules.specs.declared.folder_class.FolderClass.{FolderClass}
+use Rattle.class_files.specs.declared.folder_class.FolderClass.{FolderClass}
 use Rattle.name_rules.specs.declared.scope.Scope.{Scope}
 use Rattle.name_rules.proofs.FolderGraph.{as_many_files, at_file, ring_stands, stands_path}
 

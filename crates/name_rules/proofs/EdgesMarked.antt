@@ -11,10 +11,10 @@ use Rattle.jk_model_classes.specs.Worlds.{NamedClass}
 use Rattle.class_table.proofs.ItemsByPlace.{slice_get-push_cases}
 use Rattle.class_texts.proofs.OneText.{one_class, one_text}
 use Rattle.name_rules.specs.FolderEdges.{AreEdges, ExtendsPlace, GoesTo, IsListedName, ListsPlace, MeansPlace, TextMeans}
-use Rattle.name_rules.specs.FolderNames.{files_of}
+use Rattle.class_files.specs.FolderClasses.{files_of}
 use Rattle.name_rules.specs.Graphs.{Rows}
 use Rattle.name_rules.specs.Marks.{Marks, MarksOf}
-use Rattle.name_rules.specs.declared.folder_class.FolderClass.{FolderClass}
+use Rattle.class_files.specs.declared.folder_class.FolderClass.{FolderClass}
 use Rattle.name_rules.proofs.FolderGraph.{as_many_files, file_at, item_there}
 use Rattle.name_rules.proofs.MarksInTurn.{marks_as, marks_then}
 

@@ -16,9 +16,10 @@ use Rattle.jk_model_folders.specs.ClassOrder.{ClimbsTo, HasHeight, IsClassOrder,
 use Rattle.class_texts.proofs.OneText.{one_class}
 use Rattle.class_texts.specs.PoolTexts.{AreTextsOf}
 use Rattle.name_rules.specs.FolderEdges.{AreEdges, MeansPlace}
-use Rattle.name_rules.specs.FolderNames.{AreOwnNames, AreReadClasses, IsReadClass, files_of}
+use Rattle.class_files.specs.FolderClasses.{AreReadClasses, IsReadClass, files_of}
+use Rattle.name_rules.specs.FolderNames.{AreOwnNames}
 use Rattle.name_rules.specs.Graphs.{AreHeights, Climb, HasEdge, HasNoRing, IsHeight, IsOrderOf, Path, Rows, edge, further}
-use Rattle.name_rules.specs.declared.folder_class.FolderClass.{FolderClass}
+use Rattle.class_files.specs.declared.folder_class.FolderClass.{FolderClass}
 use Rattle.name_rules.proofs.EdgesOfRows.{edge_within}
 
 pub item_there : {X : Type 0} (xs : List X) (i : ℕ) → i < length xs → (x : X) × (slice_get xs i ≡ Some x)

@@ -8,7 +8,8 @@ use Rattle.jk_model_classes.specs.Classes.{record_of}
 use Rattle.jk_model_classes.specs.Members.{TextAt}
 use Rattle.jk_model_classes.specs.References.{FlagsOfNamed, FolderScope, HasBadInterface, HasBadParent, IsClosedNamed}
 use Rattle.jk_model_classes.specs.Worlds.{NamedClass, class_named}
-use Rattle.name_rules.specs.FolderNames.{AreOwnNames, files_of}
+use Rattle.class_files.specs.FolderClasses.{files_of}
+use Rattle.name_rules.specs.FolderNames.{AreOwnNames}
 use Rattle.name_rules.specs.Graphs.{HasEdge, Rows}
 use Rattle.name_rules.specs.declared.scope.Scope.{Scope}
 

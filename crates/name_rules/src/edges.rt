@@ -4,11 +4,11 @@ ghost use Rattle.std.specs.Prelude.{◌≡◌, ℕ, IfOk, MatchOption, Some, len
 ghost use Rattle.jk_model.specs.declared.class_file.PoolEntry.TheVariants.{Class};
 ghost use Rattle.jk_model_classes.specs.Items.{HasItem};
 ghost use Rattle.name_rules.specs.FolderEdges.{AreEdges, ExtendsPlace, GoesTo, IsListedName, ListsPlace, MeansPlace, TextMeans};
-ghost use Rattle.name_rules.specs.FolderNames.{AreReadClasses, IsReadClass, files_of};
+ghost use Rattle.class_files.specs.FolderClasses.{AreReadClasses, IsReadClass, files_of};
 ghost use Rattle.name_rules.specs.Marks.{Marks, MarksOf};
 
-use crate::folder_class::FolderClass;
 use crate::marks::set_mark;
+use class_files::FolderClass;
 use domain_resolver::NameTable;
 use jk_model::{ClassFile, OutOfMemory, PoolEntry};
 use std::alloc::Global;

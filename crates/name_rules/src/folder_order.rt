@@ -3,11 +3,12 @@
 ghost use Rattle.std.specs.Prelude.{◌≡◌, ℕ, IfOk, List};
 ghost use Rattle.jk_model_classes.specs.References.{StandsOver};
 ghost use Rattle.jk_model_folders.specs.ClassOrder.{IsClassOrder};
-ghost use Rattle.name_rules.specs.FolderNames.{AreOwnNames, AreReadClasses, files_of};
+ghost use Rattle.class_files.specs.FolderClasses.{AreReadClasses, files_of};
+ghost use Rattle.name_rules.specs.FolderNames.{AreOwnNames};
 
 use crate::edges::edges;
-use crate::folder_class::FolderClass;
 use crate::heights::{by_height, heights};
+use class_files::FolderClass;
 use domain_resolver::NameTable;
 use jk_model::OutOfMemory;
 use std::alloc::Global;

@@ -6,13 +6,14 @@ ghost use Rattle.jk_model_classes.specs.ClassFlags.{has};
 ghost use Rattle.jk_model_classes.specs.Items.{Member, Spot};
 ghost use Rattle.jk_model_classes.specs.References.{HasBadHierarchy, HasBadInterface, HasBadParent, MissesClass};
 ghost use Rattle.name_rules.specs.BadHierarchies.{HasOwnNames, IsBadAt, IsBadParent, IsNoInterface, IsUnfit, TextIsBad, folder_scope};
-ghost use Rattle.name_rules.specs.FolderNames.{AreOwnNames, AreReadClasses, IsReadClass, files_of};
+ghost use Rattle.class_files.specs.FolderClasses.{AreReadClasses, IsReadClass, files_of};
+ghost use Rattle.name_rules.specs.FolderNames.{AreOwnNames};
 ghost use Rattle.name_rules.specs.Graphs.{IsSquare};
 
 use crate::edges::{edges, listed_names};
-use crate::folder_class::FolderClass;
 use crate::rings::{close, has_edge};
 use crate::scope::{Scope, flags_of, is_closed};
+use class_files::FolderClass;
 use class_table::ClassTable;
 use domain_resolver::NameTable;
 use jk_model::{ClassFile, OutOfMemory};

@@ -6,14 +6,15 @@ ghost use Rattle.jk_model.specs.declared.class_file.PoolEntry.{PoolEntry};
 ghost use Rattle.jk_model.specs.declared.class_file.PoolEntry.TheVariants.{Class, NameAndType};
 ghost use Rattle.jk_model_classes.specs.Items.{Entry, HasItem, Spot};
 ghost use Rattle.jk_model_classes.specs.References.{FolderScope, IsDescriptorEntry, MissesClass, RefersAt};
-ghost use Rattle.name_rules.specs.FolderNames.{AreOwnNames, IsReadClass};
+ghost use Rattle.class_files.specs.FolderClasses.{IsReadClass};
+ghost use Rattle.name_rules.specs.FolderNames.{AreOwnNames};
 ghost use Rattle.name_rules.specs.KnownNames.{AreLacking, DescriptorSays, IsEntryName, IsSaidBy, LacksOne};
 ghost use Rattle.name_rules.specs.Marks.{Marks, MarksOf};
 
-use crate::folder_class::FolderClass;
 use crate::marks::{is_marked, set_mark};
 use crate::mentions::{descriptor_lacks, name_lacks};
 use crate::names::Names;
+use class_files::FolderClass;
 use domain_resolver::NameTable;
 use jk_model::{ClassFile, MemberInfo, OutOfMemory, PoolEntry};
 use std::alloc::Global;

@@ -3,7 +3,6 @@
 #![tactic(auto)]
 
 mod edges;
-mod folder_class;
 mod folder_order;
 mod heights;
 mod hierarchies;
@@ -14,7 +13,6 @@ mod names;
 mod rings;
 mod scope;
 
-pub use folder_class::FolderClass;
 pub use folder_order::class_order;
 pub use hierarchies::first_bad_hierarchy;
 pub use known_names::first_missing_class;

@@ -4,7 +4,7 @@ ghost use Rattle.std.specs.Prelude.{◌↔◌, IsTrue};
 ghost use Rattle.jk_model_classes.specs.References.{FlagsOfNamed, IsClosedNamed};
 ghost use Rattle.name_rules.specs.BadHierarchies.{AnswersFlags, HasOwnNames, LoadedFlags, folder_scope};
 
-use crate::folder_class::FolderClass;
+use class_files::FolderClass;
 use class_table::ClassTable;
 use domain_resolver::NameTable;
 use system_table::{class_named, system_class};

@@ -3,7 +3,7 @@ use Rattle.std.proofs.Common.{◌≡◌, ◌+◌, ◌∙◌, ◌∷◌, [], ◌+
 use Rattle.std.specs.Global.{Vec}
 use Rattle.std.proofs.lemmas.Option.{slice_get_read}
 use Rattle.jk_model.proofs.EachItem.{all_at}
-use Rattle.name_rules.specs.FolderNames.{IsReadClass}
+use Rattle.class_files.specs.FolderClasses.{IsReadClass}
 use Rattle.name_rules.proofs.EdgesMarked.{are_edges, rows_more}
 use Rattle.name_rules.proofs.edges.edges.Goals as goal
 

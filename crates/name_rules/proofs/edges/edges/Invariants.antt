@@ -3,7 +3,7 @@ use Rattle.std.proofs.Common.{◌≡◌, ℕ, length, Bool, Some, slice_get}
 use Rattle.std.specs.Global.{Vec}
 use Rattle.name_rules.specs.FolderEdges.{GoesTo}
 use Rattle.name_rules.specs.Marks.{MarksOf}
-use Rattle.name_rules.specs.declared.folder_class.FolderClass.{FolderClass}
+use Rattle.class_files.specs.declared.folder_class.FolderClass.{FolderClass}
 use Rattle.name_rules.proofs.edges.edges.Given as goal
 
 abbrev pub invariant-loop-f : goal.invariant-loop-f

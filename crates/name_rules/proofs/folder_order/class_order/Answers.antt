@@ -2,7 +2,7 @@
 use Rattle.std.proofs.Common.{◌≡◌, ◌<◌, ℕ, List, length, Some, slice_get, subst, sym, arith}
 use Rattle.std.specs.Global.{Vec}
 use Rattle.jk_model_folders.specs.ClassOrder.{IsClassOrder}
-use Rattle.name_rules.specs.FolderNames.{files_of}
+use Rattle.class_files.specs.FolderClasses.{files_of}
 use Rattle.name_rules.specs.Graphs.{AreHeights, HasNoRing, IsOrderOf, IsSquare, Rows}
 use Rattle.name_rules.proofs.FolderGraph.{class_order, names_of, no_ring}
 use Rattle.name_rules.proofs.NamesLacking.{ok_map}

@@ -6,7 +6,7 @@ use Rattle.std.proofs.lemmas.Option.{same_Some, slice_get_read, slice_get_within
 use Rattle.jk_model.specs.declared.class_file.ClassFile.{ClassFile}
 use Rattle.name_rules.specs.BadHierarchies.{IsBadAt, folder_scope}
 use Rattle.name_rules.specs.Graphs.{Rows}
-use Rattle.name_rules.specs.declared.folder_class.FolderClass.{FolderClass}
+use Rattle.class_files.specs.declared.folder_class.FolderClass.{FolderClass}
 use Rattle.name_rules.specs.declared.scope.Scope.{Scope}
 use Rattle.name_rules.proofs.BadParts.{bad_hierarchy, closed_rows, good_hierarchy}
 use Rattle.name_rules.proofs.FolderGraph.{at_file, file_at, names_of}
