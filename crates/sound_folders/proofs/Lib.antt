@@ -1,0 +1,11 @@
+-- What an accepted folder adds keeps the classes and the names of a machine sound.
+pub mod NamesOfTables
+pub mod WalksWithin
+pub mod NewClasses
+pub mod FoundByLinks
+pub mod ArraysHaveNoNames
+pub mod ReferencesAround
+pub mod TablesAgain
+pub mod StaticMembers
+pub mod SoundAgain
+pub mod FirstClasses

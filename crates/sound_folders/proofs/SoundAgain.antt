@@ -1,0 +1,238 @@
+-- The classes and the names with those of an accepted folder are sound and linked as before.
+use Rattle.std.proofs.Common.{◌≡◌, ◌≢◌, ℕ, ◌+◌, ◌-◌, ◌<◌, ◌≤◌, inl, inr, min, IsTrue, List, [], ◌∷◌, ◌++◌, length, take, Option, Some, None, slice_get, Contains, sym, ap, subst, ◌∙◌, arith}
+use Rattle.std.proofs.lemmas.Bool.{cases_lt}
+use Rattle.std.proofs.lemmas.List.{take-append-le, take_all, take_min}
+use Rattle.std.proofs.lemmas.List.Elements.{Contains-append_cases}
+use Rattle.std.proofs.lemmas.Option.{slice_get_within}
+use Rattle.jk_model.specs.declared.identifiers.ClassId.{ClassId}
+use Rattle.jk_model.specs.declared.identifiers.MemberId.{MemberId}
+use Rattle.jk_model.specs.declared.instructions.Instr.{Instr}
+use Rattle.jk_model.specs.SystemTable.{system_classes}
+use Rattle.jk_model_classes.specs.declared.records.ClassRecord.{ClassRecord}
+use Rattle.jk_model_classes.specs.declared.records.FieldRecord.{FieldRecord}
+use Rattle.jk_model_classes.specs.declared.records.Link.{Link}
+use Rattle.jk_model_classes.specs.declared.records.Link.TheVariants as To
+use Rattle.jk_model_classes.specs.declared.records.MethodRecord.{MethodRecord}
+use Rattle.jk_model_classes.specs.declared.sharing.Offer.{Offer}
+use Rattle.jk_model_classes.specs.declared.sharing.Stub.{Stub}
+use Rattle.jk_model_classes.specs.ClassFlags.{STATIC, has}
+use Rattle.jk_model_classes.specs.Classes.{AreOrdered, record_of}
+use Rattle.jk_model_classes.specs.Lookups.{FieldIs, MethodIs}
+use Rattle.jk_model_classes.specs.Members.{CLINIT}
+use Rattle.jk_model_classes.specs.SystemRecords.{AreSystemRecords, AreTypesFor}
+use Rattle.jk_model_classes.specs.Worlds.{IsNamed, NamedClass, WorldRecord}
+use Rattle.jk_model_typing.specs.declared.frames.FrameType.{FrameType}
+use Rattle.jk_model_typing.specs.Scopes.{CodeScope, IsScopeOf, is_static}
+use Rattle.jk_model_typing.specs.Typing.{IsLeastTyping}
+use Rattle.jk_model_folders.specs.declared.files.FolderFiles.{FolderFiles}
+use Rattle.jk_model_folders.specs.Loads.{Loads, MayLoad}
+use Rattle.jk_model_machine.specs.Executions.{NamesField, NamesMethod}
+use Rattle.jk_model_machine.specs.Machine.{DomainState}
+use Rattle.jk_model_machine.specs.Sealed.{IsVerified}
+use Rattle.jk_model_machine.specs.SoundClasses.{AreSoundClasses, IsClosedTable}
+use Rattle.class_growth.specs.ScopesOver.{among}
+use Rattle.class_growth.proofs.ItemsOfLists.{Contains-cases, Contains-none, item-at, place-of, slice_get-append_cases}
+use Rattle.class_growth.proofs.MoreClasses.{field-before, field_walk-kept, method-before, method_walk-kept, record-still}
+use Rattle.class_growth.proofs.ScopesKept.{closed-scope, scope-before}
+use Rattle.class_growth.proofs.TypingsKept.{typing-still}
+use Rattle.sound_folders.specs.LinkedWorlds.{AreLinked, RefersAround}
+use Rattle.sound_folders.proofs.ArraysHaveNoNames.{own_no_array}
+use Rattle.sound_folders.proofs.NewClasses.{OwnFile, added, all, closed-more, meaning, own_file, system_few}
+use Rattle.sound_folders.proofs.ReferencesAround.{refers-around}
+use Rattle.sound_folders.proofs.StaticMembers.{calls_static, reads_static}
+use Rattle.sound_folders.proofs.TablesAgain.{new_table_closed, slice_get-behind, system_known}
+
+-- each method with code of the classes from this one on has a least typing
+abbrev pub AreTyped : ClassId → List ClassRecord → Type 0
+AreTyped first classes =
+    (member : MemberId) (s : CodeScope) → IsScopeOf classes member s → first.0 ≤ member.class.0
+    → (frames : List (Option FrameType)) × IsLeastTyping classes member frames
+
+-- and none is a class initialiser
+abbrev pub NoInitialisers : ClassId → List ClassRecord → Type 0
+NoInitialisers first classes =
+    (member : MemberId) (method : MethodRecord) → MethodIs classes member method → first.0 ≤ member.class.0 → method.name ≢ CLINIT
+
+module _ {f : FolderFiles} {w : WorldRecord} {into : List ℕ} {first : ClassId} {table : List NamedClass} {offers : List Offer} {stubs : List Stub}
+    {new : WorldRecord} (l : Loads f w into first table offers stubs new) (may : MayLoad w) (domains : List DomainState)
+    (sound : AreSoundClasses w.classes domains) (linked : AreLinked w.classes domains) (ordered : AreOrdered (all l)) where
+  -- the file of a record that is new
+  own_of : (r : ClassRecord) → Contains (added l) r → (k : ℕ) × OwnFile (length w.classes) l.files l.placed k r
+  own_of r on = let place = place-of (added l) r on in (place.0, own_file l place.0 r place.1)
+
+  own_at : (c : ClassId) (r : ClassRecord) → length w.classes ≤ c.0 → record_of (all l) c ≡ Some r
+      → (k : ℕ) × OwnFile (length w.classes) l.files l.placed k r
+  own_at c r high is =
+      let k : ℕ = c.0 - length w.classes in
+      let number : length w.classes + (c.0 - length w.classes) ≡ c.0 = omega (arith, high) in
+      (k, own_file l k r (sym (slice_get-behind w.classes (added l) k) ∙ ap (slice_get (all l)) number ∙ is))
+
+  front_same : take (length system_classes) (all l) ≡ take (length system_classes) w.classes
+  front_same = take-append-le (length system_classes) w.classes (added l) (system_few l may)
+
+  homed-again : (c : ClassId) (r : ClassRecord) → record_of (all l) c ≡ Some r → (r.home ≡ None → ⊥) → (p : ClassId) × (r.parent ≡ Some p)
+  homed-again c r is foreign = elim (slice_get-append_cases w.classes (added l) c.0 r is) [
+    | inl old ↦ sound.homed c r old foreign
+    | inr later ↦ let parent = (own_of r later).1.is_record.parent in (parent.0, parent.2)
+  ]
+
+  of_system-again : (c : ClassId) (r : ClassRecord) → record_of (all l) c ≡ Some r → r.home ≡ None
+      → slice_get (take (length system_classes) (all l)) c.0 ≡ Some r
+  of_system-again c r is none = elim (slice_get-append_cases w.classes (added l) c.0 r is) [
+    | inl old ↦ ap (λ (xs : List ClassRecord). slice_get xs c.0) front_same ∙ sound.of_system c r old none
+    | inr later ↦ let at_home = (own_of r later).1.is_record.at_home in absurd (cc (none, at_home))
+  ]
+
+  described-again : (m : MemberId) (method : MethodRecord) → MethodIs (all l) m method
+      → (of : List ℕ → Option ClassId) × AreTypesFor of method.kind.params method.params
+  described-again m method (r, is, at) = elim (slice_get-append_cases w.classes (added l) m.class.0 r is) [
+    | inl old ↦ sound.described m method (r, old, at)
+    | inr later ↦
+        let own = (own_of r later).1 in
+        let told = item-at own.file.methods m.index (omega (arith, slice_get_within r.methods m.index method at, own.is_record.methods.as_many)) in
+        (meaning l, (own.is_record.methods.each m.index told.0 method told.1 at).params)
+  ]
+
+  typed-again : AreTyped first (all l) → (m : MemberId) (s : CodeScope) → IsScopeOf (all l) m s
+      → (frames : List (Option FrameType)) × IsVerified (all l) m frames
+  typed-again typed m s scope = elim (cases_lt m.class.0 (length w.classes)) [
+    | inl low ↦
+        let before = sound.typed m (among s w.classes) (scope-before w.classes (added l) m s low scope) in
+        let stood : ℕ = min before.1.stood (length w.classes) in
+        let same : take (min before.1.stood (length w.classes)) (all l) ≡ take before.1.stood w.classes =
+        take-append-le (min before.1.stood (length w.classes)) w.classes (added l) (omega arith) ∙ take_min before.1.stood w.classes in (
+          before.0,
+          record {
+            typing = typing-still w.classes (added l) may.world.ordered linked.closed m before.0 before.1.typing;
+            stood = stood;
+            is_least = subst (λ (xs : List ClassRecord). IsLeastTyping xs m before.0) (sym same) before.1.is_least;
+          },
+        )
+    | inr high ↦
+        let least = typed m s scope (omega (arith, high, l.first_is)) in
+        let same : take (length (all l)) (all l) ≡ all l = take_all (length (all l)) (all l) (omega arith) in (
+          least.0,
+          record {
+            typing = least.1.typing;
+            stood = length (all l);
+            is_least = subst (λ (xs : List ClassRecord). IsLeastTyping xs m least.0) (sym same) least.1;
+          },
+        )
+  ]
+
+  statics-again : (m member : MemberId) (s : CodeScope) (i : Instr) (method : MethodRecord) → IsScopeOf (all l) m s
+      → Contains s.code.instrs i → i.op ≡ 0xb8 → NamesMethod s i member method → IsTrue (is_static method)
+  statics-again m member s i method scope on op (class, (n, operand, leads), is) =
+      let found : MethodIs (all l) member method = subst (λ (xs : List ClassRecord). MethodIs xs member method) scope.all is in
+      elim (cases_lt m.class.0 (length w.classes)) [
+        | inl low ↦
+            let before = scope-before w.classes (added l) m s low scope in
+            let there = (closed-scope w.classes linked.closed m (among s w.classes) before).links n (To.Method class member) leads in
+            let was = method-before w.classes (added l) member method there.1 found in
+            sound.statics m member (among s w.classes) i method before on op (class, (n, operand, leads), was)
+        | inr high ↦
+            let own = own_at m.class scope.class high scope.class_is in
+            let link = subst (λ (xs : List Link). slice_get xs n ≡ Some (To.Method class member)) scope.links leads in
+            calls_static l own.0 scope.class own.1 m.index s.method scope.method s.code scope.body i on n operand class member op link method found
+      ]
+
+  static_fields-again : (m member : MemberId) (s : CodeScope) (i : Instr) (field : FieldRecord) → IsScopeOf (all l) m s
+      → Contains s.code.instrs i → i.op ≡ 0xb2 → NamesField s i member field → IsTrue (has field.flags STATIC)
+  static_fields-again m member s i field scope on op (class, (n, operand, leads), is) =
+      let found : FieldIs (all l) member field = subst (λ (xs : List ClassRecord). FieldIs xs member field) scope.all is in
+      elim (cases_lt m.class.0 (length w.classes)) [
+        | inl low ↦
+            let before = scope-before w.classes (added l) m s low scope in
+            let there = (closed-scope w.classes linked.closed m (among s w.classes) before).links n (To.Field class member) leads in
+            let was = field-before w.classes (added l) member field there.1 found in
+            sound.static_fields m member (among s w.classes) i field before on op (class, (n, operand, leads), was)
+        | inr high ↦
+            let own = own_at m.class scope.class high scope.class_is in
+            let link = subst (λ (xs : List Link). slice_get xs n ≡ Some (To.Field class member)) scope.links leads in
+            reads_static l own.0 scope.class own.1 m.index s.method scope.method s.code scope.body i on n operand class member op link field found
+      ]
+
+  initialisers-again : NoInitialisers first (all l) → (m : MemberId) (s : CodeScope) → IsScopeOf (all l) m s → s.method.name ≡ CLINIT
+      → IsTrue (is_static s.method) × (s.method.params ≡ []) × (s.method.result ≡ None)
+  initialisers-again never m s scope named = elim (cases_lt m.class.0 (length w.classes)) [
+    | inl low ↦ sound.initialisers m (among s w.classes) (scope-before w.classes (added l) m s low scope) named
+    | inr high ↦ absurd (never m s.method (scope.class, scope.class_is, scope.method) (omega (arith, high, l.first_is)) named)
+  ]
+
+  -- ---- The domains.
+
+  module _ (d : DomainState) (table_is : d.table ≡ l.placed.table) where
+    tables-again : (e : DomainState) → Contains (domains ++ d ∷ []) e → IsClosedTable (all l) e.table
+    tables-again e on = elim (Contains-append_cases domains (d ∷ []) e on) [
+      | inl old ↦ λ c named.
+          let known = sound.tables e old c named in
+          (known.0, record-still w.classes (added l) c known.0 known.1, known.2)
+      | inr last ↦ elim (Contains-cases e d [] last) [
+        | inl same ↦
+            subst (λ (x : DomainState). IsClosedTable (all l) x.table) same
+            (subst (IsClosedTable (all l)) (sym table_is) (new_table_closed l may linked.closed sound.of_system linked.around ordered))
+        | inr none ↦ absurd (Contains-none e none)
+      ]
+    ]
+
+    pub sound-again : AreTyped first (all l) → NoInitialisers first (all l) → AreSoundClasses (all l) (domains ++ d ∷ [])
+    sound-again typed never =
+        record {
+          ordered = ordered;
+          system = subst AreSystemRecords (sym front_same) sound.system;
+          homed = homed-again;
+          of_system = of_system-again;
+          described = described-again;
+          typed = typed-again typed;
+          statics = statics-again;
+          static_fields = static_fields-again;
+          initialisers = initialisers-again never;
+          tables = tables-again;
+        }
+
+    knows_system-again : (e : DomainState) → Contains (domains ++ d ∷ []) e → (c : ClassId) → c.0 < length system_classes → IsNamed e.table c
+    knows_system-again e on c low = elim (Contains-append_cases domains (d ∷ []) e on) [
+      | inl old ↦ linked.knows_system e old c low
+      | inr last ↦ elim (Contains-cases e d [] last) [
+        | inl same ↦
+            subst (λ (x : DomainState). IsNamed x.table c) same
+            (subst (λ (x : List NamedClass). IsNamed x c) (sym table_is) (system_known l may c low))
+        | inr none ↦ absurd (Contains-none e none)
+      ]
+    ]
+
+    around-still : (c : ClassId) (r : ClassRecord) → record_of w.classes c ≡ Some r → RefersAround w.classes r → RefersAround (all l) r
+    around-still c r is around =
+        let there = (linked.closed.each c r is).links in
+        record {
+          parent = around.parent;
+          interfaces = around.interfaces;
+          entries = around.entries;
+          fields = λ class m on.
+              let found = around.fields class m on in
+              let has = (there (To.Field class m) on).0 in (
+                found.0,
+                subst (λ (walk : List ClassId). Contains walk m.class) (sym (field_walk-kept w.classes (added l) may.world.ordered class has)) found.1,
+              );
+          methods = λ class m on.
+              let found = around.methods class m on in
+              let has = (there (To.Method class m) on).0 in (
+                found.0,
+                subst (λ (walk : List ClassId). Contains walk m.class) (sym (method_walk-kept w.classes (added l) may.world.ordered class has)) found.1,
+              );
+        }
+
+    pub linked-again : AreLinked (all l) (domains ++ d ∷ [])
+    linked-again =
+        record {
+          closed = closed-more l may linked.closed;
+          around = λ c r is foreign. elim (slice_get-append_cases w.classes (added l) c.0 r is) [
+            | inl old ↦ around-still c r old (linked.around c r old foreign)
+            | inr later ↦ let own = own_of r later in refers-around l linked.names ordered own.0 r own.1
+          ];
+          names = λ c r is. elim (slice_get-append_cases w.classes (added l) c.0 r is) [
+            | inl old ↦ linked.names c r old
+            | inr later ↦ let own = own_of r later in own_no_array l own.1.place own.1.file own.1.listed r.name own.1.is_record.name
+          ];
+          knows_system = knows_system-again;
+        }

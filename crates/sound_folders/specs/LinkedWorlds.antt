@@ -1,0 +1,63 @@
+-- What is kept of the classes and the names of a machine from one accepted folder to the next, beside their soundness.
+use Rattle.std.specs.Prelude.{◌≡◌, ◌≢◌, ℕ, ◌<◌, ◌≤◌, List, length, Contains, Option, Some, None}
+use Rattle.std.specs.List.{AllByRecursion}
+use Rattle.jk_model.specs.declared.identifiers.ClassId.{ClassId}
+use Rattle.jk_model.specs.declared.identifiers.MemberId.{MemberId}
+use Rattle.jk_model.specs.SystemTable.{system_classes}
+use Rattle.jk_model_classes.specs.declared.records.BaseRef.{BaseRef}
+use Rattle.jk_model_classes.specs.declared.records.BaseRef.TheVariants as Base
+use Rattle.jk_model_classes.specs.declared.records.ClassRecord.{ClassRecord}
+use Rattle.jk_model_classes.specs.declared.records.Link.TheVariants as To
+use Rattle.jk_model_classes.specs.declared.records.MethodRecord.{MethodRecord}
+use Rattle.jk_model_classes.specs.declared.records.TypeRef.{TypeRef}
+use Rattle.jk_model_classes.specs.declared.sharing.Offer.{Offer}
+use Rattle.jk_model_classes.specs.declared.sharing.Stub.{Stub}
+use Rattle.jk_model_classes.specs.ClassNames.{BeginsArray}
+use Rattle.jk_model_classes.specs.Classes.{field_walk, method_walk, record_of}
+use Rattle.jk_model_classes.specs.Lookups.{MethodIs}
+use Rattle.jk_model_classes.specs.Members.{CLINIT}
+use Rattle.jk_model_classes.specs.Worlds.{IsNamed, NamedClass, WorldRecord}
+use Rattle.jk_model_typing.specs.declared.frames.FrameType.{FrameType}
+use Rattle.jk_model_typing.specs.Scopes.{CodeScope, IsScopeOf}
+use Rattle.jk_model_typing.specs.Typing.{IsLeastTyping}
+use Rattle.jk_model_folders.specs.declared.files.FolderFiles.{FolderFiles}
+use Rattle.jk_model_folders.specs.Loads.{Loads, MayLoad}
+use Rattle.jk_model_machine.specs.Machine.{DomainState, Machine, world_of}
+use Rattle.class_growth.specs.ClosedClasses.{IsClosed}
+
+abbrev pub RefersToBase : ClassRecord → BaseRef → Type 0
+RefersToBase r (Base.Class c) = Contains r.references c
+RefersToBase r base = Unit {0}
+
+-- A record lists among its references its parent, its interfaces, and each class that an entry of its pool names; and a member to
+-- which an entry leads stands on the way up from the class that the entry names.
+pub record RefersAround (classes : List ClassRecord) (r : ClassRecord) : Type 0 where
+  pub parent : (p : ClassId) → r.parent ≡ Some p → Contains r.references p
+  pub interfaces : AllByRecursion (Contains r.references) r.interfaces
+  pub entries : (t : TypeRef) → Contains r.links (To.Class t) → RefersToBase r t.base
+  pub fields : (c : ClassId) (m : MemberId) → Contains r.links (To.Field c m) → Contains r.references c × Contains (field_walk classes c) m.class
+  pub methods : (c : ClassId) (m : MemberId) → Contains r.links (To.Method c m)
+      → Contains r.references c × Contains (method_walk classes c) m.class
+
+pub record AreLinked (classes : List ClassRecord) (domains : List DomainState) : Type 0 where
+  pub closed : IsClosed classes
+  -- of each class that isn't of the system
+  pub around : (c : ClassId) (r : ClassRecord) → record_of classes c ≡ Some r → r.home ≢ None → RefersAround classes r
+  -- the name of a class isn't one of an array
+  pub names : (c : ClassId) (r : ClassRecord) → record_of classes c ≡ Some r → BeginsArray r.name → ⊥
+  -- each domain knows the system classes
+  pub knows_system : (d : DomainState) → Contains domains d → (c : ClassId) → c.0 < length system_classes → IsNamed d.table c
+
+-- each of these domains has the names of one of those
+abbrev pub HaveNamesOf : List DomainState → List DomainState → Type 0
+HaveNamesOf domains old = (d : DomainState) → Contains domains d → (e : DomainState) × Contains old e × (d.table ≡ e.table)
+
+-- Files that break no rule give these names, offers, stubs and classes to the domain that is loaded next; each of the new methods
+-- with code has a least typing, and none is a class initialiser.
+pub record Accepts (f : FolderFiles) (m : Machine) (name : List ℕ) (first : ClassId) (table : List NamedClass) (offers : List Offer) (stubs : List Stub) (w : WorldRecord) : Type 0 where
+  pub may : MayLoad (world_of m)
+  pub loads : Loads f (world_of m) name first table offers stubs w
+  pub typed : (member : MemberId) (s : CodeScope) → IsScopeOf w.classes member s → first.0 ≤ member.class.0
+      → (frames : List (Option FrameType)) × IsLeastTyping w.classes member frames
+  pub no_initialisers : (member : MemberId) (method : MethodRecord) → MethodIs w.classes member method → first.0 ≤ member.class.0
+      → method.name ≢ CLINIT
