@@ -1,0 +1,2 @@
+pub mod BuiltCodes
+pub mod WholeEvents
