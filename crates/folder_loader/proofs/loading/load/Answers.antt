@@ -1,0 +1,59 @@
+-- What the parts answer is answered of the folder.
+use Rattle.std.proofs.Common.{Err, ap, subst, sym, ◌∙◌}
+use Rattle.std.specs.Prelude.{List, ℕ}
+use Rattle.jk_model.specs.Outside.{◌/-◌}
+use Rattle.jk_model_folders.specs.FolderRules.{IsLive}
+use Rattle.folder_loader.proofs.LoadedFolders.{folder_loads}
+use Rattle.folder_loader.proofs.ToldRefusals.{asks_of, files_refused, folder_fault, live_refused, not_live_by, read_refused, refused_by}
+use Rattle.folder_loader.proofs.loading.load.Goals as goal
+
+pub returns-then-is_live-clause-refused : goal.returns-then-is_live-clause-refused
+returns-then-is_live-clause-refused g c = λ rule place e.
+    live_refused (g.F.Files.tree c.args.files.now) c.args.root.now c.args.world.now c.args.name.now rule place (c.is_live.ensures.0 c.if-is_live.true)
+    (refused_by _ _ e)
+
+pub returns-then-is_live-clause-folder_fault : goal.returns-then-is_live-clause-folder_fault
+returns-then-is_live-clause-folder_fault g c = λ t rule place told e.
+    folder_fault (g.F.Files.tree c.args.files.now) t c.args.root.now c.args.world.now c.args.name.now rule place told
+    (returns-then-is_live-clause-refused g c rule place e)
+
+pub load_files-requires-clause-not_live : goal.load_files-requires-clause-not_live
+load_files-requires-clause-not_live g c =
+    subst (λ (x : List ℕ). IsLive c.args.world.now x → ⊥) (sym c.as_bytes.ensures.value)
+    (not_live_by c.args.world.now c.args.name.now c.is_live.result c.is_live.ensures c.if-is_live.false)
+
+pub returns-in-Ok-clause-refused : goal.returns-in-Ok-clause-refused
+returns-in-Ok-clause-refused g c = λ rule place e.
+    files_refused (g.F.Files.tree c.args.files.now) c.args.root.now c.args.world.now c.args.name.now c.as_str.result.now c.as_bytes.result.now c.in-Ok.found
+    rule place (not_live_by c.args.world.now c.args.name.now c.is_live.result c.is_live.ensures c.if-is_live.false)
+    (c.as_str.ensures.value ∙ c.in_ok-folder.ensures) c.as_bytes.ensures.value c.in-Ok.ensures.files c.in-Ok.ensures.told
+    (c.load_files.ensures.refused rule place e)
+
+pub returns-in-Ok-clause-folder_fault : goal.returns-in-Ok-clause-folder_fault
+returns-in-Ok-clause-folder_fault g c = λ t rule place told e.
+    folder_fault (g.F.Files.tree c.args.files.now) t c.args.root.now c.args.world.now c.args.name.now rule place told
+    (returns-in-Ok-clause-refused g c rule place e)
+
+pub returns-in-Ok-clause-asks : goal.returns-in-Ok-clause-asks
+returns-in-Ok-clause-asks g c = asks_of c.as_str.result.now _ _ _ (c.as_str.ensures.value ∙ c.in_ok-folder.ensures) c.in-Ok.ensures.asks
+
+pub returns-clause-refused : goal.returns-clause-refused
+returns-clause-refused g c = λ rule place e.
+    read_refused (g.F.Files.tree c.args.files.now) c.args.root.now c.args.world.now c.args.name.now c.as_str.result.now c.in-Err.e c.not_read.result
+    rule place (not_live_by c.args.world.now c.args.name.now c.is_live.result c.is_live.ensures c.if-is_live.false)
+    (c.as_str.ensures.value ∙ c.in_ok-folder.ensures) (λ is. c.in-Err.ensures.no_folder (ap Err is)) (λ is. c.in-Err.ensures.too_large (ap Err is))
+    c.not_read.ensures (refused_by _ _ e)
+
+pub returns-clause-folder_fault : goal.returns-clause-folder_fault
+returns-clause-folder_fault g c = λ t rule place told e.
+    folder_fault (g.F.Files.tree c.args.files.now) t c.args.root.now c.args.world.now c.args.name.now rule place told
+    (returns-clause-refused g c rule place e)
+
+pub returns-clause-asks : goal.returns-clause-asks
+returns-clause-asks g c = asks_of c.as_str.result.now _ _ _ (c.as_str.ensures.value ∙ c.in_ok-folder.ensures) c.in-Err.ensures.asks
+
+pub returns-in-Ok-clause-ok : goal.returns-in-Ok-clause-ok
+returns-in-Ok-clause-ok g c =
+    folder_loads (g.F.Files.tree c.args.files.now) c.as_str.result.now (c.args.root.now /- c.args.name.now) c.as_bytes.result.now c.args.name.now
+    c.in-Ok.found c.args.world.now c.load_files.new.world c.load_files.result (c.as_str.ensures.value ∙ c.in_ok-folder.ensures) c.as_bytes.ensures.value
+    c.in-Ok.ensures.files c.in-Ok.ensures.told c.load_files.ensures.ok

@@ -1,0 +1,12 @@
+pub mod CodesInTurn
+pub mod FirstOfPlaces
+pub mod ItemsAt
+pub mod LinkedPlaces
+pub mod LinksInTurn
+pub mod MethodsOfClass
+pub mod PlacedFolders
+pub mod PlacesDiffer
+pub mod RulesInTurn
+pub mod RulesOfClasses
+pub mod SharedFiles
+pub mod ShortCodes

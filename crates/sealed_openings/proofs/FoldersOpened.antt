@@ -1,0 +1,87 @@
+-- A sealed machine with the classes of an accepted folder, and with the folder's domain opened, is sealed.
+use Rattle.std.proofs.Common.{◌≡◌, ℕ, zero, suc, true, List, [], ◌∷◌, ◌++◌, length, map, Contains, Some, slice_get, refl, sym, ap, subst, ◌∙◌}
+use Rattle.std.proofs.lemmas.List.Elements.{Contains-append_right}
+use Rattle.std.proofs.lemmas.Option.{same_Some}
+use Rattle.jk_model.specs.declared.identifiers.ClassId.{ClassId}
+use Rattle.jk_model.specs.declared.identifiers.ThreadNo.{ThreadNo}
+use Rattle.jk_model.specs.declared.script.Quotas.{Quotas}
+use Rattle.jk_model_classes.specs.declared.records.ClassRecord.{ClassRecord}
+use Rattle.jk_model_classes.specs.declared.sharing.Offer.{Offer}
+use Rattle.jk_model_classes.specs.declared.sharing.Stub.{Stub}
+use Rattle.jk_model_classes.specs.Classes.{AreOrdered}
+use Rattle.jk_model_classes.specs.Worlds.{NamedClass, WorldRecord}
+use Rattle.jk_model_domains.specs.declared.states.ClassState.TheVariants as State
+use Rattle.jk_model_domains.specs.OwnStates.{state_of}
+use Rattle.jk_model_folders.specs.declared.files.FolderFiles.{FolderFiles}
+use Rattle.jk_model_machine.specs.Machine.{DomainState, Inside, Machine, is_live_domain}
+use Rattle.jk_model_machine.specs.Sealed.{IsSealed, IsSealedInside}
+use Rattle.jk_model_machine.specs.SoundClasses.{AreSoundClasses}
+use Rattle.class_growth.proofs.ItemsOfLists.{Contains-at, Contains-here, place-of}
+use Rattle.sound_folders.specs.LinkedWorlds.{Accepts, AreLinked}
+use Rattle.sound_folders.proofs.NewClasses.{added, all}
+use Rattle.sound_folders.proofs.SoundAgain.{AreTyped, NoInitialisers, linked-again, sound-again}
+use Rattle.sealed_openings.specs.FieldConstants.{HaveSuitingConstants}
+use Rattle.sealed_openings.specs.NewDomains.{IsNewDomain}
+use Rattle.sealed_openings.specs.OpenedDomains.{IsOpening, new_domain, with_new_domain}
+use Rattle.sealed_openings.proofs.OpenedMachines.{opened-sealed}
+use Rattle.sealed_openings.proofs.OpeningsSealed.{opening-sealed}
+use Rattle.sealed_openings.proofs.UntouchedClasses.{none-in_progress}
+
+-- ---- Names.
+
+mapped-at : {X Y : Type 0} (f : X → Y) (xs : List X) (k : ℕ) (x : X) → slice_get xs k ≡ Some x → slice_get (map f xs) k ≡ Some (f x)
+mapped-at f [] k x e = absurd cc
+mapped-at f (y ∷ xs) zero x e = ap (λ z. Some (f z)) (same_Some y x e)
+mapped-at f (y ∷ xs) (suc k) x e = mapped-at f xs k x e
+
+module _ {f : FolderFiles} {m : Machine} {name : List ℕ} {first : ClassId} {table : List NamedClass} {offers : List Offer} {stubs : List Stub}
+    {w : WorldRecord} (a : Accepts f m name first table offers stubs w) (sealed : IsSealed m) (sound : AreSoundClasses m.classes m.domains)
+    (linked : AreLinked m.classes m.domains) (ordered : AreOrdered w.classes) (suiting : HaveSuitingConstants w.classes) (quotas : Quotas)
+    (inside : Inside) (opening : IsOpening w.classes table inside) where
+  abbrev d : DomainState
+  d = new_domain m name quotas table offers inside
+
+  same : w.classes ≡ all a.loads
+  same = ap (λ (x : WorldRecord). x.classes) a.loads.world ∙ a.loads.is_placed.classes
+
+  pub sound-then : AreSoundClasses w.classes (m.domains ++ d ∷ [])
+  sound-then =
+      subst (λ (xs : List ClassRecord). AreSoundClasses xs (m.domains ++ d ∷ [])) (sym same)
+      (sound-again a.loads a.may m.domains sound linked (subst AreOrdered same ordered) d a.loads.table_is
+      (subst (λ (xs : List ClassRecord). AreTyped first xs) same a.typed) (subst (λ (xs : List ClassRecord). NoInitialisers first xs) same a.no_initialisers))
+
+  pub linked-then : AreLinked w.classes (m.domains ++ d ∷ [])
+  linked-then =
+      subst (λ (xs : List ClassRecord). AreLinked xs (m.domains ++ d ∷ [])) (sym same)
+      (linked-again a.loads a.may m.domains sound linked (subst AreOrdered same ordered) d a.loads.table_is)
+
+  not-live : (e : DomainState) → Contains m.domains e → is_live_domain e ≡ true → e.name ≡ name → ⊥
+  not-live e on live same_name =
+      let place = place-of m.domains e on in
+      a.loads.not_live (
+        record { 0 = place.0 },
+        (
+          record { id = e.number; name = e.name; live = is_live_domain e; table = e.table; offers = e.offers },
+          mapped-at (λ (x : DomainState). record { id = x.number; name = x.name; live = is_live_domain x; table = x.table; offers = x.offers })
+              m.domains place.0 e place.1,
+          live,
+          same_name,
+        ),
+      )
+
+  new-domain : IsNewDomain m w.classes d
+  new-domain = record {
+    number = refl;
+    another_name = not-live;
+    sealed = λ x is.
+        subst (λ (y : Inside). IsSealedInside w.classes d y) (same_Some inside x is)
+        (opening-sealed w.classes sound-then.system suiting d
+        (linked-then.knows_system d (Contains-append_right m.domains (d ∷ []) d (Contains-here d []))) inside opening);
+    calm = λ x c t is. subst (λ (y : Inside). state_of y.own c ≡ State.InProgress t → ⊥) (same_Some inside x is)
+        (none-in_progress inside.own opening.untouched c t);
+  }
+
+  pub opened-then : IsSealed (with_new_domain m w name quotas table offers inside)
+  opened-then =
+      subst (λ (xs : List ClassRecord). IsSealed (record m { classes = xs; domains = m.domains ++ d ∷ [] })) (sym same)
+      (opened-sealed m (added a.loads) d sealed sound linked.closed (subst (λ (xs : List ClassRecord). IsNewDomain m xs d) same new-domain))

@@ -1,0 +1,3 @@
+pub mod FieldConstants
+pub mod NewDomains
+pub mod OpenedDomains
