@@ -1,4 +1,5 @@
 pub mod BlocksAreGiven
+mod WrittenAt
 pub mod DomainCloses
 pub mod DomainIsEntered
 pub mod DomainIsKept

@@ -1,5 +1,5 @@
 -- What a store over vectors holds.
-use Rattle.std.specs.Prelude.{◌≡◌, ◌≢◌, ℕ, ◌+◌, ◌-◌, ◌<◌, ◌≤◌, ◌⊎◌, Option, Some, None, false, nat_eq, option_map, sum_by}
+use Rattle.std.specs.Prelude.{◌≡◌, ◌≢◌, ℕ, ◌+◌, ◌-◌, ◌<◌, ◌≤◌, ◌⊎◌, Option, Some, None, false, nat_eq, option_map, slice_get, sum_by}
 use Rattle.std.specs.Option.{option_map_or}
 use Rattle.indexmap.specs.IndexMap.{IndexMap, get, values}
 use Rattle.frame_store.specs.declared.domain_frames.DomainFrames.{DomainFrames}
@@ -45,6 +45,12 @@ module _ {S : Type 0} where
         → option_map_or (λ (x : DomainFrames). number_of x.slots p.slot) (get nat_eq domains p.domain) 0 ≡ s
     pub owes : owed ≡ sum_by owed_by (values domains)
     pub enough : owed ≤ room places
+
+  -- The domain of a number stands at this place of the map.
+  pub record StandsAt (domains : IndexMap ℕ DomainFrames S) (d i : ℕ) : Type 0 where
+    pub domain : DomainFrames
+    pub entry : slice_get domains.entries i ≡ Some (d, domain)
+    pub is : get nat_eq domains d ≡ Some domain
 
   -- The segment stands in a domain.
   pub record IsFound (domains : IndexMap ℕ DomainFrames S) (places : SegmentTable) (s : ℕ) (x : DomainFrames) (slot : ℕ) : Type 0 where

@@ -31,7 +31,7 @@ impl PlainFrames {
     ghost use Rattle.jk_model.specs.declared.identifiers.DomainId.{DomainId};
     ghost use Rattle.jk_model.specs.declared.identifiers.SegmentNo.{SegmentNo};
     ghost use Rattle.frame_store.specs.TableMoves.{place_in};
-    ghost use Rattle.frame_store.specs.StoreContents.{content_of, IsStanding, IsFound, Enters, IsUnentered};
+    ghost use Rattle.frame_store.specs.StoreContents.{content_of, IsStanding, IsFound, Enters, IsUnentered, StandsAt};
 
     /// A store without domains.
     pub fn new(alloc: Global) -> PlainFrames
@@ -56,12 +56,33 @@ impl PlainFrames {
         self.places.get(s.0).unwrap()
     }
 
-    /// A domain.
+    /// A domain. It stands at its own number where none was closed before it, so that most look-ups want no hash.
     fn domain(&self, d: u32) -> &DomainFrames
         requires { IsSome (get nat_eq self.now.domains d) }
         ensures { get nat_eq self.now.domains d ≡ Some result.now }
     {
+        if let Some((number, x)) = self.domains.get_index(d as usize) {
+            if *number == d {
+                return x;
+            }
+        }
         self.domains.get(&d).unwrap()
+    }
+
+    /// Where a domain stands in the map.
+    fn index_of(&self, d: u32) -> usize
+        requires { IsSome (get nat_eq self.now.domains d) }
+        ensures { StandsAt self.now.domains d result }
+    {
+        if let Some((number, _)) = self.domains.get_index(d as usize) {
+            if *number == d {
+                return d as usize;
+            }
+        }
+        match self.domains.get_full(&d) {
+            Some((place, _, _)) => place,
+            None => unreachable!(),
+        }
     }
 
     /// Makes room for a domain's segments, and enters it. After an error all is as before.
@@ -127,7 +148,8 @@ impl FrameStore for PlainFrames {
 
     fn push(&mut self, s: SegmentNo, head: FrameHead) -> Result<(), NoChunks> {
         let p = self.place(s);
-        match self.domains.get_mut(&p.domain) {
+        let place = self.index_of(p.domain);
+        match self.domains.get_index_mut(place) {
             Some(x) => x.push(p.slot, head),
             None => Ok(()),
         }
@@ -135,7 +157,8 @@ impl FrameStore for PlainFrames {
 
     fn pop(&mut self, s: SegmentNo) {
         let p = self.place(s);
-        if let Some(x) = self.domains.get_mut(&p.domain) {
+        let place = self.index_of(p.domain);
+        if let Some(x) = self.domains.get_index_mut(place) {
             x.pop(p.slot);
         }
     }
@@ -152,7 +175,8 @@ impl FrameStore for PlainFrames {
 
     fn go(&mut self, s: SegmentNo, at: u32, need: Option<ClassId>) {
         let p = self.place(s);
-        if let Some(x) = self.domains.get_mut(&p.domain) {
+        let place = self.index_of(p.domain);
+        if let Some(x) = self.domains.get_index_mut(place) {
             x.go(p.slot, at, need);
         }
     }
@@ -164,7 +188,8 @@ impl FrameStore for PlainFrames {
 
     fn set_local(&mut self, s: SegmentNo, i: u16, v: Value) {
         let p = self.place(s);
-        if let Some(x) = self.domains.get_mut(&p.domain) {
+        let place = self.index_of(p.domain);
+        if let Some(x) = self.domains.get_index_mut(place) {
             x.set_local(p.slot, i, v);
         }
     }
@@ -182,14 +207,16 @@ impl FrameStore for PlainFrames {
 
     fn push_value(&mut self, s: SegmentNo, v: Value) {
         let p = self.place(s);
-        if let Some(x) = self.domains.get_mut(&p.domain) {
+        let place = self.index_of(p.domain);
+        if let Some(x) = self.domains.get_index_mut(place) {
             x.push_value(p.slot, v);
         }
     }
 
     fn pop_value(&mut self, s: SegmentNo) -> Value {
         let p = self.place(s);
-        match self.domains.get_mut(&p.domain) {
+        let place = self.index_of(p.domain);
+        match self.domains.get_index_mut(place) {
             Some(x) => x.pop_value(p.slot),
             None => Value::Unset,
         }

@@ -1,11 +1,16 @@
 -- A frame is pushed in the domain.
-use Rattle.std.proofs.Common.{◌≡◌, ◌+◌, ◌++◌, ◌∷◌, [], sym, ap}
+use Rattle.std.proofs.Common.{◌≡◌, ℕ, ◌+◌, ◌-◌, ◌<◌, ◌≤◌, ◌++◌, ◌∷◌, ◌∙◌, [], Some, nat_eq, option_map, arith, subst, sym, ap}
+use Rattle.std.specs.Option.{option_map_or}
 use Rattle.jk_model_domains.specs.Frames.{new_frame, head_chunks}
 use Rattle.frame_store.specs.declared.domain_frames.DomainFrames.{DomainFrames}
-use Rattle.frame_store.specs.FrameContents.{IsSame, Pushes}
+use Rattle.indexmap.specs.IndexMap.{IndexMap, get, with_value_at}
+use Rattle.jk_model.specs.declared.identifiers.DomainId.{DomainId}
+use Rattle.frame_store.specs.declared.segment_table.SegmentTable.{SegmentTable}
+use Rattle.frame_store.specs.FrameContents.{HasRoomFor, IsSame, Pushes, StoredSegment, free_chunks}
 use Rattle.frame_store.specs.StoreContents.{content_of, IsFound, IsStore}
 use Rattle.frame_store.specs.DomainMoves.{frames_of, Becomes}
-use Rattle.frame_store.proofs.StoreChanges.{found_slot, store_kept}
+use Rattle.frame_store.proofs.StoreChanges.{found_segment, found_slot, same_some, segment_in, store_kept}
+use Rattle.frame_store.proofs.WrittenAt.{never_none, read_at, written_at}
 use Rattle.frame_store.proofs.StoreSteps.{steps_push, steps_none}
 use Rattle.frame_store.proofs.SegmentGoes.{on_ok, on_err, either_way}
 use Rattle.frame_store.proofs.plain_frames.PlainFramesFrameStore.push.Goals as goal
@@ -15,7 +20,7 @@ push-requires c =
     let st = c.args.self.now in
     let x = c.in-Some.x.now in
     let p = c.place-p.result in
-    let is = sym c.in-Some.ensures.value in
+    let is = read_at st.domains p.domain c.index_of-place.result c.index_of-place.ensures x c.in-Some.ensures.value in
     let found : IsFound st.domains st.places c.args.s.0 x p.slot = record { domain = p.domain; at = c.place-p.ensures; is = is } in
     found_slot _ _ _ c.args.s st.ok x p.slot found
 
@@ -24,13 +29,13 @@ invariant_of-self c =
     let st = c.args.self.now in
     let x = c.in-Some.x.now in
     let p = c.place-p.result in
-    let is = sym c.in-Some.ensures.value in
+    let is = read_at st.domains p.domain c.index_of-place.result c.index_of-place.ensures x c.in-Some.ensures.value in
     let found : IsFound st.domains st.places c.args.s.0 x p.slot = record { domain = p.domain; at = c.place-p.ensures; is = is } in
     let y = c.push.new.self in
-    let wrote = c.get_mut.follows.holds y in
+    let wrote = written_at st.domains p.domain c.index_of-place.result c.index_of-place.ensures y c.get_index_mut.ensures.unique in
     record {
       ok =
-          either_way c.push.result _ _ (IsStore (c.get_mut.follows.lender y) st.places st.owed)
+          either_way c.push.result _ _ (IsStore (with_value_at st.domains c.index_of-place.result y) st.places st.owed)
           (λ (b : Becomes x y p.slot (frames_of x p.slot ++ new_frame c.args.head ∷ []) (x.used + head_chunks c.args.head)).
           store_kept _ _ st.places st.owed c.args.s p x y st.ok c.place-p.ensures is wrote b.same_chunks b.same_slots)
           (λ (e : y ≡ x). store_kept _ _ st.places st.owed c.args.s p x y st.ok c.place-p.ensures is wrote (ap (λ (z : DomainFrames). z.chunks) e) (ap (λ (z : DomainFrames). z.slots) e))
@@ -42,11 +47,11 @@ returns-in-Some-clause-ok c =
     let st = c.args.self.now in
     let x = c.in-Some.x.now in
     let p = c.place-p.result in
-    let is = sym c.in-Some.ensures.value in
+    let is = read_at st.domains p.domain c.index_of-place.result c.index_of-place.ensures x c.in-Some.ensures.value in
     let found : IsFound st.domains st.places c.args.s.0 x p.slot = record { domain = p.domain; at = c.place-p.ensures; is = is } in
     let y = c.push.new.self in
-    let wrote = c.get_mut.follows.holds y in
-    on_ok c.push.result _ (Pushes (content_of st.domains st.places) (content_of (c.get_mut.follows.lender y) st.places) c.args.s c.args.head)
+    let wrote = written_at st.domains p.domain c.index_of-place.result c.index_of-place.ensures y c.get_index_mut.ensures.unique in
+    on_ok c.push.result _ (Pushes (content_of st.domains st.places) (content_of (with_value_at st.domains c.index_of-place.result y) st.places) c.args.s c.args.head)
     (λ (b : Becomes x y p.slot (frames_of x p.slot ++ new_frame c.args.head ∷ []) (x.used + head_chunks c.args.head)). steps_push _ _ st.places st.owed c.args.s p x y st.ok c.place-p.ensures is wrote c.args.head b)
     c.push.ensures.ok
 
@@ -55,9 +60,56 @@ returns-in-Some-clause-err c =
     let st = c.args.self.now in
     let x = c.in-Some.x.now in
     let p = c.place-p.result in
-    let is = sym c.in-Some.ensures.value in
+    let is = read_at st.domains p.domain c.index_of-place.result c.index_of-place.ensures x c.in-Some.ensures.value in
     let found : IsFound st.domains st.places c.args.s.0 x p.slot = record { domain = p.domain; at = c.place-p.ensures; is = is } in
     let y = c.push.new.self in
-    let wrote = c.get_mut.follows.holds y in
-    on_err c.push.result _ (IsSame (content_of st.domains st.places) (content_of (c.get_mut.follows.lender y) st.places))
+    let wrote = written_at st.domains p.domain c.index_of-place.result c.index_of-place.ensures y c.get_index_mut.ensures.unique in
+    on_err c.push.result _ (IsSame (content_of st.domains st.places) (content_of (with_value_at st.domains c.index_of-place.result y) st.places))
     (λ (e : y ≡ x). steps_none _ _ st.places st.owed c.args.s p x y st.ok c.place-p.ensures is wrote e) c.push.ensures.err
+
+-- what the domain may still use
+free_is : {S : Type 0} (m : IndexMap ℕ DomainFrames S) (places : SegmentTable) (d : DomainId) (x : DomainFrames) → get nat_eq m d.0 ≡ Some x
+    → free_chunks (content_of m places) d ≡ x.chunks - x.used
+free_is m places d x is =
+    ap (λ o. option_map_or (λ q. q - option_map_or (λ (z : DomainFrames). z.used) o 0) (option_map (λ (z : DomainFrames). z.chunks) o) 0) is
+
+too_many : (a b c : ℕ) → a < b → b ≤ c → c ≡ a → ⊥
+too_many a b c low high same = omega arith
+
+pub returns-in-Some-clause-room : goal.returns-in-Some-clause-room
+returns-in-Some-clause-room c =
+    let st = c.args.self.now in
+    let x = c.in-Some.x.now in
+    let p = c.place-p.result in
+    let is = read_at st.domains p.domain c.index_of-place.result c.index_of-place.ensures x c.in-Some.ensures.value in
+    let d : DomainId = record { 0 = p.domain } in
+    let found : IsFound st.domains st.places c.args.s.0 x p.slot = record { domain = p.domain; at = c.place-p.ensures; is = is } in
+    on_ok c.push.result _ (HasRoomFor (content_of st.domains st.places) c.args.s c.args.head)
+    (λ (fits : head_chunks c.args.head ≤ x.chunks - x.used). (
+      segment_in x p.domain p.slot,
+      found_segment _ _ _ c.args.s st.ok x p.slot found,
+      subst (λ k. head_chunks c.args.head ≤ k) (sym (free_is st.domains st.places d x is)) fits,
+    ))
+    c.push.ensures.room
+
+pub returns-in-Some-clause-no_room : goal.returns-in-Some-clause-no_room
+returns-in-Some-clause-no_room c =
+    let st = c.args.self.now in
+    let x = c.in-Some.x.now in
+    let p = c.place-p.result in
+    let is = read_at st.domains p.domain c.index_of-place.result c.index_of-place.ensures x c.in-Some.ensures.value in
+    let found : IsFound st.domains st.places c.args.s.0 x p.slot = record { domain = p.domain; at = c.place-p.ensures; is = is } in
+    on_err c.push.result _ (HasRoomFor (content_of st.domains st.places) c.args.s c.args.head → ⊥)
+    (λ (short : x.chunks - x.used < head_chunks c.args.head) (room : HasRoomFor (content_of st.domains st.places) c.args.s c.args.head).
+    let same = same_some (segment_in x p.domain p.slot) room.0 (sym (found_segment _ _ _ c.args.s st.ok x p.slot found) ∙ room.1) in
+    let of_domain : get nat_eq st.domains room.0.domain.0 ≡ Some x = ap (λ (g : StoredSegment). get nat_eq st.domains g.domain.0) (sym same) ∙ is in
+    too_many _ _ _ short room.2 (free_is st.domains st.places room.0.domain x of_domain))
+    c.push.ensures.no_room
+
+pub returns-in-None-clause-ok : goal.returns-in-None-clause-ok
+returns-in-None-clause-ok c =
+    absurd (never_none c.args.self.now.domains c.place-p.result.domain c.index_of-place.result c.index_of-place.ensures c.in-None.ensures.value)
+
+pub returns-in-None-clause-room : goal.returns-in-None-clause-room
+returns-in-None-clause-room c =
+    absurd (never_none c.args.self.now.domains c.place-p.result.domain c.index_of-place.result c.index_of-place.ensures c.in-None.ensures.value)

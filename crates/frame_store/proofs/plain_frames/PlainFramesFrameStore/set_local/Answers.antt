@@ -1,9 +1,11 @@
 -- A local of the top frame is written in its domain.
 use Rattle.std.proofs.Common.{◌<◌, length, set, sym, subst}
 use Rattle.jk_model_domains.specs.Frames.{FrameState}
+use Rattle.indexmap.specs.IndexMap.{with_value_at}
 use Rattle.frame_store.specs.FrameContents.{SetsTop}
 use Rattle.frame_store.specs.StoreContents.{content_of, IsFound}
 use Rattle.frame_store.proofs.StoreChanges.{found_top, found_top_is, store_kept}
+use Rattle.frame_store.proofs.WrittenAt.{read_at, written_at}
 use Rattle.frame_store.proofs.StoreSteps.{steps_top}
 use Rattle.frame_store.proofs.plain_frames.PlainFramesFrameStore.set_local.Goals as goal
 
@@ -12,7 +14,7 @@ set_local-requires-clause-top c =
     let st = c.args.self.now in
     let x = c.in-Some.x.now in
     let p = c.place-p.result in
-    let is = sym c.in-Some.ensures.value in
+    let is = read_at st.domains p.domain c.index_of-place.result c.index_of-place.ensures x c.in-Some.ensures.value in
     let found : IsFound st.domains st.places c.args.s.0 x p.slot = record { domain = p.domain; at = c.place-p.ensures; is = is } in
     found_top _ _ _ c.args.s st.ok x p.slot found c.requires.0 c.requires.1
 
@@ -21,7 +23,7 @@ set_local-requires-clause-there c =
     let st = c.args.self.now in
     let x = c.in-Some.x.now in
     let p = c.place-p.result in
-    let is = sym c.in-Some.ensures.value in
+    let is = read_at st.domains p.domain c.index_of-place.result c.index_of-place.ensures x c.in-Some.ensures.value in
     let found : IsFound st.domains st.places c.args.s.0 x p.slot = record { domain = p.domain; at = c.place-p.ensures; is = is } in
     let P : FrameState → Type 0 = λ (k : FrameState). c.args.i < length k.locals in
     subst P (found_top_is _ _ _ c.args.s st.ok x p.slot found c.requires.0 c.requires.1).1 c.requires.2
@@ -31,10 +33,10 @@ invariant_of-self c =
     let st = c.args.self.now in
     let x = c.in-Some.x.now in
     let p = c.place-p.result in
-    let is = sym c.in-Some.ensures.value in
+    let is = read_at st.domains p.domain c.index_of-place.result c.index_of-place.ensures x c.in-Some.ensures.value in
     let found : IsFound st.domains st.places c.args.s.0 x p.slot = record { domain = p.domain; at = c.place-p.ensures; is = is } in
     let y = c.set_local.new.self in
-    let wrote = c.get_mut.follows.holds y in
+    let wrote = written_at st.domains p.domain c.index_of-place.result c.index_of-place.ensures y c.get_index_mut.ensures.unique in
     record { ok = store_kept _ _ st.places st.owed c.args.s p x y st.ok c.place-p.ensures is wrote c.set_local.ensures.same_chunks c.set_local.ensures.same_slots }
 
 pub returns-in-Some : goal.returns-in-Some
@@ -42,11 +44,11 @@ returns-in-Some c =
     let st = c.args.self.now in
     let x = c.in-Some.x.now in
     let p = c.place-p.result in
-    let is = sym c.in-Some.ensures.value in
+    let is = read_at st.domains p.domain c.index_of-place.result c.index_of-place.ensures x c.in-Some.ensures.value in
     let found : IsFound st.domains st.places c.args.s.0 x p.slot = record { domain = p.domain; at = c.place-p.ensures; is = is } in
     let y = c.set_local.new.self in
-    let wrote = c.get_mut.follows.holds y in
+    let wrote = written_at st.domains p.domain c.index_of-place.result c.index_of-place.ensures y c.get_index_mut.ensures.unique in
     λ f top.
-    let P : FrameState → Type 0 = λ (k : FrameState). SetsTop (content_of st.domains st.places) (content_of (c.get_mut.follows.lender y) st.places) c.args.s (record k { locals = set k.locals c.args.i c.args.v }) in
+    let P : FrameState → Type 0 = λ (k : FrameState). SetsTop (content_of st.domains st.places) (content_of (with_value_at st.domains c.index_of-place.result y) st.places) c.args.s (record k { locals = set k.locals c.args.i c.args.v }) in
     let same = (found_top_is _ _ _ c.args.s st.ok x p.slot found f top).1 in
     subst P (sym same) (steps_top _ _ st.places st.owed c.args.s p x y st.ok c.place-p.ensures is wrote (found_top _ _ _ c.args.s st.ok x p.slot found f top) _ c.set_local.ensures)
