@@ -1,0 +1,4 @@
+/** Ends at once. */
+public class N {
+    public static void main(String[] words) {}
+}
