@@ -1,82 +1,31 @@
-// Programs that look like those that run, and are refused with X1. Each is compiled into a folder of its own.
+// Programs that are refused, each in a folder of its own. output.txt has the line for each, in the order of this file: the rule that
+// is broken first, the file, and where in it. 0 is the class itself; fields and then methods count from 1; for a reference it is its
+// place in the constant pool. X1, the last rule, has no place: the folder keeps every other rule, and runs once more is built.
 
-/** Has nothing to print, so that its compiler gives it no operand stack. */
-class PrintsNothing {
-    public static void main(String[] words) {}
-}
-
-/** Calls println without an argument. */
-class PrintsNoText {
-    public static void main(String[] words) {
-        System.out.println();
+/** Needs floating point, in its second method. The first is the constructor. */
+class UsesFloats {
+    static float half(float x) {
+        return x / 2;
     }
 }
 
-/** Calls print, which isn't println. */
-class PrintsNoLine {
+/** Takes a lock, in its second method. */
+class TakesALock {
+    static synchronized void lock() {}
+}
+
+/** Names a class that neither the folder nor the system has. */
+class NamesAMissingClass {
+    public static void main(String[] words) {
+        java.util.Collections.emptyList();
+    }
+}
+
+/** Calls print, which the PrintStream here doesn't have. */
+class CallsPrint {
     public static void main(String[] words) {
         System.out.print("Hello");
     }
-}
-
-/** Prints a number. */
-class PrintsANumber {
-    public static void main(String[] words) {
-        System.out.println(5);
-    }
-}
-
-/** Prints a text that is put together when it runs. */
-class PrintsASum {
-    public static void main(String[] words) {
-        System.out.println("Hello" + words.length);
-    }
-}
-
-/** Prints a character outside ASCII. */
-class PrintsAnAccent {
-    public static void main(String[] words) {
-        System.out.println("caf\u00e9");
-    }
-}
-
-/** Prints the character 0. */
-class PrintsZero {
-    public static void main(String[] words) {
-        System.out.println("a\0b");
-    }
-}
-
-/** Has a main with a variable number of arguments. */
-class TakesAnyWords {
-    public static void main(String... words) {
-        System.out.println("Hello");
-    }
-}
-
-/** Has a main that is final. */
-class HasAFinalMain {
-    public static final void main(String[] words) {
-        System.out.println("Hello");
-    }
-}
-
-/** Has a field. */
-class HasAField {
-    static final String TEXT = "Hello";
-
-    public static void main(String[] words) {
-        System.out.println(TEXT);
-    }
-}
-
-/** Has a method beside main. */
-class HasAMethod {
-    public static void main(String[] words) {
-        System.out.println("Hello");
-    }
-
-    static void help() {}
 }
 
 /** Runs code when it is initialised. */
@@ -84,8 +33,43 @@ class HasAnInitialiser {
     static {
         System.out.println("Hello");
     }
+}
+
+/** Has a static constant that is a text. */
+class HasAConstantText {
+    static final String TEXT = "Hello";
+}
+
+/** Makes an object. */
+class MakesAnObject {
+    public static void main(String[] words) {
+        new Object();
+    }
+}
+
+/** Makes an array. */
+class MakesAnArray {
+    public static void main(String[] words) {
+        System.out.println(new int[3].length);
+    }
+}
+
+/** Catches an exception. */
+class CatchesAnException {
+    public static void main(String[] words) {
+        try {
+            System.out.println(1 / 0);
+        } catch (ArithmeticException e) {
+            System.out.println("caught");
+        }
+    }
+}
+
+/** Keeps a number in a static field. */
+class KeepsANumber {
+    static int kept;
 
     public static void main(String[] words) {
-        System.out.println("Hello");
+        kept = 5;
     }
 }

@@ -1,278 +1,217 @@
 //! The kernel's state, and the calls that make the machine's events happen.
 
-ghost use Rattle.std.specs.Prelude.{◌≡◌, ℕ, ◌+◌, ◌<◌, ◌≤◌, ◌^◌, ◌-◌, List, length, is_some, None, IfOk, OnOk, OnErr, IfSome, IfNone, Err, true, false, [], ◌∷◌};
+ghost use Rattle.std.specs.Prelude.{◌≡◌, ℕ, ◌<◌, List, [], length, None, Ok, true, false, IfOk, IfSome, IfNone, OnOk, OnErr};
+ghost use Rattle.jk_model.specs.declared.identifiers.DomainId.{DomainId as ADomainId};
+ghost use Rattle.jk_model.specs.declared.identifiers.SegmentNo.{SegmentNo as ASegmentNo};
 ghost use Rattle.jk_model.specs.declared.output.Line.{Line};
-ghost use Rattle.jk_model.specs.Script.{default_quotas};
 ghost use Rattle.jk_model.specs.Outside.{Appends, AppendsPart, HasRisen, NeverFalls};
 ghost use Rattle.jk_model.specs.Output.{text_of};
-ghost use Rattle.jk_first_machine.specs.Machine.{Machine, no_domains, live_domain, is_live};
-ghost use Rattle.jk_first_machine.specs.Starts.{Starts, Begins};
-ghost use Rattle.jk_first_machine.specs.Steps.{Steps};
-ghost use Rattle.jk_kernel.specs.Events.{CanStep};
-ghost use Rattle.jk_kernel.specs.Execution.{Executes};
-ghost use Rattle.jk_kernel.specs.FrameMoves.{beginning_line};
-ghost use Rattle.jk_kernel.specs.Opening.{opened};
-ghost use Rattle.jk_kernel.specs.PrintingClass.{IsPrintingClass, HasShortBodies};
+ghost use Rattle.jk_model_machine.specs.Machine.{Machine, IsFirstMachine, is_live_thread};
+ghost use Rattle.jk_model_machine.specs.Run.{Turns};
+ghost use Rattle.jk_model_machine.specs.Sealed.{IsSealed};
+ghost use Rattle.jk_model_machine.specs.Steps.{Steps};
+ghost use Rattle.jk_kernel.specs.declared.happened.Happened.TheVariants as Came;
+ghost use Rattle.jk_kernel.specs.KernelTurns.{IsLiveAt, ends_thread};
+ghost use Rattle.jk_kernel.specs.SoundKernels.{IsSoundMachine};
+ghost use Rattle.jk_kernel.specs.StaysApart.{StaysApart};
 
-use crate::answers::EventAnswer;
-use crate::domain_records::{DomainRecord, is_class_name, place_of};
-use crate::event_lines::{line_of_start, line_of_step, print_any};
-use crate::printing_class::program_of;
-use crate::thread_records::{Beginning, FrameRecord, Stage, ThreadRecord, live_frame, next_frame};
-use jk_model::{Bytes, ClassFile, DomainId, OutOfMemory};
-use jk_outside::{Sink, SinkFailed, print_line};
+use crate::advancing::{advance, has_ended, is_idle};
+use crate::apart::steps_stay_apart;
+use crate::domain_parts::{DomainPart, ThreadPart};
+use crate::happened::Happened;
+use crate::sound_machines::{first_is_sound, steps_keep_sound, threads_go_on};
+use crate::starting::main_kind;
+use crate::stepping::Runs;
+use crate::telling::tell;
+use domain_resolver::World;
+use frame_store::FrameStore;
+use jk_model::{MethodType, OutOfMemory, ThreadNo};
+use jk_outside::{Sink, SinkFailed};
 use std::alloc::Global;
+use std::collections::BTreeMap;
 use std::marker::Model;
 
-/// The machine: its domains and its threads.
+/// The machine, over a store of frames.
 #[derive(Drop)]
-pub struct Kernel {
-    domains: Vec<DomainRecord>,
-    threads: Vec<ThreadRecord>,
-    next_segment: u64,
+pub struct Kernel<F: FrameStore + Drop> {
+    pub(crate) alloc: Global,
+    pub(crate) world: World,
+    /// What is kept of each domain, at its number.
+    pub(crate) parts: Vec<DomainPart>,
+    /// The live threads, by their numbers.
+    pub(crate) threads: BTreeMap<u32, ThreadPart>,
+    pub(crate) next_thread: u32,
+    pub(crate) next_segment: u64,
+    pub(crate) frames: F,
+    /// The type of `main`: of one parameter, an array of texts, without a result.
+    pub(crate) main_kind: MethodType,
 }
 
-impl Model for Kernel {
-    ghost use Rattle.jk_first_machine.specs.Machine.{Machine};
-    ghost use Rattle.jk_kernel.specs.State.{machine_of, IsSound};
+impl<F: FrameStore + Drop> Model for Kernel<F> {
+    ghost use Rattle.jk_model_machine.specs.Machine.{Machine};
+    ghost use Rattle.jk_kernel.specs.KernelStates.{machine_of};
+    ghost use Rattle.jk_kernel.specs.SoundKernels.{IsSoundKernel};
 
     ghost Value = { Machine };
 
-    ghost view = { λ k. machine_of k.domains.items k.threads.items k.next_segment };
+    ghost view = { λ k. machine_of k.world k.parts.items k.threads.entries (F.content k.frames) k.next_thread k.next_segment };
 
-    ghost invariant = { λ k. IsSound k.domains.items k.threads.items };
+    ghost invariant = { λ k. IsSoundKernel k.world k.parts.items k.threads.entries (F.content k.frames) k.next_thread k.next_segment k.main_kind };
 }
 
-impl Kernel {
-    /// The machine without domains. It takes no memory yet.
-    pub fn new(alloc: Global) -> Kernel
-        ensures { result ≡ no_domains }
+impl<F: FrameStore + Drop> Kernel<F> {
+    /// The machine without domains, over a store without domains and without a pool of pages.
+    pub fn new(alloc: Global, frames: F) -> Result<Kernel<F>, OutOfMemory>
+        requires no_pool { (F.content frames).pages ≡ None }
+        requires no_domains { (d : ADomainId) → (F.content frames).quota d ≡ None }
+        requires no_segments { (s : ASegmentNo) → (F.content frames).segment s ≡ None }
+        ensures { IfOk result (λ k. IsFirstMachine k) }
     {
-        Kernel {
-            domains: Vec::new(alloc),
-            threads: Vec::new(alloc),
-            next_segment: 1,
-        }
-    }
-
-    /// Whether a live domain has this name.
-    pub fn has_domain(&self, name: &[u8]) -> bool
-        ensures { result ≡ is_some (live_domain self.now name.now) }
-    {
-        place_of(self.domains.as_slice(), name).is_some()
-    }
-
-    /// Adds a domain of this name, with a class that is one of those that run, and with default quotas but
-    /// for the threads. It prints nothing.
-    pub fn add_domain(
-        &mut self,
-        name: &[u8],
-        threads: u32,
-        class: ClassFile,
-    ) -> Result<DomainId, OutOfMemory>
-        requires unused { live_domain self.old name.now ≡ None }
-        requires bodies { HasShortBodies class }
-        requires runs { (n : List ℕ) × (texts : List (List ℕ)) × IsPrintingClass class n texts }
-        requires few { length self.old.domains < 2 ^ 31 }
-        ensures ok { IfOk result (λ id. (id.0 ≡ length self.old.domains)
-            × ((n : List ℕ) (texts : List (List ℕ)) → IsPrintingClass class n texts
-            → self.new ≡ opened self.old name.now (record default_quotas { threads = threads }) n texts)) }
-        ensures err { OnErr result (self.new ≡ self.old) }
-    {
-        let alloc = *self.domains.allocator();
-        let program = program_of(alloc, &class)?.unwrap();
-        let number = self.domains.len() as u32;
-        let name = Bytes::from_slice(alloc, name)?;
-        self.domains.push(DomainRecord {
-            name,
-            threads,
-            program,
-        })?;
-        Ok(DomainId(number))
-    }
-
-    /// The start of a thread in the domain of this name, at the `main` of the class of this name. Its
-    /// line is printed, also where it is refused. Where the sink fails, the start has happened; where
-    /// no memory is left for a new thread, it hasn't, and the sink was not touched.
-    pub fn start<S: Sink>(
-        &mut self,
-        name: &[u8],
-        class: &[u8],
-        words: &[Bytes],
-        out: &mut S,
-    ) -> Result<(), EventAnswer>
-        requires no_words { words.now ≡ [] }
-        requires thread { self.old.next_thread < 2 ^ 31 }
-        requires segment { self.old.next_segment < 2 ^ 64 - 1 }
-        ensures event { OnOk result ((lines : List Line) × Starts self.old name.now class.now words.now lines self.new
-            × Appends (S.bytes out.old) (S.bytes out.new) (text_of lines)) }
-        ensures failed { result ≡ Err EventAnswer.SinkFailed → (lines : List Line)
-            × Starts self.old name.now class.now words.now lines self.new
-            × AppendsPart (S.bytes out.old) (S.bytes out.new) (text_of lines)
-            × HasRisen (S.faults out.old) (S.faults out.new) }
-        ensures memory { result ≡ Err EventAnswer.OutOfMemory → (self.new ≡ self.old) × (out.new ≡ out.old)
-            × ((lines : List Line) × (new : Machine) × Begins self.old name.now class.now words.now lines new) }
-        ensures calm { OnOk result (S.faults out.new ≡ S.faults out.old) }
-        ensures faults { NeverFalls (S.faults out.old) (S.faults out.new) }
-    {
-        let beginning = match self.begin(name, class) {
-            Ok(beginning) => beginning,
-            Err(OutOfMemory) => return Err(EventAnswer::OutOfMemory),
-        };
-        match print_line(line_of_start(name, beginning), out) {
-            Ok(()) => Ok(()),
-            Err(SinkFailed) => Err(EventAnswer::SinkFailed),
-        }
-    }
-
-    /// A start without its line.
-    fn begin(&mut self, name: &[u8], class: &[u8]) -> Result<Beginning, OutOfMemory>
-        requires thread { self.old.next_thread < 2 ^ 31 }
-        requires segment { self.old.next_segment < 2 ^ 64 - 1 }
-        ensures ok { IfOk result (λ beginning.
-            Starts self.old name.now class.now [] (beginning_line name.now beginning ∷ []) self.new) }
-        ensures err { OnErr result (self.new ≡ self.old) }
-        ensures begins { OnErr result ((lines : List Line) × (new : Machine) × Begins self.old name.now class.now [] lines new) }
-    {
-        let Some(domain) = place_of(self.domains.as_slice(), name) else {
-            return Ok(Beginning::NoDomain);
-        };
-        if !is_class_name(self.domains[domain].program.name.as_slice(), class) {
-            return Ok(Beginning::NoClass);
-        }
-        let number = self.threads.len() as u32 + 1;
-        self.threads.push(ThreadRecord {
-            segment: self.next_segment,
-            domain,
-            frame: Some(FrameRecord {
-                literal: 0,
-                stage: Stage::Bare,
-            }),
-        })?;
-        self.next_segment += 1;
-        Ok(Beginning::Begun(number))
-    }
-
-    /// One step of a thread, with what it prints. A thread that isn't live does nothing. Where the
-    /// sink fails, the step has happened.
-    pub fn turn<S: Sink>(&mut self, thread: u32, out: &mut S) -> Result<(), SinkFailed>
-        ensures event { OnOk result ((lines : List Line) × Steps Executes self.old thread lines self.new
-            × Appends (S.bytes out.old) (S.bytes out.new) (text_of lines)) }
-        ensures failed { OnErr result ((lines : List Line) × Steps Executes self.old thread lines self.new
-            × AppendsPart (S.bytes out.old) (S.bytes out.new) (text_of lines)
-            × HasRisen (S.faults out.old) (S.faults out.new)) }
-        // No thread is ever where it can't take a step.
-        ensures goes_on { CanStep self.new }
-        ensures calm { OnOk result (S.faults out.new ≡ S.faults out.old) }
-        ensures faults { NeverFalls (S.faults out.old) (S.faults out.new) }
-    {
-        let Some(frame) = live_frame(self.threads.as_slice(), thread) else {
-            return Ok(());
-        };
-        let place = thread as usize - 1;
-        let record = self.threads[place];
-        let domain = &self.domains[record.domain];
-        self.threads[place] = ThreadRecord {
-            segment: record.segment,
-            domain: record.domain,
-            frame: next_frame(frame, domain.program.texts.len()),
-        };
-        print_any(line_of_step(thread, domain, frame), out)
-    }
-
-    /// Whether a thread is live.
-    pub fn is_live(&self, thread: u32) -> bool
-        ensures { result ≡ is_live self.now thread }
-    {
-        live_frame(self.threads.as_slice(), thread).is_some()
-    }
-
-    /// The least number above this that a live thread has.
-    pub fn next_live(&self, above: u32) -> Option<u32>
-        ensures none { IfNone result ((n : ℕ) → above < n → is_live self.now n ≡ false) }
-        ensures some { IfSome result (λ n. (above < n) × (is_live self.now n ≡ true)
-            × ((k : ℕ) → above < k → k < n → is_live self.now k ≡ false)) }
-    {
-        for place in above as usize..self.threads.len() {
-            if self.threads[place].frame.is_some() {
-                return Some(place as u32 + 1);
-            }
-        }
-        None
-    }
-}
-
-#[cfg(test)]
-mod tests {
-    use super::*;
-    use crate::printing_class::Program;
-    use jk_model::{List, Units};
-    use jk_outside::MemorySink;
-    use std::test::Fail;
-
-    /// A kernel with one domain, whose class `M` prints one text.
-    fn one_domain(alloc: Global, name: &[u8], text: &[u16]) -> Result<Kernel, OutOfMemory>
-        ensures { IfOk result (λ kernel. (kernel.next_thread ≡ 1) × (kernel.next_segment ≡ 1)) }
-    {
-        let mut texts: List<Units> = List::new(alloc);
-        texts.push(Units::from_slice(alloc, text)?)?;
-        let mut domains = Vec::new(alloc);
-        domains.push(DomainRecord {
-            name: Bytes::from_slice(alloc, name)?,
-            threads: 16,
-            program: Program {
-                name: Units::from_slice(alloc, &[77])?,
-                texts,
-            },
-        })?;
+        first_is_sound();
+        let world = World::new(alloc)?;
+        world.holds();
+        let main_kind = main_kind(alloc)?;
         Ok(Kernel {
-            domains,
-            threads: Vec::new(alloc),
+            alloc,
+            world,
+            parts: Vec::new(alloc),
+            threads: BTreeMap::new(alloc),
+            next_thread: 1,
             next_segment: 1,
+            frames,
+            main_kind,
         })
     }
 
-    #[test]
-    fn without_domains(rt: HostRuntime) -> Result<(), Fail> {
-        let mut kernel = Kernel::new(rt.alloc());
-        let mut out = MemorySink::with_room(rt.alloc(), 100, &[])?;
-        assert!(rt; !kernel.has_domain(b"a"));
-        assert!(rt; !kernel.is_live(1));
-        assert_eq!(rt; kernel.next_live(0), None);
-        kernel.start(b"a", b"M", &[], &mut out)?;
-        kernel.turn(0, &mut out)?;
-        kernel.turn(1, &mut out)?;
-        assert_eq!(rt; out.bytes(), b"* start a refused S1\n".as_slice());
+    /// The machine is sealed at every moment. It does nothing.
+    pub fn holds(&self)
+        ensures { IsSealed self.now }
+    {
+        self.is_sound();
+    }
+
+    /// What holds of the machine at every moment. It does nothing.
+    pub(crate) fn is_sound(&self)
+        ensures { IsSoundMachine self.now }
+    {
+        let _world = &self.world;
+    }
+
+    /// One step of a thread, whose line is printed. A thread that isn't live does nothing. It takes no memory. Where the sink fails,
+    /// the step has happened.
+    pub fn turn<S: Sink>(&mut self, thread: u32, out: &mut S) -> Result<(), SinkFailed>
+        ensures event { OnOk result ((lines : List Line) × Steps self.old thread lines self.new
+            × Appends (S.bytes out.old) (S.bytes out.new) (text_of lines)) }
+        ensures failed { OnErr result ((lines : List Line) × Steps self.old thread lines self.new
+            × AppendsPart (S.bytes out.old) (S.bytes out.new) (text_of lines) × HasRisen (S.faults out.old) (S.faults out.new)) }
+        ensures calm { OnOk result (S.faults out.new ≡ S.faults out.old) }
+        ensures faults { NeverFalls (S.faults out.old) (S.faults out.new) }
+        // It changes no other thread, and no domain but the one in which the thread runs.
+        ensures apart { StaysApart self.old thread self.new }
+    {
+        let Some(r) = self.run_of(thread) else {
+            return Ok(());
+        };
+        let _happened = self.step_of(r, out)?;
         Ok(())
     }
 
-    #[test]
-    fn prints_and_ends(rt: HostRuntime) -> Result<(), Fail> {
-        let mut kernel = one_domain(rt.alloc(), b"a", &[104, 105])?;
-        let mut out = MemorySink::with_room(rt.alloc(), 200, &[])?;
-        assert!(rt; kernel.has_domain(b"a"));
-        kernel.start(b"a", b"N", &[], &mut out)?;
-        kernel.start(b"a", b"M", &[], &mut out)?;
-        assert_eq!(rt; kernel.next_live(0), Some(1));
-        for _ in 0..5 {
-            kernel.turn(1, &mut out)?;
+    /// So many steps of a thread. It answers false only where no step of the thread changes anything until another thread acts. Steps
+    /// that change nothing cost nothing but the first. Beside its steps it takes time in proportion to log n for n live threads.
+    pub fn turns<S: Sink>(
+        &mut self,
+        thread: u32,
+        steps: u32,
+        out: &mut S,
+    ) -> Result<bool, SinkFailed>
+        ensures event { OnOk result ((lines : List Line) × Turns steps thread self.old lines self.new
+            × Appends (S.bytes out.old) (S.bytes out.new) (text_of lines)) }
+        // No step of the thread changes anything until another thread acts.
+        ensures rests { result ≡ Ok false → (self.new ≡ self.old) × ((more : ℕ) → Turns more thread self.old [] self.old) }
+        // The steps go on in the machine, though no more of their text goes out.
+        ensures failed { OnErr result ((lines : List Line) × (last : Machine) × Turns steps thread self.old lines last × IsSealed last
+            × AppendsPart (S.bytes out.old) (S.bytes out.new) (text_of lines) × HasRisen (S.faults out.old) (S.faults out.new)) }
+        ensures calm { OnOk result (S.faults out.new ≡ S.faults out.old) }
+        ensures faults { NeverFalls (S.faults out.old) (S.faults out.new) }
+        ensures counts { (self.new.next_thread ≡ self.old.next_thread) × (self.new.next_segment ≡ self.old.next_segment)
+            × (length self.new.domains ≡ length self.old.domains) }
+        // They change no other thread, and no domain but the one in which the thread runs.
+        ensures apart { StaysApart self.old thread self.new }
+    {
+        threads_go_on();
+        let Some(r) = self.run_of(thread) else {
+            return Ok(false);
+        };
+        for done in 0..steps {
+            let happened = self.step_of(r, out)?;
+            if has_ended(happened) {
+                return Ok(true);
+            }
+            if is_idle(happened) {
+                return Ok(done > 0);
+            }
         }
-        assert!(rt; !kernel.is_live(1));
-        let lines = b"* start a refused S2\n* thread 1 started in a\na: hi\n* thread 1 ended\n";
-        assert_eq!(rt; out.bytes(), lines.as_slice());
-        Ok(())
+        Ok(true)
     }
 
-    #[test]
-    fn sink_fails(rt: HostRuntime) -> Result<(), Fail> {
-        let mut kernel = one_domain(rt.alloc(), b"a", &[])?;
-        let mut out = MemorySink::with_room(rt.alloc(), 3, &[])?;
-        let started = kernel.start(b"a", b"M", &[], &mut out);
-        assert_eq!(rt; started, Err(EventAnswer::SinkFailed));
-        assert_eq!(rt; out.bytes(), b"* t".as_slice());
-        assert_eq!(rt; out.faults(), 1);
-        assert!(rt; kernel.is_live(1));
-        assert_eq!(rt; kernel.turn(1, &mut out), Ok(()));
-        Ok(())
+    /// Where a thread runs; none where it isn't live. It takes time in proportion to log n for n live threads.
+    fn run_of(&self, thread: u32) -> Option<Runs>
+        ensures some { IfSome result (λ r. (r.thread.0 ≡ thread) × IsLiveAt self.now r) }
+        ensures none { IfNone result (is_live_thread self.now thread ≡ false) }
+        ensures sound { IsSoundMachine self.now }
+    {
+        let part = self.threads.get(&thread)?;
+        Some(Runs {
+            thread: ThreadNo(thread),
+            domain: part.domain,
+            segment: part.segment,
+        })
+    }
+
+    /// One step of a live thread, whose line is printed. Where the sink fails, the step has happened.
+    fn step_of<S: Sink>(&mut self, r: Runs, out: &mut S) -> Result<Happened, SinkFailed>
+        requires { IsLiveAt self.old r }
+        ensures event { OnOk result ((lines : List Line) × Steps self.old r.thread.0 lines self.new
+            × Appends (S.bytes out.old) (S.bytes out.new) (text_of lines)) }
+        ensures failed { OnErr result ((lines : List Line) × Steps self.old r.thread.0 lines self.new
+            × AppendsPart (S.bytes out.old) (S.bytes out.new) (text_of lines) × HasRisen (S.faults out.old) (S.faults out.new)) }
+        ensures idle { result ≡ Ok Came.Idle → (self.new ≡ self.old) × Steps self.old r.thread.0 [] self.old }
+        ensures live { IfOk result (λ happened. ends_thread happened ≡ false → IsLiveAt self.new r) }
+        ensures gone { IfOk result (λ happened. ends_thread happened ≡ true → is_live_thread self.new r.thread.0 ≡ false) }
+        ensures calm { OnOk result (S.faults out.new ≡ S.faults out.old) }
+        ensures faults { NeverFalls (S.faults out.old) (S.faults out.new) }
+        ensures sound { IsSoundMachine self.old × IsSoundMachine self.new }
+        ensures counts { (self.new.next_thread ≡ self.old.next_thread) × (self.new.next_segment ≡ self.old.next_segment)
+            × (length self.new.domains ≡ length self.old.domains) }
+        ensures apart { StaysApart self.old r.thread.0 self.new }
+    {
+        steps_keep_sound();
+        steps_stay_apart();
+        let place = r.domain.0 as usize;
+        let happened = advance(
+            &self.world,
+            &mut self.parts[place],
+            &mut self.threads,
+            &mut self.frames,
+            r,
+        );
+        tell(&self.world, &self.parts[place].texts, r, happened, out)?;
+        Ok(happened)
+    }
+
+    /// The least live thread above a number; none where there is none. It takes time in proportion to log n for n live threads.
+    pub fn next_live(&self, above: u32) -> Option<u32>
+        ensures some { IfSome result (λ t. (above < t) × (is_live_thread self.now t ≡ true)
+            × ((u : ℕ) → above < u → u < t → is_live_thread self.now u ≡ false)) }
+        ensures none { IfNone result ((u : ℕ) → above < u → is_live_thread self.now u ≡ false) }
+    {
+        if above >= self.next_thread {
+            return None;
+        }
+        let mut later = self.threads.range(above + 1..);
+        match later.next() {
+            Some((thread, _)) => Some(*thread),
+            None => None,
+        }
     }
 }

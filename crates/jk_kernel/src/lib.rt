@@ -1,14 +1,29 @@
-//! The kernel: the machine's state, and the calls that make its events happen.
+//! The machine: its classes, domains and threads, and the calls that make the events of a script happen. So far programs run
+//! whole-number code: no objects but texts of literals, no class initialisers, no exceptions that are caught.
 #![tactic(auto)]
 
+mod advancing;
 mod answers;
-mod domain_records;
-mod event_lines;
+mod apart;
+mod built_code;
+mod calls;
+mod domain_parts;
+mod executing;
+mod happened;
+mod initialising;
 mod kernel;
-pub mod laws;
-mod printing_class;
-mod thread_records;
+mod known_objects;
+mod opening;
+mod places;
+mod println;
+mod rounds;
+mod sound_machines;
+mod spoken;
+mod starting;
+mod stepping;
+mod system_classes;
+mod telling;
+mod throwing;
 
-pub use answers::EventAnswer;
+pub use answers::{AddAnswer, EventAnswer};
 pub use kernel::Kernel;
-pub use printing_class::{Program, program_of};

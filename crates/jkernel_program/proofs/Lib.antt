@@ -1,7 +1,7 @@
--- Lemmas on what the program finds in folders, on its events, and on how its runs end.
+-- Lemmas on the events of scripts, on how they go on, and on how runs end.
+pub mod BuiltEvents
 pub mod DomainOpens
 pub mod EventsInTurn
-pub mod FoundFolders
 pub mod MessageTexts
 pub mod RunEndsSo
-pub mod TurnsGoOn
+pub mod RunsGoOn

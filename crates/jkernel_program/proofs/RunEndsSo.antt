@@ -1,18 +1,17 @@
 -- How a run ends, from what was found of its script and what became of its events.
-use Rattle.std.proofs.Common.{◌≡◌, ℕ, zero, suc, ◌<◌, List, [], ◌∷◌, ◌++◌, length, Option, Some, None, Result, Ok, Err, ◌⊎◌, inl, inr, refl, sym, ap, subst, ◌∙◌, append_assoc, arith}
-use Rattle.std.specs.List.{AllByRecursion}
+use Rattle.std.proofs.Common.{◌≡◌, ℕ, zero, suc, false, nat_le, ◌<◌, List, [], ◌∷◌, ◌++◌, length, Option, Some, None, Result, Ok, Err, ◌⊎◌, inl, inr, refl, ap, subst, ◌∙◌, append_assoc, arith}
+use Rattle.std.proofs.lemmas.Bool.Decides.{nat_tests}
 use Rattle.jk_model.specs.declared.output.Line.{Line}
 use Rattle.jk_model.specs.declared.script.Event.{Event}
-use Rattle.jk_model.specs.declared.script.Event.TheVariants.{Domain, Start, Turn, Round, Kill}
 use Rattle.jk_model.specs.declared.script.FaultKind.TheVariants as kinds
 use Rattle.jk_model.specs.declared.script.ScriptFault.{ScriptFault}
 use Rattle.jk_model.specs.Outside.{Tree, Ask, FileIs, FileIsLong, Appends, AppendsPart, HasRisen, NeverFalls}
 use Rattle.jk_model.proofs.CountsNeverFall.{HasRisen-after}
-use Rattle.jk_first_machine.specs.Machine.{Machine}
 use Rattle.jk_model.specs.Script.{MAX_BYTES}
-use Rattle.script_reader.specs.declared.script.ScriptError.{ScriptError}
-use Rattle.script_reader.specs.declared.script.ScriptError.TheVariants as errors
-use Rattle.script_reader.specs.Events.{IsScript, Means, Say}
+use Rattle.jk_model_machine.specs.Machine.{Machine}
+use Rattle.jk_kernel.specs.Openings.{Opens}
+use Rattle.script_reader.specs.declared.error.ScriptError.{ScriptError}
+use Rattle.script_reader.specs.declared.error.ScriptError.TheVariants as errors
 use Rattle.jkernel_program.specs.declared.ends.End.{End}
 use Rattle.jkernel_program.specs.declared.ends.End.TheVariants.{Done, Usage, Refused, Stopped}
 use Rattle.jkernel_program.specs.declared.status.Status.TheVariants as statuses
@@ -21,8 +20,8 @@ use Rattle.jkernel_program.specs.declared.stop.Stop.TheVariants.{ReadFault, Writ
 use Rattle.jkernel_program.specs.Calls.{IsCall}
 use Rattle.jkernel_program.specs.Ends.{end_of, EndsSo, EndsRefused, HasText, IsMissing, ScriptEnds, AnswersFault, status_of}
 use Rattle.jkernel_program.specs.Asked.{ask_for_script}
-use Rattle.jkernel_program.specs.Events.{Moment, IsBuilt, FirstEvents, RunsPart, RunEnds, RunAsks}
-use Rattle.jkernel_program.specs.Loading.{Opens}
+use Rattle.jkernel_program.specs.Events.{Moment, FirstEvents, RunsPart, RunEnds, RunAsks}
+use Rattle.jkernel_program.specs.Scripts.{IsScript, IsAtFault}
 use Rattle.jkernel_program.specs.Statuses.{HasEvents, LacksScript, RunsTo, IsStopped, Asks}
 
 -- ---- the script
@@ -33,30 +32,16 @@ long_text zero = (0 ∷ [], omega arith)
 long_text (suc n) = let t = long_text n in (0 ∷ t.0, let h = t.1 in omega arith)
 
 -- a script with too many bytes is at fault as a whole
+long_fault : (text : List ℕ) → MAX_BYTES < length text → IsAtFault text (record { line = 0; kind = kinds.TooLong })
+long_fault text long =
+    let over : nat_le (length text) MAX_BYTES ≡ false = grind (arith, nat_tests) in
+    rw over
+
 pub too_long : (t : Option Tree) (path : List ℕ) (old new files files' : ℕ) → FileIsLong t path MAX_BYTES old new
-    → ScriptEnds t path files files' (Err (Refused (record { line = 0; kind = kinds.NotYet })))
+    → ScriptEnds t path files files' (Err (Refused (record { line = 0; kind = kinds.TooLong })))
 too_long None path old new files files' long =
-    let text = long_text MAX_BYTES in (text.0, tt, (refl, inl (refl, text.1)))
-too_long (Some tree) path old new files files' long = (long.0, long.1, (refl, inl (refl, long.2)))
-
--- the events of a script are built
-built_event : (ws : List (List ℕ)) (event : Event) → Means ws event → IsBuilt event
-built_event ws (Domain name quotas) means = (means.1, means.2)
-built_event ws (Start name class words) means = means.3
-built_event ws (Turn thread steps) means = tt
-built_event ws (Round rounds steps) means = absurd means
-built_event ws (Kill name) means = absurd means
-
-built_say : (ls : List (List ℕ)) (events : List Event) → Say ls events → AllByRecursion IsBuilt events
-built_say [] events say = subst (λ (es : List Event). AllByRecursion IsBuilt es) (sym say) tt
-built_say (line ∷ more) events say =
-    elim say.1 [
-      | inl empty ↦ built_say more events empty.1
-      | inr one ↦ subst (λ (es : List Event). AllByRecursion IsBuilt es) (sym one.5) (built_event _ one.1 one.3, built_say more one.2 one.4)
-    ]
-
-pub built_script : (bytes : List ℕ) (events : List Event) → IsScript bytes events → AllByRecursion IsBuilt events
-built_script bytes events is = built_say _ events is.lines.say
+    let text = long_text MAX_BYTES in (text.0, tt, long_fault text.0 text.1)
+too_long (Some tree) path old new files files' long = (long.0, long.1, long_fault long.0 long.2)
 
 -- a told tree has one text at a path
 pub same_text : (t : Option Tree) (path a b : List ℕ) → FileIs t path a → HasText t path b → b ≡ a
@@ -107,7 +92,7 @@ module _ (t : Option Tree) (words : List (List ℕ)) (root script : List ℕ) (e
   has = has_events t words root script events call found
 
   runs_to : (k : ℕ) (lines : List Line) (last : Machine) → FirstEvents (Opens t root) events k lines last → RunsTo t root events k lines
-  runs_to k lines last first = record { within = first.0; last = last; run = first.1 }
+  runs_to k lines last first = record { within = first.within; first = first.first; is_first = first.is_first; last = last; run = first.run }
 
   all_asked : (more : List Ask) → c.asked ≡ b.asked ++ more → c.asked ≡ a.asked ++ ask_for_script script ∷ more
   all_asked more e = e ∙ ap (λ (x : List Ask). x ++ more) read ∙ append_assoc a.asked (ask_for_script script ∷ []) more
@@ -155,12 +140,12 @@ module _ (t : Option Tree) (words : List (List ℕ)) (root script : List ℕ) (e
       asked_before = h.0.asked_before;
       at_last = h.0.at_last;
       asked_at_last = h.0.asked_at_last;
-      something = h.0.something;
       asks = all_asked (h.0.before ++ h.0.at_last) h.0.asked;
     }),
   )
   run_ends (Err WriteFault) h = (subst (λ (n : ℕ). HasRisen n c.out_faults) out_faults h.1, stopped h.0)
-  run_ends (Err OutOfMemory) h = inr (stopped h)
+  run_ends (Err OutOfMemory) (inl quiet) = inl (quiet ∙ out)
+  run_ends (Err OutOfMemory) (inr h) = inr (stopped h)
 
   pub run_asks : RunAsks root events b.asked c.asked → Asks t words a.asked c.asked
   run_asks h = inr (record {

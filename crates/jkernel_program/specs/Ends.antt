@@ -3,10 +3,10 @@ use Rattle.std.specs.Prelude.{◌≡◌, ℕ, ◌⊎◌, ⊤, List, [], Option, 
 use Rattle.jk_model.specs.declared.script.Event.{Event}
 use Rattle.jk_model.specs.declared.script.ScriptFault.{ScriptFault}
 use Rattle.jk_model.specs.Outside.{Tree, FileIs, HasRisen}
-use Rattle.script_reader.specs.Events.{IsScript, IsAtFault}
 use Rattle.jkernel_program.specs.Calls.{IsCall}
 use Rattle.jkernel_program.specs.Messages.{usage_text, fault_text, read_text, write_text, memory_text}
 use Rattle.jkernel_program.specs.Events.{Moment}
+use Rattle.jkernel_program.specs.Scripts.{IsScript, IsAtFault}
 use Rattle.jkernel_program.specs.Statuses.{HasFault, LacksScript, IsDone, IsStopped, IsStoppedBefore, IsUnread}
 use Rattle.jkernel_program.specs.declared.ends.End.{End}
 use Rattle.jkernel_program.specs.declared.ends.End.TheVariants.{Done, Usage, Refused, Stopped}

@@ -3,7 +3,7 @@ pub mod Calls
 pub mod Codes
 pub mod Ends
 pub mod Events
-pub mod Folders
-pub mod Loading
 pub mod Messages
+pub mod Places
+pub mod Scripts
 pub mod Statuses

@@ -1,20 +1,19 @@
 -- What each status of the program says of its run. A tree is told or not, and so are the bytes of a sink.
-use Rattle.std.specs.Prelude.{◌≡◌, ◌≢◌, ℕ, ◌≤◌, ◌⊎◌, List, [], ◌∷◌, ◌++◌, Option, Some, None, take, slice_get, length}
+use Rattle.std.specs.Prelude.{◌≡◌, ℕ, ◌≤◌, ◌⊎◌, List, [], ◌∷◌, ◌++◌, Option, Some, None, take, slice_get, length}
 use Rattle.jk_model.specs.declared.output.Line.{Line}
 use Rattle.jk_model.specs.declared.script.Event.{Event}
 use Rattle.jk_model.specs.declared.script.Event.TheVariants.{Domain}
 use Rattle.jk_model.specs.declared.script.Quotas.{Quotas}
 use Rattle.jk_model.specs.declared.script.ScriptFault.{ScriptFault}
-use Rattle.jk_first_machine.specs.Machine.{Machine, no_domains}
 use Rattle.jk_model.specs.Outside.{Tree, Ask, FileIs, Appends, AppendsPart, ◌/-◌}
 use Rattle.jk_model.specs.Output.{text_of}
-use Rattle.jk_first_machine.specs.Run.{IsRun}
-use Rattle.jk_kernel.specs.Execution.{Executes}
-use Rattle.script_reader.specs.Events.{IsScript, IsAtFault}
+use Rattle.jk_model_machine.specs.Machine.{Machine, IsFirstMachine}
+use Rattle.jk_model_machine.specs.Run.{IsRun}
+use Rattle.jk_kernel.specs.Openings.{Opens}
 use Rattle.jkernel_program.specs.Asked.{ask_for_script, AsksForEvents, AsksForFolder}
 use Rattle.jkernel_program.specs.Calls.{IsCall}
-use Rattle.jkernel_program.specs.Loading.{Opens}
 use Rattle.jkernel_program.specs.Messages.{usage_text, fault_text, read_text, write_text, memory_text}
+use Rattle.jkernel_program.specs.Scripts.{IsScript, IsAtFault}
 use Rattle.jkernel_program.specs.declared.status.Status.{Status}
 use Rattle.jkernel_program.specs.declared.status.Status.TheVariants.{Done, Usage, ScriptRefused, ReadFault, WriteFault, OutOfMemory}
 
@@ -42,11 +41,13 @@ LacksScript None words = ⊥
 LacksScript (Some tree) words =
     (root : List ℕ) × (script : List ℕ) × IsCall words root script × (tree.file script ≡ None)
 
--- The first k events were run from the machine without domains, and printed these lines.
+-- The first k events were run from a machine without domains, and printed these lines.
 pub record RunsTo (tree : Option Tree) (root : List ℕ) (events : List Event) (k : ℕ) (lines : List Line) : Type 0 where
   pub within : k ≤ length events
+  pub first : Machine
+  pub is_first : IsFirstMachine first
   pub last : Machine
-  pub run : IsRun Executes (Opens tree root) no_domains (take k events) lines last
+  pub run : IsRun (Opens tree root) (take k events) first lines last
 
 -- Done: all events were run, and the text of their lines went out.
 pub record IsDone (tree : Option Tree) (words : List (List ℕ)) (old new : Option (List ℕ)) : Type 0 where
@@ -84,7 +85,6 @@ pub record IsStoppedBefore (tree : Option Tree) (words : List (List ℕ)) (old n
   pub asked_before : AsksForEvents root (take k events) before
   pub at_last : List Ask
   pub asked_at_last : AsksForFolder (root /- name) at_last
-  pub something : at_last ≢ []
   pub asks : asked' ≡ asked ++ ask_for_script has.script ∷ (before ++ at_last)
 
 -- Nothing but the script was asked for, and nothing went out.

@@ -10,11 +10,8 @@ ghost use Rattle.jkernel_program.specs.Statuses.{Says, BeginsToSay};
 
 mod calls;
 mod ends;
-mod entries;
 mod events;
-mod folders;
 mod opening;
-mod paths;
 mod program;
 mod scripts;
 mod status;

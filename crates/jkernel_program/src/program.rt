@@ -3,13 +3,12 @@
 ghost use Rattle.std.specs.Prelude.{◌≡◌, ◌⊎◌, ℕ, List, map, string_bytes, IsSome};
 ghost use Rattle.jk_model.specs.Outside.{HasNoFile, HasLongFile, HasRisen, NeverFalls};
 ghost use Rattle.jk_model.specs.Script.{MAX_BYTES};
-ghost use Rattle.jk_model.specs.declared.script.FaultKind.TheVariants.{NotYet};
-ghost use Rattle.script_reader.specs.Events.{IsScript, IsAtFault};
+ghost use Rattle.jk_model.specs.declared.script.FaultKind.TheVariants.{TooLong};
 ghost use Rattle.jkernel_program.specs.Calls.{IsCall};
 ghost use Rattle.jkernel_program.specs.declared.stop.Stop.TheVariants.{ReadFault, WriteFault};
 ghost use Rattle.jkernel_program.specs.Ends.{EndsSo, EndsWell, EndsRefused, HasText, IsNoCall};
-ghost use Rattle.jk_first_machine.specs.Machine.{no_domains};
 ghost use Rattle.jkernel_program.specs.Events.{moment};
+ghost use Rattle.jkernel_program.specs.Scripts.{IsScript, IsAtFault};
 ghost use Rattle.jkernel_program.specs.Statuses.{HasFault, LacksScript, IsDone, IsStopped, IsStoppedBefore, IsUnread, Asks, Says, BeginsToSay};
 
 use crate::calls::call_of;
@@ -24,8 +23,8 @@ use std::alloc::Global;
 /// Runs what the words say, and says nothing of it.
 fn run<F: Files, S: Sink>(alloc: Global, words: &[String], files: &mut F, out: &mut S) -> End
     ensures ends { EndsSo (F.tree files.old) (map string_bytes words.now)
-        (moment no_domains (S.bytes out.old) (S.faults out.old) (F.asked files.old) (F.faults files.old))
-        (moment no_domains (S.bytes out.new) (S.faults out.new) (F.asked files.new) (F.faults files.new)) result }
+        (moment (S.bytes out.old) (S.faults out.old) (F.asked files.old) (F.faults files.old))
+        (moment (S.bytes out.new) (S.faults out.new) (F.asked files.new) (F.faults files.new)) result }
     ensures asks { Asks (F.tree files.old) (map string_bytes words.now) (F.asked files.old) (F.asked files.new) }
     ensures calm { (result ≡ End.Stopped ReadFault → ⊥) → IsSome (F.tree files.old)
         → F.faults files.new ≡ F.faults files.old }
@@ -35,7 +34,7 @@ fn run<F: Files, S: Sink>(alloc: Global, words: &[String], files: &mut F, out: &
         → HasNoFile (F.tree files.old) script → result ≡ End.Stopped ReadFault }
     ensures over { (root script : List ℕ) → IsCall (map string_bytes words.now) root script
         → HasLongFile (F.tree files.old) script MAX_BYTES
-        → (result ≡ End.Refused (record { line = 0; kind = NotYet })) ⊎ (result ≡ End.Stopped ReadFault) }
+        → (result ≡ End.Refused (record { line = 0; kind = TooLong })) ⊎ (result ≡ End.Stopped ReadFault) }
     ensures script { (root script text : List ℕ) (events : List Event) → IsCall (map string_bytes words.now) root script
         → HasText (F.tree files.old) script text → IsScript text events
         → EndsWell (F.faults files.old) (F.faults files.new) (S.faults out.old) (S.faults out.new) result }

@@ -3,10 +3,10 @@
 ghost use Rattle.std.specs.Prelude.{◌≡◌, ℕ, ◌≤◌, ◌⊎◌, List, [], ◌∷◌, ◌++◌, length, IfOk, Err, IsSome};
 ghost use Rattle.std.specs.List.{AllByRecursion};
 ghost use Rattle.jk_model.specs.Outside.{HasNoFile, HasLongFile, NeverFalls};
-ghost use Rattle.script_reader.specs.Events.{IsScript, IsAtFault};
 ghost use Rattle.jkernel_program.specs.Asked.{ask_for_script};
 ghost use Rattle.jkernel_program.specs.Ends.{HasText, ScriptEnds, AnswersScript, AnswersFault};
 ghost use Rattle.jkernel_program.specs.Events.{IsBuilt};
+ghost use Rattle.jkernel_program.specs.Scripts.{IsScript, IsAtFault};
 
 use crate::ends::End;
 use crate::stop::Stop;
@@ -21,7 +21,7 @@ const MAX_BYTES: u32 = 1_048_576;
 /// What is wrong with a script that has too many bytes.
 const TOO_LONG: ScriptFault = ScriptFault {
     line: 0,
-    kind: FaultKind::NotYet,
+    kind: FaultKind::TooLong,
 };
 
 /// The events of the script at a path, or how the run ends without them.
@@ -37,7 +37,7 @@ pub fn script_at<F: Files>(alloc: Global, files: &mut F, path: &str) -> Result<L
     // Want of memory is no answer where the tree tells another.
     ensures missing { HasNoFile (F.tree files.old) path.now → result ≡ Err (End.Stopped Stop.ReadFault) }
     ensures over { HasLongFile (F.tree files.old) path.now 1048576
-        → (result ≡ Err (End.Refused (record { line = 0; kind = FaultKind.NotYet }))) ⊎ (result ≡ Err (End.Stopped Stop.ReadFault)) }
+        → (result ≡ Err (End.Refused (record { line = 0; kind = FaultKind.TooLong }))) ⊎ (result ≡ Err (End.Stopped Stop.ReadFault)) }
     ensures asks { F.asked files.new ≡ F.asked files.old ++ ask_for_script path.now ∷ [] }
     ensures calm { (result ≡ Err (End.Stopped Stop.ReadFault) → ⊥) → IsSome (F.tree files.old)
         → F.faults files.new ≡ F.faults files.old }

@@ -1,11 +1,15 @@
-//! Whole runs over files and sinks in memory. The class files are those of an outside compiler.
+//! Whole runs over files and sinks in memory.
 
 use crate::{Status, jkernel};
 use jk_model::OutOfMemory;
 use jk_outside::{MemoryFiles, MemorySink};
+use jkasm::{AsmError, assemble};
 use std::alloc::Global;
 use std::process::Abort;
 use std::test::Fail;
+
+/// More bytes than any text here has.
+const LONG: usize = 1 << 20;
 
 /// `Hello`, whose `main` prints "Hello".
 const HELLO: [u8; 321] = [
@@ -31,7 +35,6 @@ const HELLO: [u8; 321] = [
     0x00, 0x09, 0xb2, 0x00, 0x0c, 0x12, 0x12, 0xb6, 0x00, 0x13, 0xb1, 0x00, 0x00, 0x00, 0x00, 0x00,
     0x00,
 ];
-
 /// `Escapes`, whose `main` prints a text with a line feed and a backslash, and a plain one.
 const ESCAPES: [u8; 364] = [
     0xca, 0xfe, 0xba, 0xbe, 0x00, 0x00, 0x00, 0x30, 0x00, 0x1c, 0x07, 0x00, 0x02, 0x01, 0x00, 0x07,
@@ -58,17 +61,85 @@ const ESCAPES: [u8; 364] = [
     0x01, 0x00, 0x00, 0x00, 0x11, 0xb2, 0x00, 0x0c, 0x12, 0x12, 0xb6, 0x00, 0x14, 0xb2, 0x00, 0x0c,
     0x12, 0x1a, 0xb6, 0x00, 0x14, 0xb1, 0x00, 0x00, 0x00, 0x00, 0x00, 0x00,
 ];
-/// The script that runs `Hello` to its end.
-const HELLO_SCRIPT: &[u8] = b"domain hello\nstart hello Hello\nturn 1 100\n";
 
-/// What it prints.
-const HELLO_OUTPUT: &[u8] =
-    b"* domain hello loaded\n* thread 1 started in hello\nhello: Hello\n* thread 1 ended\n";
+/// `S`, with a switch over 3, 4 and 5 that an outside compiler made a table of. Its `main` prints what 4 leads to, and what 9 does.
+const TABLE_SWITCH: [u8; 424] = [
+    0xca, 0xfe, 0xba, 0xbe, 0x00, 0x00, 0x00, 0x32, 0x00, 0x1d, 0x0a, 0x00, 0x02, 0x00, 0x03, 0x07,
+    0x00, 0x04, 0x0c, 0x00, 0x05, 0x00, 0x06, 0x01, 0x00, 0x10, 0x6a, 0x61, 0x76, 0x61, 0x2f, 0x6c,
+    0x61, 0x6e, 0x67, 0x2f, 0x4f, 0x62, 0x6a, 0x65, 0x63, 0x74, 0x01, 0x00, 0x06, 0x3c, 0x69, 0x6e,
+    0x69, 0x74, 0x3e, 0x01, 0x00, 0x03, 0x28, 0x29, 0x56, 0x09, 0x00, 0x08, 0x00, 0x09, 0x07, 0x00,
+    0x0a, 0x0c, 0x00, 0x0b, 0x00, 0x0c, 0x01, 0x00, 0x10, 0x6a, 0x61, 0x76, 0x61, 0x2f, 0x6c, 0x61,
+    0x6e, 0x67, 0x2f, 0x53, 0x79, 0x73, 0x74, 0x65, 0x6d, 0x01, 0x00, 0x03, 0x6f, 0x75, 0x74, 0x01,
+    0x00, 0x15, 0x4c, 0x6a, 0x61, 0x76, 0x61, 0x2f, 0x69, 0x6f, 0x2f, 0x50, 0x72, 0x69, 0x6e, 0x74,
+    0x53, 0x74, 0x72, 0x65, 0x61, 0x6d, 0x3b, 0x0a, 0x00, 0x0e, 0x00, 0x0f, 0x07, 0x00, 0x10, 0x0c,
+    0x00, 0x11, 0x00, 0x12, 0x01, 0x00, 0x01, 0x53, 0x01, 0x00, 0x01, 0x66, 0x01, 0x00, 0x04, 0x28,
+    0x49, 0x29, 0x49, 0x0a, 0x00, 0x14, 0x00, 0x15, 0x07, 0x00, 0x16, 0x0c, 0x00, 0x17, 0x00, 0x18,
+    0x01, 0x00, 0x13, 0x6a, 0x61, 0x76, 0x61, 0x2f, 0x69, 0x6f, 0x2f, 0x50, 0x72, 0x69, 0x6e, 0x74,
+    0x53, 0x74, 0x72, 0x65, 0x61, 0x6d, 0x01, 0x00, 0x07, 0x70, 0x72, 0x69, 0x6e, 0x74, 0x6c, 0x6e,
+    0x01, 0x00, 0x04, 0x28, 0x49, 0x29, 0x56, 0x01, 0x00, 0x04, 0x43, 0x6f, 0x64, 0x65, 0x01, 0x00,
+    0x0d, 0x53, 0x74, 0x61, 0x63, 0x6b, 0x4d, 0x61, 0x70, 0x54, 0x61, 0x62, 0x6c, 0x65, 0x01, 0x00,
+    0x04, 0x6d, 0x61, 0x69, 0x6e, 0x01, 0x00, 0x16, 0x28, 0x5b, 0x4c, 0x6a, 0x61, 0x76, 0x61, 0x2f,
+    0x6c, 0x61, 0x6e, 0x67, 0x2f, 0x53, 0x74, 0x72, 0x69, 0x6e, 0x67, 0x3b, 0x29, 0x56, 0x00, 0x20,
+    0x00, 0x0e, 0x00, 0x02, 0x00, 0x00, 0x00, 0x00, 0x00, 0x03, 0x00, 0x00, 0x00, 0x05, 0x00, 0x06,
+    0x00, 0x01, 0x00, 0x19, 0x00, 0x00, 0x00, 0x11, 0x00, 0x01, 0x00, 0x01, 0x00, 0x00, 0x00, 0x05,
+    0x2a, 0xb7, 0x00, 0x01, 0xb1, 0x00, 0x00, 0x00, 0x00, 0x00, 0x08, 0x00, 0x11, 0x00, 0x12, 0x00,
+    0x01, 0x00, 0x19, 0x00, 0x00, 0x00, 0x3f, 0x00, 0x01, 0x00, 0x01, 0x00, 0x00, 0x00, 0x27, 0x1a,
+    0xaa, 0x00, 0x00, 0x00, 0x00, 0x00, 0x24, 0x00, 0x00, 0x00, 0x03, 0x00, 0x00, 0x00, 0x05, 0x00,
+    0x00, 0x00, 0x1b, 0x00, 0x00, 0x00, 0x1e, 0x00, 0x00, 0x00, 0x21, 0x10, 0x1e, 0xac, 0x10, 0x28,
+    0xac, 0x10, 0x32, 0xac, 0x02, 0xac, 0x00, 0x00, 0x00, 0x01, 0x00, 0x1a, 0x00, 0x00, 0x00, 0x06,
+    0x00, 0x04, 0x1c, 0x02, 0x02, 0x02, 0x00, 0x09, 0x00, 0x1b, 0x00, 0x1c, 0x00, 0x01, 0x00, 0x19,
+    0x00, 0x00, 0x00, 0x22, 0x00, 0x02, 0x00, 0x01, 0x00, 0x00, 0x00, 0x16, 0xb2, 0x00, 0x07, 0x07,
+    0xb8, 0x00, 0x0d, 0xb6, 0x00, 0x13, 0xb2, 0x00, 0x07, 0x10, 0x09, 0xb8, 0x00, 0x0d, 0xb6, 0x00,
+    0x13, 0xb1, 0x00, 0x00, 0x00, 0x00, 0x00, 0x00,
+];
+
+/// The class A, without members.
+const EMPTY_CLASS: [u8; 53] = [
+    0xca, 0xfe, 0xba, 0xbe, 0x00, 0x03, 0x00, 0x2d, 0x00, 0x05, 0x07, 0x00, 0x02, 0x01, 0x00, 0x01,
+    0x41, 0x07, 0x00, 0x04, 0x01, 0x00, 0x10, 0x6a, 0x61, 0x76, 0x61, 0x2f, 0x6c, 0x61, 0x6e, 0x67,
+    0x2f, 0x4f, 0x62, 0x6a, 0x65, 0x63, 0x74, 0x00, 0x21, 0x00, 0x01, 0x00, 0x03, 0x00, 0x00, 0x00,
+    0x00, 0x00, 0x00, 0x00, 0x00,
+];
+
+/// What stands at a path of a tree.
+#[derive(Clone, Copy)]
+enum Content<'a> {
+    Bytes(&'a [u8]),
+    /// The class file that an assembler's text stands for.
+    Class(&'a [u8]),
+}
+
+use Content::{Bytes, Class};
 
 /// Adds a file to the tree.
 fn add(rt: &impl Abort, files: &mut MemoryFiles, path: &str, bytes: &[u8]) {
     assert!(rt; files.is_addable(path), "{path} fits the tree");
     assert!(rt; files.add(path, bytes).is_ok());
+}
+
+/// Adds what stands at a path.
+fn add_content(
+    rt: &impl Abort,
+    alloc: Global,
+    files: &mut MemoryFiles,
+    path: &str,
+    content: Content<'_>,
+) -> Result<(), OutOfMemory> {
+    match content {
+        Bytes(bytes) => add(rt, files, path, bytes),
+        Class(text) => {
+            assert!(rt; text.len() < LONG);
+            match assemble(alloc, text) {
+                Ok(bytes) => add(rt, files, path, bytes.as_slice()),
+                Err(AsmError::OutOfMemory) => return Err(OutOfMemory),
+                Err(AsmError::Line(line)) => assert!(rt;
+                    line == 0,
+                    "line {line} of the text of {path} is at fault"
+                ),
+            }
+        }
+    }
+    Ok(())
 }
 
 /// How a run ended, and what it put out.
@@ -79,84 +150,612 @@ struct Outcome {
     err: MemorySink,
 }
 
-/// Runs a script over a tree of two folders, with an output whose writes of these numbers fail.
-fn run_script(
+/// A tree of files, by their paths.
+type Files<'a> = &'a [(&'a str, Content<'a>)];
+
+/// Runs words over a tree, with an output whose writes of these numbers fail.
+fn run_words(
     rt: &impl Abort,
     alloc: Global,
-    path: &str,
+    given: &[&str],
+    tree: Files<'_>,
     script: &[u8],
     fails: &[u32],
 ) -> Result<Outcome, OutOfMemory> {
     let mut files = MemoryFiles::new(alloc);
-    add(rt, &mut files, "root/hello/Hello.class", &HELLO);
-    add(rt, &mut files, "root/a/Escapes.class", &ESCAPES);
+    for (path, content) in tree {
+        add_content(rt, alloc, &mut files, path, *content)?;
+    }
     add(rt, &mut files, "script", script);
     let mut words = Vec::new(alloc);
-    words.push(String::from_str(alloc, "root")?)?;
-    words.push(String::from_str(alloc, path)?)?;
+    for word in given {
+        words.push(String::from_str(alloc, word)?)?;
+    }
     let mut out = MemorySink::with_room(alloc, 10_000, fails)?;
     let mut err = MemorySink::with_room(alloc, 1000, &[])?;
     let status = jkernel(alloc, words.as_slice(), &mut files, &mut out, &mut err);
     Ok(Outcome { status, out, err })
 }
 
-#[test]
-fn ample_memory_is_enough(rt: HostRuntime) -> Result<(), Fail> {
-    let end = run_script(&rt, rt.alloc(), "script", HELLO_SCRIPT, &[])?;
+/// Runs a script over a tree to its end, and compares what goes out.
+fn prints(
+    rt: &impl Abort,
+    alloc: Global,
+    tree: Files<'_>,
+    script: &[u8],
+    wanted: &[u8],
+) -> Result<(), OutOfMemory> {
+    let end = run_words(rt, alloc, &["root", "script"], tree, script, &[])?;
     assert!(rt; end.status == Status::Done);
-    assert!(rt; end.out.bytes() == HELLO_OUTPUT);
+    assert!(rt; end.out.bytes() == wanted);
     assert!(rt; end.err.bytes().is_empty());
     Ok(())
 }
 
+/// `Hello`, whose `main` has four instructions.
+const SHORT_HELLO: &[u8] = b"class 0021 Hello java/lang/Object
+method 0009 main ([Ljava/lang/String;)V 2 1
+        getstatic java/lang/System out Ljava/io/PrintStream;
+        ldc_w text \"Hello\"
+        invokevirtual java/io/PrintStream println (Ljava/lang/String;)V
+        return
+end";
+
+/// Prints the remainder of 7 by -2, and divides 1 by 0.
+const DIVISION: &[u8] = b"class 0021 Div java/lang/Object
+method 0009 main ([Ljava/lang/String;)V 3 1
+        getstatic java/lang/System out Ljava/io/PrintStream;
+        sipush 7
+        sipush -2
+        irem
+        invokevirtual java/io/PrintStream println (I)V
+        getstatic java/lang/System out Ljava/io/PrintStream;
+        sipush 1
+        sipush 0
+        idiv
+        invokevirtual java/io/PrintStream println (I)V
+        return
+end";
+
+/// Prints 1, 2 and 3, by its steps 8, 15 and 22, and ends by its step 27.
+const COUNT: &[u8] = b"class 0021 Count java/lang/Object
+method 0009 main ([Ljava/lang/String;)V 2 2
+        sipush 1
+        istore 1
+next:   getstatic java/lang/System out Ljava/io/PrintStream;
+        iload 1
+        invokevirtual java/io/PrintStream println (I)V
+        iinc 1 1
+        iload 1
+        sipush 3
+        if_icmple next
+        return
+end";
+
+/// Prints what `two` of another class gives.
+const CALLER: &[u8] = b"class 0021 Main java/lang/Object
+method 0009 main ([Ljava/lang/String;)V 2 1
+        getstatic java/lang/System out Ljava/io/PrintStream;
+        invokestatic Two two ()I
+        invokevirtual java/io/PrintStream println (I)V
+        return
+end";
+
+const TWO: &[u8] = b"class 0021 Two java/lang/Object
+method 0009 two ()I 1 0
+        sipush 2
+        ireturn
+end";
+
+/// Its `main` calls itself.
+const DEEP: &[u8] = b"class 0021 Deep java/lang/Object
+method 0009 main ([Ljava/lang/String;)V 0 1
+        invokestatic Deep down ()V
+        return
+end
+method 0009 down ()V 0 0
+        invokestatic Deep down ()V
+        return
+end";
+
+/// A class below another, each with a `main` that returns.
+const UPPER: &[u8] = b"class 0021 Upper java/lang/Object
+method 0009 main ([Ljava/lang/String;)V 0 1
+        return
+end";
+
+const LOWER: &[u8] = b"class 0021 Lower Upper
+method 0009 main ([Ljava/lang/String;)V 0 1
+        return
+end";
+
+/// Each form of `println`.
+const FORMS: &[u8] = b"class 0021 p/q/Forms java/lang/Object
+method 0009 main ([Ljava/lang/String;)V 3 1
+        getstatic java/lang/System out Ljava/io/PrintStream;
+        invokevirtual java/io/PrintStream println ()V
+        getstatic java/lang/System out Ljava/io/PrintStream;
+        sipush -5
+        invokevirtual java/io/PrintStream println (I)V
+        getstatic java/lang/System out Ljava/io/PrintStream;
+        ldc2_w long -9223372036854775808
+        invokevirtual java/io/PrintStream println (J)V
+        getstatic java/lang/System out Ljava/io/PrintStream;
+        sipush 955
+        invokevirtual java/io/PrintStream println (C)V
+        getstatic java/lang/System out Ljava/io/PrintStream;
+        sipush 1
+        invokevirtual java/io/PrintStream println (Z)V
+        getstatic java/lang/System out Ljava/io/PrintStream;
+        sipush 0
+        invokevirtual java/io/PrintStream println (Z)V
+        getstatic java/lang/System out Ljava/io/PrintStream;
+        ldc_w text \"text\"
+        invokevirtual java/io/PrintStream println (Ljava/lang/String;)V
+        return
+end";
+
+/// Chooses by a key: -1 and 100 give 1, all others 2.
+const CHOICE: &[u8] = b"class 0021 Choice java/lang/Object
+method 0009 main ([Ljava/lang/String;)V 2 1
+        getstatic java/lang/System out Ljava/io/PrintStream;
+        sipush 100
+        invokestatic Choice of (I)I
+        invokevirtual java/io/PrintStream println (I)V
+        getstatic java/lang/System out Ljava/io/PrintStream;
+        sipush 99
+        invokestatic Choice of (I)I
+        invokevirtual java/io/PrintStream println (I)V
+        return
+end
+method 0009 of (I)I 1 1
+        iload 0
+        switch other -1=one 100=one
+one:    sipush 1
+        ireturn
+other:  sipush 2
+        ireturn
+end";
+
+/// Its `main` has 17 words of locals and stack.
+const WIDE: &[u8] = b"class 0021 Wide java/lang/Object
+method 0009 main ([Ljava/lang/String;)V 16 1
+        return
+end";
+
+/// Its `main` has 16 words of locals and stack.
+const LESS_WIDE: &[u8] = b"class 0021 LessWide java/lang/Object
+method 0009 main ([Ljava/lang/String;)V 15 1
+        return
+end";
+
+/// Its second method has an int on the stack on one path and a text on the other, and returns where they meet.
+const MEETING: &[u8] = b"class 0021 Bad java/lang/Object
+method 0009 first ()V 0 0
+        return
+end
+method 0009 second (I)V 1 1
+        iload 0
+        ifeq other
+        sipush 1
+        goto meet
+other:  ldc_w text \"x\"
+meet:   return
+end";
+
+const BASE: &[u8] = b"class 0021 p/Base java/lang/Object
+method 0004 go ()V 0 1
+        return
+end";
+
+/// Calls a protected method of its parent at an object that may be no `q/Bad`.
+const PROTECTED: &[u8] = b"class 0021 q/Bad p/Base
+method 0009 call (Lp/Base;)V 1 1
+        aload 0
+        invokevirtual p/Base go ()V
+        return
+end";
+
+/// Its constructor returns before that of its parent was called.
+const UNMADE: &[u8] = b"class 0021 Bad java/lang/Object
+method 0001 <init> ()V 0 1
+        return
+end";
+
+const WITH_STATIC: &[u8] = b"class 0021 Box java/lang/Object
+field 0019 LIMIT I 10";
+
+const NAMES_NODE: &[u8] = b"class 0601 Box java/lang/Object
+method 0401 put (LNode;)V 0 0
+end";
+
+const NODE: &[u8] = b"class 0021 Node java/lang/Object";
+
+const PACKAGED: &[u8] = b"class 0021 p/A java/lang/Object";
+
+const OWN_PARENT: &[u8] = b"class 0021 A A";
+
+/// A class with an initialiser.
+const INITIALISED: &[u8] = b"class 0021 I java/lang/Object
+method 0008 <clinit> ()V 0 0
+        return
+end";
+
+/// The folder of the first runs.
+const HELLO_TREE: Files<'static> = &[("root/hello/Hello.class", Class(SHORT_HELLO))];
+
 #[test]
-fn empty_script_prints_nothing(rt: HostRuntime) -> Result<(), Fail> {
-    let end = run_script(&rt, rt.alloc(), "script", b"", &[])?;
-    assert!(rt; end.status == Status::Done);
-    assert!(rt; end.out.bytes().is_empty());
-    assert!(rt; end.err.bytes().is_empty());
+fn a_thread_takes_its_steps(rt: HostRuntime) -> Result<(), Fail> {
+    let began = b"* domain hello loaded\n* thread 1 started in hello\n".as_slice();
+    let said = b"* domain hello loaded\n* thread 1 started in hello\nhello: Hello\n".as_slice();
+    let whole =
+        b"* domain hello loaded\n* thread 1 started in hello\nhello: Hello\n* thread 1 ended\n".as_slice();
+    for (script, wanted) in [
+        (b"".as_slice(), b"".as_slice()),
+        (b"domain hello\nstart hello Hello\nround 1 100\n", whole),
+        (b"domain hello\nstart hello Hello\nturn 1 5\n", began),
+        (b"domain hello\nstart hello Hello\nturn 1 6\n", said),
+        (
+            b"domain hello\nstart hello Hello\nturn 1 6\nturn 1\n",
+            whole,
+        ),
+        (
+            b"domain hello\nstart hello Hello\nround 3 2\nround 1000000 1\n",
+            whole,
+        ),
+        (
+            b"domain hello steps 7\nstart hello Hello\nround 1 100\n",
+            whole,
+        ),
+        (
+            b"domain hello steps 6\nstart hello Hello\nround 1 100\n",
+            said,
+        ),
+        (
+            b"domain hello steps 5\nstart hello Hello\nround 1 100\nturn 1 1000000000\n",
+            began,
+        ),
+        (
+            b"domain hello\nturn 1 100\nstart hello Hello\nturn 7\nround 1 100\nturn 1 100\n",
+            whole,
+        ),
+    ] {
+        prints(&rt, rt.alloc(), HELLO_TREE, script, wanted)?;
+    }
     Ok(())
 }
 
 #[test]
-fn a_text_is_one_line(rt: HostRuntime) -> Result<(), Fail> {
-    let end = run_script(
+fn domains_run_by_turns(rt: HostRuntime) -> Result<(), Fail> {
+    let tree: Files<'_> = &[
+        ("root/a/Count.class", Class(COUNT)),
+        ("root/b/Count.class", Class(COUNT)),
+    ];
+    prints(
         &rt,
         rt.alloc(),
-        "script",
-        b"domain a\nstart a Escapes\nturn 1 4\n",
-        &[],
+        tree,
+        b"domain a\ndomain b\nstart a Count\nstart b Count\nround 3 9\n",
+        b"* domain a loaded\n* domain b loaded\n* thread 1 started in a\n* thread 2 started in b\na: 1\nb: 1\na: 2\nb: 2\na: 3\n* thread 1 ended\nb: 3\n* thread 2 ended\n",
     )?;
-    assert!(rt; end.status == Status::Done);
-    let wanted = b"* domain a loaded\n* thread 1 started in a\na: x\\u000ab: y\\\\\n";
-    assert!(rt; end.out.bytes() == wanted.as_slice());
+    Ok(())
+}
+
+#[test]
+fn a_thread_waits_for_a_class(rt: HostRuntime) -> Result<(), Fail> {
+    let tree: Files<'_> = &[("root/a/Hello.class", Class(SHORT_HELLO))];
+    let script =
+        b"domain a steps 12\nstart a Hello\nstart a Hello\nturn 1\nturn 2 1000000000\nturn 1 100\nturn 2 100\n";
+    prints(
+        &rt,
+        rt.alloc(),
+        tree,
+        script.as_slice(),
+        b"* domain a loaded\n* thread 1 started in a\n* thread 2 started in a\na: Hello\n* thread 1 ended\na: Hello\n* thread 2 ended\n",
+    )?;
+    Ok(())
+}
+
+#[test]
+fn classes_run(rt: HostRuntime) -> Result<(), Fail> {
+    let begun = "* domain a loaded\n* thread 1 started in a\n";
+    for (tree, class, wanted) in [
+        (
+            [
+                ("root/a/Main.class", Class(CALLER)),
+                ("root/a/Two.class", Class(TWO)),
+            ]
+            .as_slice(),
+            "Main",
+            "a: 2\n* thread 1 ended\n",
+        ),
+        (
+            [("root/a/Div.class", Class(DIVISION))].as_slice(),
+            "Div",
+            "a: 1\n* thread 1 ended by java/lang/ArithmeticException\n",
+        ),
+        (
+            [("root/a/Deep.class", Class(DEEP))].as_slice(),
+            "Deep",
+            "* thread 1 ended by java/lang/StackOverflowError\n",
+        ),
+        (
+            [("root/a/Choice.class", Class(CHOICE))].as_slice(),
+            "Choice",
+            "a: 1\na: 2\n* thread 1 ended\n",
+        ),
+        (
+            [("root/a/S.class", Bytes(&TABLE_SWITCH))].as_slice(),
+            "S",
+            "a: 40\na: -1\n* thread 1 ended\n",
+        ),
+        (
+            [("root/a/Escapes.class", Bytes(&ESCAPES))].as_slice(),
+            "Escapes",
+            "a: x\\u000ab: y\\\\\na: and one more line\n* thread 1 ended\n",
+        ),
+        (
+            [("root/a/p/q/Forms.class", Class(FORMS))].as_slice(),
+            "p/q/Forms",
+            "a: \na: -5\na: -9223372036854775808\na: \\u03bb\na: true\na: false\na: text\n* thread 1 ended\n",
+        ),
+    ] {
+        let script = format!(in rt.alloc(); "domain a\nstart a {class}\nround 1 100000\n")?;
+        let all = format!(in rt.alloc(); "{begun}{wanted}")?;
+        prints(&rt, rt.alloc(), tree, script.as_bytes(), all.as_bytes())?;
+    }
+    Ok(())
+}
+
+#[test]
+fn stacks_run_out(rt: HostRuntime) -> Result<(), Fail> {
+    let tree: Files<'_> = &[
+        ("root/a/Upper.class", Class(UPPER)),
+        ("root/a/Lower.class", Class(LOWER)),
+    ];
+    // The frame of Lower's initialiser has no room, and Lower stays as it is.
+    prints(
+        &rt,
+        rt.alloc(),
+        tree,
+        b"domain a stack 2\nstart a Lower\nround 1 100\nstart a Lower\nround 1 100\n",
+        b"* domain a loaded\n* thread 1 started in a\n* thread 1 ended by java/lang/StackOverflowError\n* thread 2 started in a\n* thread 2 ended by java/lang/StackOverflowError\n",
+    )?;
+    // That of Upper's has none, and Lower is broken.
+    prints(
+        &rt,
+        rt.alloc(),
+        tree,
+        b"domain a stack 3\nstart a Lower\nround 1 100\nstart a Lower\nround 1 100\nstart a Upper\nround 1 100\n",
+        b"* domain a loaded\n* thread 1 started in a\n* thread 1 ended by java/lang/StackOverflowError\n* thread 2 started in a\n* thread 2 ended by java/lang/NoClassDefFoundError\n* thread 3 started in a\n* thread 3 ended\n",
+    )?;
+    Ok(())
+}
+
+/// Two folders, whose classes the starts name.
+const STARTS_TREE: Files<'static> = &[
+    ("root/hello/Hello.class", Bytes(&HELLO)),
+    ("root/a/Wide.class", Class(WIDE)),
+    ("root/a/LessWide.class", Class(LESS_WIDE)),
+    ("root/a/Two.class", Class(TWO)),
+];
+
+#[test]
+fn starts_are_refused(rt: HostRuntime) -> Result<(), Fail> {
+    for (script, wanted) in [
+        (
+            b"domain hello threads 1\nstart zz Hello\nstart hello No\nstart hello Hello\nstart hello Hello\n".as_slice(),
+            b"* domain hello loaded\n* start zz refused S1\n* start hello refused S2\n* thread 1 started in hello\n* start hello refused S4\n".as_slice(),
+        ),
+        (
+            b"domain a stack 2\nstart a Two\nstart a Wide\nstart a LessWide\nstart a LessWide\n",
+            b"* domain a loaded\n* start a refused S3\n* start a refused S6\n* thread 1 started in a\n* start a refused S6\n",
+        ),
+    ] {
+        prints(&rt, rt.alloc(), STARTS_TREE, script, wanted)?;
+    }
+    Ok(())
+}
+
+/// Folders that are refused, and the rule of each with its place.
+const REFUSED: &[(Files<'static>, &str)] = &[
+    (&[("root/a/Bad.class", Class(MEETING))], "C23 Bad.class 2"),
+    (
+        &[
+            ("root/a/p/Base.class", Class(BASE)),
+            ("root/a/q/Bad.class", Class(PROTECTED)),
+        ],
+        "C23 q/Bad.class 1",
+    ),
+    (&[("root/a/Bad.class", Class(UNMADE))], "C23 Bad.class 1"),
+    (&[("root/a/A.class", Class(PACKAGED))], "C17 A.class 0"),
+    (&[("root/a/A.class", Class(OWN_PARENT))], "C19 A.class 0"),
+    (
+        &[
+            ("root/a/Box.class", Class(WITH_STATIC)),
+            ("root/a/resolver.txt", Bytes(b"share Box")),
+        ],
+        "C25 Box.class 1",
+    ),
+    (
+        &[
+            ("root/a/Box.class", Class(NAMES_NODE)),
+            ("root/a/Node.class", Class(NODE)),
+            ("root/a/resolver.txt", Bytes(b"share Box")),
+        ],
+        "C26 Box.class 0",
+    ),
+    (
+        &[(
+            "root/a/resolver.txt",
+            Bytes(b"# from a domain that isn't live\nimport zz Box\n"),
+        )],
+        "L7 resolver.txt 2",
+    ),
+    (&[("root/a/I.class", Class(INITIALISED))], "X1"),
+    (&[("root/b/I.class", Class(INITIALISED))], "L2"),
+];
+
+/// Runs a script over a folder that breaks this rule, and compares what goes out.
+fn refuses(
+    rt: &impl Abort,
+    alloc: Global,
+    tree: Files<'_>,
+    wanted: &str,
+) -> Result<(), OutOfMemory> {
+    let all = format!(in alloc; "* domain a refused {wanted}\n* start a refused S1\n")?;
+    prints(rt, alloc, tree, b"domain a\nstart a Bad\n", all.as_bytes())
+}
+
+#[test]
+fn folders_are_refused(rt: HostRuntime) -> Result<(), Fail> {
+    for (tree, wanted) in REFUSED {
+        refuses(&rt, rt.alloc(), tree, wanted)?;
+    }
+    Ok(())
+}
+
+#[test]
+fn changed_classes_are_refused(rt: HostRuntime) -> Result<(), Fail> {
+    let mut late = EMPTY_CLASS;
+    late[7] = 50;
+    let longer = [EMPTY_CLASS.as_slice(), b"\0".as_slice()].concat(rt.alloc())?;
+    refuses(
+        &rt,
+        rt.alloc(),
+        &[("root/a/A.class", Bytes(&EMPTY_CLASS[..9]))],
+        "C3 A.class 9",
+    )?;
+    refuses(
+        &rt,
+        rt.alloc(),
+        &[("root/a/A.class", Bytes(longer.as_slice()))],
+        "C4 A.class 53",
+    )?;
+    refuses(
+        &rt,
+        rt.alloc(),
+        &[("root/a/A.class", Bytes(&late))],
+        "C2 A.class 4",
+    )?;
+    Ok(())
+}
+
+#[test]
+fn folders_load(rt: HostRuntime) -> Result<(), Fail> {
+    let mut early = EMPTY_CLASS;
+    early[5] = 0;
+    early[7] = 50;
+    let once = b"* domain a loaded\n".as_slice();
+    prints(
+        &rt,
+        rt.alloc(),
+        &[("root/a/A.class", Bytes(&EMPTY_CLASS))],
+        b"domain a",
+        once,
+    )?;
+    prints(
+        &rt,
+        rt.alloc(),
+        &[("root/a/A.class", Bytes(&early))],
+        b"domain a",
+        once,
+    )?;
+    prints(
+        &rt,
+        rt.alloc(),
+        &[("root/a/A.class", Bytes(&EMPTY_CLASS))],
+        b"domain a\ndomain a",
+        b"* domain a loaded\n* domain a refused L1\n",
+    )?;
+    Ok(())
+}
+
+#[test]
+fn a_class_is_imported(rt: HostRuntime) -> Result<(), Fail> {
+    let tree: Files<'_> = &[
+        ("root/lib/Two.class", Class(TWO)),
+        ("root/lib/resolver.txt", Bytes(b"share Two a\n")),
+        ("root/a/Main.class", Class(CALLER)),
+        ("root/a/resolver.txt", Bytes(b"import lib Two\n")),
+        ("root/b/Main.class", Class(CALLER)),
+        ("root/b/resolver.txt", Bytes(b"import lib Two\n")),
+    ];
+    prints(
+        &rt,
+        rt.alloc(),
+        tree,
+        b"domain lib\ndomain a\ndomain b\nstart a Main\nround 1 100\n",
+        b"* domain lib loaded\n* domain a loaded\n* domain b refused L7 resolver.txt 1\n* thread 1 started in a\na: 2\n* thread 1 ended\n",
+    )?;
+    Ok(())
+}
+
+#[test]
+fn words_and_scripts_are_refused(rt: HostRuntime) -> Result<(), Fail> {
+    let usage = b"usage: jkernel [--pool WORDS] ROOT SCRIPT\n".as_slice();
+    for (words, script, status, err) in [
+        (
+            ["--pool", "x", "root", "script"].as_slice(),
+            b"".as_slice(),
+            Status::Usage,
+            usage,
+        ),
+        (["root"].as_slice(), b"", Status::Usage, usage),
+        (
+            ["root", "nothing"].as_slice(),
+            b"",
+            Status::ReadFault,
+            b"jkernel: cannot read\n",
+        ),
+        (
+            ["root", "script"].as_slice(),
+            b"domain hello\ntrun 1\n",
+            Status::ScriptRefused,
+            b"jkernel: script line 2: UnknownWord\n",
+        ),
+        (
+            ["root", "script"].as_slice(),
+            b"domain hello steps 5 steps 6\n",
+            Status::ScriptRefused,
+            b"jkernel: script line 1: Extra\n",
+        ),
+        (
+            ["root", "script"].as_slice(),
+            b"domain hello\nkill hello\n",
+            Status::ScriptRefused,
+            b"jkernel: script line 2: NotYet\n",
+        ),
+    ] {
+        let end = run_words(
+            &rt,
+            rt.alloc(),
+            words,
+            &[("root/hello/Hello.class", Bytes(&HELLO))],
+            script,
+            &[],
+        )?;
+        assert!(rt; end.status == status);
+        assert!(rt; end.out.bytes().is_empty());
+        assert!(rt; end.err.bytes() == err);
+    }
     Ok(())
 }
 
 #[test]
 fn second_write_fails(rt: HostRuntime) -> Result<(), Fail> {
-    let end = run_script(&rt, rt.alloc(), "script", HELLO_SCRIPT, &[2])?;
+    let script = b"domain hello\nstart hello Hello\nround 1 100\n";
+    let end = run_words(
+        &rt,
+        rt.alloc(),
+        &["root", "script"],
+        &[("root/hello/Hello.class", Bytes(&HELLO))],
+        script,
+        &[2],
+    )?;
     assert!(rt; end.status == Status::WriteFault);
     assert!(rt; end.out.bytes() == b"* domain hello loaded\n".as_slice());
     assert!(rt; end.err.bytes() == b"jkernel: cannot write\n".as_slice());
-    Ok(())
-}
-
-#[test]
-fn absent_script_cannot_be_read(rt: HostRuntime) -> Result<(), Fail> {
-    let end = run_script(&rt, rt.alloc(), "nothing", b"", &[])?;
-    assert!(rt; end.status == Status::ReadFault);
-    assert!(rt; end.out.bytes().is_empty());
-    assert!(rt; end.err.bytes() == b"jkernel: cannot read\n".as_slice());
-    Ok(())
-}
-
-#[test]
-fn fault_names_its_line(rt: HostRuntime) -> Result<(), Fail> {
-    let end = run_script(&rt, rt.alloc(), "script", b"domain hello\ntrun 1\n", &[])?;
-    assert!(rt; end.status == Status::ScriptRefused);
-    assert!(rt; end.out.bytes().is_empty());
-    assert!(rt; end.err.bytes() == b"jkernel: script line 2: NotYet\n".as_slice());
     Ok(())
 }
 

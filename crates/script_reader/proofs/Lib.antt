@@ -1,6 +1,7 @@
 -- Lemmas on the words, lines and numbers of scripts, and on what they say.
-mod DigitsWriteNumbers
+mod CappedNumbers
 mod FirstLineAndRest
 mod FirstWordAndRest
-mod LinesSayOneList
-mod OneScriptOrFault
+mod LinesInTurn
+mod OptionsInTurn
+mod WordsInTurn

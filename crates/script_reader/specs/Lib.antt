@@ -1,6 +1,7 @@
--- The scripts that are read so far, and what the private functions say of their lines.
-pub mod EventsOrFault
-pub mod Events
-pub mod Progress
-pub mod Reading
-pub mod Words
+-- The lines that aren't built yet, and what the private functions say of words, options and answers.
+pub mod Answers
+pub mod Commands
+pub mod NotBuilt
+pub mod Numbers
+pub mod Options
+pub mod StartWords

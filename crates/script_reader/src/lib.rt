@@ -1,13 +1,17 @@
-//! Reads scripts: the events that the lines stand for, or the first line at fault.
+//! Reads scripts: the events that the lines stand for, or the first line at fault and what is wrong with it.
 #![tactic(auto)]
 
+mod commands;
+mod error;
 mod line;
+mod not_built;
 mod number;
-mod progress;
+mod options;
 mod script;
 mod words;
 
-pub use script::{ScriptError, read_script};
+pub use error::ScriptError;
+pub use script::read_script;
 
 #[cfg(test)]
 mod tests;

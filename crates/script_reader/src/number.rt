@@ -1,42 +1,58 @@
-//! Numbers as a script writes them: decimal digits without a needless leading zero.
+//! Numbers as a script writes them: decimal digits without a needless zero in front.
 
-ghost use Rattle.std.specs.Prelude.{◌≡◌, ℕ, ◌+◌, ◌<◌, ◌≤◌, ◌^◌, length, MatchBool, MatchOption};
-ghost use Rattle.std.specs.Str.Parse.{AllDigits, digits_value};
-ghost use Rattle.script_reader.specs.Words.{IsNumber};
-ghost use Rattle.script_reader.specs.Reading.{MayBeNumeral};
+ghost use Rattle.std.specs.Prelude.{◌≡◌, ◌*◌, ◌+◌, ◌-◌, fold};
+ghost use Rattle.std.specs.List.{list_all};
+ghost use Rattle.jk_model.specs.ScriptGrammar as grammar;
+ghost use Rattle.script_reader.specs.Numbers.{capped_value};
 
-/// The most digits that a number below 2 to the 32nd has.
-const MAX_DIGITS: usize = 10;
+/// More than each number of a script.
+const CAP: u64 = 4_294_967_296;
 
-/// The number that digits write, or `None` where a byte is no digit.
-fn value_of(digits: &[u8]) -> Option<u64>
-    requires { length digits.now ≤ 10 }
-    ensures { MatchOption result (¬ (AllDigits 10 digits.now)) (λ value. AllDigits 10 digits.now × (value ≡ digits_value 10 digits.now)) }
+/// Whether a byte is a decimal digit.
+fn is_digit(byte: u8) -> bool
+    ensures { result ≡ grammar.is_digit byte }
 {
-    let mut value = 0u64;
-    for digit in digits {
-        if !digit.is_ascii_digit() {
-            return None;
-        }
-        value = value * 10 + u64::from(*digit - b'0');
+    matches!(byte, b'0'..=b'9')
+}
+
+/// Whether all bytes are decimal digits.
+fn has_digits(word: &[u8]) -> bool
+    ensures { result ≡ list_all grammar.is_digit word.now }
+{
+    word.iter().all(|byte| is_digit(*byte))
+}
+
+/// Whether a word is decimal digits without a needless zero in front.
+fn is_numeral(word: &[u8]) -> bool
+    ensures { result ≡ grammar.is_numeral word.now }
+{
+    match word {
+        [] => false,
+        [digit] => is_digit(*digit),
+        [first, ..] => *first != b'0' && has_digits(word),
     }
-    Some(value)
 }
 
-/// Whether a word is as long as a number may be, and has no needless zero in front.
-fn may_be_numeral(word: &[u8]) -> bool
-    ensures { MatchBool result (MayBeNumeral word.now) (¬ (MayBeNumeral word.now)) }
+/// The value of digits, or, where that is `CAP` or more, some number that is so too. So any number of
+/// digits has one.
+fn capped_value(digits: &[u8]) -> u64
+    ensures { result ≡ capped_value digits.now }
 {
-    !word.is_empty() && word.len() <= MAX_DIGITS && (word.len() == 1 || word[0] != b'0')
+    digits.iter().fold(0, |value, digit| {
+        u64::min(value, CAP) * 10 + u64::from(digit.saturating_sub(b'0'))
+    })
 }
 
-/// The number below 2 to the 32nd that a word writes, or `None` where it writes none.
-pub(crate) fn number_of(word: &[u8]) -> Option<u32>
-    ensures { MatchOption result ((n : ℕ) → n < 2 ^ 32 → IsNumber word.now n → ⊥) (λ n. IsNumber word.now n) }
+/// The number from `low` to `high` that a word writes, or `None` where it writes none.
+pub(crate) fn number_within(low: u32, high: u32, word: &[u8]) -> Option<u32>
+    ensures { result ≡ grammar.number_within low high word.now }
 {
-    if !may_be_numeral(word) {
+    if !is_numeral(word) {
         return None;
     }
-    let value = value_of(word)?;
-    u32::try_from(value).ok()
+    let value = capped_value(word);
+    if value < u64::from(low) || value > u64::from(high) {
+        return None;
+    }
+    Some(value as u32)
 }

@@ -1,8 +1,10 @@
 //! The lines of a script, and the words of a line.
 
-ghost use Rattle.std.specs.Prelude.{◌≡◌, ℕ, ◌<◌, ◌==◌, List, ◌∷◌, [], length, not, position, MatchOption};
+ghost use Rattle.std.specs.Prelude.{◌≡◌, ◌<◌, ◌==◌, ◌∷◌, [], length, not, position, MatchOption, MatchResult};
 ghost use Rattle.std.specs.Str.Lines.{strip_carriage_return};
 ghost use Rattle.jk_model.specs.Script as script;
+
+use jk_model::FaultKind;
 
 /// Whether a byte stands between words: a space or a tab.
 fn is_blank(byte: u8) -> bool
@@ -28,22 +30,20 @@ fn first_blank(text: &[u8]) -> Option<usize>
 /// The first word of a line and what follows it, or `None` where the line has no word.
 #[tactic(auto, using(crate::proofs::FirstWordAndRest::no_word, crate::proofs::FirstWordAndRest::first_word))]
 pub(crate) fn next_word(line: &[u8]) -> Option<(&[u8], &[u8])>
-    ensures { MatchOption result (script.words line.now ≡ []) (λ found. (script.words line.now ≡ found.0.now ∷ script.words found.1.now) × (0 < length found.0.now)) }
+    ensures { MatchOption result (script.words line.now ≡ [])
+        (λ found. (script.words line.now ≡ found.0.now ∷ script.words found.1.now) × (0 < length found.0.now)) }
 {
     let text = &line[first_of_word(line)?..];
     let end = first_blank(text).unwrap_or(text.len());
     Some(text.split_at(end))
 }
 
-/// The one word of a line, or `None` where the line has none or several.
-pub(crate) fn only_word(line: &[u8]) -> Option<&[u8]>
-    ensures { MatchOption result ((word : List ℕ) → script.words line.now ≡ word ∷ [] → ⊥) (λ word. (script.words line.now ≡ word.now ∷ []) × (0 < length word.now)) }
+/// The first word of a line and what follows it, where there must be one.
+pub(crate) fn needed_word(line: &[u8]) -> Result<(&[u8], &[u8]), FaultKind>
+    ensures { MatchResult result (λ found. script.words line.now ≡ found.0.now ∷ script.words found.1.now)
+        (λ kind. (script.words line.now ≡ []) × (kind ≡ FaultKind.Missing)) }
 {
-    let (word, rest) = next_word(line)?;
-    if next_word(rest).is_some() {
-        return None;
-    }
-    Some(word)
+    next_word(line).ok_or(FaultKind::Missing)
 }
 
 /// A line that a line feed ended, without the carriage return that may stand before that.
@@ -66,7 +66,9 @@ fn first_line_feed(text: &[u8]) -> Option<usize>
 /// The first of some lines and what follows it, or `None` where no line is left.
 #[tactic(auto, using(crate::proofs::FirstLineAndRest::first_line, crate::proofs::FirstLineAndRest::last_line))]
 pub(crate) fn next_line(text: &[u8]) -> Option<(&[u8], &[u8])>
-    ensures { MatchOption result (script.script_lines text.now ≡ []) (λ found. (script.script_lines text.now ≡ found.0.now ∷ script.script_lines found.1.now) × (length found.1.now < length text.now)) }
+    ensures { MatchOption result (script.script_lines text.now ≡ [])
+        (λ found. (script.script_lines text.now ≡ found.0.now ∷ script.script_lines found.1.now)
+        × (length found.1.now < length text.now)) }
 {
     if text.is_empty() {
         return None;

@@ -1,76 +1,56 @@
--- Each answer on the folder is a case of the event.
-use Rattle.std.proofs.Common.{◌∙◌, refl, sym, [], ◌∷◌, inl, append-nil}
+-- A name is a text, a refusal is the event's, and what was asked is the folder.
+use Rattle.std.proofs.Common.{ap, Err, [], ◌∷◌}
 use Rattle.jk_model.specs.declared.output.Line.TheVariants.{Refused}
-use Rattle.jk_model.specs.declared.output.Place.TheVariants.{Whole}
-use Rattle.jk_model.specs.declared.output.Rule.TheVariants.{L1, L2, X1}
+use Rattle.jk_kernel.specs.Openings.{Opens}
 use Rattle.jkernel_program.specs.Events.{moment}
-use Rattle.jkernel_program.specs.Loading.{Opens}
-use Rattle.jkernel_program.proofs.DomainOpens.{ends_by_line, ends_by_class, unused, opens_live, opens_absent, opens_not_yet, asks_nothing, not_read}
+use Rattle.jkernel_program.proofs.DomainOpens.{asks_folder, ends_by_line, name_is_utf8, refused_so, refused_where}
 use Rattle.jkernel_program.proofs.opening.open_domain.Goals as goal
 
-pub returns-then-has_domain-clause-ends : goal.returns-then-has_domain-clause-ends
-returns-then-has_domain-clause-ends g c =
+pub unreachable-requires : goal.unreachable-requires
+unreachable-requires g c =
+    let fault = rw c.in_default.is at c.from_utf8.ensures.cases in
+    absurd (fault.0 (name_is_utf8 c.args.name.now c.requires.named))
+
+pub say_refused-requires : goal.say_refused-requires
+say_refused-requires g c =
+    refused_where (g.F.Files.tree c.args.files.now) c.args.root.now c.args.kernel.now c.args.kernel.now c.in-Ok.text.now c.args.quotas
+    c.in-Err-Refused.rule c.in-Err-Refused.place
+    (c.in-Err-Refused.ensures.refused c.in-Err-Refused.rule c.in-Err-Refused.place (ap Err c.in-Err-Refused.field-0-is))
+
+pub returns-in-Ok-added-clause-asks : goal.returns-in-Ok-added-clause-asks
+returns-in-Ok-added-clause-asks g c =
+    asks_folder c.args.root.now c.args.name.now c.in-Ok.text.now c.args.quotas (g.F.Files.asked c.args.files.now)
+    (g.F.Files.asked c.add_domain-added.new.files) c.in-Ok.ensures.cases.0 c.add_domain-added.ensures.asks
+
+pub returns-in-Err-Refused-clause-asks : goal.returns-in-Err-Refused-clause-asks
+returns-in-Err-Refused-clause-asks g c =
+    asks_folder c.args.root.now c.args.name.now c.in-Ok.text.now c.args.quotas (g.F.Files.asked c.args.files.now)
+    (g.F.Files.asked c.add_domain-added.new.files) c.in-Ok.ensures.cases.0 c.add_domain-added.ensures.asks
+
+pub returns-in-Err-TooManyDomains-clause-asks : goal.returns-in-Err-TooManyDomains-clause-asks
+returns-in-Err-TooManyDomains-clause-asks g c =
+    asks_folder c.args.root.now c.args.name.now c.in-Ok.text.now c.args.quotas (g.F.Files.asked c.args.files.now)
+    (g.F.Files.asked c.add_domain-added.new.files) c.in-Ok.ensures.cases.0 c.add_domain-added.ensures.asks
+
+pub returns-in-Err-ReadFault-clause-asks : goal.returns-in-Err-ReadFault-clause-asks
+returns-in-Err-ReadFault-clause-asks g c =
+    asks_folder c.args.root.now c.args.name.now c.in-Ok.text.now c.args.quotas (g.F.Files.asked c.args.files.now)
+    (g.F.Files.asked c.add_domain-added.new.files) c.in-Ok.ensures.cases.0 c.add_domain-added.ensures.asks
+
+pub returns-in-Err-OutOfMemory-clause-asks : goal.returns-in-Err-OutOfMemory-clause-asks
+returns-in-Err-OutOfMemory-clause-asks g c =
+    asks_folder c.args.root.now c.args.name.now c.in-Ok.text.now c.args.quotas (g.F.Files.asked c.args.files.now)
+    (g.F.Files.asked c.add_domain-added.new.files) c.in-Ok.ensures.cases.0 c.add_domain-added.ensures.asks
+
+pub returns-in-Err-Refused-clause-ends : goal.returns-in-Err-Refused-clause-ends
+returns-in-Err-Refused-clause-ends g c =
     let t = g.F.Files.tree c.args.files.now in
-    let root = c.args.root.now in
-    let name = c.args.name.now in
-    let m = c.args.kernel.now in
-    ends_by_line (Opens t root) name
-    (moment c.args.kernel.now (g.S.Sink.bytes c.args.out.now) (g.S.Sink.faults c.args.out.now) (g.F.Files.asked c.args.files.now)
-    (g.F.Files.faults c.args.files.now))
-    (moment c.args.kernel.now (g.S.Sink.bytes c.say_refused.new.out) (g.S.Sink.faults c.say_refused.new.out) (g.F.Files.asked c.args.files.now)
-    (g.F.Files.faults c.args.files.now)) (Refused name L1 Whole ∷ []) c.say_refused.result
-    (opens_live t root name m (sym c.has_domain.ensures ∙ c.if-has_domain.true)) c.say_refused.ensures.prints
-
-pub returns-then-has_domain-clause-asks : goal.returns-then-has_domain-clause-asks
-returns-then-has_domain-clause-asks g c =
-    asks_nothing c.args.root.now c.args.name.now (g.F.Files.asked c.args.files.now) c.say_refused.result
-    (not_read (Refused c.args.name.now L1 Whole ∷ []) (g.S.Sink.bytes c.args.out.now) (g.S.Sink.bytes c.say_refused.new.out)
-    (g.S.Sink.faults c.args.out.now) (g.S.Sink.faults c.say_refused.new.out) c.say_refused.result c.say_refused.ensures.prints)
-
-pub returns-in_default-clause-asks : goal.returns-in_default-clause-asks
-returns-in_default-clause-asks g c = ([], inl refl, sym (append-nil (g.F.Files.asked c.args.files.now)))
-
-pub returns-in-Ok-Absent-clause-ends : goal.returns-in-Ok-Absent-clause-ends
-returns-in-Ok-Absent-clause-ends g c =
-    let t = g.F.Files.tree c.args.files.now in
-    let root = c.args.root.now in
-    let name = c.args.name.now in
-    let m = c.args.kernel.now in
-    let free = unused m name (sym c.has_domain.ensures ∙ c.if-has_domain.false) in
-    let at = c.as_str.ensures.value ∙ c.in-Ok.ensures in
-    let found = rw c.in-Ok-Absent.field-0-is at c.in-Ok-Absent.ensures.finds in
-    ends_by_line (Opens t root) name
-    (moment c.args.kernel.now (g.S.Sink.bytes c.args.out.now) (g.S.Sink.faults c.args.out.now) (g.F.Files.asked c.args.files.now)
-    (g.F.Files.faults c.args.files.now))
-    (moment c.args.kernel.now (g.S.Sink.bytes c.say_refused-in-Ok-Absent.new.out) (g.S.Sink.faults c.say_refused-in-Ok-Absent.new.out)
-    (g.F.Files.asked c.content_of.new.files) (g.F.Files.faults c.content_of.new.files)) (Refused name L2 Whole ∷ []) c.say_refused-in-Ok-Absent.result
-    (opens_absent t root name c.as_str.result.now m free at found) c.say_refused-in-Ok-Absent.ensures.prints
-
-pub returns-in-Ok-NotYet-clause-ends : goal.returns-in-Ok-NotYet-clause-ends
-returns-in-Ok-NotYet-clause-ends g c =
-    let t = g.F.Files.tree c.args.files.now in
-    let root = c.args.root.now in
-    let name = c.args.name.now in
-    let m = c.args.kernel.now in
-    let free = unused m name (sym c.has_domain.ensures ∙ c.if-has_domain.false) in
-    let at = c.as_str.ensures.value ∙ c.in-Ok.ensures in
-    let found = rw c.in-Ok-NotYet.field-0-is at c.in-Ok-NotYet.ensures.finds in
-    ends_by_line (Opens t root) name
-    (moment c.args.kernel.now (g.S.Sink.bytes c.args.out.now) (g.S.Sink.faults c.args.out.now) (g.F.Files.asked c.args.files.now)
-    (g.F.Files.faults c.args.files.now))
-    (moment c.args.kernel.now (g.S.Sink.bytes c.say_refused-in-Ok-NotYet.new.out) (g.S.Sink.faults c.say_refused-in-Ok-NotYet.new.out)
-    (g.F.Files.asked c.content_of.new.files) (g.F.Files.faults c.content_of.new.files)) (Refused name X1 Whole ∷ []) c.say_refused-in-Ok-NotYet.result
-    (opens_not_yet t root name c.as_str.result.now m free at found) c.say_refused-in-Ok-NotYet.ensures.prints
-
-pub returns-in-Ok-Class-clause-ends : goal.returns-in-Ok-Class-clause-ends
-returns-in-Ok-Class-clause-ends g c =
-    let name = c.args.name.now in
-    let m = c.args.kernel.now in
-    let free = unused m name (sym c.has_domain.ensures ∙ c.if-has_domain.false) in
-    let at = c.as_str.ensures.value ∙ c.in-Ok.ensures in
-    let found = rw c.in-Ok-Class.field-0-is at c.in-Ok-Class.ensures.finds in
-    ends_by_class (g.F.Files.tree c.args.files.now) c.args.root.now name c.as_str.result.now c.in-Ok-Class.class
-    (moment c.args.kernel.now (g.S.Sink.bytes c.args.out.now) (g.S.Sink.faults c.args.out.now) (g.F.Files.asked c.args.files.now)
-    (g.F.Files.faults c.args.files.now))
-    (moment c.add_class.new.kernel (g.S.Sink.bytes c.add_class.new.out) (g.S.Sink.faults c.add_class.new.out) (g.F.Files.asked c.content_of.new.files)
-    (g.F.Files.faults c.content_of.new.files)) c.add_class.result free at found c.add_class.ensures.adds
+    let refused = c.in-Err-Refused.ensures.refused c.in-Err-Refused.rule c.in-Err-Refused.place (ap Err c.in-Err-Refused.field-0-is) in
+    ends_by_line (Opens t c.args.root.now) c.args.name.now c.args.quotas c.args.kernel.now c.add_domain-added.new.self
+    (moment (g.S.Sink.bytes c.args.out.now) (g.S.Sink.faults c.args.out.now) (g.F.Files.asked c.args.files.now) (g.F.Files.faults c.args.files.now))
+    (moment (g.S.Sink.bytes c.say_refused.new.out) (g.S.Sink.faults c.say_refused.new.out) (g.F.Files.asked c.add_domain-added.new.files)
+    (g.F.Files.faults c.add_domain-added.new.files))
+    (Refused c.args.name.now c.in-Err-Refused.rule c.in-Err-Refused.place ∷ []) c.say_refused.result
+    (refused_so t c.args.root.now c.in-Ok.text.now c.args.name.now c.args.quotas c.args.kernel.now c.add_domain-added.new.self
+    c.in-Err-Refused.rule c.in-Err-Refused.place c.in-Ok.ensures.cases.0 c.in-Err-Refused.ensures.err refused)
+    c.holds.ensures c.say_refused.ensures.prints

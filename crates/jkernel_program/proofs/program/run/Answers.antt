@@ -3,18 +3,17 @@ use Rattle.std.proofs.Common.{ℕ, List, Option, Ok, Err, map, refl, subst}
 use Rattle.std.specs.Prelude.{string_bytes}
 use Rattle.jk_model.specs.declared.script.Event.{Event}
 use Rattle.jk_model.specs.Outside.{Tree}
-use Rattle.jk_first_machine.specs.Machine.{no_domains}
+use Rattle.jk_kernel.specs.Openings.{Opens}
 use Rattle.jkernel_program.specs.Ends.{HasText}
 use Rattle.jkernel_program.specs.Events.{RunEnds, RunAsks, moment}
-use Rattle.jkernel_program.specs.Loading.{Opens}
 use Rattle.jkernel_program.proofs.RunEndsSo.{same_script, refused_so, run_ends, run_asks, script_ends}
 use Rattle.jkernel_program.proofs.program.run.Goals as goal
 
 pub returns-in-Err-clause-ends : goal.returns-in-Err-clause-ends
 returns-in-Err-clause-ends g c =
     script_ends (g.F.Files.tree c.args.files.now) (map string_bytes c.args.words.now) c.in-Some.root.now c.in-Some.script.now
-    (moment no_domains (g.S.Sink.bytes c.args.out.now) (g.S.Sink.faults c.args.out.now) (g.F.Files.asked c.args.files.now) (g.F.Files.faults c.args.files.now))
-    (moment no_domains (g.S.Sink.bytes c.args.out.now) (g.S.Sink.faults c.args.out.now) (g.F.Files.asked c.script_at.new.files)
+    (moment (g.S.Sink.bytes c.args.out.now) (g.S.Sink.faults c.args.out.now) (g.F.Files.asked c.args.files.now) (g.F.Files.faults c.args.files.now))
+    (moment (g.S.Sink.bytes c.args.out.now) (g.S.Sink.faults c.args.out.now) (g.F.Files.asked c.script_at.new.files)
     (g.F.Files.faults c.script_at.new.files))
     c.in-Err.end c.in-Some.ensures refl c.in-Err.ensures.asks c.in-Err.ensures.ends
 
@@ -27,20 +26,20 @@ returns-in-Err-clause-fault g c = λ root script text f call has at.
 pub returns-in-Ok-run_events-clause-ends : goal.returns-in-Ok-run_events-clause-ends
 returns-in-Ok-run_events-clause-ends g c =
     let ends = subst (λ (es : List Event). RunEnds c.in-Some.root.now (Opens (g.F.Files.tree c.args.files.now) c.in-Some.root.now) es
-    (moment no_domains (g.S.Sink.bytes c.args.out.now) (g.S.Sink.faults c.args.out.now) (g.F.Files.asked c.script_at.new.files)
+    (moment (g.S.Sink.bytes c.args.out.now) (g.S.Sink.faults c.args.out.now) (g.F.Files.asked c.script_at.new.files)
     (g.F.Files.faults c.script_at.new.files))
-    (moment no_domains (g.S.Sink.bytes c.run_events.new.out) (g.S.Sink.faults c.run_events.new.out) (g.F.Files.asked c.run_events.new.files)
+    (moment (g.S.Sink.bytes c.run_events.new.out) (g.S.Sink.faults c.run_events.new.out) (g.F.Files.asked c.run_events.new.files)
     (g.F.Files.faults c.run_events.new.files)) (Ok tt)) c.as_slice.ensures
     (subst (λ (o : Option Tree). RunEnds c.in-Some.root.now (Opens o c.in-Some.root.now) c.as_slice.result.now
-    (moment no_domains (g.S.Sink.bytes c.args.out.now) (g.S.Sink.faults c.args.out.now) (g.F.Files.asked c.script_at.new.files)
+    (moment (g.S.Sink.bytes c.args.out.now) (g.S.Sink.faults c.args.out.now) (g.F.Files.asked c.script_at.new.files)
     (g.F.Files.faults c.script_at.new.files))
-    (moment no_domains (g.S.Sink.bytes c.run_events.new.out) (g.S.Sink.faults c.run_events.new.out) (g.F.Files.asked c.run_events.new.files)
+    (moment (g.S.Sink.bytes c.run_events.new.out) (g.S.Sink.faults c.run_events.new.out) (g.F.Files.asked c.run_events.new.files)
     (g.F.Files.faults c.run_events.new.files)) (Ok tt)) c.in-Ok.ensures.stays c.in-Ok-run_events.ensures.ends) in
     run_ends (g.F.Files.tree c.args.files.now) (map string_bytes c.args.words.now) c.in-Some.root.now c.in-Some.script.now c.in-Ok.events
-    (moment no_domains (g.S.Sink.bytes c.args.out.now) (g.S.Sink.faults c.args.out.now) (g.F.Files.asked c.args.files.now) (g.F.Files.faults c.args.files.now))
-    (moment no_domains (g.S.Sink.bytes c.args.out.now) (g.S.Sink.faults c.args.out.now) (g.F.Files.asked c.script_at.new.files)
+    (moment (g.S.Sink.bytes c.args.out.now) (g.S.Sink.faults c.args.out.now) (g.F.Files.asked c.args.files.now) (g.F.Files.faults c.args.files.now))
+    (moment (g.S.Sink.bytes c.args.out.now) (g.S.Sink.faults c.args.out.now) (g.F.Files.asked c.script_at.new.files)
     (g.F.Files.faults c.script_at.new.files))
-    (moment no_domains (g.S.Sink.bytes c.run_events.new.out) (g.S.Sink.faults c.run_events.new.out) (g.F.Files.asked c.run_events.new.files)
+    (moment (g.S.Sink.bytes c.run_events.new.out) (g.S.Sink.faults c.run_events.new.out) (g.F.Files.asked c.run_events.new.files)
     (g.F.Files.faults c.run_events.new.files))
     c.in-Some.ensures c.in-Ok.ensures.ends c.in-Ok.ensures.asks c.in-Ok.ensures.faults refl refl (Ok tt) ends
 
@@ -49,10 +48,10 @@ returns-in-Ok-run_events-clause-asks g c =
     let asks = subst (λ (es : List Event). RunAsks c.in-Some.root.now es (g.F.Files.asked c.script_at.new.files) (g.F.Files.asked c.run_events.new.files))
     c.as_slice.ensures c.run_events.ensures.asks in
     run_asks (g.F.Files.tree c.args.files.now) (map string_bytes c.args.words.now) c.in-Some.root.now c.in-Some.script.now c.in-Ok.events
-    (moment no_domains (g.S.Sink.bytes c.args.out.now) (g.S.Sink.faults c.args.out.now) (g.F.Files.asked c.args.files.now) (g.F.Files.faults c.args.files.now))
-    (moment no_domains (g.S.Sink.bytes c.args.out.now) (g.S.Sink.faults c.args.out.now) (g.F.Files.asked c.script_at.new.files)
+    (moment (g.S.Sink.bytes c.args.out.now) (g.S.Sink.faults c.args.out.now) (g.F.Files.asked c.args.files.now) (g.F.Files.faults c.args.files.now))
+    (moment (g.S.Sink.bytes c.args.out.now) (g.S.Sink.faults c.args.out.now) (g.F.Files.asked c.script_at.new.files)
     (g.F.Files.faults c.script_at.new.files))
-    (moment no_domains (g.S.Sink.bytes c.run_events.new.out) (g.S.Sink.faults c.run_events.new.out) (g.F.Files.asked c.run_events.new.files)
+    (moment (g.S.Sink.bytes c.run_events.new.out) (g.S.Sink.faults c.run_events.new.out) (g.F.Files.asked c.run_events.new.files)
     (g.F.Files.faults c.run_events.new.files))
     c.in-Some.ensures c.in-Ok.ensures.ends c.in-Ok.ensures.asks c.in-Ok.ensures.faults refl refl asks
 
@@ -64,20 +63,20 @@ returns-in-Ok-run_events-clause-fault g c = λ root script text f call has at.
 pub returns-clause-ends : goal.returns-clause-ends
 returns-clause-ends g c =
     let ends = subst (λ (es : List Event). RunEnds c.in-Some.root.now (Opens (g.F.Files.tree c.args.files.now) c.in-Some.root.now) es
-    (moment no_domains (g.S.Sink.bytes c.args.out.now) (g.S.Sink.faults c.args.out.now) (g.F.Files.asked c.script_at.new.files)
+    (moment (g.S.Sink.bytes c.args.out.now) (g.S.Sink.faults c.args.out.now) (g.F.Files.asked c.script_at.new.files)
     (g.F.Files.faults c.script_at.new.files))
-    (moment no_domains (g.S.Sink.bytes c.run_events.new.out) (g.S.Sink.faults c.run_events.new.out) (g.F.Files.asked c.run_events.new.files)
+    (moment (g.S.Sink.bytes c.run_events.new.out) (g.S.Sink.faults c.run_events.new.out) (g.F.Files.asked c.run_events.new.files)
     (g.F.Files.faults c.run_events.new.files)) (Err c.in-Err-run_events.stop)) c.as_slice.ensures
     (subst (λ (o : Option Tree). RunEnds c.in-Some.root.now (Opens o c.in-Some.root.now) c.as_slice.result.now
-    (moment no_domains (g.S.Sink.bytes c.args.out.now) (g.S.Sink.faults c.args.out.now) (g.F.Files.asked c.script_at.new.files)
+    (moment (g.S.Sink.bytes c.args.out.now) (g.S.Sink.faults c.args.out.now) (g.F.Files.asked c.script_at.new.files)
     (g.F.Files.faults c.script_at.new.files))
-    (moment no_domains (g.S.Sink.bytes c.run_events.new.out) (g.S.Sink.faults c.run_events.new.out) (g.F.Files.asked c.run_events.new.files)
+    (moment (g.S.Sink.bytes c.run_events.new.out) (g.S.Sink.faults c.run_events.new.out) (g.F.Files.asked c.run_events.new.files)
     (g.F.Files.faults c.run_events.new.files)) (Err c.in-Err-run_events.stop)) c.in-Ok.ensures.stays c.in-Err-run_events.ensures.ends) in
     run_ends (g.F.Files.tree c.args.files.now) (map string_bytes c.args.words.now) c.in-Some.root.now c.in-Some.script.now c.in-Ok.events
-    (moment no_domains (g.S.Sink.bytes c.args.out.now) (g.S.Sink.faults c.args.out.now) (g.F.Files.asked c.args.files.now) (g.F.Files.faults c.args.files.now))
-    (moment no_domains (g.S.Sink.bytes c.args.out.now) (g.S.Sink.faults c.args.out.now) (g.F.Files.asked c.script_at.new.files)
+    (moment (g.S.Sink.bytes c.args.out.now) (g.S.Sink.faults c.args.out.now) (g.F.Files.asked c.args.files.now) (g.F.Files.faults c.args.files.now))
+    (moment (g.S.Sink.bytes c.args.out.now) (g.S.Sink.faults c.args.out.now) (g.F.Files.asked c.script_at.new.files)
     (g.F.Files.faults c.script_at.new.files))
-    (moment no_domains (g.S.Sink.bytes c.run_events.new.out) (g.S.Sink.faults c.run_events.new.out) (g.F.Files.asked c.run_events.new.files)
+    (moment (g.S.Sink.bytes c.run_events.new.out) (g.S.Sink.faults c.run_events.new.out) (g.F.Files.asked c.run_events.new.files)
     (g.F.Files.faults c.run_events.new.files))
     c.in-Some.ensures c.in-Ok.ensures.ends c.in-Ok.ensures.asks c.in-Ok.ensures.faults refl refl (Err c.in-Err-run_events.stop) ends
 
@@ -86,10 +85,10 @@ returns-clause-asks g c =
     let asks = subst (λ (es : List Event). RunAsks c.in-Some.root.now es (g.F.Files.asked c.script_at.new.files) (g.F.Files.asked c.run_events.new.files))
     c.as_slice.ensures c.run_events.ensures.asks in
     run_asks (g.F.Files.tree c.args.files.now) (map string_bytes c.args.words.now) c.in-Some.root.now c.in-Some.script.now c.in-Ok.events
-    (moment no_domains (g.S.Sink.bytes c.args.out.now) (g.S.Sink.faults c.args.out.now) (g.F.Files.asked c.args.files.now) (g.F.Files.faults c.args.files.now))
-    (moment no_domains (g.S.Sink.bytes c.args.out.now) (g.S.Sink.faults c.args.out.now) (g.F.Files.asked c.script_at.new.files)
+    (moment (g.S.Sink.bytes c.args.out.now) (g.S.Sink.faults c.args.out.now) (g.F.Files.asked c.args.files.now) (g.F.Files.faults c.args.files.now))
+    (moment (g.S.Sink.bytes c.args.out.now) (g.S.Sink.faults c.args.out.now) (g.F.Files.asked c.script_at.new.files)
     (g.F.Files.faults c.script_at.new.files))
-    (moment no_domains (g.S.Sink.bytes c.run_events.new.out) (g.S.Sink.faults c.run_events.new.out) (g.F.Files.asked c.run_events.new.files)
+    (moment (g.S.Sink.bytes c.run_events.new.out) (g.S.Sink.faults c.run_events.new.out) (g.F.Files.asked c.run_events.new.files)
     (g.F.Files.faults c.run_events.new.files))
     c.in-Some.ensures c.in-Ok.ensures.ends c.in-Ok.ensures.asks c.in-Ok.ensures.faults refl refl asks
 

@@ -1,7 +1,8 @@
 -- What is found of a script, from what was read at its path.
 use Rattle.std.proofs.Common.{ℕ, List, Err, ap, subst, sym, ◌∙◌}
-use Rattle.script_reader.specs.Events.{IsAtFault}
-use Rattle.jkernel_program.proofs.RunEndsSo.{too_long, built_script, same_text, fault_is}
+use Rattle.jkernel_program.specs.Scripts.{IsAtFault}
+use Rattle.jkernel_program.proofs.BuiltEvents.{script_built}
+use Rattle.jkernel_program.proofs.RunEndsSo.{too_long, same_text, fault_is}
 use Rattle.jkernel_program.proofs.scripts.script_at.Goals as goal
 
 pub returns-in-Err-TooLong-clause-ends : goal.returns-in-Err-TooLong-clause-ends
@@ -10,7 +11,7 @@ returns-in-Err-TooLong-clause-ends g c =
     (c.in-Err-TooLong.ensures.too_long (ap Err c.in-Err-TooLong.field-0-is))
 
 pub returns-in-Ok-read_script-clause-built : goal.returns-in-Ok-read_script-clause-built
-returns-in-Ok-read_script-clause-built g c = built_script _ c.in-Ok-read_script.events c.in-Ok-read_script.ensures.events
+returns-in-Ok-read_script-clause-built g c = script_built c.as_slice.result.now c.in-Ok-read_script.events c.in-Ok-read_script.ensures.events
 
 pub returns-in-Ok-read_script-clause-fault : goal.returns-in-Ok-read_script-clause-fault
 returns-in-Ok-read_script-clause-fault g c = λ text f has at.

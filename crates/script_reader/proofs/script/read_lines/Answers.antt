@@ -1,23 +1,26 @@
 -- The next line goes on with the script, or is the first at fault.
-use Rattle.std.proofs.Common.{inl, inr}
-use Rattle.script_reader.proofs.OneScriptOrFault.{after_line, at_fault}
+use Rattle.std.proofs.lemmas.Result.{err_from_is_err_and}
+use Rattle.script_reader.specs.NotBuilt.{built_event}
+use Rattle.script_reader.proofs.LinesInTurn.{refused_line, after_event, after_no_event}
 use Rattle.script_reader.proofs.script.read_lines.Goals as goal
-use Rattle.script_reader.proofs.script.read_lines.Goals.{then-count-eq-MAX_LINES-via-then-count-eq-MAX_LINES, then-count-eq-MAX_LINES-via-else-count-eq-MAX_LINES+in_ok-take_line+then-not-branch}
+use Rattle.script_reader.proofs.script.read_lines.Goals.{in-Some-2+in_ok-push, in_default-2}
 
-pub returns-then-count-eq-MAX_LINES : goal.returns-then-count-eq-MAX_LINES
-returns-then-count-eq-MAX_LINES c =
-    let so_far = c.loop-line.invariant in
-    let next = c.in-Some.ensures in
-    rw c.fault_at.ensures (at_fault c.args.bytes.now c.loop-line.rest.now c.in-Some.line.now c.in-Some.after.now
-    c.loop-line.count c.loop-line.progress so_far next.0 c.requires
-    (elim c.then-count-eq-MAX_LINES.branch [
-      | then-count-eq-MAX_LINES-via-then-count-eq-MAX_LINES w ↦ inl w.if-count-eq-MAX_LINES.true
-      | then-count-eq-MAX_LINES-via-else-count-eq-MAX_LINES+in_ok-take_line+then-not-branch w ↦ inr (rw w.if-not-branch.true at w.in_ok-take_line.ensures)
-    ]))
+pub returns-in_err-event : goal.returns-in_err-event
+returns-in_err-event c =
+    let p = err_from_is_err_and c.from_residual.result c.from_residual.ensures.1 in
+    rw (p.1, p.2) (refused_line built_event c.args.bytes.now c.loop-line.rest.now c.in-Some.line.now c.in-Some.after.now
+    c.loop-line.number c.loop-line.events c.in_err-event.field-0.0 c.loop-line.invariant c.in-Some.ensures.0
+    c.if-number-gt-MAX_LINES.false c.in_err-event.ensures)
 
 pub loop-line-preserved : goal.loop-line-preserved
 loop-line-preserved c =
-    let next = c.in-Some.ensures in
-    after_line c.args.bytes.now c.loop-line.rest.now c.in-Some.line.now c.in-Some.after.now c.loop-line.count
-    c.loop-line.progress c.take_line.new.self c.loop-line.invariant next.0 c.if-count-eq-MAX_LINES.false
-    (rw c.if-not-branch.false at c.in_ok-take_line.ensures)
+    elim c.match-branch-2.branch [
+      | in-Some-2+in_ok-push w ↦
+          rw (w.events-is, w.in_ok-push.ensures.ok) (after_event built_event c.args.bytes.now c.loop-line.rest.now c.in-Some.line.now
+          c.in-Some.after.now c.loop-line.number c.loop-line.events w.in-Some-2.event c.loop-line.invariant c.in-Some.ensures.0
+          c.if-number-gt-MAX_LINES.false (rw w.in-Some-2.is at c.in_ok-event.ensures))
+      | in_default-2 w ↦
+          rw w.events-is (after_no_event built_event c.args.bytes.now c.loop-line.rest.now c.in-Some.line.now c.in-Some.after.now
+          c.loop-line.number c.loop-line.events c.loop-line.invariant c.in-Some.ensures.0
+          c.if-number-gt-MAX_LINES.false (rw w.in_default-2.is at c.in_ok-event.ensures))
+    ]

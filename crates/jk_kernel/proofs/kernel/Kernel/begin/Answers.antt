@@ -1,56 +1,77 @@
-use Rattle.std.proofs.Common.{◌+◌, length, refl, sym, ap, ◌∙◌, arith}
+-- The thread's parts are a kernel again, and a start leads to its machine.
+use Rattle.std.proofs.Common.{◌+◌, ◌<◌, ◌-◌, ◌^◌, [], ◌∷◌, length, set, refl, sym, subst, arith}
 use Rattle.std.proofs.lemmas.Option.{slice_get_read}
-use Rattle.std.specs.List.{position_from}
-use Rattle.std.specs.Prelude.{bytes_eq}
-use Rattle.jk_kernel.proofs.KeptRecords.{starts_without, starts_refused, starts_begun, begins_somehow, IsSound-thread, length-threads, position_within, is_named, new_thread}
-use Rattle.jk_kernel.proofs.Answered.{on_err_always}
+use Rattle.jk_model.specs.declared.output.Line.TheVariants as Says
+use Rattle.jk_model_machine.specs.Machine.{Machine, started_in}
+use Rattle.jk_model_machine.specs.Starts.{Starts}
+use Rattle.jk_kernel.specs.KernelStarts.{MayStart}
+use Rattle.jk_kernel.specs.KernelStates.{machine_of}
+use Rattle.jk_kernel.proofs.StartsOfKernels.{admitted-here, few-there, has-part, home-here, local-there, room-there, started}
+use Rattle.jk_kernel.proofs.ThreadIsNew.{no-segment}
 use Rattle.jk_kernel.proofs.kernel.Kernel.begin.Goals as goal
 
-pub returns-in_default-clause-ok : goal.returns-in_default-clause-ok
-returns-in_default-clause-ok c =
-    starts_without c.self.inside.domains.items c.self.inside.threads.items c.self.inside.next_segment _ c.args.name.now c.args.class.now _ c.self.view_is
-    (sym (c.in_default.ensures ∙ ap (position_from (is_named c.args.name.now) 0) c.as_slice.ensures.value))
+pub index_mut-d-requires : goal.index_mut-d-requires
+index_mut-d-requires g c =
+    let k = c.self.inside in
+    let may = subst (λ (m : Machine). MayStart m c.args.name.now c.args.class.now c.in-Ok.first.domain c.in-Ok.first.head)
+    (sym c.self.view_is) c.in-Ok.ensures.first in
+    omega (arith, k.parts.ok.0, has-part c.self.invariant c.args.name.now c.args.class.now c.in-Ok.first.domain c.in-Ok.first.head may)
 
-pub index-requires : goal.index-requires
-index-requires c =
-    let place = sym (c.in-Some.ensures ∙ ap (position_from (is_named c.args.name.now) 0) c.as_slice.ensures.value) in
-    omega (arith, position_within c.args.name.now c.self.inside.domains.items c.in-Some.domain place, c.self.inside.domains.ok)
+pub begin_thread-requires-clause-admitted : goal.begin_thread-requires-clause-admitted
+begin_thread-requires-clause-admitted g c =
+    let may = subst (λ (m : Machine). MayStart m c.args.name.now c.args.class.now c.in-Ok.first.domain c.in-Ok.first.head)
+    (sym c.self.view_is) c.in-Ok.ensures.first in
+    let here = home-here c.self.invariant c.args.name.now c.args.class.now c.in-Ok.first.domain c.in-Ok.first.head may in
+    admitted-here c.self.invariant c.in-Ok.first.domain here.part here.is_part
 
-pub returns-then-not-is_class_name-clause-ok : goal.returns-then-not-is_class_name-clause-ok
-returns-then-not-is_class_name-clause-ok c =
-    let place = sym (c.in-Some.ensures ∙ ap (position_from (is_named c.args.name.now) 0) c.as_slice.ensures.value) in
-    let at = slice_get_read c.self.inside.domains.items (length c.self.inside.domains.items) c.in-Some.domain c.index.result.now refl
-    (position_within c.args.name.now c.self.inside.domains.items c.in-Some.domain place) c.index.ensures in
-    starts_refused c.self.inside.domains.items c.self.inside.threads.items c.self.inside.next_segment _ c.args.name.now c.args.class.now c.in-Some.domain
-    c.index.result.now c.self.view_is place at _
-    (ap (λ x. bytes_eq x c.args.class.now) (sym c.as_slice-2.ensures) ∙ sym c.is_class_name.ensures ∙ c.if-not-is_class_name.true)
+pub begin_thread-requires-clause-new : goal.begin_thread-requires-clause-new
+begin_thread-requires-clause-new g c = no-segment c.self.invariant c.in-Ok.first.domain
 
-pub returns-clause-ok : goal.returns-clause-ok
-returns-clause-ok c =
-    let place = sym (c.in-Some.ensures ∙ ap (position_from (is_named c.args.name.now) 0) c.as_slice.ensures.value) in
-    let at = slice_get_read c.self.inside.domains.items (length c.self.inside.domains.items) c.in-Some.domain c.index.result.now refl
-    (position_within c.args.name.now c.self.inside.domains.items c.in-Some.domain place) c.index.ensures in
-    starts_begun c.self.inside.domains.items c.self.inside.threads.items c.self.inside.next_segment _ c.args.name.now c.args.class.now c.in-Some.domain
-    c.index.result.now c.self.view_is place at
-    (c.len.result + 1) c.push.new.self.items
-    (ap (λ x. bytes_eq x c.args.class.now) (sym c.as_slice-2.ensures) ∙ sym c.if-not-is_class_name.ensures)
-    (omega (arith, c.len.ensures, c.self.inside.threads.ok)) c.in_ok-push.ensures.items
+pub begin_thread-requires-clause-room : goal.begin_thread-requires-clause-room
+begin_thread-requires-clause-room g c =
+    let may = subst (λ (m : Machine). MayStart m c.args.name.now c.args.class.now c.in-Ok.first.domain c.in-Ok.first.head)
+    (sym c.self.view_is) c.in-Ok.ensures.first in
+    let here = home-here c.self.invariant c.args.name.now c.args.class.now c.in-Ok.first.domain c.in-Ok.first.head may in
+    room-there c.self.invariant c.args.name.now c.args.class.now c.in-Ok.first.domain c.in-Ok.first.head may here.part here.is_part
+
+pub begin_thread-requires-clause-local : goal.begin_thread-requires-clause-local
+begin_thread-requires-clause-local g c =
+    let may = subst (λ (m : Machine). MayStart m c.args.name.now c.args.class.now c.in-Ok.first.domain c.in-Ok.first.head)
+    (sym c.self.view_is) c.in-Ok.ensures.first in
+    local-there c.self.invariant c.args.name.now c.args.class.now c.in-Ok.first.domain c.in-Ok.first.head may
+
+pub begin_thread-requires-clause-counted : goal.begin_thread-requires-clause-counted
+begin_thread-requires-clause-counted g c =
+    let k = c.self.inside in
+    let may = subst (λ (m : Machine). MayStart m c.args.name.now c.args.class.now c.in-Ok.first.domain c.in-Ok.first.head)
+    (sym c.self.view_is) c.in-Ok.ensures.first in
+    let at = slice_get_read k.parts.items (length k.parts.items) c.in-Ok.first.domain.0 c.index_mut-d.result.now refl
+    (has-part c.self.invariant c.args.name.now c.args.class.now c.in-Ok.first.domain c.in-Ok.first.head may) c.index_mut-d.ensures.value in
+    few-there c.self.invariant c.args.name.now c.args.class.now c.in-Ok.first.domain c.in-Ok.first.head may c.index_mut-d.result.now at
+    (subst (λ (m : Machine). started_in m c.in-Ok.first.domain < 2 ^ 32 - 1) (sym c.self.view_is) c.in-Ok.ensures.counted)
 
 pub invariant_of-self-2 : goal.invariant_of-self-2
-invariant_of-self-2 c =
-    let place = sym (c.in-Some.ensures ∙ ap (position_from (is_named c.args.name.now) 0) c.as_slice.ensures.value) in
-    let at = slice_get_read c.self.inside.domains.items (length c.self.inside.domains.items) c.in-Some.domain c.index.result.now refl
-    (position_within c.args.name.now c.self.inside.domains.items c.in-Some.domain place) c.index.ensures in
-    let count = length-threads c.self.inside.domains.items c.self.inside.threads.items c.self.inside.next_segment _ c.self.view_is in
-    rw c.in_ok-push.ensures.items
-    (IsSound-thread c.self.inside.domains.items c.self.inside.threads.items (new_thread c.self.inside.next_segment c.in-Some.domain)
-    (omega (arith, count, c.requires.thread)) (c.index.result.now, at, omega arith) c.self.invariant)
+invariant_of-self-2 g c =
+    let k = c.self.inside in
+    let may = subst (λ (m : Machine). MayStart m c.args.name.now c.args.class.now c.in-Ok.first.domain c.in-Ok.first.head)
+    (sym c.self.view_is) c.in-Ok.ensures.first in
+    let at = slice_get_read k.parts.items (length k.parts.items) c.in-Ok.first.domain.0 c.index_mut-d.result.now refl
+    (has-part c.self.invariant c.args.name.now c.args.class.now c.in-Ok.first.domain c.in-Ok.first.head may) c.index_mut-d.ensures.value in
+    let next = started c.self.invariant c.args.name.now c.args.class.now c.in-Ok.first.domain c.in-Ok.first.head may c.index_mut-d.result.now at
+    c.starts_keep_sound.ensures (g.F.FrameStore.content c.begin_thread.new.frames) c.begin_thread.new.d c.begin_thread.new.threads.entries
+    c.in_ok-begin_thread.ensures.ok in
+    next.sound
 
-pub returns-in_err-push-clause-begins : goal.returns-in_err-push-clause-begins
-returns-in_err-push-clause-begins c =
-    let place = sym (c.in-Some.ensures ∙ ap (position_from (is_named c.args.name.now) 0) c.as_slice.ensures.value) in
-    let at = slice_get_read c.self.inside.domains.items (length c.self.inside.domains.items) c.in-Some.domain c.index.result.now refl
-    (position_within c.args.name.now c.self.inside.domains.items c.in-Some.domain place) c.index.ensures in
-    on_err_always _ (begins_somehow c.self.inside.domains.items c.self.inside.threads.items c.self.inside.next_segment _ c.args.name.now c.args.class.now
-    c.in-Some.domain c.index.result.now c.self.view_is place at
-    (ap (λ x. bytes_eq x c.args.class.now) (sym c.as_slice-2.ensures) ∙ sym c.if-not-is_class_name.ensures))
+pub returns-clause-came : goal.returns-clause-came
+returns-clause-came g c =
+    let k = c.self.inside in
+    let may = subst (λ (m : Machine). MayStart m c.args.name.now c.args.class.now c.in-Ok.first.domain c.in-Ok.first.head)
+    (sym c.self.view_is) c.in-Ok.ensures.first in
+    let at = slice_get_read k.parts.items (length k.parts.items) c.in-Ok.first.domain.0 c.index_mut-d.result.now refl
+    (has-part c.self.invariant c.args.name.now c.args.class.now c.in-Ok.first.domain c.in-Ok.first.head may) c.index_mut-d.ensures.value in
+    let next = started c.self.invariant c.args.name.now c.args.class.now c.in-Ok.first.domain c.in-Ok.first.head may c.index_mut-d.result.now at
+    c.starts_keep_sound.ensures (g.F.FrameStore.content c.begin_thread.new.frames) c.begin_thread.new.d c.begin_thread.new.threads.entries
+    c.in_ok-begin_thread.ensures.ok in
+    subst (λ (m : Machine). Starts m c.args.name.now c.args.class.now [] (Says.Started (record { 0 = k.next_thread }) c.args.name.now ∷ [])
+    (machine_of k.world (set k.parts.items c.in-Ok.first.domain.0 c.begin_thread.new.d) c.begin_thread.new.threads.entries
+    (g.F.FrameStore.content c.begin_thread.new.frames) (k.next_thread + 1) (k.next_segment + 1))) c.self.view_is next.starts

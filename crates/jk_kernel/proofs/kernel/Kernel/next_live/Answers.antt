@@ -1,37 +1,39 @@
-use Rattle.std.proofs.Common.{◌≡◌, ◌∙◌, ◌<◌, ◌+◌, sym, false, arith, inl, inr, subst, refl, length}
-use Rattle.std.proofs.lemmas.Bool.{cases_lt}
-use Rattle.std.proofs.lemmas.Option.{slice_get_read}
-use Rattle.jk_first_machine.specs.Machine.{is_live}
-use Rattle.jk_kernel.proofs.KeptRecords.{is_live-here, is_live-beyond}
+-- The first entry of the map above a number is the least live thread above it.
+use Rattle.std.proofs.Common.{◌≡◌, ◌+◌, ◌≤◌, true, false, subst, arith}
+use Rattle.jk_model_machine.specs.Machine.{Machine, is_live_thread}
+use Rattle.jk_kernel.proofs.NextThreads.{first-above, first-lives, none-before, none-from, none-given}
 use Rattle.jk_kernel.proofs.kernel.Kernel.next_live.Goals as goal
 
-pub returns-then-is_some-clause-some : goal.returns-then-is_some-clause-some
-returns-then-is_some-clause-some c =
-    let within : c.loop-place.place < length c.self.inside.threads.items =
-    omega (arith, c.loop-place-test.true, c.len-place-end.ensures, c.self.inside.threads.ok) in
-    let at = slice_get_read c.self.inside.threads.items _ c.loop-place.place c.index.result.now refl within c.index.ensures in
-    let live = is_live-here c.self.inside.domains.items c.self.inside.threads.items c.self.inside.next_segment _ c.loop-place.place c.index.result.now
-    c.self.view_is at in
-    (omega arith, live ∙ sym c.if-is_some.ensures, λ k low high. c.loop-place.invariant k low (omega arith))
+pub returns-then-above-self-clause-none : goal.returns-then-above-self-clause-none
+returns-then-above-self-clause-none g c = λ u higher.
+    let k = c.self.inside in
+    let past : k.next_thread ≤ u = omega (arith, c.if-above-self.true) in
+    subst (λ (m : Machine). is_live_thread m u ≡ false) c.self.view_is
+    (none-given k.world k.parts.items k.threads (g.F.FrameStore.content k.frames) k.next_thread k.next_segment k.main_kind c.self.invariant u past)
 
-pub loop-place-preserved : goal.loop-place-preserved
-loop-place-preserved c = λ n low high.
-    let within : c.loop-place.place < length c.self.inside.threads.items =
-    omega (arith, c.loop-place-test.true, c.len-place-end.ensures, c.self.inside.threads.ok) in
-    let at = slice_get_read c.self.inside.threads.items _ c.loop-place.place c.index.result.now refl within c.index.ensures in
-    let live = is_live-here c.self.inside.domains.items c.self.inside.threads.items c.self.inside.next_segment _ c.loop-place.place c.index.result.now
-    c.self.view_is at in
-    elim (cases_lt c.loop-place.place n) [
-      | inl above ↦
-          let last : c.loop-place.place + 1 ≡ n = omega arith in
-          subst (λ k. is_live c.args.self.now k ≡ false) last (live ∙ sym c.if-is_some.ensures)
-      | inr below ↦ c.loop-place.invariant n low below
-    ]
+pub returns-in-Some-clause-some : goal.returns-in-Some-clause-some
+returns-in-Some-clause-some g c =
+    let k = c.self.inside in
+    let t = c.in-Some.thread.now in
+    let part = c.in-Some.field-0-1.now in
+    let content = g.F.FrameStore.content k.frames in
+    let range = c.range-later.ensures.in_range tt in
+    let above : c.args.above + 1 ≤ t =
+    first-above k.world k.parts.items k.threads content k.next_thread k.next_segment k.main_kind c.self.invariant (c.args.above + 1)
+    c.range-later.result range t part c.next.new.self c.in-Some.ensures.steps in (
+      omega (arith, above),
+      subst (λ (m : Machine). is_live_thread m t ≡ true) c.self.view_is
+          (first-lives k.world k.parts.items k.threads content k.next_thread k.next_segment k.main_kind c.self.invariant (c.args.above + 1)
+          c.range-later.result range t part c.next.new.self c.in-Some.ensures.steps),
+      λ u higher lower.
+          subst (λ (m : Machine). is_live_thread m u ≡ false) c.self.view_is
+          (none-before k.world k.parts.items k.threads content k.next_thread k.next_segment k.main_kind c.self.invariant (c.args.above + 1)
+          c.range-later.result range t part c.next.new.self c.in-Some.ensures.steps u (omega (arith, higher)) lower),
+    )
 
-pub returns-clause-none : goal.returns-clause-none
-returns-clause-none c = λ n low.
-    elim (cases_lt c.loop-place.place n) [
-      | inl above ↦ is_live-beyond c.self.inside.domains.items c.self.inside.threads.items c.self.inside.next_segment _ n c.self.view_is
-          (omega (arith, c.loop-place-test.false, c.len-place-end.ensures, c.self.inside.threads.ok))
-      | inr within ↦ c.loop-place.invariant n low within
-    ]
+pub returns-in-None-clause-none : goal.returns-in-None-clause-none
+returns-in-None-clause-none g c = λ u higher.
+    let k = c.self.inside in
+    subst (λ (m : Machine). is_live_thread m u ≡ false) c.self.view_is
+    (none-from k.world k.parts.items k.threads (g.F.FrameStore.content k.frames) k.next_thread k.next_segment k.main_kind c.self.invariant
+    (c.args.above + 1) c.range-later.result (c.range-later.ensures.in_range tt) c.in-None.ensures.steps.0 u (omega (arith, higher)))

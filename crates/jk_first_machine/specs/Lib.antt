@@ -1,5 +1,0 @@
-pub mod Machine
-pub mod Places
-pub mod Run
-pub mod Starts
-pub mod Steps

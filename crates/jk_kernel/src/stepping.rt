@@ -1,0 +1,124 @@
+//! One step of the top segment of a thread, over the parts of the machine that it touches.
+
+ghost use Rattle.jk_kernel.specs.Following.{FollowsSo, MayFollow};
+ghost use Rattle.jk_kernel.specs.Needs.{IsNeeded, Meets};
+ghost use Rattle.jk_kernel.specs.LocalSteps.{StandsInMachine, StepsBy};
+
+use crate::calls::give_back;
+use crate::domain_parts::{DomainPart, pays};
+use crate::executing::execute;
+use crate::happened::Happened;
+use crate::initialising::{need_falls, touch};
+use crate::places::{needed_by, stands_at};
+use crate::system_classes::NO_CLASS_DEF_FOUND_ERROR;
+use crate::throwing::{raised_class, throw};
+use class_init::{Own, look};
+use class_table::ClassTable;
+use domain_resolver::World;
+use frame_store::FrameStore;
+use jk_model::{After, ClassId, DomainId, FrameHead, SegmentNo, ThreadNo};
+use jk_model_domains::Look;
+
+/// Which thread steps, and where.
+#[derive(Clone, Copy)]
+pub(crate) struct Runs {
+    pub(crate) thread: ThreadNo,
+    pub(crate) domain: DomainId,
+    pub(crate) segment: SegmentNo,
+}
+
+/// The class that a frame needs before it goes on: by its need, or else by its instruction.
+fn class_needed(t: &ClassTable, head: &FrameHead) -> Option<ClassId>
+    ensures { IsNeeded t.now head.now result }
+{
+    if let Some(c) = head.need {
+        return Some(c);
+    }
+    match stands_at(t, head) {
+        Some(at) => needed_by(&at),
+        None => None,
+    }
+}
+
+/// What the thread meets at the class that it needs.
+fn met(own: &Own, t: ThreadNo, needed: Option<ClassId>) -> Look
+    ensures { Meets own.now t needed result }
+{
+    match needed {
+        Some(c) => look(own, t, c),
+        None => Look::Ready,
+    }
+}
+
+/// One step. It takes no memory.
+pub(crate) fn step<F: FrameStore>(
+    w: &World,
+    d: &mut DomainPart,
+    frames: &mut F,
+    r: Runs,
+) -> Happened
+    requires { StandsInMachine (F.content frames.old) w.now d.old r }
+    ensures { StepsBy (F.content frames.old) (F.content frames.new) w.now d.old d.new r result }
+{
+    let head = frames.head(r.segment);
+    let t = w.classes();
+    let needed = class_needed(t, &head);
+    let state = met(&d.own, r.thread, needed);
+    if state == Look::Waits {
+        return Happened::Idle;
+    }
+    if !pays(d) {
+        return Happened::Idle;
+    }
+    match state {
+        Look::Untouched => {
+            let Some(c) = needed else {
+                unreachable!();
+            };
+            touch(t, d, frames, r.thread, r.segment, c)
+        }
+        Look::Broken => Happened::EndedBy(throw(
+            t,
+            &mut d.own,
+            frames,
+            r.segment,
+            NO_CLASS_DEF_FOUND_ERROR,
+        )),
+        _ => match head.need {
+            Some(_) => {
+                need_falls(d, frames, r.segment, &head);
+                Happened::Silent
+            }
+            None => match stands_at(t, &head) {
+                Some(at) => execute(w, d, frames, r, &head, &at),
+                None => unreachable!(),
+            },
+        },
+    }
+}
+
+/// What follows an instruction on numbers.
+pub(crate) fn follow<F: FrameStore>(
+    w: &World,
+    d: &mut DomainPart,
+    frames: &mut F,
+    r: Runs,
+    head: &FrameHead,
+    after: After,
+) -> Happened
+    requires { MayFollow (F.content frames.old) r.segment d.old.own head.now after }
+    ensures { FollowsSo w.now.classes (F.content frames.old) (F.content frames.new) r.segment head.now after d.old d.new result }
+{
+    match after {
+        After::Goto(n) => {
+            frames.go(r.segment, n, None);
+            Happened::Silent
+        }
+        After::Return(v) => give_back(d, frames, r.segment, head, v),
+        After::Raise(raised) => match raised_class(raised) {
+            Some(c) => Happened::EndedBy(throw(w.classes(), &mut d.own, frames, r.segment, c)),
+            None => unreachable!(),
+        },
+        _ => unreachable!(),
+    }
+}

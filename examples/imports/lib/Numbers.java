@@ -1,0 +1,5 @@
+public class Numbers {
+    public static int square(int n) {
+        return n * n;
+    }
+}

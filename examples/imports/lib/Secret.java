@@ -1,0 +1,5 @@
+public class Secret {
+    public static int number() {
+        return 7;
+    }
+}
