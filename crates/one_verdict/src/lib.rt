@@ -1,0 +1,2 @@
+//! A folder breaks no rule, or has one fault: laws of the definitions, without code.
+#![tactic(auto)]
