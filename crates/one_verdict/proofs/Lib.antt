@@ -6,3 +6,6 @@ pub mod OneAttribute
 pub mod OneRecord
 pub mod OneOrder
 pub mod OneLinks
+pub mod OneFirstBroken
+pub mod OneFolder
+pub mod SamePlacedFaults
