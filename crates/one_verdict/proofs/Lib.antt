@@ -9,3 +9,4 @@ pub mod OneLinks
 pub mod OneFirstBroken
 pub mod OneFolder
 pub mod SamePlacedFaults
+pub mod OneVerdict

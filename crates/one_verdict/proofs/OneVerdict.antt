@@ -1,0 +1,210 @@
+-- A folder's files break no rule, or have one fault: each choice that the definitions leave is made in one way, as far as a rule can tell.
+use Rattle.std.proofs.Common.{◌≡◌, ◌≢◌, ℕ, ◌+◌, ◌<◌, ◌⊎◌, inl, inr, List, [], ◌++◌, length, Contains, Option, Some, None, Result, Ok, Err, slice_get, refl, sym, ap, subst, ◌∙◌, arith}
+use Rattle.std.proofs.lemmas.Bool.{cases_order}
+use Rattle.std.proofs.lemmas.Option.{same_Some, slice_get_within}
+use Rattle.jk_model.specs.declared.class_file.ClassFile.{ClassFile}
+use Rattle.jk_model.specs.declared.identifiers.ClassId.{ClassId}
+use Rattle.jk_model.specs.declared.output.Place.{Place}
+use Rattle.jk_model.specs.declared.output.Place.TheVariants.{At}
+use Rattle.jk_model.specs.declared.output.Rule.{Rule}
+use Rattle.jk_model.specs.declared.output.Rule.TheVariants.{L6, L7, C1, C2, C3, C4, C5, C9, C13, C18, C19}
+use Rattle.jk_model.specs.ClassFile.{IsClass}
+use Rattle.jk_model.specs.ReadFaults.{BreaksReading}
+use Rattle.jk_model_classes.specs.declared.sharing.Offer.{Offer}
+use Rattle.jk_model_classes.specs.declared.sharing.ResolverLine.{ResolverLine}
+use Rattle.jk_model_classes.specs.declared.sharing.Stub.{Stub}
+use Rattle.jk_model_classes.specs.Items.{Spot, Member, Entry}
+use Rattle.jk_model_classes.specs.OneClassRules.{one_class_rules}
+use Rattle.jk_model_classes.specs.References.{FlagsOfNamed, FolderScope, HasBadHierarchy, HasBadInterface, HasBadParent, IsKnownName, MissesClass}
+use Rattle.jk_model_classes.specs.Resolver.{resolver_of}
+use Rattle.jk_model_classes.specs.ResolverRules.{BreaksL6}
+use Rattle.jk_model_classes.specs.Worlds.{NamedClass, WorldRecord, class_named}
+use Rattle.jk_model_folders.specs.declared.files.FolderFile.{FolderFile}
+use Rattle.jk_model_folders.specs.declared.files.FolderFiles.{FolderFiles}
+use Rattle.jk_model_folders.specs.FolderRules.{AreClassFiles, AreOuterNames, BreaksAlone, BreaksAt, BreaksL7, BreaksNames, BreaksPlaced, HasGoodLines, IsClassFault, IsFilesFault, IsFirstBroken, IsPlaced, NoneBroken, PlacedFolder, ReadsBadly, alone, bad_line, class_file, class_paths, name_rules, named, not_offered, placed, placed_rules, reading, reading_rules}
+use Rattle.jk_model_folders.specs.FolderTrees.{RESOLVER}
+use Rattle.jk_model_folders.specs.Loads.{Loads}
+use Rattle.class_reader.proofs.OneFault.{bad_magic, bad_version, only as only_class, only_bad_pool, only_trailing, only_truncated}
+use Rattle.one_verdict.proofs.OneAttribute.{IsJudged}
+use Rattle.one_verdict.proofs.OneFirstBroken.{SameFault, contained, none_is_first, one_broken}
+use Rattle.one_verdict.proofs.OneFolder.{one_meaning}
+use Rattle.one_verdict.proofs.OneRecord.{along_is}
+use Rattle.one_verdict.proofs.RisingLists.{item_at}
+use Rattle.one_verdict.proofs.SamePlacedFaults.{faults_there}
+
+-- ---- Class files.
+
+one_class_file : (bytes : List ℕ) (c d : ClassFile) → IsClass bytes c → IsClass bytes d → c ≡ d
+one_class_file bytes c d h k = only_class bytes (Ok c) d h k
+
+class_reads_well : (bytes : List ℕ) (c : ClassFile) → IsClass bytes c → (rule : Rule) (n : ℕ) → BreaksReading bytes rule n → ⊥
+class_reads_well bytes c is C1 n (bad, e) = let never = (bad_magic bytes (Ok c) is).1 bad in absurd cc
+class_reads_well bytes c is C2 n (bad, e) = let never = (bad_version bytes (Ok c) is).1 bad in absurd cc
+class_reads_well bytes c is C3 n (bad, e) = only_truncated bytes (Ok c) is bad
+class_reads_well bytes c is C4 n bad = only_trailing bytes (Ok c) n is bad
+class_reads_well bytes c is C5 n bad = only_bad_pool bytes (Ok c) n is bad
+class_reads_well bytes c is _ n bad = absurd bad
+
+module _ (f : FolderFiles) where
+  one_list_of_files : (cs ds : List ClassFile) → AreClassFiles f cs → AreClassFiles f ds → cs ≡ ds
+  one_list_of_files cs ds h k =
+      along_is (λ (file : FolderFile) c. IsClass file.bytes c) (λ (file : FolderFile) c. IsClass file.bytes c) f.classes cs ds h k
+      (λ i file c d at is also. one_class_file file.bytes c d is also)
+
+  file_of : (cs : List ClassFile) → AreClassFiles f cs → (i : ℕ) (c : ClassFile) → slice_get cs i ≡ Some c
+      → (file : FolderFile) × (slice_get f.classes i ≡ Some file)
+  file_of cs are i c at =
+      let within = slice_get_within cs i c at in
+      item_at f.classes i (omega (arith, within, are.as_many))
+
+  -- files that are class files break no rule in being read
+  read_well : (cs : List ClassFile) → AreClassFiles f cs → (rule : Rule) (i m : ℕ) → IsFirstBroken reading_rules (ReadsBadly f) rule i m → ⊥
+  read_well cs are rule i m first =
+      let (file, n, at, spot, bad) = first.broken in
+      let within = slice_get_within f.classes i file at in
+      let (c, there) = item_at cs i (omega (arith, within, are.as_many)) in
+      class_reads_well file.bytes c (are.each i file c at there) rule n bad
+
+  judged : (cs : List ClassFile) → AreClassFiles f cs → NoneBroken one_class_rules (BreaksAlone f cs) → (i : ℕ) (c : ClassFile)
+      → slice_get cs i ≡ Some c → IsJudged c
+  judged cs are none i c at =
+      let (file, there) = file_of cs are i c at in
+      record {
+        few = (are.each i file c there at).layout.pool.1;
+        attributes = λ spot bad. none C9 i spot (contained one_class_rules 3 C9 refl) (file, c, there, at, bad);
+        native = λ spot bad. none C13 i spot (contained one_class_rules 7 C13 refl) (file, c, there, at, bad);
+      }
+
+-- ---- The rules on names, by what names mean.
+
+module _ (w : WorldRecord) (cs : List ClassFile) (names others : List NamedClass) (same : class_named names ≡ class_named others) where
+  abbrev before : FolderScope
+  before = record { files = cs; names = names; classes = w.classes }
+
+  abbrev after : FolderScope
+  after = record { files = cs; names = others; classes = w.classes }
+
+  known_here : (name : List ℕ) → IsKnownName after name → IsKnownName before name
+  known_here name (inl own) = inl own
+  known_here name (inr (class, means)) = inr (class, (λ d. same d name) ∙ means)
+
+  flags_there : (name : List ℕ) (flags : ℕ) → FlagsOfNamed before name flags → FlagsOfNamed after name flags
+  flags_there name flags (inl own) = inl own
+  flags_there name flags (inr (none, (c, r, means, is, e))) = inr (none, (c, r, (λ d. sym same d name) ∙ means, is, e))
+
+  parent_there : (c : ClassFile) → HasBadParent before c → HasBadParent after c
+  parent_there c (name, of, inl closed) = (name, of, inl closed)
+  parent_there c (name, of, inr (inl (flags, are, bad))) = (name, of, inr (inl (flags, flags_there name flags are, bad)))
+  parent_there c (name, of, inr (inr other)) = (name, of, inr (inr other))
+
+  interface_there : (c : ClassFile) → HasBadInterface before c → HasBadInterface after c
+  interface_there c (name, flags, lists, are, bad) = (name, flags, lists, flags_there name flags are, bad)
+
+  hierarchy_there : (c : ClassFile) (spot : Spot) → HasBadHierarchy before c spot → HasBadHierarchy after c spot
+  hierarchy_there c (Member n) (zero, inl around) = (zero, inl around)
+  hierarchy_there c (Member n) (zero, inr (inl parent)) = (zero, inr (inl (parent_there c parent)))
+  hierarchy_there c (Member n) (zero, inr (inr interface)) = (zero, inr (inr (interface_there c interface)))
+  hierarchy_there c (Entry i) bad = absurd bad
+
+  missing_there : (c : ClassFile) (spot : Spot) → MissesClass before c spot → MissesClass after c spot
+  missing_there c (Member n) bad = absurd bad
+  missing_there c (Entry i) (name, refers, unknown) = (name, refers, λ known. unknown (known_here name known))
+
+  names_there : (rule : Rule) (i : ℕ) (spot : Spot) → BreaksNames w cs names rule i spot → BreaksNames w cs others rule i spot
+  names_there C18 i spot (c, at, bad) = (c, at, missing_there c spot bad)
+  names_there C19 i spot (c, at, bad) = (c, at, hierarchy_there c spot bad)
+  names_there _ i spot (c, at, bad) = absurd bad
+
+-- ---- What is chosen where the rules are read.
+
+-- the lines and the class files, which break none of the rules on a file alone
+record Chosen (f : FolderFiles) (w : WorldRecord) (into : List ℕ) : Type 0 where
+  pub lines : List ResolverLine
+  pub good_lines : HasGoodLines f w into lines
+  pub files : List ClassFile
+  pub are_classes : AreClassFiles f files
+  pub none_alone : NoneBroken one_class_rules (BreaksAlone f files)
+
+-- with what names mean outside of the folder
+record ChosenNames (f : FolderFiles) (w : WorldRecord) (into : List ℕ) : Type 0 where
+  pub chosen : Chosen f w into
+  pub names : List NamedClass
+  pub are_outer : AreOuterNames w into chosen.lines names
+
+-- with the classes behind the others
+record ChosenPlaces (f : FolderFiles) (w : WorldRecord) (into : List ℕ) : Type 0 where
+  pub chosen : ChosenNames f w into
+  pub none_of_names : NoneBroken name_rules (BreaksNames w chosen.chosen.files chosen.names)
+  pub placed : PlacedFolder
+  pub is_placed : IsPlaced w chosen.chosen.lines chosen.chosen.files chosen.names placed
+
+abbrev said : List ResolverLine → Result (List ResolverLine) ℕ
+said ls = Ok ls
+
+one_list_of_lines : (bytes : List ℕ) (ls ms : List ResolverLine) → resolver_of bytes ≡ Ok ls → resolver_of bytes ≡ Ok ms → ls ≡ ms
+one_list_of_lines bytes ls ms h k = let both : said ls ≡ said ms = sym h ∙ k in cc
+
+module _ (f : FolderFiles) (w : WorldRecord) (into : List ℕ) where
+  same_files : (a b : Chosen f w into) → a.files ≡ b.files
+  same_files a b = one_list_of_files f a.files b.files a.are_classes b.are_classes
+
+  same_lines : (a b : Chosen f w into) → a.lines ≡ b.lines
+  same_lines a b = one_list_of_lines f.resolver a.lines b.lines a.good_lines.says b.good_lines.says
+
+  same_meaning : (a b : ChosenNames f w into) → class_named a.names ≡ class_named b.names
+  same_meaning a b =
+      one_meaning w into b.chosen.lines a.names b.names
+      (subst (λ (ls : List ResolverLine). AreOuterNames w into ls a.names) (same_lines a.chosen b.chosen) a.are_outer) b.are_outer
+
+  alone_there : (a b : List ClassFile) → a ≡ b → (rule : Rule) (i : ℕ) (spot : Spot) → BreaksAlone f a rule i spot → BreaksAlone f b rule i spot
+  alone_there a b same rule i spot bad = subst (λ (cs : List ClassFile). BreaksAlone f cs rule i spot) same bad
+
+  of_names_there : (a b : ChosenNames f w into) (rule : Rule) (i : ℕ) (spot : Spot) → BreaksNames w a.chosen.files a.names rule i spot
+      → BreaksNames w b.chosen.files b.names rule i spot
+  of_names_there a b rule i spot bad =
+      names_there w b.chosen.files a.names b.names (same_meaning a b) rule i spot
+      (subst (λ (cs : List ClassFile). BreaksNames w cs a.names rule i spot) (same_files a.chosen b.chosen) bad)
+
+  placed_there : (a b : ChosenPlaces f w into) (rule : Rule) (i : ℕ) (spot : Spot) → BreaksPlaced w a.chosen.chosen.files a.placed rule i spot
+      → BreaksPlaced w b.chosen.chosen.files b.placed rule i spot
+  placed_there a b rule i spot bad =
+      let c = b.chosen.chosen in
+      let files = same_files a.chosen.chosen c in
+      let own : IsPlaced w c.lines c.files a.chosen.names a.placed =
+      subst (λ (ls : List ResolverLine). IsPlaced w ls c.files a.chosen.names a.placed) (same_lines a.chosen.chosen c)
+      (subst (λ (cs : List ClassFile). IsPlaced w a.chosen.chosen.lines cs a.chosen.names a.placed) files a.is_placed) in
+      faults_there w c.lines c.files a.chosen.names b.chosen.names (same_meaning a.chosen b.chosen) (judged f c.files c.are_classes c.none_alone)
+      a.placed b.placed own b.is_placed rule i spot (subst (λ (cs : List ClassFile). BreaksPlaced w cs a.placed rule i spot) files bad)
+
+  -- ---- What is loaded has no fault.
+
+  no_class_fault : (a : ChosenPlaces f w into) → NoneBroken placed_rules (BreaksPlaced w a.chosen.chosen.files a.placed) → (rule : Rule) (i m : ℕ)
+      → IsClassFault f w into rule i m → ⊥
+  no_class_fault a none rule i m (reading first) = read_well f a.chosen.chosen.files a.chosen.chosen.are_classes rule i m first
+  no_class_fault a none rule i m (alone cs are first) =
+      let c = a.chosen.chosen in
+      none_is_first one_class_rules (BreaksAlone f cs) (BreaksAlone f c.files)
+      (alone_there cs c.files (one_list_of_files f cs c.files are c.are_classes)) c.none_alone rule i m first
+  no_class_fault a none rule i m (named lines cs names good are quiet outer first) =
+      let given : Chosen f w into = record { lines = lines; good_lines = good; files = cs; are_classes = are; none_alone = quiet } in
+      let b : ChosenNames f w into = record { chosen = given; names = names; are_outer = outer } in
+      none_is_first name_rules (BreaksNames w cs names) (BreaksNames w a.chosen.chosen.files a.chosen.names) (of_names_there b a.chosen)
+      a.none_of_names rule i m first
+  no_class_fault a none rule i m (placed lines cs names p good are quiet outer sound is first) =
+      let given : Chosen f w into = record { lines = lines; good_lines = good; files = cs; are_classes = are; none_alone = quiet } in
+      let known : ChosenNames f w into = record { chosen = given; names = names; are_outer = outer } in
+      let b : ChosenPlaces f w into = record { chosen = known; none_of_names = sound; placed = p; is_placed = is } in
+      none_is_first placed_rules (BreaksPlaced w cs p) (BreaksPlaced w a.chosen.chosen.files a.placed) (placed_there b a) none rule i m first
+
+  pub loaded_has_no_fault : (first : ClassId) (table : List NamedClass) (offers : List Offer) (stubs : List Stub) (new : WorldRecord) (rule : Rule) (place : Place)
+      → Loads f w into first table offers stubs new → IsFilesFault f w into rule place → ⊥
+  loaded_has_no_fault first table offers stubs new _ _ l (bad_line n bad least) = l.good_lines.shares n bad
+  loaded_has_no_fault first table offers stubs new _ _ l (not_offered lines at line says shares there bad least) =
+      let same : lines ≡ l.lines = one_list_of_lines f.resolver lines l.lines says l.good_lines.says in
+      l.good_lines.imports at (subst (λ (ls : List ResolverLine). BreaksL7 f w into ls at) same bad)
+  loaded_has_no_fault first table offers stubs new _ _ l (class_file lines broken i number file good there fault) =
+      let a : Chosen f w into =
+      record { lines = l.lines; good_lines = l.good_lines; files = l.files; are_classes = l.are_classes; none_alone = l.none_alone } in
+      let b : ChosenNames f w into = record { chosen = a; names = l.names; are_outer = l.are_outer } in
+      let c : ChosenPlaces f w into = record { chosen = b; none_of_names = l.none_of_names; placed = l.placed; is_placed = l.is_placed } in
+      no_class_fault c l.none_placed broken i number fault
