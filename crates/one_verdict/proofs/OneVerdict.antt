@@ -176,25 +176,48 @@ module _ (f : FolderFiles) (w : WorldRecord) (into : List ℕ) where
       faults_there w c.lines c.files a.chosen.names b.chosen.names (same_meaning a.chosen b.chosen) (judged f c.files c.are_classes c.none_alone)
       a.placed b.placed own b.is_placed rule i spot (subst (λ (cs : List ClassFile). BreaksPlaced w cs a.placed rule i spot) files bad)
 
-  -- ---- What is loaded has no fault.
+  -- ---- What holds of one choice is broken by no other.
 
-  no_class_fault : (a : ChosenPlaces f w into) → NoneBroken placed_rules (BreaksPlaced w a.chosen.chosen.files a.placed) → (rule : Rule) (i m : ℕ)
-      → IsClassFault f w into rule i m → ⊥
-  no_class_fault a none rule i m (reading first) = read_well f a.chosen.chosen.files a.chosen.chosen.are_classes rule i m first
-  no_class_fault a none rule i m (alone cs are first) =
-      let c = a.chosen.chosen in
-      none_is_first one_class_rules (BreaksAlone f cs) (BreaksAlone f c.files)
-      (alone_there cs c.files (one_list_of_files f cs c.files are c.are_classes)) c.none_alone rule i m first
-  no_class_fault a none rule i m (named lines cs names good are quiet outer first) =
-      let given : Chosen f w into = record { lines = lines; good_lines = good; files = cs; are_classes = are; none_alone = quiet } in
-      let b : ChosenNames f w into = record { chosen = given; names = names; are_outer = outer } in
-      none_is_first name_rules (BreaksNames w cs names) (BreaksNames w a.chosen.chosen.files a.chosen.names) (of_names_there b a.chosen)
+  never_alone : (a : Chosen f w into) (cs : List ClassFile) → AreClassFiles f cs → (rule : Rule) (i m : ℕ)
+      → IsFirstBroken one_class_rules (BreaksAlone f cs) rule i m → ⊥
+  never_alone a cs are rule i m first =
+      none_is_first one_class_rules (BreaksAlone f cs) (BreaksAlone f a.files) (alone_there cs a.files (one_list_of_files f cs a.files are a.are_classes))
+      a.none_alone rule i m first
+
+  never_by_names : (a : ChosenPlaces f w into) (b : ChosenNames f w into) (rule : Rule) (i m : ℕ)
+      → IsFirstBroken name_rules (BreaksNames w b.chosen.files b.names) rule i m → ⊥
+  never_by_names a b rule i m first =
+      none_is_first name_rules (BreaksNames w b.chosen.files b.names) (BreaksNames w a.chosen.chosen.files a.chosen.names) (of_names_there b a.chosen)
       a.none_of_names rule i m first
-  no_class_fault a none rule i m (placed lines cs names p good are quiet outer sound is first) =
+
+  -- A fault of the class files, with what is chosen for it.
+  data ChosenFault (rule : Rule) (i m : ℕ) : Type 0 where
+    in_reading : IsFirstBroken reading_rules (ReadsBadly f) rule i m → ChosenFault rule i m
+    in_a_file : (cs : List ClassFile) → AreClassFiles f cs → IsFirstBroken one_class_rules (BreaksAlone f cs) rule i m → ChosenFault rule i m
+    in_names : (a : ChosenNames f w into) → IsFirstBroken name_rules (BreaksNames w a.chosen.files a.names) rule i m → ChosenFault rule i m
+    in_places : (a : ChosenPlaces f w into) → IsFirstBroken placed_rules (BreaksPlaced w a.chosen.chosen.files a.placed) rule i m → ChosenFault rule i m
+
+  chosen_fault : (rule : Rule) (i m : ℕ) → IsClassFault f w into rule i m → ChosenFault rule i m
+  chosen_fault rule i m (reading first) = in_reading first
+  chosen_fault rule i m (alone cs are first) = in_a_file cs are first
+  chosen_fault rule i m (named lines cs names good are quiet outer first) =
+      let given : Chosen f w into = record { lines = lines; good_lines = good; files = cs; are_classes = are; none_alone = quiet } in
+      in_names (record { chosen = given; names = names; are_outer = outer }) first
+  chosen_fault rule i m (placed lines cs names p good are quiet outer sound is first) =
       let given : Chosen f w into = record { lines = lines; good_lines = good; files = cs; are_classes = are; none_alone = quiet } in
       let known : ChosenNames f w into = record { chosen = given; names = names; are_outer = outer } in
-      let b : ChosenPlaces f w into = record { chosen = known; none_of_names = sound; placed = p; is_placed = is } in
-      none_is_first placed_rules (BreaksPlaced w cs p) (BreaksPlaced w a.chosen.chosen.files a.placed) (placed_there b a) none rule i m first
+      in_places (record { chosen = known; none_of_names = sound; placed = p; is_placed = is }) first
+
+  -- ---- What is loaded has no fault.
+
+  no_chosen_fault : (a : ChosenPlaces f w into) → NoneBroken placed_rules (BreaksPlaced w a.chosen.chosen.files a.placed) → (rule : Rule) (i m : ℕ)
+      → ChosenFault rule i m → ⊥
+  no_chosen_fault a none rule i m (in_reading first) = read_well f a.chosen.chosen.files a.chosen.chosen.are_classes rule i m first
+  no_chosen_fault a none rule i m (in_a_file cs are first) = never_alone a.chosen.chosen cs are rule i m first
+  no_chosen_fault a none rule i m (in_names b first) = never_by_names a b rule i m first
+  no_chosen_fault a none rule i m (in_places b first) =
+      none_is_first placed_rules (BreaksPlaced w b.chosen.chosen.files b.placed) (BreaksPlaced w a.chosen.chosen.files a.placed) (placed_there b a) none
+      rule i m first
 
   pub loaded_has_no_fault : (first : ClassId) (table : List NamedClass) (offers : List Offer) (stubs : List Stub) (new : WorldRecord) (rule : Rule) (place : Place)
       → Loads f w into first table offers stubs new → IsFilesFault f w into rule place → ⊥
@@ -207,4 +230,87 @@ module _ (f : FolderFiles) (w : WorldRecord) (into : List ℕ) where
       record { lines = l.lines; good_lines = l.good_lines; files = l.files; are_classes = l.are_classes; none_alone = l.none_alone } in
       let b : ChosenNames f w into = record { chosen = a; names = l.names; are_outer = l.are_outer } in
       let c : ChosenPlaces f w into = record { chosen = b; none_of_names = l.none_of_names; placed = l.placed; is_placed = l.is_placed } in
-      no_class_fault c l.none_placed broken i number fault
+      no_chosen_fault c l.none_placed broken i number (chosen_fault broken i number fault)
+
+  -- ---- There is one fault.
+
+  one_chosen_fault : (rule other : Rule) (i j m n : ℕ) → ChosenFault rule i m → ChosenFault other j n → SameFault rule other i j m n
+  one_chosen_fault rule other i j m n (in_reading first) (in_reading second) =
+      one_broken reading_rules (ReadsBadly f) (ReadsBadly f) (λ r k spot bad. bad) (λ r k spot bad. bad) rule other i j m n first second
+  one_chosen_fault rule other i j m n (in_reading first) (in_a_file ds are second) = absurd (read_well f ds are rule i m first)
+  one_chosen_fault rule other i j m n (in_reading first) (in_names b second) = absurd (read_well f b.chosen.files b.chosen.are_classes rule i m first)
+  one_chosen_fault rule other i j m n (in_reading first) (in_places b second) =
+      absurd (read_well f b.chosen.chosen.files b.chosen.chosen.are_classes rule i m first)
+  one_chosen_fault rule other i j m n (in_a_file cs are first) (in_reading second) = absurd (read_well f cs are other j n second)
+  one_chosen_fault rule other i j m n (in_a_file cs are first) (in_a_file ds were second) =
+      let same = one_list_of_files f cs ds are were in
+      one_broken one_class_rules (BreaksAlone f cs) (BreaksAlone f ds) (alone_there cs ds same) (alone_there ds cs (sym same)) rule other i j m n first second
+  one_chosen_fault rule other i j m n (in_a_file cs are first) (in_names b second) = absurd (never_alone b.chosen cs are rule i m first)
+  one_chosen_fault rule other i j m n (in_a_file cs are first) (in_places b second) = absurd (never_alone b.chosen.chosen cs are rule i m first)
+  one_chosen_fault rule other i j m n (in_names a first) (in_reading second) = absurd (read_well f a.chosen.files a.chosen.are_classes other j n second)
+  one_chosen_fault rule other i j m n (in_names a first) (in_a_file ds are second) = absurd (never_alone a.chosen ds are other j n second)
+  one_chosen_fault rule other i j m n (in_names a first) (in_names b second) =
+      one_broken name_rules (BreaksNames w a.chosen.files a.names) (BreaksNames w b.chosen.files b.names) (of_names_there a b) (of_names_there b a)
+      rule other i j m n first second
+  one_chosen_fault rule other i j m n (in_names a first) (in_places b second) = absurd (never_by_names b a rule i m first)
+  one_chosen_fault rule other i j m n (in_places a first) (in_reading second) =
+      absurd (read_well f a.chosen.chosen.files a.chosen.chosen.are_classes other j n second)
+  one_chosen_fault rule other i j m n (in_places a first) (in_a_file ds are second) = absurd (never_alone a.chosen.chosen ds are other j n second)
+  one_chosen_fault rule other i j m n (in_places a first) (in_names b second) = absurd (never_by_names a b other j n second)
+  one_chosen_fault rule other i j m n (in_places a first) (in_places b second) =
+      one_broken placed_rules (BreaksPlaced w a.chosen.chosen.files a.placed) (BreaksPlaced w b.chosen.chosen.files b.placed) (placed_there a b)
+      (placed_there b a) rule other i j m n first second
+
+  abbrev IsSame : Rule → Rule → Place → Place → Type 0
+  IsSame rule other place spot = (rule ≡ other) × (place ≡ spot)
+
+  one_bad_line : (m n : ℕ) → BreaksL6 (class_paths f) f.resolver m → ((k : ℕ) → k < m → BreaksL6 (class_paths f) f.resolver k → ⊥)
+      → BreaksL6 (class_paths f) f.resolver n → ((k : ℕ) → k < n → BreaksL6 (class_paths f) f.resolver k → ⊥) → m ≡ n
+  one_bad_line m n bad least worse first = elim (cases_order m n) [
+    | inl same ↦ same
+    | inr apart ↦ elim apart [
+      | inl below ↦ absurd (first m below bad)
+      | inr above ↦ absurd (least n above worse)
+    ]
+  ]
+
+  -- the line that imports what it may not
+  record IsFirstRefused (lines : List ResolverLine) (place : ℕ) (line : ResolverLine) : Type 0 where
+    there : slice_get lines place ≡ Some line
+    refused : BreaksL7 f w into lines place
+    least : (lower : ℕ) → lower < place → BreaksL7 f w into lines lower → ⊥
+
+  one_refused : (lines : List ResolverLine) (m n : ℕ) (a b : ResolverLine) → IsFirstRefused lines m a → IsFirstRefused lines n b → a ≡ b
+  one_refused lines m n a b h k = elim (cases_order m n) [
+    | inl same ↦ same_Some a b (sym h.there ∙ ap (λ (i : ℕ). slice_get lines i) same ∙ k.there)
+    | inr apart ↦ elim apart [
+      | inl below ↦ absurd (k.least m below h.refused)
+      | inr above ↦ absurd (h.least n above k.refused)
+    ]
+  ]
+
+  pub one_fault : (rule other : Rule) (place spot : Place) → IsFilesFault f w into rule place → IsFilesFault f w into other spot
+      → IsSame rule other place spot
+  one_fault _ _ _ _ (bad_line m bad least) (bad_line n worse first) =
+      (refl, ap (λ (k : ℕ). At RESOLVER k) (one_bad_line m n bad least worse first))
+  one_fault _ _ _ _ (bad_line m bad least) (not_offered lines at line says shares there refused first) = absurd (shares m bad)
+  one_fault _ _ _ _ (bad_line m bad least) (class_file lines rule i number file good there fault) = absurd (good.shares m bad)
+  one_fault _ _ _ _ (not_offered lines at line says shares there refused least) (bad_line n worse first) = absurd (shares n worse)
+  one_fault _ _ _ _ (not_offered lines m a says shares at refused least) (not_offered others n b tells offers there bad first) =
+      let same : others ≡ lines = one_list_of_lines f.resolver others lines tells says in
+      let here : IsFirstRefused lines m a = record { there = at; refused = refused; least = least } in
+      let also : IsFirstRefused others n b = record { there = there; refused = bad; least = first } in
+      let own : IsFirstRefused lines n b = subst (λ (ls : List ResolverLine). IsFirstRefused ls n b) same also in
+      (refl, ap (λ (x : ResolverLine). At RESOLVER x.line) (one_refused lines m n a b here own))
+  one_fault _ _ _ _ (not_offered lines m a says shares at refused least) (class_file others rule i number file good there fault) =
+      let same : lines ≡ others = one_list_of_lines f.resolver lines others says good.says in
+      absurd (good.imports m (subst (λ (ls : List ResolverLine). BreaksL7 f w into ls m) same refused))
+  one_fault _ _ _ _ (class_file lines rule i number file good there fault) (bad_line n worse first) = absurd (good.shares n worse)
+  one_fault _ _ _ _ (class_file lines rule i number file good there fault) (not_offered others m a says shares at refused least) =
+      let same : others ≡ lines = one_list_of_lines f.resolver others lines says good.says in
+      absurd (good.imports m (subst (λ (ls : List ResolverLine). BreaksL7 f w into ls m) same refused))
+  one_fault _ _ _ _ (class_file lines rule i m file good at fault) (class_file others other j n second fine there bad) =
+      let same = one_chosen_fault rule other i j m n (chosen_fault rule i m fault) (chosen_fault other j n bad) in
+      let files : file ≡ second = same_Some file second (sym at ∙ ap (λ (k : ℕ). slice_get f.classes k) same.file_is ∙ there) in
+      let number : m ≡ n = same.number_is in
+      (same.rule_is, λ d. At (files d).path (number d))
