@@ -10,3 +10,4 @@ pub mod OneFirstBroken
 pub mod OneFolder
 pub mod SamePlacedFaults
 pub mod OneVerdict
+pub mod OneToldFolder
