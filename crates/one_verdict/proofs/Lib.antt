@@ -11,3 +11,4 @@ pub mod OneFolder
 pub mod SamePlacedFaults
 pub mod OneVerdict
 pub mod OneToldFolder
+pub mod OneLoading

@@ -16,7 +16,7 @@ use Rattle.jk_model_folders.specs.declared.files.FolderFile.{FolderFile}
 use Rattle.jk_model_folders.specs.declared.files.FolderFiles.{FolderFiles}
 use Rattle.jk_model_folders.specs.FolderRules.{IsFilesFault, IsFolderFault, IsLive, files, name_is_live, no_folder, too_large}
 use Rattle.jk_model_folders.specs.FolderTrees.{AreFiles, AreFilesOf, HasFileAt, IsThatFile, RESOLVER}
-use Rattle.jk_model_folders.specs.Loads.{Loads}
+use Rattle.one_verdict.specs.Verdicts.{Brings, Brought}
 use Rattle.one_verdict.proofs.OneVerdict.{loaded_has_no_fault, one_fault}
 use Rattle.one_verdict.proofs.RisingLists.{IsIn, rising_same}
 
@@ -107,15 +107,14 @@ module _ (t : Tree) (root : List ℕ) where
 -- ---- The verdict of a told folder.
 
 module _ (t : Tree) (root : List ℕ) (w : WorldRecord) (name : List ℕ) where
-  pub told_has_no_fault : (f : FolderFiles) (first : ClassId) (table : List NamedClass) (offers : List Offer) (stubs : List Stub) (new : WorldRecord)
-      (rule : Rule) (place : Place) → AreFiles f → AreFilesOf t (root /- name) f → Loads f w name first table offers stubs new
+  pub told_has_no_fault : (f : FolderFiles) (b : Brought) (rule : Rule) (place : Place) → AreFiles f → AreFilesOf t (root /- name) f → Brings f w name b
       → IsFolderFault t root w name rule place → ⊥
-  told_has_no_fault f first table offers stubs new _ _ are of loads (name_is_live live) = loads.not_live live
-  told_has_no_fault f first table offers stubs new _ _ are of loads (no_folder dead none) = none-some of.folder.0 (sym none ∙ of.folder.1)
-  told_has_no_fault f first table offers stubs new _ _ are of loads (too_large dead there large) = of.not_large large
-  told_has_no_fault f first table offers stubs new _ _ are of loads (files g rule place dead are_g of_g fault) =
+  told_has_no_fault f b _ _ are of loads (name_is_live live) = loads.not_live live
+  told_has_no_fault f b _ _ are of loads (no_folder dead none) = none-some of.folder.0 (sym none ∙ of.folder.1)
+  told_has_no_fault f b _ _ are of loads (too_large dead there large) = of.not_large large
+  told_has_no_fault f b _ _ are of loads (files g rule place dead are_g of_g fault) =
       let same : g ≡ f = one_told_folder t (root /- name) g f are_g are of_g of in
-      loaded_has_no_fault f w name first table offers stubs new rule place loads (subst (λ (x : FolderFiles). IsFilesFault x w name rule place) same fault)
+      loaded_has_no_fault f w name b rule place loads (subst (λ (x : FolderFiles). IsFilesFault x w name rule place) same fault)
 
   pub one_told_fault : (rule other : Rule) (place spot : Place) → IsFolderFault t root w name rule place → IsFolderFault t root w name other spot
       → (rule ≡ other) × (place ≡ spot)

@@ -23,8 +23,8 @@ use Rattle.jk_model_folders.specs.declared.files.FolderFile.{FolderFile}
 use Rattle.jk_model_folders.specs.declared.files.FolderFiles.{FolderFiles}
 use Rattle.jk_model_folders.specs.FolderRules.{AreClassFiles, AreOuterNames, BreaksAlone, BreaksAt, BreaksL7, BreaksNames, BreaksPlaced, HasGoodLines, IsClassFault, IsFilesFault, IsFirstBroken, IsPlaced, NoneBroken, PlacedFolder, ReadsBadly, alone, bad_line, class_file, class_paths, name_rules, named, not_offered, placed, placed_rules, reading, reading_rules}
 use Rattle.jk_model_folders.specs.FolderTrees.{RESOLVER}
-use Rattle.jk_model_folders.specs.Loads.{Loads}
 use Rattle.class_reader.proofs.OneFault.{bad_magic, bad_version, only as only_class, only_bad_pool, only_trailing, only_truncated}
+use Rattle.one_verdict.specs.Verdicts.{Brings, Brought}
 use Rattle.one_verdict.proofs.OneAttribute.{IsJudged}
 use Rattle.one_verdict.proofs.OneFirstBroken.{SameFault, contained, none_is_first, one_broken}
 use Rattle.one_verdict.proofs.OneFolder.{one_meaning}
@@ -118,7 +118,7 @@ module _ (w : WorldRecord) (cs : List ClassFile) (names others : List NamedClass
 -- ---- What is chosen where the rules are read.
 
 -- the lines and the class files, which break none of the rules on a file alone
-record Chosen (f : FolderFiles) (w : WorldRecord) (into : List ℕ) : Type 0 where
+pub record Chosen (f : FolderFiles) (w : WorldRecord) (into : List ℕ) : Type 0 where
   pub lines : List ResolverLine
   pub good_lines : HasGoodLines f w into lines
   pub files : List ClassFile
@@ -126,13 +126,13 @@ record Chosen (f : FolderFiles) (w : WorldRecord) (into : List ℕ) : Type 0 whe
   pub none_alone : NoneBroken one_class_rules (BreaksAlone f files)
 
 -- with what names mean outside of the folder
-record ChosenNames (f : FolderFiles) (w : WorldRecord) (into : List ℕ) : Type 0 where
+pub record ChosenNames (f : FolderFiles) (w : WorldRecord) (into : List ℕ) : Type 0 where
   pub chosen : Chosen f w into
   pub names : List NamedClass
   pub are_outer : AreOuterNames w into chosen.lines names
 
 -- with the classes behind the others
-record ChosenPlaces (f : FolderFiles) (w : WorldRecord) (into : List ℕ) : Type 0 where
+pub record ChosenPlaces (f : FolderFiles) (w : WorldRecord) (into : List ℕ) : Type 0 where
   pub chosen : ChosenNames f w into
   pub none_of_names : NoneBroken name_rules (BreaksNames w chosen.chosen.files chosen.names)
   pub placed : PlacedFolder
@@ -151,7 +151,7 @@ module _ (f : FolderFiles) (w : WorldRecord) (into : List ℕ) where
   same_lines : (a b : Chosen f w into) → a.lines ≡ b.lines
   same_lines a b = one_list_of_lines f.resolver a.lines b.lines a.good_lines.says b.good_lines.says
 
-  same_meaning : (a b : ChosenNames f w into) → class_named a.names ≡ class_named b.names
+  pub same_meaning : (a b : ChosenNames f w into) → class_named a.names ≡ class_named b.names
   same_meaning a b =
       one_meaning w into b.chosen.lines a.names b.names
       (subst (λ (ls : List ResolverLine). AreOuterNames w into ls a.names) (same_lines a.chosen b.chosen) a.are_outer) b.are_outer
@@ -165,16 +165,22 @@ module _ (f : FolderFiles) (w : WorldRecord) (into : List ℕ) where
       names_there w b.chosen.files a.names b.names (same_meaning a b) rule i spot
       (subst (λ (cs : List ClassFile). BreaksNames w cs a.names rule i spot) (same_files a.chosen b.chosen) bad)
 
+  -- the classes of the one choice, put behind the others by the lines and the files of the other
+  pub placed_by : (a b : ChosenPlaces f w into) → IsPlaced w b.chosen.chosen.lines b.chosen.chosen.files a.chosen.names a.placed
+  placed_by a b =
+      let c = b.chosen.chosen in
+      subst (λ (ls : List ResolverLine). IsPlaced w ls c.files a.chosen.names a.placed) (same_lines a.chosen.chosen c)
+      (subst (λ (cs : List ClassFile). IsPlaced w a.chosen.chosen.lines cs a.chosen.names a.placed) (same_files a.chosen.chosen c) a.is_placed)
+
+  pub all_judged : (a : Chosen f w into) (i : ℕ) (c : ClassFile) → slice_get a.files i ≡ Some c → IsJudged c
+  all_judged a i c at = judged f a.files a.are_classes a.none_alone i c at
+
   placed_there : (a b : ChosenPlaces f w into) (rule : Rule) (i : ℕ) (spot : Spot) → BreaksPlaced w a.chosen.chosen.files a.placed rule i spot
       → BreaksPlaced w b.chosen.chosen.files b.placed rule i spot
   placed_there a b rule i spot bad =
       let c = b.chosen.chosen in
-      let files = same_files a.chosen.chosen c in
-      let own : IsPlaced w c.lines c.files a.chosen.names a.placed =
-      subst (λ (ls : List ResolverLine). IsPlaced w ls c.files a.chosen.names a.placed) (same_lines a.chosen.chosen c)
-      (subst (λ (cs : List ClassFile). IsPlaced w a.chosen.chosen.lines cs a.chosen.names a.placed) files a.is_placed) in
-      faults_there w c.lines c.files a.chosen.names b.chosen.names (same_meaning a.chosen b.chosen) (judged f c.files c.are_classes c.none_alone)
-      a.placed b.placed own b.is_placed rule i spot (subst (λ (cs : List ClassFile). BreaksPlaced w cs a.placed rule i spot) files bad)
+      faults_there w c.lines c.files a.chosen.names b.chosen.names (same_meaning a.chosen b.chosen) (all_judged c) a.placed b.placed (placed_by a b) b.is_placed
+      rule i spot (subst (λ (cs : List ClassFile). BreaksPlaced w cs a.placed rule i spot) (same_files a.chosen.chosen c) bad)
 
   -- ---- What holds of one choice is broken by no other.
 
@@ -219,18 +225,21 @@ module _ (f : FolderFiles) (w : WorldRecord) (into : List ℕ) where
       none_is_first placed_rules (BreaksPlaced w b.chosen.chosen.files b.placed) (BreaksPlaced w a.chosen.chosen.files a.placed) (placed_there b a) none
       rule i m first
 
-  pub loaded_has_no_fault : (first : ClassId) (table : List NamedClass) (offers : List Offer) (stubs : List Stub) (new : WorldRecord) (rule : Rule) (place : Place)
-      → Loads f w into first table offers stubs new → IsFilesFault f w into rule place → ⊥
-  loaded_has_no_fault first table offers stubs new _ _ l (bad_line n bad least) = l.good_lines.shares n bad
-  loaded_has_no_fault first table offers stubs new _ _ l (not_offered lines at line says shares there bad least) =
+  -- what was chosen where a folder loaded
+  abbrev pub places_of : (b : Brought) → Brings f w into b → ChosenPlaces f w into
+  places_of b l =
+      let given : Chosen f w into =
+      record { lines = l.lines; good_lines = l.good_lines; files = l.files; are_classes = l.are_classes; none_alone = l.none_alone } in
+      let known : ChosenNames f w into = record { chosen = given; names = l.names; are_outer = l.are_outer } in
+      record { chosen = known; none_of_names = l.none_of_names; placed = l.placed; is_placed = l.is_placed }
+
+  pub loaded_has_no_fault : (b : Brought) (rule : Rule) (place : Place) → Brings f w into b → IsFilesFault f w into rule place → ⊥
+  loaded_has_no_fault b _ _ l (bad_line n bad least) = l.good_lines.shares n bad
+  loaded_has_no_fault b _ _ l (not_offered lines at line says shares there bad least) =
       let same : lines ≡ l.lines = one_list_of_lines f.resolver lines l.lines says l.good_lines.says in
       l.good_lines.imports at (subst (λ (ls : List ResolverLine). BreaksL7 f w into ls at) same bad)
-  loaded_has_no_fault first table offers stubs new _ _ l (class_file lines broken i number file good there fault) =
-      let a : Chosen f w into =
-      record { lines = l.lines; good_lines = l.good_lines; files = l.files; are_classes = l.are_classes; none_alone = l.none_alone } in
-      let b : ChosenNames f w into = record { chosen = a; names = l.names; are_outer = l.are_outer } in
-      let c : ChosenPlaces f w into = record { chosen = b; none_of_names = l.none_of_names; placed = l.placed; is_placed = l.is_placed } in
-      no_chosen_fault c l.none_placed broken i number (chosen_fault broken i number fault)
+  loaded_has_no_fault b _ _ l (class_file lines broken i number file good there fault) =
+      no_chosen_fault (places_of b l) l.none_placed broken i number (chosen_fault broken i number fault)
 
   -- ---- There is one fault.
 
