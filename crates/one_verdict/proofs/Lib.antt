@@ -1,14 +1,16 @@
-pub mod OneDecoding
+-- A folder has one verdict: what its rules speak of is determined as far as a rule can tell, from the parts of a class file up to the
+-- whole folder in a told tree.
 pub mod RisingLists
-pub mod OneMember
+pub mod OneDecoding
 pub mod PlacesOfInstrs
+pub mod OneMember
 pub mod OneAttribute
 pub mod OneRecord
-pub mod OneOrder
 pub mod OneLinks
-pub mod OneFirstBroken
+pub mod OneOrder
 pub mod OneFolder
 pub mod SamePlacedFaults
+pub mod OneFirstBroken
 pub mod OneVerdict
-pub mod OneToldFolder
 pub mod OneLoading
+pub mod OneToldFolder

@@ -1,2 +1,4 @@
-//! A folder breaks no rule, or has one fault: laws of the definitions, without code.
+//! A folder has one verdict, whatever is chosen where its rules are read: laws of the definitions, without code.
 #![tactic(auto)]
+
+pub mod laws;
