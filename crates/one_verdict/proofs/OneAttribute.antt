@@ -1,15 +1,13 @@
 -- Of the attributes of a member that breaks no rule one at most says what counts of it: its constant, its code, or what it throws.
-use Rattle.std.proofs.Common.{◌≡◌, ℕ, ◌+◌, ◌<◌, ◌^◌, inl, inr, Bool, true, false, List, [], ◌++◌, length, Contains, Some, slice_get, refl, sym, ◌∙◌, ap, subst, arith}
+use Rattle.std.proofs.Common.{◌≡◌, ℕ, ◌+◌, ◌<◌, ◌^◌, inl, inr, Bool, true, false, List, [], ◌++◌, length, Contains, Some, slice_get, refl, sym, ◌∙◌, ap, arith}
 use Rattle.std.specs.Prelude.{not, IsTrue}
 use Rattle.std.proofs.lemmas.Bool.{cases_order}
-use Rattle.std.proofs.lemmas.Option.{same_Some, slice_get_within, slice_get-get_or}
+use Rattle.std.proofs.lemmas.Option.{same_Some, slice_get_within}
 use Rattle.jk_model.specs.declared.class_file.Attribute.{Attribute}
 use Rattle.jk_model.specs.declared.class_file.ClassFile.{ClassFile}
-use Rattle.jk_model.specs.declared.class_file.Code.{Code}
 use Rattle.jk_model.specs.declared.class_file.MemberInfo.{MemberInfo}
 use Rattle.jk_model.specs.declared.class_file.PoolEntry.{PoolEntry}
-use Rattle.jk_model.specs.ClassFile.{u2, IsU2, CodeLayout, AreInterfaces, interfaces_bytes}
-use Rattle.jk_model_classes.specs.declared.records.Link.{Link}
+use Rattle.jk_model.specs.ClassFile.{u2, IsU2, AreInterfaces, interfaces_bytes}
 use Rattle.jk_model_classes.specs.ClassFlags.{MethodFlags, has, ABSTRACT, NATIVE, STATIC}
 use Rattle.jk_model_classes.specs.Items.{HasTwoItems, Member, Spot}
 use Rattle.jk_model_classes.specs.MemberAttributes.{HasBadAttribute, IsCodeAttribute, IsConstantValue, IsExceptions}
@@ -18,6 +16,7 @@ use Rattle.jk_model_folders.specs.LinkedClasses.{HasConstantEntry}
 use Rattle.byte_fields.specs.OneReading.{one_reading, one_u2, counted_reader, u2_reader}
 use Rattle.byte_fields.specs.Reading.{counted_at, number_at}
 use Rattle.std.specs.Int.{w16}
+use Rattle.one_verdict.proofs.RisingLists.{in_list}
 
 -- What is known of a class file that breaks none of the rules on the file alone, as far as it tells that it has one record.
 pub record IsJudged (c : ClassFile) : Type 0 where
@@ -25,13 +24,10 @@ pub record IsJudged (c : ClassFile) : Type 0 where
   pub attributes : (spot : Spot) → HasBadAttribute c spot → ⊥
   pub native : (spot : Spot) → IsNative c spot → ⊥
 
-item_of : {X : Type 0} (xs : List X) (x : X) → Contains xs x → (i : ℕ) × (slice_get xs i ≡ Some x)
-item_of xs x (i, within, e) = (i, slice_get-get_or xs i x within ∙ ap Some e)
-
 one_item : {X : Type 0} (P : X → Type 0) (xs : List X) (a b : X) → (HasTwoItems P xs → ⊥) → Contains xs a → Contains xs b → P a → P b → a ≡ b
 one_item P xs a b never in_a in_b is_a is_b =
-    let at_a = item_of xs a in_a in
-    let at_b = item_of xs b in_b in
+    let at_a = in_list xs a in_a in
+    let at_b = in_list xs b in_b in
     elim (cases_order at_a.0 at_b.0) [
       | inl same ↦ same_Some a b (sym at_a.1 ∙ ap (λ (k : ℕ). slice_get xs k) same ∙ at_b.1)
       | inr other ↦

@@ -1,11 +1,10 @@
 -- A code is one list of instructions.
-use Rattle.std.proofs.Common.{◌≡◌, ℕ, zero, suc, ◌+◌, ◌*◌, List, [], ◌∷◌, ◌++◌, length, take, drop, refl, sym, ap, subst, ◌∙◌, append_assoc, length-append, arith}
-use Rattle.std.specs.Prelude.{ℤ, pos, ◌+ℤ◌, ◌-ℤ◌, flat_map, map}
+use Rattle.std.proofs.Common.{◌≡◌, ℕ, ◌+◌, List, [], ◌∷◌, ◌++◌, length, take, drop, refl, sym, ap, subst, ◌∙◌, append_assoc, length-append, arith}
+use Rattle.std.specs.Prelude.{pos, ◌+ℤ◌, ◌-ℤ◌, flat_map, map}
 use Rattle.std.specs.List.{AllByRecursion}
 use Rattle.std.specs.Int.{w8, w32, cast_signed, from_be_bytes}
 use Rattle.std.proofs.lemmas.List.{drop_at, take_at}
 use Rattle.jk_model.specs.declared.instructions.Instr.{Instr}
-use Rattle.jk_model.specs.declared.instructions.SwitchCase.{SwitchCase}
 use Rattle.jk_model.specs.ClassFile.{u4, IsU4}
 use Rattle.jk_model.specs.Instructions.{AreInstrs, Decodes, Format, IsInstr, IsLookupSwitch, IsPair, IsTableSwitch, Means, WideFormat, WideMeans, case_at, format_of, pair_bytes, plain, short, signed_int, signed_short, switch, table_cases, target, wide_format_of}
 use Rattle.byte_fields.specs.OneReading.{one_u4}
@@ -155,7 +154,7 @@ front_of f d l h o r = simp append_assoc
 front_of_pairs : (f d n o r : List ℕ) → (f ++ d ++ n ++ o) ++ r ≡ f ++ (d ++ (n ++ (o ++ r)))
 front_of_pairs f d n o r = simp append_assoc
 
-same_pos : (m n : ℕ) → pos m ≡ pos n → m ≡ n
+pub same_pos : (m n : ℕ) → pos m ≡ pos n → m ≡ n
 same_pos m n e = cc
 
 same_offsets : (us vs r s : List ℕ) → length us ≡ length vs → AllByRecursion IsU4 us → AllByRecursion IsU4 vs → flat_map u4 us ++ r ≡ flat_map u4 vs ++ s

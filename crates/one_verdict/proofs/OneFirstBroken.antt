@@ -1,19 +1,17 @@
 -- Of some rules one at most is the first that is broken, in one file and with one number.
-use Rattle.std.proofs.Common.{◌≡◌, ℕ, ◌<◌, ◌⊎◌, inl, inr, List, Contains, Some, slice_get, refl, sym, ap, subst, ◌∙◌}
+use Rattle.std.proofs.Common.{◌≡◌, ℕ, ◌⊎◌, inl, inr, List, slice_get, refl, sym, ap, subst, ◌∙◌}
 use Rattle.std.proofs.lemmas.Bool.{cases_order}
-use Rattle.std.proofs.lemmas.Option.{same_Some, slice_get_within, get_or_from_slice_get}
+use Rattle.std.proofs.lemmas.Option.{same_Some}
 use Rattle.jk_model.specs.declared.output.Rule.{Rule}
 use Rattle.jk_model_classes.specs.Items.{Spot, Member, Entry, spot_number, IsBefore}
 use Rattle.jk_model_folders.specs.FolderRules.{BreaksAt, IsFirstBroken, NoneBroken}
+use Rattle.one_verdict.proofs.RisingLists.{contained}
 
 spot_cases : (s t : Spot) → (s ≡ t) ⊎ (IsBefore s t ⊎ IsBefore t s)
 spot_cases (Member m) (Entry j) = inr (inl tt)
 spot_cases (Entry i) (Member n) = inr (inr tt)
 spot_cases (Member m) (Member n) = elim (cases_order m n) [ inl same ↦ inl (ap (λ (k : ℕ). Member k) same) | inr other ↦ inr other ]
 spot_cases (Entry i) (Entry j) = elim (cases_order i j) [ inl same ↦ inl (ap (λ (k : ℕ). Entry k) same) | inr other ↦ inr other ]
-
-pub contained : {X : Type 0} (xs : List X) (i : ℕ) (x : X) → slice_get xs i ≡ Some x → Contains xs x
-contained xs i x at = (i, slice_get_within xs i x at, get_or_from_slice_get xs i x x at)
 
 -- where none is broken, none is the first
 pub none_is_first : (rules : List Rule) (A B : BreaksAt) → ((r : Rule) (i : ℕ) (spot : Spot) → A r i spot → B r i spot) → NoneBroken rules B

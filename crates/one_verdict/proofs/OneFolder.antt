@@ -1,17 +1,15 @@
 -- The classes of a folder are put behind the others in one way, as far as a rule can tell.
-use Rattle.std.proofs.Common.{◌≡◌, ℕ, zero, suc, ◌+◌, ◌<◌, inl, inr, List, [], ◌∷◌, ◌++◌, length, map, Contains, Option, Some, None, slice_get, refl, sym, ap, subst, ◌∙◌, arith}
-use Rattle.std.specs.Prelude.{◌↔◌}
+use Rattle.std.proofs.Common.{◌≡◌, ℕ, zero, suc, ◌+◌, inl, inr, List, [], ◌∷◌, ◌++◌, length, map, Contains, Option, Some, None, slice_get, refl, sym, ap, subst, ◌∙◌, arith}
 use Rattle.std.proofs.lemmas.Option.{slice_get_within}
 use Rattle.jk_model.specs.declared.class_file.ClassFile.{ClassFile}
 use Rattle.jk_model.specs.declared.identifiers.ClassId.{ClassId}
 use Rattle.jk_model.specs.declared.identifiers.DomainId.{DomainId}
 use Rattle.jk_model_classes.specs.declared.records.ClassRecord.{ClassRecord}
-use Rattle.jk_model_classes.specs.declared.records.Link.{Link}
 use Rattle.jk_model_classes.specs.declared.sharing.Offer.{Offer}
 use Rattle.jk_model_classes.specs.declared.sharing.ResolverLine.{ResolverLine}
 use Rattle.jk_model_classes.specs.LinkRules.{LinkScope}
 use Rattle.jk_model_classes.specs.Worlds.{NamedClass, WorldRecord, class_named}
-use Rattle.jk_model_folders.specs.FolderRules.{AreOuterNames, IsClassOfFile, IsOffer, IsOwnNamed, IsPlaced, PlacedFolder, link_scope}
+use Rattle.jk_model_folders.specs.FolderRules.{AreOuterNames, IsPlaced, PlacedFolder, link_scope}
 use Rattle.jk_model_folders.specs.LinkedClasses.{AreLinksFor, IsRecordFor, without_links}
 use Rattle.one_verdict.proofs.OneAttribute.{IsJudged}
 use Rattle.one_verdict.proofs.OneLinks.{one_list_of_links}
@@ -49,8 +47,8 @@ maps_are f (x ∷ xs) (y ∷ ys) long same =
 
 -- ---- The folder.
 
-module _ (w : WorldRecord) (lines : List ResolverLine) (cs : List ClassFile) (names others : List NamedClass) (same_names : class_named names ≡ class_named others)
-    (judged : (i : ℕ) (c : ClassFile) → slice_get cs i ≡ Some c → IsJudged c) (p q : PlacedFolder) (h : IsPlaced w lines cs names p)
+module _ (w : WorldRecord) (lines : List ResolverLine) (cs : List ClassFile) (names others : List NamedClass)
+    (same_names : class_named names ≡ class_named others) (judged : (i : ℕ) (c : ClassFile) → slice_get cs i ≡ Some c → IsJudged c) (p q : PlacedFolder) (h : IsPlaced w lines cs names p)
     (k : IsPlaced w lines cs others q) where
   pub one_home : p.home ≡ q.home
   one_home =

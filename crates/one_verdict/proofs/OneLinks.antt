@@ -1,6 +1,6 @@
 -- The entries of a class file's pool lead to one list of links, and its methods say that they throw one list of classes.
-use Rattle.std.proofs.Common.{◌≡◌, ◌≢◌, ℕ, zero, suc, ◌<◌, inl, inr, List, [], ◌∷◌, ◌++◌, length, Contains, Option, Some, slice_get, replicate, refl, sym, ◌∙◌, ap, subst, arith}
-use Rattle.std.specs.List.{AllByRecursion, join_with_byte}
+use Rattle.std.proofs.Common.{◌≡◌, ◌≢◌, ℕ, zero, suc, inl, inr, List, [], ◌∷◌, ◌++◌, Some, slice_get, replicate, refl, sym, ◌∙◌, ap, subst, arith}
+use Rattle.std.specs.List.{join_with_byte}
 use Rattle.std.proofs.lemmas.Option.{same_Some, slice_get_within}
 use Rattle.jk_model.specs.declared.class_file.Attribute.{Attribute}
 use Rattle.jk_model.specs.declared.class_file.ClassFile.{ClassFile}
@@ -11,12 +11,10 @@ use Rattle.jk_model.specs.declared.descriptors.FieldType.{FieldType}
 use Rattle.jk_model.specs.declared.identifiers.ClassId.{ClassId}
 use Rattle.jk_model.specs.ClassFile.{interfaces_bytes}
 use Rattle.jk_model.specs.Descriptors.{IsClassName, IsFieldText, IsName, base_text}
-use Rattle.jk_model_classes.specs.declared.records.BaseRef.{BaseRef}
 use Rattle.jk_model_classes.specs.declared.records.BaseRef.TheVariants as Base
 use Rattle.jk_model_classes.specs.declared.records.Link.{Link}
 use Rattle.jk_model_classes.specs.declared.records.TypeRef.{TypeRef}
 use Rattle.jk_model_classes.specs.LinkRules.{LinkScope}
-use Rattle.jk_model_classes.specs.Members.{ClassAt, TextAt}
 use Rattle.jk_model_classes.specs.SystemRecords.{IsTypeFor}
 use Rattle.jk_model_folders.specs.LinkedClasses.{AreLinksFor, AreThrownBy, IsEntryType, IsFieldLink, IsLinkFor, IsMethodLink, IsThrown}
 use Rattle.class_texts.proofs.OneText.{one_class, one_text}

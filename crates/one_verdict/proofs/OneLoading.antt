@@ -1,6 +1,5 @@
 -- Files that break no rule bring one thing, but for the order of names and offers.
-use Rattle.std.proofs.Common.{◌≡◌, ℕ, ◌<◌, List, Contains, Some, slice_get, refl, sym, ap, subst, ◌∙◌, arith}
-use Rattle.std.proofs.lemmas.Option.{slice_get_within, slice_get-get_or, get_or_from_slice_get}
+use Rattle.std.proofs.Common.{◌≡◌, ℕ, ◌<◌, List, Contains, sym, ap, subst, ◌∙◌, arith}
 use Rattle.jk_model.specs.declared.identifiers.ClassId.{ClassId}
 use Rattle.jk_model_classes.specs.declared.records.ClassRecord.{ClassRecord}
 use Rattle.jk_model_classes.specs.declared.sharing.Offer.{Offer}
@@ -10,13 +9,9 @@ use Rattle.jk_model_classes.specs.Worlds.{WorldRecord, class_named}
 use Rattle.jk_model_folders.specs.declared.files.FolderFiles.{FolderFiles}
 use Rattle.jk_model_folders.specs.Loads.{AreStubs}
 use Rattle.one_verdict.specs.Verdicts.{Brings, Brought, IsSameBrought}
-use Rattle.one_verdict.proofs.OneFirstBroken.{contained}
 use Rattle.one_verdict.proofs.OneFolder.{one_list_of_classes, one_table, same_offers}
 use Rattle.one_verdict.proofs.OneVerdict.{ChosenPlaces, all_judged, placed_by, places_of, same_meaning}
-use Rattle.one_verdict.proofs.RisingLists.{IsIn, rising_same}
-
-in_list : {X : Type 0} (xs : List X) (x : X) → Contains xs x → IsIn x xs
-in_list xs x (i, within, e) = (i, slice_get-get_or xs i x within ∙ ap Some e)
+use Rattle.one_verdict.proofs.RisingLists.{IsIn, contained, in_list, rising_same}
 
 -- ---- Stubs.
 

@@ -51,11 +51,13 @@ one_result meaning (Some t) a b (x, is_x, p) (y, is_y, q) =
     let same : x ≡ y = one_type meaning t x y p q in
     cc
 
-pub one_field_type : (pool : List PoolEntry) (i : ℕ) (t u : FieldType) → HasText (λ units. IsFieldText units t) pool i → HasText (λ units. IsFieldText units u) pool i → t ≡ u
+pub one_field_type : (pool : List PoolEntry) (i : ℕ) (t u : FieldType) → HasText (λ units. IsFieldText units t) pool i
+    → HasText (λ units. IsFieldText units u) pool i → t ≡ u
 one_field_type pool i t u (us, at, says) (vs, there, tells) =
     one_field vs t u (subst (λ (w : List ℕ). IsFieldText w t) (one_text pool i us vs at there) says) tells
 
-pub one_method_type : (pool : List PoolEntry) (i : ℕ) (t u : MethodType) → HasText (λ units. IsMethodText units t) pool i → HasText (λ units. IsMethodText units u) pool i → t ≡ u
+pub one_method_type : (pool : List PoolEntry) (i : ℕ) (t u : MethodType) → HasText (λ units. IsMethodText units t) pool i
+    → HasText (λ units. IsMethodText units u) pool i → t ≡ u
 one_method_type pool i t u (us, at, says) (vs, there, tells) =
     one_method vs t u (subst (λ (w : List ℕ). IsMethodText w t) (one_text pool i us vs at there) says) tells
 

@@ -1,8 +1,8 @@
 -- A class file that breaks none of the rules on the file alone gives one record, but for its links, by what names mean.
-use Rattle.std.proofs.Common.{◌≡◌, ◌≢◌, ℕ, ◌+◌, ◌<◌, ◌⊎◌, inl, inr, Bool, true, false, List, [], length, Contains, Option, Some, None, slice_get, Ok, refl, sym, ◌∙◌, ap, subst, arith}
+use Rattle.std.proofs.Common.{◌≡◌, ℕ, ◌<◌, inl, inr, Bool, true, false, List, [], length, Option, Some, slice_get, Ok, refl, sym, ◌∙◌, ap, subst, arith}
 use Rattle.std.specs.Prelude.{ℤ, pos, ◌||◌, not, IsTrue}
 use Rattle.std.proofs.lemmas.Bool.{cases_eq}
-use Rattle.std.proofs.lemmas.Option.{same_Some, slice_get_within, slice_get-get_or, get_or_from_slice_get}
+use Rattle.std.proofs.lemmas.Option.{same_Some, slice_get_within}
 use Rattle.jk_model.specs.declared.class_file.Attribute.{Attribute}
 use Rattle.jk_model.specs.declared.class_file.ClassFile.{ClassFile}
 use Rattle.jk_model.specs.declared.class_file.Code.{Code}
@@ -26,19 +26,18 @@ use Rattle.jk_model_classes.specs.declared.records.Link.{Link}
 use Rattle.jk_model_classes.specs.declared.records.LinkedCode.{LinkedCode}
 use Rattle.jk_model_classes.specs.declared.records.MethodRecord.{MethodRecord}
 use Rattle.jk_model_classes.specs.declared.records.TypeRef.{TypeRef}
-use Rattle.jk_model_classes.specs.ClassFlags.{MethodFlags, has, ABSTRACT, STATIC}
+use Rattle.jk_model_classes.specs.ClassFlags.{MethodFlags, has, ABSTRACT}
 use Rattle.jk_model_classes.specs.LinkRules.{LinkScope}
 use Rattle.jk_model_classes.specs.MemberCode.{is_jump, is_switch}
-use Rattle.jk_model_classes.specs.Members.{ClassAt, TextAt}
 use Rattle.jk_model_classes.specs.SystemRecords.{AreTypesFor, IsResultFor, IsTypeFor}
-use Rattle.jk_model_folders.specs.LinkedClasses.{AreReferences, GoAlong, HasConstantEntry, IsBodyFor, IsCaseFor, IsCaughtFor, IsConstantFrom, IsConstantOfField, IsEndFor, IsFieldFor, IsInstrFor, IsLinkedCode, IsMethodFor, IsPlaceOf, IsRecordFor, NamesClassAt, without_links}
+use Rattle.jk_model_folders.specs.LinkedClasses.{AreReferences, GoAlong, IsBodyFor, IsCaseFor, IsCaughtFor, IsConstantFrom, IsConstantOfField, IsEndFor, IsFieldFor, IsInstrFor, IsLinkedCode, IsMethodFor, IsPlaceOf, IsRecordFor, NamesClassAt, without_links}
 use Rattle.class_reader.proofs.OneCodeBody.{only as only_code}
 use Rattle.class_texts.proofs.OneText.{one_class, one_text}
 use Rattle.one_verdict.proofs.OneAttribute.{IsJudged, one_code_attribute, one_entry}
 use Rattle.one_verdict.proofs.OneDecoding.{one_decoding}
 use Rattle.one_verdict.proofs.OneMember.{one_field_type, one_method_type, one_result, one_type}
 use Rattle.one_verdict.proofs.PlacesOfInstrs.{none_at_the_end, one_place}
-use Rattle.one_verdict.proofs.RisingLists.{IsIn, item_at, list_is, rising_same}
+use Rattle.one_verdict.proofs.RisingLists.{IsIn, contained, in_list, item_at, list_is, rising_same}
 
 -- ---- Lists that go along with one list.
 
@@ -60,7 +59,8 @@ types_are meaning types ls bs h k =
 
 -- ---- Fields.
 
-one_constant_from : (pool : List PoolEntry) (kind : TypeRef) (entry : PoolEntry) (a b : Link) → IsConstantFrom pool kind entry a → IsConstantFrom pool kind entry b → a ≡ b
+one_constant_from : (pool : List PoolEntry) (kind : TypeRef) (entry : PoolEntry) (a b : Link) → IsConstantFrom pool kind entry a
+    → IsConstantFrom pool kind entry b → a ≡ b
 one_constant_from pool kind (Entry.Integer n) a b h k = h ∙ sym k
 one_constant_from pool kind (Entry.Long n) a b h k = h ∙ sym k
 one_constant_from pool kind (Entry.Str text) a b (us, at, e) (vs, there, f) =
@@ -173,20 +173,17 @@ module _ (s t : LinkScope) (same : s.meaning ≡ t.meaning) (c : ClassFile) wher
         (subst (λ (w : TypeRef). IsConstantOfField c.pool info w a.constant) kind h.constant) k.constant in
         λ d. record { name = name d; flags = flags d; kind = kind d; constant = constant d }
 
+    not_both : (x : Bool) → IsTrue x → IsTrue (not x) → ⊥
+    not_both true h k = absurd cc
+    not_both false h k = absurd cc
+
     one_body : (i : ℕ) (info : MemberInfo) (flags : ℕ) (a b : Body) → slice_get c.methods i ≡ Some info → MethodFlags c info flags
         → IsBodyFor s c info flags a → IsBodyFor t c info flags b → a ≡ b
     one_body i info flags a b at counted (inl (abstract, e)) (inl (also, f)) = e ∙ sym f
-    one_body i info flags a b at counted (inl (abstract, e)) (inr (concrete, more)) = absurd (both (has flags ABSTRACT) abstract concrete)
-      where
-        both : (x : Bool) → IsTrue x → IsTrue (not x) → ⊥
-        both true h k = absurd cc
-        both false h k = absurd cc
-    one_body i info flags a b at counted (inr (concrete, more)) (inl (abstract, e)) = absurd (both (has flags ABSTRACT) abstract concrete)
-      where
-        both : (x : Bool) → IsTrue x → IsTrue (not x) → ⊥
-        both true h k = absurd cc
-        both false h k = absurd cc
-    one_body i info flags a b at counted (inr (concrete, (x, code, linked, in_x, is_x, laid, links, e))) (inr (also, (y, other, bound, in_y, is_y, lies, binds, f))) =
+    one_body i info flags a b at counted (inl (abstract, e)) (inr (concrete, more)) = absurd (not_both (has flags ABSTRACT) abstract concrete)
+    one_body i info flags a b at counted (inr (concrete, more)) (inl (abstract, e)) = absurd (not_both (has flags ABSTRACT) abstract concrete)
+    one_body i info flags a b at counted (inr (concrete, (x, code, linked, in_x, is_x, laid, links, e)))
+        (inr (also, (y, other, bound, in_y, is_y, lies, binds, f))) =
         let attribute : x ≡ y = one_code_attribute c judged i info flags at counted concrete x y in_x in_y is_x is_y in
         let here : CodeLayout y.body code = subst (λ (w : Attribute). CodeLayout w.body code) attribute laid in
         let codes : code ≡ other = only_code y.body (Ok code) other here lies in
@@ -213,25 +210,19 @@ module _ (s t : LinkScope) (same : s.meaning ≡ t.meaning) (c : ClassFile) wher
 
   -- ---- References.
 
-  in_list : (class : ClassId) (xs : List ClassId) → Contains xs class → IsIn class xs
-  in_list class xs (k, within, e) = (k, slice_get-get_or xs k class within ∙ ap Some e)
-
-  contained : (class : ClassId) (xs : List ClassId) → IsIn class xs → Contains xs class
-  contained class xs (k, at) = (k, slice_get_within xs k class at, get_or_from_slice_get xs k class class at)
-
   one_list_of_references : (ls bs : List ClassId) → AreReferences s c ls → AreReferences t c bs → ls ≡ bs
   one_list_of_references ls bs h k =
       rising_same (λ (x y : ClassId). x.0 < y.0) (λ x y less more. omega (arith, less, more)) ls bs h.rising k.rising into back
     where
       into : (z : ClassId) → IsIn z ls → IsIn z bs
       into z there =
-          let refers = h.each z (contained z ls there) in
-          in_list z bs (k.all refers.0 refers.1 z refers.2 ((λ d. sym same d refers.1) ∙ refers.3))
+          let refers = h.each z (contained ls there.0 z there.1) in
+          in_list bs z (k.all refers.0 refers.1 z refers.2 ((λ d. sym same d refers.1) ∙ refers.3))
 
       back : (z : ClassId) → IsIn z bs → IsIn z ls
       back z there =
-          let refers = k.each z (contained z bs there) in
-          in_list z ls (h.all refers.0 refers.1 z refers.2 ((λ d. same d refers.1) ∙ refers.3))
+          let refers = k.each z (contained bs there.0 z there.1) in
+          in_list ls z (h.all refers.0 refers.1 z refers.2 ((λ d. same d refers.1) ∙ refers.3))
 
   -- ---- The record.
 

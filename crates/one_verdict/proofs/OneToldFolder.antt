@@ -1,24 +1,21 @@
 -- A told tree has one folder at a path, with one list of files that count; so a folder that loads has no fault, and another has one.
-use Rattle.std.proofs.Common.{◌≡◌, ◌≢◌, ℕ, zero, suc, ◌<◌, ◌⊎◌, inl, inr, Bool, true, false, List, [], ◌∷◌, ◌++◌, Contains, Option, Some, None, slice_get, refl, sym, ap, subst, ◌∙◌, arith}
+use Rattle.std.proofs.Common.{◌≡◌, ◌≢◌, ℕ, zero, suc, ◌<◌, ◌⊎◌, inl, inr, Bool, true, false, List, [], ◌∷◌, ◌++◌, Some, slice_get, refl, sym, ap, subst, ◌∙◌, arith}
 use Rattle.std.specs.Prelude.{⊤, bytes_eq}
 use Rattle.std.specs.List.{AllByRecursion}
-use Rattle.std.proofs.lemmas.Option.{same_Some, none-some, slice_get-get_or}
+use Rattle.std.proofs.lemmas.Option.{same_Some, none-some}
 use Rattle.std.proofs.lemmas.Slice.Eq.{bytes_eq-Decides}
-use Rattle.jk_model.specs.declared.identifiers.ClassId.{ClassId}
 use Rattle.jk_model.specs.declared.output.Place.{Place}
 use Rattle.jk_model.specs.declared.output.Rule.{Rule}
 use Rattle.jk_model.specs.Outside.{Tree, ◌/-◌}
-use Rattle.jk_model_classes.specs.declared.sharing.Offer.{Offer}
-use Rattle.jk_model_classes.specs.declared.sharing.Stub.{Stub}
 use Rattle.jk_model_classes.specs.SharedRules.{IsBeforeInOrder}
-use Rattle.jk_model_classes.specs.Worlds.{NamedClass, WorldRecord}
+use Rattle.jk_model_classes.specs.Worlds.{WorldRecord}
 use Rattle.jk_model_folders.specs.declared.files.FolderFile.{FolderFile}
 use Rattle.jk_model_folders.specs.declared.files.FolderFiles.{FolderFiles}
-use Rattle.jk_model_folders.specs.FolderRules.{IsFilesFault, IsFolderFault, IsLive, files, name_is_live, no_folder, too_large}
+use Rattle.jk_model_folders.specs.FolderRules.{IsFilesFault, IsFolderFault, files, name_is_live, no_folder, too_large}
 use Rattle.jk_model_folders.specs.FolderTrees.{AreFiles, AreFilesOf, HasFileAt, IsThatFile, RESOLVER}
 use Rattle.one_verdict.specs.Verdicts.{Brings, Brought}
 use Rattle.one_verdict.proofs.OneVerdict.{loaded_has_no_fault, one_fault}
-use Rattle.one_verdict.proofs.RisingLists.{IsIn, rising_same}
+use Rattle.one_verdict.proofs.RisingLists.{IsIn, in_list, rising_same}
 
 -- ---- Of two lists one at most comes before the other.
 
@@ -63,9 +60,6 @@ each_at : {X : Type 0} (P : X → Type 0) (xs : List X) → AllByRecursion P xs 
 each_at P [] all i x at = absurd (none-some x at)
 each_at P (y ∷ xs) all zero x at = subst P (same_Some y x at) all.0
 each_at P (y ∷ xs) all (suc i) x at = each_at P xs all.1 i x at
-
-in_list : {X : Type 0} (xs : List X) (x : X) → Contains xs x → IsIn x xs
-in_list xs x (i, within, e) = (i, slice_get-get_or xs i x within ∙ ap Some e)
 
 -- lists that can't but be equal are
 by_test : (xs ys : List ℕ) (b : Bool) → bytes_eq xs ys ≡ b → (xs ≢ ys → ⊥) → xs ≡ ys

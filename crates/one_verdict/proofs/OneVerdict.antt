@@ -1,18 +1,15 @@
 -- A folder's files break no rule, or have one fault: each choice that the definitions leave is made in one way, as far as a rule can tell.
-use Rattle.std.proofs.Common.{◌≡◌, ◌≢◌, ℕ, ◌+◌, ◌<◌, ◌⊎◌, inl, inr, List, [], ◌++◌, length, Contains, Option, Some, None, Result, Ok, Err, slice_get, refl, sym, ap, subst, ◌∙◌, arith}
+use Rattle.std.proofs.Common.{◌≡◌, ℕ, ◌<◌, inl, inr, List, Some, Result, Ok, slice_get, refl, sym, ap, subst, ◌∙◌, arith}
 use Rattle.std.proofs.lemmas.Bool.{cases_order}
 use Rattle.std.proofs.lemmas.Option.{same_Some, slice_get_within}
 use Rattle.jk_model.specs.declared.class_file.ClassFile.{ClassFile}
-use Rattle.jk_model.specs.declared.identifiers.ClassId.{ClassId}
 use Rattle.jk_model.specs.declared.output.Place.{Place}
 use Rattle.jk_model.specs.declared.output.Place.TheVariants.{At}
 use Rattle.jk_model.specs.declared.output.Rule.{Rule}
-use Rattle.jk_model.specs.declared.output.Rule.TheVariants.{L6, L7, C1, C2, C3, C4, C5, C9, C13, C18, C19}
+use Rattle.jk_model.specs.declared.output.Rule.TheVariants.{C1, C2, C3, C4, C5, C9, C13, C18, C19}
 use Rattle.jk_model.specs.ClassFile.{IsClass}
 use Rattle.jk_model.specs.ReadFaults.{BreaksReading}
-use Rattle.jk_model_classes.specs.declared.sharing.Offer.{Offer}
 use Rattle.jk_model_classes.specs.declared.sharing.ResolverLine.{ResolverLine}
-use Rattle.jk_model_classes.specs.declared.sharing.Stub.{Stub}
 use Rattle.jk_model_classes.specs.Items.{Spot, Member, Entry}
 use Rattle.jk_model_classes.specs.OneClassRules.{one_class_rules}
 use Rattle.jk_model_classes.specs.References.{FlagsOfNamed, FolderScope, HasBadHierarchy, HasBadInterface, HasBadParent, IsKnownName, MissesClass}
@@ -21,15 +18,15 @@ use Rattle.jk_model_classes.specs.ResolverRules.{BreaksL6}
 use Rattle.jk_model_classes.specs.Worlds.{NamedClass, WorldRecord, class_named}
 use Rattle.jk_model_folders.specs.declared.files.FolderFile.{FolderFile}
 use Rattle.jk_model_folders.specs.declared.files.FolderFiles.{FolderFiles}
-use Rattle.jk_model_folders.specs.FolderRules.{AreClassFiles, AreOuterNames, BreaksAlone, BreaksAt, BreaksL7, BreaksNames, BreaksPlaced, HasGoodLines, IsClassFault, IsFilesFault, IsFirstBroken, IsPlaced, NoneBroken, PlacedFolder, ReadsBadly, alone, bad_line, class_file, class_paths, name_rules, named, not_offered, placed, placed_rules, reading, reading_rules}
+use Rattle.jk_model_folders.specs.FolderRules.{AreClassFiles, AreOuterNames, BreaksAlone, BreaksL7, BreaksNames, BreaksPlaced, HasGoodLines, IsClassFault, IsFilesFault, IsFirstBroken, IsPlaced, NoneBroken, PlacedFolder, ReadsBadly, alone, bad_line, class_file, class_paths, name_rules, named, not_offered, placed, placed_rules, reading, reading_rules}
 use Rattle.jk_model_folders.specs.FolderTrees.{RESOLVER}
 use Rattle.class_reader.proofs.OneFault.{bad_magic, bad_version, only as only_class, only_bad_pool, only_trailing, only_truncated}
 use Rattle.one_verdict.specs.Verdicts.{Brings, Brought}
 use Rattle.one_verdict.proofs.OneAttribute.{IsJudged}
-use Rattle.one_verdict.proofs.OneFirstBroken.{SameFault, contained, none_is_first, one_broken}
+use Rattle.one_verdict.proofs.OneFirstBroken.{SameFault, none_is_first, one_broken}
 use Rattle.one_verdict.proofs.OneFolder.{one_meaning}
 use Rattle.one_verdict.proofs.OneRecord.{along_is}
-use Rattle.one_verdict.proofs.RisingLists.{item_at}
+use Rattle.one_verdict.proofs.RisingLists.{contained, item_at}
 use Rattle.one_verdict.proofs.SamePlacedFaults.{faults_there}
 
 -- ---- Class files.

@@ -5,6 +5,7 @@ use Rattle.std.proofs.lemmas.Option.{same_Some, none-some}
 use Rattle.jk_model.specs.declared.instructions.Instr.{Instr}
 use Rattle.jk_model.specs.Instructions.{Format, AsIs, Short, ByteConstant, ShortConstant, LocalIndex, BytePoolIndex, PoolIndex, Increment, Jump, FarJump, InterfaceCall, ArrayOfKind, ManyDimensions, TableSwitch, LookupSwitch, Wide, WideFormat, WideLocal, WideIncrement, format_of, wide_format_of, WideMeans, Means, IsInstr, AreInstrs, Decodes}
 use Rattle.jk_model_folders.specs.LinkedClasses.{IsPlaceOf}
+use Rattle.one_verdict.proofs.OneDecoding.{same_pos}
 
 wide_place : (f : WideFormat) (at op : ℕ) (operands : List ℕ) (i : Instr) → WideMeans f at op operands i → i.at ≡ at
 wide_place WideLocal at op (m ∷ n ∷ []) i e = ap (λ (x : Instr). x.at) e
@@ -59,9 +60,6 @@ rise at bytes (i ∷ instrs) (front, rest, one, e, more) zero (suc k) a b below 
     omega (arith, place.0, place.1, same, later.0)
 rise at bytes (i ∷ instrs) (front, rest, one, e, more) (suc j) (suc k) a b below at_a at_b =
     rise (at + length front) rest instrs more j k a b (omega (arith, below)) at_a at_b
-
-same_pos : (m n : ℕ) → pos m ≡ pos n → m ≡ n
-same_pos m n e = cc
 
 module _ (code : List ℕ) (instrs : List Instr) (decodes : Decodes code instrs) where
   pub one_place : (at : ℤ) (m n : ℕ) → IsPlaceOf instrs at m → IsPlaceOf instrs at n → m ≡ n

@@ -1,7 +1,6 @@
 -- Lists that are equal: those whose items are equal, and those that rise and have the same items.
-use Rattle.std.proofs.Common.{◌≡◌, ◌≢◌, ℕ, zero, suc, ◌+◌, ◌<◌, ◌≤◌, ◌⊎◌, inl, inr, List, [], ◌∷◌, length, Option, Some, None, slice_get, refl, sym, ap, subst, ◌∙◌, arith}
-use Rattle.std.proofs.lemmas.Bool.{cases_lt, cases_eq}
-use Rattle.std.proofs.lemmas.Option.{same_Some, none-some, slice_get_within}
+use Rattle.std.proofs.Common.{◌≡◌, ℕ, zero, suc, ◌<◌, ◌⊎◌, inl, inr, List, [], ◌∷◌, length, Contains, Some, slice_get, refl, sym, ap, subst, ◌∙◌, arith}
+use Rattle.std.proofs.lemmas.Option.{same_Some, none-some, slice_get_within, slice_get-get_or, get_or_from_slice_get}
 
 -- ---- By their items.
 
@@ -27,6 +26,12 @@ IsRising {X} Less xs = (j k : ℕ) (a b : X) → j < k → slice_get xs j ≡ So
 
 abbrev pub IsIn : {X : Type 0} → X → List X → Type 0
 IsIn {X} x xs = (k : ℕ) × (slice_get xs k ≡ Some x)
+
+pub in_list : {X : Type 0} (xs : List X) (x : X) → Contains xs x → IsIn x xs
+in_list xs x (i, within, e) = (i, slice_get-get_or xs i x within ∙ ap Some e)
+
+pub contained : {X : Type 0} (xs : List X) (i : ℕ) (x : X) → slice_get xs i ≡ Some x → Contains xs x
+contained xs i x at = (i, slice_get_within xs i x at, get_or_from_slice_get xs i x x at)
 
 abbrev pub NeverBoth : {X : Type 0} → (X → X → Type 0) → Type 0
 NeverBoth {X} Less = (a b : X) → Less a b → Less b a → ⊥

@@ -1,6 +1,6 @@
 -- Whichever way the classes of a folder are put behind the others, they break the same rules at the same spots.
-use Rattle.std.proofs.Common.{◌≡◌, ◌≢◌, ℕ, suc, ◌+◌, ◌<◌, inl, inr, List, [], ◌∷◌, ◌++◌, length, Contains, Option, Some, None, slice_get, refl, sym, ap, subst, ◌∙◌, arith}
-use Rattle.std.proofs.lemmas.Option.{same_Some, slice_get_within}
+use Rattle.std.proofs.Common.{◌≡◌, ℕ, suc, ◌+◌, inl, inr, List, [], ◌∷◌, ◌++◌, length, Contains, Option, Some, None, slice_get, refl, sym, ap, subst, ◌∙◌, arith}
+use Rattle.std.proofs.lemmas.Option.{slice_get_within}
 use Rattle.jk_model.specs.declared.class_file.ClassFile.{ClassFile}
 use Rattle.jk_model.specs.declared.class_file.MemberInfo.{MemberInfo}
 use Rattle.jk_model.specs.declared.identifiers.ClassId.{ClassId}
@@ -12,9 +12,9 @@ use Rattle.jk_model_classes.specs.declared.records.MethodRecord.{MethodRecord}
 use Rattle.jk_model_classes.specs.declared.sharing.Offer.{Offer}
 use Rattle.jk_model_classes.specs.declared.sharing.ResolverLine.{ResolverLine}
 use Rattle.jk_model_classes.specs.Classes.{record_of}
-use Rattle.jk_model_classes.specs.Items.{Spot, Member, Entry}
+use Rattle.jk_model_classes.specs.Items.{Spot, Member}
 use Rattle.jk_model_classes.specs.LinkRules.{HasFinalOverridden, IsAccessRefused, LinkScope, MissesMember}
-use Rattle.jk_model_classes.specs.SharedRules.{BreaksC25, BreaksC26, BreaksC27, DeclaredAt, GoesAlong, HasSilentMethod, OffersOf, folder_methods, methods_before}
+use Rattle.jk_model_classes.specs.SharedRules.{BreaksC25, BreaksC26, BreaksC27, DeclaredAt, GoesAlong, folder_methods, methods_before}
 use Rattle.jk_model_classes.specs.Worlds.{IsOfferedAs, IsOfferedTo, NamedClass, WorldRecord, class_named}
 use Rattle.jk_model_typing.specs.Typing.{BreaksC23, BreaksC24}
 use Rattle.jk_model_folders.specs.FolderRules.{BreaksPlaced, IsClassOfFile, IsPlaced, PlacedFolder, link_scope}
@@ -49,8 +49,8 @@ behind {X} (x ∷ xs) ys n =
     let one : length (x ∷ xs) + n ≡ suc (length xs + n) = omega arith in
     ap (λ (k : ℕ). slice_get (x ∷ xs ++ ys) k) one ∙ behind xs ys n
 
-module _ (w : WorldRecord) (lines : List ResolverLine) (cs : List ClassFile) (names others : List NamedClass) (same_names : class_named names ≡ class_named others)
-    (judged : (i : ℕ) (c : ClassFile) → slice_get cs i ≡ Some c → IsJudged c) (p q : PlacedFolder) (h : IsPlaced w lines cs names p)
+module _ (w : WorldRecord) (lines : List ResolverLine) (cs : List ClassFile) (names others : List NamedClass)
+    (same_names : class_named names ≡ class_named others) (judged : (i : ℕ) (c : ClassFile) → slice_get cs i ≡ Some c → IsJudged c) (p q : PlacedFolder) (h : IsPlaced w lines cs names p)
     (k : IsPlaced w lines cs others q) where
   abbrev first : ClassId
   first = record { 0 = length w.classes }
@@ -86,11 +86,10 @@ module _ (w : WorldRecord) (lines : List ResolverLine) (cs : List ClassFile) (na
   c26_there self n fault =
       let (own, zero, (o, there, is, (r, found, (j, d, at, stays)))) =
       subst (λ (rs : List ClassRecord). BreaksC26 (record w { classes = rs }) q.home first p.offers self n) classes
-      (subst (λ (x : DomainId). BreaksC26 (record w { classes = p.classes }) x first p.offers self n) home fault) in (
-        own,
-        zero,
-        (o, offers_there o there, is, (r, found, (j, d, at, λ goes. stays (goes_along q.offers p.offers offers_here (record w { classes = q.classes }) q.home o.to d goes)))),
-      )
+      (subst (λ (x : DomainId). BreaksC26 (record w { classes = p.classes }) x first p.offers self n) home fault) in
+      let still : GoesAlong (record w { classes = q.classes }) q.home q.offers o.to d → ⊥ =
+      λ goes. stays (goes_along q.offers p.offers offers_here (record w { classes = q.classes }) q.home o.to d goes) in
+      (own, zero, (o, offers_there o there, is, (r, found, (j, d, at, still))))
 
   -- ---- What methods announce.
 
