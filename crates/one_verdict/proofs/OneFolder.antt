@@ -47,94 +47,123 @@ maps_are f (x ∷ xs) (y ∷ ys) long same =
 
 -- ---- The folder.
 
-module _ (w : WorldRecord) (lines : List ResolverLine) (cs : List ClassFile) (names others : List NamedClass)
-    (same_names : class_named names ≡ class_named others) (judged : (i : ℕ) (c : ClassFile) → slice_get cs i ≡ Some c → IsJudged c) (p q : PlacedFolder) (h : IsPlaced w lines cs names p)
-    (k : IsPlaced w lines cs others q) where
-  pub one_home : p.home ≡ q.home
+-- The classes of a folder, put behind the others in two ways, by names that mean the same.
+pub record TwoWays : Type 0 where
+  pub world : WorldRecord
+  pub lines : List ResolverLine
+  pub files : List ClassFile
+  pub names : List NamedClass
+  pub others : List NamedClass
+  pub same_names : class_named names ≡ class_named others
+  pub judged : (i : ℕ) (c : ClassFile) → slice_get files i ≡ Some c → IsJudged c
+  pub one : PlacedFolder
+  pub other : PlacedFolder
+  pub is_one : IsPlaced world lines files names one
+  pub is_other : IsPlaced world lines files others other
+
+abbrev pub swapped : TwoWays → TwoWays
+swapped t = record {
+  world = t.world;
+  lines = t.lines;
+  files = t.files;
+  names = t.others;
+  others = t.names;
+  same_names = sym t.same_names;
+  judged = t.judged;
+  one = t.other;
+  other = t.one;
+  is_one = t.is_other;
+  is_other = t.is_one;
+}
+
+module _ (t : TwoWays) where
+  pub one_home : t.one.home ≡ t.other.home
   one_home =
-      let number : p.home.0 ≡ q.home.0 = h.home ∙ sym k.home in
+      let number : t.one.home.0 ≡ t.other.home.0 = t.is_one.home ∙ sym t.is_other.home in
       λ d. record { 0 = number d }
 
-  pub one_order_of : p.order ≡ q.order
-  one_order_of = one_order cs p.order q.order h.order k.order
+  pub one_order_of : t.one.order ≡ t.other.order
+  one_order_of = one_order t.files t.one.order t.other.order t.is_one.order t.is_other.order
 
   -- what names mean in the domain
-  means_there : (name : List ℕ) (c : ClassId) → class_named p.table name ≡ Some c → class_named q.table name ≡ Some c
-  means_there name c e = elim ((h.table name c).0 e) [
-    | inl outer ↦ (k.table name c).1 (inl ((λ d. sym same_names d name) ∙ outer))
+  means_there : (name : List ℕ) (c : ClassId) → class_named t.one.table name ≡ Some c → class_named t.other.table name ≡ Some c
+  means_there name c e = elim ((t.is_one.table name c).0 e) [
+    | inl outer ↦ (t.is_other.table name c).1 (inl ((λ d. sym t.same_names d name) ∙ outer))
     | inr (i, f, at, called, (n, place, is)) ↦
-        (k.table name c).1 (inr (i, f, at, called, (n, subst (λ (o : List ℕ). slice_get o n ≡ Some i) one_order_of place, is)))
+        (t.is_other.table name c).1 (inr (i, f, at, called, (n, subst (λ (o : List ℕ). slice_get o n ≡ Some i) one_order_of place, is)))
   ]
 
-  means_here : (name : List ℕ) (c : ClassId) → class_named q.table name ≡ Some c → class_named p.table name ≡ Some c
-  means_here name c e = elim ((k.table name c).0 e) [
-    | inl outer ↦ (h.table name c).1 (inl ((λ d. same_names d name) ∙ outer))
+  means_here : (name : List ℕ) (c : ClassId) → class_named t.other.table name ≡ Some c → class_named t.one.table name ≡ Some c
+  means_here name c e = elim ((t.is_other.table name c).0 e) [
+    | inl outer ↦ (t.is_one.table name c).1 (inl ((λ d. t.same_names d name) ∙ outer))
     | inr (i, f, at, called, (n, place, is)) ↦
-        (h.table name c).1 (inr (i, f, at, called, (n, subst (λ (o : List ℕ). slice_get o n ≡ Some i) (sym one_order_of) place, is)))
+        (t.is_one.table name c).1 (inr (i, f, at, called, (n, subst (λ (o : List ℕ). slice_get o n ≡ Some i) (sym one_order_of) place, is)))
   ]
 
-  meaning_at : (name : List ℕ) → class_named p.table name ≡ class_named q.table name
-  meaning_at name = option_is (class_named p.table name) (class_named q.table name) (means_there name) (means_here name)
+  meaning_at : (name : List ℕ) → class_named t.one.table name ≡ class_named t.other.table name
+  meaning_at name = option_is (class_named t.one.table name) (class_named t.other.table name) (means_there name) (means_here name)
 
-  pub one_table : class_named p.table ≡ class_named q.table
+  pub one_table : class_named t.one.table ≡ class_named t.other.table
   one_table = λ d name. meaning_at name d
 
   -- ---- The records, without their links.
 
   abbrev number : ℕ → ClassId
-  number n = record { 0 = length w.classes + n }
+  number n = record { 0 = length t.world.classes + n }
 
-  file_at : (n : ℕ) (a : ClassRecord) → slice_get h.added n ≡ Some a
-      → (i : ℕ) × (c : ClassFile) × (slice_get p.order n ≡ Some i) × (slice_get cs i ≡ Some c)
+  file_at : (n : ℕ) (a : ClassRecord) → slice_get t.is_one.added n ≡ Some a
+      → (i : ℕ) × (c : ClassFile) × (slice_get t.one.order n ≡ Some i) × (slice_get t.files i ≡ Some c)
   file_at n a at =
-      let within = slice_get_within h.added n a at in
-      let place = item_at p.order n (omega (arith, within, h.as_many, h.order.as_many)) in
-      let file = item_at cs place.0 (h.order.places n place.0 place.1) in
+      let within = slice_get_within t.is_one.added n a at in
+      let place = item_at t.one.order n (omega (arith, within, t.is_one.as_many, t.is_one.order.as_many)) in
+      let file = item_at t.files place.0 (t.is_one.order.places n place.0 place.1) in
       (place.0, file.0, place.1, file.1)
 
-  also_there : (n i : ℕ) → slice_get p.order n ≡ Some i → slice_get q.order n ≡ Some i
+  also_there : (n i : ℕ) → slice_get t.one.order n ≡ Some i → slice_get t.other.order n ≡ Some i
   also_there n i place = subst (λ (o : List ℕ). slice_get o n ≡ Some i) one_order_of place
 
-  bare : (n : ℕ) (a b : ClassRecord) → slice_get h.added n ≡ Some a → slice_get k.added n ≡ Some b → without_links a ≡ without_links b
+  bare : (n : ℕ) (a b : ClassRecord) → slice_get t.is_one.added n ≡ Some a → slice_get t.is_other.added n ≡ Some b → without_links a ≡ without_links b
   bare n a b at there =
       let (i, c, place, file) = file_at n a at in
-      let left : IsRecordFor (link_scope p (number n)) p.home c a = (h.records n i c a place file at).0 in
-      let right : IsRecordFor (link_scope q (number n)) q.home c b = (k.records n i c b (also_there n i place) file there).0 in
-      one_record (link_scope p (number n)) (link_scope q (number n)) one_table c (judged i c file) q.home a b
-      (subst (λ (home : DomainId). IsRecordFor (link_scope p (number n)) home c a) one_home left) right
+      let left : IsRecordFor (link_scope t.one (number n)) t.one.home c a = (t.is_one.records n i c a place file at).0 in
+      let right : IsRecordFor (link_scope t.other (number n)) t.other.home c b = (t.is_other.records n i c b (also_there n i place) file there).0 in
+      one_record (link_scope t.one (number n)) (link_scope t.other (number n)) one_table c (t.judged i c file) t.other.home a b
+      (subst (λ (home : DomainId). IsRecordFor (link_scope t.one (number n)) home c a) one_home left) right
 
-  as_many_added : length h.added ≡ length k.added
-  as_many_added = h.as_many ∙ sym k.as_many
+  as_many_added : length t.is_one.added ≡ length t.is_other.added
+  as_many_added = t.is_one.as_many ∙ sym t.is_other.as_many
 
-  pub one_unlinked : p.unlinked ≡ q.unlinked
+  pub one_unlinked : t.one.unlinked ≡ t.other.unlinked
   one_unlinked =
-      h.unlinked ∙ ap (λ (rs : List ClassRecord). w.classes ++ rs) (maps_are without_links h.added k.added as_many_added bare) ∙ sym k.unlinked
+      t.is_one.unlinked
+      ∙ ap (λ (rs : List ClassRecord). t.world.classes ++ rs) (maps_are without_links t.is_one.added t.is_other.added as_many_added bare)
+      ∙ sym t.is_other.unlinked
 
-  pub one_scope : (self : ClassId) → link_scope p self ≡ link_scope q self
+  pub one_scope : (self : ClassId) → link_scope t.one self ≡ link_scope t.other self
   one_scope self = λ d. record { meaning = one_table d; classes = one_unlinked d; self = self }
 
   -- ---- The records.
 
-  whole : (n : ℕ) (a b : ClassRecord) → slice_get h.added n ≡ Some a → slice_get k.added n ≡ Some b → a ≡ b
+  whole : (n : ℕ) (a b : ClassRecord) → slice_get t.is_one.added n ≡ Some a → slice_get t.is_other.added n ≡ Some b → a ≡ b
   whole n a b at there =
       let (i, c, place, file) = file_at n a at in
-      let left : AreLinksFor (link_scope p (number n)) c a.links = (h.records n i c a place file at).1 in
-      let right : AreLinksFor (link_scope q (number n)) c b.links = (k.records n i c b (also_there n i place) file there).1 in
+      let left : AreLinksFor (link_scope t.one (number n)) c a.links = (t.is_one.records n i c a place file at).1 in
+      let right : AreLinksFor (link_scope t.other (number n)) c b.links = (t.is_other.records n i c b (also_there n i place) file there).1 in
       let links : a.links ≡ b.links =
-      one_list_of_links (link_scope q (number n)) c a.links b.links
+      one_list_of_links (link_scope t.other (number n)) c a.links b.links
       (subst (λ (s : LinkScope). AreLinksFor s c a.links) (one_scope (number n)) left) right in
       let rest : without_links a ≡ without_links b = bare n a b at there in
       λ d. record (rest d) { links = links d }
 
-  pub one_added : h.added ≡ k.added
-  one_added = list_is h.added k.added as_many_added whole
+  pub one_added : t.is_one.added ≡ t.is_other.added
+  one_added = list_is t.is_one.added t.is_other.added as_many_added whole
 
-  pub one_list_of_classes : p.classes ≡ q.classes
-  one_list_of_classes = h.classes ∙ ap (λ (rs : List ClassRecord). w.classes ++ rs) one_added ∙ sym k.classes
+  pub one_list_of_classes : t.one.classes ≡ t.other.classes
+  one_list_of_classes = t.is_one.classes ∙ ap (λ (rs : List ClassRecord). t.world.classes ++ rs) one_added ∙ sym t.is_other.classes
 
   -- ---- Offers.
 
-  pub same_offers : (o : Offer) → Contains p.offers o → Contains q.offers o
+  pub same_offers : (o : Offer) → Contains t.one.offers o → Contains t.other.offers o
   same_offers o there =
-      let (line, of_lines, (name, to, says, means, is)) = (h.offers o).0 there in
-      (k.offers o).1 (line, of_lines, (name, to, says, (λ d. sym one_table d name) ∙ means, is))
+      let (line, of_lines, (name, to, says, means, is)) = (t.is_one.offers o).0 there in
+      (t.is_other.offers o).1 (line, of_lines, (name, to, says, (λ d. sym one_table d name) ∙ means, is))

@@ -9,8 +9,8 @@ use Rattle.jk_model_classes.specs.Worlds.{WorldRecord, class_named}
 use Rattle.jk_model_folders.specs.declared.files.FolderFiles.{FolderFiles}
 use Rattle.jk_model_folders.specs.Loads.{AreStubs}
 use Rattle.one_verdict.specs.Verdicts.{Brings, Brought, IsSameBrought}
-use Rattle.one_verdict.proofs.OneFolder.{one_list_of_classes, one_table, same_offers}
-use Rattle.one_verdict.proofs.OneVerdict.{ChosenPlaces, all_judged, placed_by, places_of, same_meaning}
+use Rattle.one_verdict.proofs.OneFolder.{TwoWays, one_list_of_classes, one_table, same_offers, swapped}
+use Rattle.one_verdict.proofs.OneVerdict.{both_ways, places_of}
 use Rattle.one_verdict.proofs.RisingLists.{IsIn, contained, in_list, rising_same}
 
 -- ---- Stubs.
@@ -40,40 +40,34 @@ one_list_of_stubs classes first xs ys h k =
 -- ---- All that is brought.
 
 module _ (f : FolderFiles) (w : WorldRecord) (name : List ℕ) (a b : Brought) (h : Brings f w name a) (k : Brings f w name b) where
-  abbrev of_a : ChosenPlaces f w name
-  of_a = places_of f w name a h
-
-  abbrev of_b : ChosenPlaces f w name
-  of_b = places_of f w name b k
+  abbrev ways : TwoWays
+  ways = both_ways f w name (places_of f w name a h) (places_of f w name b k)
 
   classes : h.placed.classes ≡ k.placed.classes
-  classes =
-      one_list_of_classes w k.lines k.files h.names k.names (same_meaning f w name of_a.chosen of_b.chosen) (all_judged f w name of_b.chosen.chosen) h.placed
-      k.placed (placed_by f w name of_a of_b) k.is_placed
+  classes = one_list_of_classes ways
+
+  first_is : a.first ≡ b.first
+  first_is =
+      let number : a.first.0 ≡ b.first.0 = h.first_is ∙ sym k.first_is in
+      λ d. record { 0 = number d }
+
+  offers_there : (t : TwoWays) (xs ys : List Offer) → xs ≡ t.one.offers → ys ≡ t.other.offers → (o : Offer) → Contains xs o → Contains ys o
+  offers_there t xs ys e g o there =
+      subst (λ (os : List Offer). Contains os o) (sym g) (same_offers t o (subst (λ (os : List Offer). Contains os o) e there))
+
+  stubs_here : AreStubs k.placed.classes b.first a.stubs
+  stubs_here =
+      subst (λ (c : ClassId). AreStubs k.placed.classes c a.stubs) first_is
+      (subst (λ (rs : List ClassRecord). AreStubs rs a.first a.stubs) classes h.stubs_are)
 
   pub one_loading : IsSameBrought a b
-  one_loading =
-      let meaning = same_meaning f w name of_a.chosen of_b.chosen in
-      let judged = all_judged f w name of_b.chosen.chosen in
-      let own = placed_by f w name of_a of_b in
-      let number : a.first.0 ≡ b.first.0 = h.first_is ∙ sym k.first_is in
-      let first : a.first ≡ b.first = λ d. record { 0 = number d } in
-      let table : class_named h.placed.table ≡ class_named k.placed.table =
-      one_table w k.lines k.files h.names k.names meaning judged h.placed k.placed own k.is_placed in
-      let stubs : AreStubs k.placed.classes b.first a.stubs =
-      subst (λ (c : ClassId). AreStubs k.placed.classes c a.stubs) first
-      (subst (λ (rs : List ClassRecord). AreStubs rs a.first a.stubs) classes h.stubs_are) in
-      record {
-        first = first;
-        names = ap class_named h.table_is ∙ table ∙ sym (ap class_named k.table_is);
-        offers = λ o. (
-          λ there. subst (λ (os : List Offer). Contains os o) (sym k.offers_are)
-              (same_offers w k.lines k.files h.names k.names meaning judged h.placed k.placed own k.is_placed o
-              (subst (λ (os : List Offer). Contains os o) h.offers_are there)),
-          λ there. subst (λ (os : List Offer). Contains os o) (sym h.offers_are)
-              (same_offers w k.lines k.files k.names h.names (sym meaning) judged k.placed h.placed k.is_placed own o
-              (subst (λ (os : List Offer). Contains os o) k.offers_are there)),
-        );
-        stubs = one_list_of_stubs k.placed.classes b.first a.stubs b.stubs stubs k.stubs_are;
-        world = h.world ∙ ap (λ (rs : List ClassRecord). let x : WorldRecord = record w { classes = rs } in x) classes ∙ sym k.world;
-      }
+  one_loading = record {
+    first = first_is;
+    names = ap class_named h.table_is ∙ one_table ways ∙ sym (ap class_named k.table_is);
+    offers = λ o. (
+      offers_there ways a.offers b.offers h.offers_are k.offers_are o,
+      offers_there (swapped ways) b.offers a.offers k.offers_are h.offers_are o,
+    );
+    stubs = one_list_of_stubs k.placed.classes b.first a.stubs b.stubs stubs_here k.stubs_are;
+    world = h.world ∙ ap (λ (rs : List ClassRecord). let x : WorldRecord = record w { classes = rs } in x) classes ∙ sym k.world;
+  }

@@ -24,7 +24,7 @@ use Rattle.class_reader.proofs.OneFault.{bad_magic, bad_version, only as only_cl
 use Rattle.one_verdict.specs.Verdicts.{Brings, Brought}
 use Rattle.one_verdict.proofs.OneAttribute.{IsJudged}
 use Rattle.one_verdict.proofs.OneFirstBroken.{SameFault, none_is_first, one_broken}
-use Rattle.one_verdict.proofs.OneFolder.{one_meaning}
+use Rattle.one_verdict.proofs.OneFolder.{TwoWays, one_meaning}
 use Rattle.one_verdict.proofs.OneRecord.{along_is}
 use Rattle.one_verdict.proofs.RisingLists.{contained, item_at}
 use Rattle.one_verdict.proofs.SamePlacedFaults.{faults_there}
@@ -172,12 +172,27 @@ module _ (f : FolderFiles) (w : WorldRecord) (into : List ℕ) where
   pub all_judged : (a : Chosen f w into) (i : ℕ) (c : ClassFile) → slice_get a.files i ≡ Some c → IsJudged c
   all_judged a i c at = judged f a.files a.are_classes a.none_alone i c at
 
+  -- the classes of both choices, by the lines and the files of the other
+  abbrev pub both_ways : ChosenPlaces f w into → ChosenPlaces f w into → TwoWays
+  both_ways a b = record {
+    world = w;
+    lines = b.chosen.chosen.lines;
+    files = b.chosen.chosen.files;
+    names = a.chosen.names;
+    others = b.chosen.names;
+    same_names = same_meaning a.chosen b.chosen;
+    judged = all_judged b.chosen.chosen;
+    one = a.placed;
+    other = b.placed;
+    is_one = placed_by a b;
+    is_other = b.is_placed;
+  }
+
   placed_there : (a b : ChosenPlaces f w into) (rule : Rule) (i : ℕ) (spot : Spot) → BreaksPlaced w a.chosen.chosen.files a.placed rule i spot
       → BreaksPlaced w b.chosen.chosen.files b.placed rule i spot
   placed_there a b rule i spot bad =
-      let c = b.chosen.chosen in
-      faults_there w c.lines c.files a.chosen.names b.chosen.names (same_meaning a.chosen b.chosen) (all_judged c) a.placed b.placed (placed_by a b) b.is_placed
-      rule i spot (subst (λ (cs : List ClassFile). BreaksPlaced w cs a.placed rule i spot) (same_files a.chosen.chosen c) bad)
+      faults_there (both_ways a b) rule i spot
+      (subst (λ (cs : List ClassFile). BreaksPlaced w cs a.placed rule i spot) (same_files a.chosen.chosen b.chosen.chosen) bad)
 
   -- ---- What holds of one choice is broken by no other.
 

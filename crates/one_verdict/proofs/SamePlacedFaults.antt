@@ -10,17 +10,15 @@ use Rattle.jk_model.specs.declared.output.Rule.TheVariants.{C20, C21, C22, C23, 
 use Rattle.jk_model_classes.specs.declared.records.ClassRecord.{ClassRecord}
 use Rattle.jk_model_classes.specs.declared.records.MethodRecord.{MethodRecord}
 use Rattle.jk_model_classes.specs.declared.sharing.Offer.{Offer}
-use Rattle.jk_model_classes.specs.declared.sharing.ResolverLine.{ResolverLine}
 use Rattle.jk_model_classes.specs.Classes.{record_of}
 use Rattle.jk_model_classes.specs.Items.{Spot, Member}
 use Rattle.jk_model_classes.specs.LinkRules.{HasFinalOverridden, IsAccessRefused, LinkScope, MissesMember}
 use Rattle.jk_model_classes.specs.SharedRules.{BreaksC25, BreaksC26, BreaksC27, DeclaredAt, GoesAlong, folder_methods, methods_before}
-use Rattle.jk_model_classes.specs.Worlds.{IsOfferedAs, IsOfferedTo, NamedClass, WorldRecord, class_named}
+use Rattle.jk_model_classes.specs.Worlds.{IsOfferedAs, IsOfferedTo, WorldRecord}
 use Rattle.jk_model_typing.specs.Typing.{BreaksC23, BreaksC24}
-use Rattle.jk_model_folders.specs.FolderRules.{BreaksPlaced, IsClassOfFile, IsPlaced, PlacedFolder, link_scope}
+use Rattle.jk_model_folders.specs.FolderRules.{BreaksPlaced, IsClassOfFile, link_scope}
 use Rattle.jk_model_folders.specs.LinkedClasses.{AreThrownBy}
-use Rattle.one_verdict.proofs.OneAttribute.{IsJudged}
-use Rattle.one_verdict.proofs.OneFolder.{one_home, one_list_of_classes, one_order_of, one_scope, one_table, same_offers}
+use Rattle.one_verdict.proofs.OneFolder.{TwoWays, one_home, one_list_of_classes, one_order_of, one_scope, one_table, same_offers, swapped}
 use Rattle.one_verdict.proofs.OneLinks.{one_list_of_thrown}
 use Rattle.one_verdict.proofs.RisingLists.{item_at}
 
@@ -49,87 +47,85 @@ behind {X} (x ∷ xs) ys n =
     let one : length (x ∷ xs) + n ≡ suc (length xs + n) = omega arith in
     ap (λ (k : ℕ). slice_get (x ∷ xs ++ ys) k) one ∙ behind xs ys n
 
-module _ (w : WorldRecord) (lines : List ResolverLine) (cs : List ClassFile) (names others : List NamedClass)
-    (same_names : class_named names ≡ class_named others) (judged : (i : ℕ) (c : ClassFile) → slice_get cs i ≡ Some c → IsJudged c) (p q : PlacedFolder) (h : IsPlaced w lines cs names p)
-    (k : IsPlaced w lines cs others q) where
+module _ (t : TwoWays) where
   abbrev first : ClassId
-  first = record { 0 = length w.classes }
+  first = record { 0 = length t.world.classes }
 
-  classes : p.classes ≡ q.classes
-  classes = one_list_of_classes w lines cs names others same_names judged p q h k
+  classes : t.one.classes ≡ t.other.classes
+  classes = one_list_of_classes t
 
-  home : p.home ≡ q.home
-  home = one_home w lines cs names others same_names judged p q h k
+  home : t.one.home ≡ t.other.home
+  home = one_home t
 
-  scope : (self : ClassId) → link_scope p self ≡ link_scope q self
-  scope self = one_scope w lines cs names others same_names judged p q h k self
+  scope : (self : ClassId) → link_scope t.one self ≡ link_scope t.other self
+  scope self = one_scope t self
 
-  offers_there : (o : Offer) → Contains p.offers o → Contains q.offers o
-  offers_there o there = same_offers w lines cs names others same_names judged p q h k o there
+  offers_there : (o : Offer) → Contains t.one.offers o → Contains t.other.offers o
+  offers_there o there = same_offers t o there
 
-  offers_here : (o : Offer) → Contains q.offers o → Contains p.offers o
-  offers_here o there = same_offers w lines cs others names (sym same_names) judged q p k h o there
+  offers_here : (o : Offer) → Contains t.other.offers o → Contains t.one.offers o
+  offers_here o there = same_offers (swapped t) o there
 
-  of_there : (i : ℕ) (self : ClassId) → IsClassOfFile (length w.classes) p i self → IsClassOfFile (length w.classes) q i self
+  of_there : (i : ℕ) (self : ClassId) → IsClassOfFile (length t.world.classes) t.one i self → IsClassOfFile (length t.world.classes) t.other i self
   of_there i self (n, place, is) =
-      (n, subst (λ (o : List ℕ). slice_get o n ≡ Some i) (one_order_of w lines cs names others same_names judged p q h k) place, is)
+      (n, subst (λ (o : List ℕ). slice_get o n ≡ Some i) (one_order_of t) place, is)
 
   -- ---- What is shared.
 
-  c25_there : (self : ClassId) (n : ℕ) → BreaksC25 p.classes first p.offers self n → BreaksC25 q.classes first q.offers self n
+  c25_there : (self : ClassId) (n : ℕ) → BreaksC25 t.one.classes first t.one.offers self n → BreaksC25 t.other.classes first t.other.offers self n
   c25_there self n fault =
-      let (own, (o, there, is), static) = subst (λ (rs : List ClassRecord). BreaksC25 rs first p.offers self n) classes fault in
+      let (own, (o, there, is), static) = subst (λ (rs : List ClassRecord). BreaksC25 rs first t.one.offers self n) classes fault in
       (own, (o, offers_there o there, is), static)
 
-  c26_there : (self : ClassId) (n : ℕ) → BreaksC26 (record w { classes = p.classes }) p.home first p.offers self n
-      → BreaksC26 (record w { classes = q.classes }) q.home first q.offers self n
+  c26_there : (self : ClassId) (n : ℕ) → BreaksC26 (record t.world { classes = t.one.classes }) t.one.home first t.one.offers self n
+      → BreaksC26 (record t.world { classes = t.other.classes }) t.other.home first t.other.offers self n
   c26_there self n fault =
       let (own, zero, (o, there, is, (r, found, (j, d, at, stays)))) =
-      subst (λ (rs : List ClassRecord). BreaksC26 (record w { classes = rs }) q.home first p.offers self n) classes
-      (subst (λ (x : DomainId). BreaksC26 (record w { classes = p.classes }) x first p.offers self n) home fault) in
-      let still : GoesAlong (record w { classes = q.classes }) q.home q.offers o.to d → ⊥ =
-      λ goes. stays (goes_along q.offers p.offers offers_here (record w { classes = q.classes }) q.home o.to d goes) in
+      subst (λ (rs : List ClassRecord). BreaksC26 (record t.world { classes = rs }) t.other.home first t.one.offers self n) classes
+      (subst (λ (x : DomainId). BreaksC26 (record t.world { classes = t.one.classes }) x first t.one.offers self n) home fault) in
+      let still : GoesAlong (record t.world { classes = t.other.classes }) t.other.home t.other.offers o.to d → ⊥ =
+      λ goes. stays (goes_along t.other.offers t.one.offers offers_here (record t.world { classes = t.other.classes }) t.other.home o.to d goes) in
       (own, zero, (o, offers_there o there, is, (r, found, (j, d, at, still))))
 
   -- ---- What methods announce.
 
-  as_many_declared : length p.declared ≡ length q.declared
-  as_many_declared = h.declared_count ∙ ap (λ (rs : List ClassRecord). folder_methods rs first) classes ∙ sym k.declared_count
+  as_many_declared : length t.one.declared ≡ length t.other.declared
+  as_many_declared = t.is_one.declared_count ∙ ap (λ (rs : List ClassRecord). folder_methods rs first) classes ∙ sym t.is_other.declared_count
 
   -- the method of the file that gave a method of the class
-  info_at : (i : ℕ) (c : ClassFile) (self : ClassId) (r : ClassRecord) (j : ℕ) (method : MethodRecord) → slice_get cs i ≡ Some c
-      → IsClassOfFile (length w.classes) q i self → record_of q.classes self ≡ Some r → slice_get r.methods j ≡ Some method
+  info_at : (i : ℕ) (c : ClassFile) (self : ClassId) (r : ClassRecord) (j : ℕ) (method : MethodRecord) → slice_get t.files i ≡ Some c
+      → IsClassOfFile (length t.world.classes) t.other i self → record_of t.other.classes self ≡ Some r → slice_get r.methods j ≡ Some method
       → (info : MemberInfo) × (slice_get c.methods j ≡ Some info)
   info_at i c self r j method file (n, place, is) found at =
-      let added : slice_get k.added n ≡ Some r =
-      sym (behind w.classes k.added n) ∙ ap (λ (rs : List ClassRecord). slice_get rs (length w.classes + n)) (sym k.classes)
-      ∙ ap (λ (m : ℕ). slice_get q.classes m) (sym is) ∙ found in
-      let methods = (k.records n i c r place file added).0.methods in
+      let added : slice_get t.is_other.added n ≡ Some r =
+      sym (behind t.world.classes t.is_other.added n) ∙ ap (λ (rs : List ClassRecord). slice_get rs (length t.world.classes + n)) (sym t.is_other.classes)
+      ∙ ap (λ (m : ℕ). slice_get t.other.classes m) (sym is) ∙ found in
+      let methods = (t.is_other.records n i c r place file added).0.methods in
       let within = slice_get_within r.methods j method at in
       item_at c.methods j (omega (arith, within, methods.as_many))
 
   declared_there : (i : ℕ) (c : ClassFile) (self : ClassId) (r : ClassRecord) (j : ℕ) (method : MethodRecord) (thrown : List ClassId)
-      → slice_get cs i ≡ Some c → IsClassOfFile (length w.classes) p i self → record_of q.classes self ≡ Some r → slice_get r.methods j ≡ Some method
-      → DeclaredAt q.classes first p.declared self j thrown → DeclaredAt q.classes first q.declared self j thrown
+      → slice_get t.files i ≡ Some c → IsClassOfFile (length t.world.classes) t.one i self → record_of t.other.classes self ≡ Some r → slice_get r.methods j ≡ Some method
+      → DeclaredAt t.other.classes first t.one.declared self j thrown → DeclaredAt t.other.classes first t.other.declared self j thrown
   declared_there i c self r j method thrown file of found at said =
       let there = of_there i self of in
       let (info, info_is) = info_at i c self r j method file there found at in
-      let place = methods_before q.classes first self.0 + j in
-      let within = slice_get_within p.declared place thrown said in
-      let (other, told) = item_at q.declared place (omega (arith, within, as_many_declared)) in
-      let before : DeclaredAt p.classes first p.declared self j thrown =
-      subst (λ (rs : List ClassRecord). DeclaredAt rs first p.declared self j thrown) (sym classes) said in
-      let left : AreThrownBy (link_scope p self) c info thrown = h.declared i j c self info thrown file of info_is before in
-      let right : AreThrownBy (link_scope q self) c info other = k.declared i j c self info other file there info_is told in
+      let place = methods_before t.other.classes first self.0 + j in
+      let within = slice_get_within t.one.declared place thrown said in
+      let (other, told) = item_at t.other.declared place (omega (arith, within, as_many_declared)) in
+      let before : DeclaredAt t.one.classes first t.one.declared self j thrown =
+      subst (λ (rs : List ClassRecord). DeclaredAt rs first t.one.declared self j thrown) (sym classes) said in
+      let left : AreThrownBy (link_scope t.one self) c info thrown = t.is_one.declared i j c self info thrown file of info_is before in
+      let right : AreThrownBy (link_scope t.other self) c info other = t.is_other.declared i j c self info other file there info_is told in
       let same : thrown ≡ other =
-      one_list_of_thrown (link_scope p self) (link_scope q self) (one_table w lines cs names others same_names judged p q h k) c (judged i c file) j info
+      one_list_of_thrown (link_scope t.one self) (link_scope t.other self) (one_table t) c (t.judged i c file) j info
       thrown other info_is left right in
       told ∙ ap (λ (x : List ClassId). Some x) (sym same)
 
-  c27_there : (i : ℕ) (c : ClassFile) (self : ClassId) (n : ℕ) → slice_get cs i ≡ Some c → IsClassOfFile (length w.classes) p i self
-      → BreaksC27 p.classes first p.declared self n → BreaksC27 q.classes first q.declared self n
+  c27_there : (i : ℕ) (c : ClassFile) (self : ClassId) (n : ℕ) → slice_get t.files i ≡ Some c → IsClassOfFile (length t.world.classes) t.one i self
+      → BreaksC27 t.one.classes first t.one.declared self n → BreaksC27 t.other.classes first t.other.declared self n
   c27_there i c self n file of fault =
-      let (own, interface, remote, how) = subst (λ (rs : List ClassRecord). BreaksC27 rs first p.declared self n) classes fault in (
+      let (own, interface, remote, how) = subst (λ (rs : List ClassRecord). BreaksC27 rs first t.one.declared self n) classes fault in (
         own,
         interface,
         remote,
@@ -142,7 +138,7 @@ module _ (w : WorldRecord) (lines : List ResolverLine) (cs : List ClassFile) (na
 
   -- ---- Each rule.
 
-  pub faults_there : (rule : Rule) (i : ℕ) (spot : Spot) → BreaksPlaced w cs p rule i spot → BreaksPlaced w cs q rule i spot
+  pub faults_there : (rule : Rule) (i : ℕ) (spot : Spot) → BreaksPlaced t.world t.files t.one rule i spot → BreaksPlaced t.world t.files t.other rule i spot
   faults_there C20 i spot (c, self, file, of, fault) =
       (c, self, file, of_there i self of, subst (λ (s : LinkScope). MissesMember s c spot) (scope self) fault)
   faults_there C21 i spot (c, self, file, of, fault) =
