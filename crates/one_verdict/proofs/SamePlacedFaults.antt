@@ -16,7 +16,7 @@ use Rattle.jk_model_classes.specs.LinkRules.{HasFinalOverridden, IsAccessRefused
 use Rattle.jk_model_classes.specs.SharedRules.{BreaksC25, BreaksC26, BreaksC27, DeclaredAt, GoesAlong, folder_methods, methods_before}
 use Rattle.jk_model_classes.specs.Worlds.{IsOfferedAs, IsOfferedTo, WorldRecord}
 use Rattle.jk_model_typing.specs.Typing.{BreaksC23, BreaksC24}
-use Rattle.jk_model_folders.specs.FolderRules.{BreaksPlaced, IsClassOfFile, link_scope}
+use Rattle.jk_model_folders.specs.FolderRules.{BreaksPlaced, IsClassOfFile, PlacedFolder, link_scope}
 use Rattle.jk_model_folders.specs.LinkedClasses.{AreThrownBy}
 use Rattle.one_verdict.proofs.OneFolder.{TwoWays, one_home, one_list_of_classes, one_order_of, one_scope, one_table, same_offers, swapped}
 use Rattle.one_verdict.proofs.OneLinks.{one_list_of_thrown}
@@ -51,6 +51,9 @@ module _ (t : TwoWays) where
   abbrev first : ClassId
   first = record { 0 = length t.world.classes }
 
+  abbrev IsOfFile : PlacedFolder → ℕ → ClassId → Type 0
+  IsOfFile p i self = IsClassOfFile (length t.world.classes) p i self
+
   classes : t.one.classes ≡ t.other.classes
   classes = one_list_of_classes t
 
@@ -66,7 +69,7 @@ module _ (t : TwoWays) where
   offers_here : (o : Offer) → Contains t.other.offers o → Contains t.one.offers o
   offers_here o there = same_offers (swapped t) o there
 
-  of_there : (i : ℕ) (self : ClassId) → IsClassOfFile (length t.world.classes) t.one i self → IsClassOfFile (length t.world.classes) t.other i self
+  of_there : (i : ℕ) (self : ClassId) → IsOfFile t.one i self → IsOfFile t.other i self
   of_there i self (n, place, is) =
       (n, subst (λ (o : List ℕ). slice_get o n ≡ Some i) (one_order_of t) place, is)
 
@@ -94,7 +97,7 @@ module _ (t : TwoWays) where
 
   -- the method of the file that gave a method of the class
   info_at : (i : ℕ) (c : ClassFile) (self : ClassId) (r : ClassRecord) (j : ℕ) (method : MethodRecord) → slice_get t.files i ≡ Some c
-      → IsClassOfFile (length t.world.classes) t.other i self → record_of t.other.classes self ≡ Some r → slice_get r.methods j ≡ Some method
+      → IsOfFile t.other i self → record_of t.other.classes self ≡ Some r → slice_get r.methods j ≡ Some method
       → (info : MemberInfo) × (slice_get c.methods j ≡ Some info)
   info_at i c self r j method file (n, place, is) found at =
       let added : slice_get t.is_other.added n ≡ Some r =
@@ -105,7 +108,7 @@ module _ (t : TwoWays) where
       item_at c.methods j (omega (arith, within, methods.as_many))
 
   declared_there : (i : ℕ) (c : ClassFile) (self : ClassId) (r : ClassRecord) (j : ℕ) (method : MethodRecord) (thrown : List ClassId)
-      → slice_get t.files i ≡ Some c → IsClassOfFile (length t.world.classes) t.one i self → record_of t.other.classes self ≡ Some r → slice_get r.methods j ≡ Some method
+      → slice_get t.files i ≡ Some c → IsOfFile t.one i self → record_of t.other.classes self ≡ Some r → slice_get r.methods j ≡ Some method
       → DeclaredAt t.other.classes first t.one.declared self j thrown → DeclaredAt t.other.classes first t.other.declared self j thrown
   declared_there i c self r j method thrown file of found at said =
       let there = of_there i self of in
@@ -122,7 +125,7 @@ module _ (t : TwoWays) where
       thrown other info_is left right in
       told ∙ ap (λ (x : List ClassId). Some x) (sym same)
 
-  c27_there : (i : ℕ) (c : ClassFile) (self : ClassId) (n : ℕ) → slice_get t.files i ≡ Some c → IsClassOfFile (length t.world.classes) t.one i self
+  c27_there : (i : ℕ) (c : ClassFile) (self : ClassId) (n : ℕ) → slice_get t.files i ≡ Some c → IsOfFile t.one i self
       → BreaksC27 t.one.classes first t.one.declared self n → BreaksC27 t.other.classes first t.other.declared self n
   c27_there i c self n file of fault =
       let (own, interface, remote, how) = subst (λ (rs : List ClassRecord). BreaksC27 rs first t.one.declared self n) classes fault in (
