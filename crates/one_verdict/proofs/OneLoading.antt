@@ -1,4 +1,4 @@
--- Files that break no rule bring one thing, but for the order of names and offers.
+-- Files that break no rule bring one thing, but for how names and offers are listed.
 use Rattle.std.proofs.Common.{◌≡◌, ℕ, ◌<◌, List, Contains, sym, ap, subst, ◌∙◌, arith}
 use Rattle.jk_model.specs.declared.identifiers.ClassId.{ClassId}
 use Rattle.jk_model_classes.specs.declared.records.ClassRecord.{ClassRecord}

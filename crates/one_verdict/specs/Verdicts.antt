@@ -38,7 +38,7 @@ FilesHaveOneFault =
     (f : FolderFiles) (w : WorldRecord) (name : List ℕ) (rule other : Rule) (place spot : Place) → IsFilesFault f w name rule place
     → IsFilesFault f w name other spot → (rule ≡ other) × (place ≡ spot)
 
--- Two that are brought are the same, but for the order of names and offers.
+-- Two that are brought are the same, but for how names and offers are listed.
 pub record IsSameBrought (a b : Brought) : Type 0 where
   pub first : a.first ≡ b.first
   pub names : class_named a.table ≡ class_named b.table
