@@ -1,5 +1,5 @@
-# Writes the files of bench/make-folder, which calls this with `family`, `size` and `folder`, and with LC_ALL=C, so that a
-# character is a byte. The input has the bytes of examples/hello, a number in each line.
+# Writes the files of bench/make-folder, which calls this with `family`, `size`, `folder` and `texts_file`, and with LC_ALL=C, so
+# that a character is a byte. The input has the bytes of examples/hello, a number in each line.
 
 # ---- Bytes, of big-endian numbers.
 
@@ -194,6 +194,13 @@ function code(n,    i) {
     }
 }
 
+function overrides(n,    i) {
+    add_chain(n)
+    begin("M", "C" (n - 1), 1057)
+    for (i = 0; i < 65000; i++) method(1025, "m" i % 255, "(" times("[", int(i / 255) + 1) "I)V")
+    finish()
+}
+
 # ---- Offers. A class has a name of two letters, and a domain one letter.
 
 function letter(i) { return substr("abcdefghijklmnopqrstuvwxyzABCDEFGHIJKLMNOPQRSTUVWXYZ0123456789", i % 62 + 1, 1) }
@@ -220,6 +227,17 @@ function long_name(n,    i, name, kind) {
         kind = "(" times("[", i % 255 + 1) substr("BCIJSZ", int(i / 255) + 1, 1) ")V"
         method(1025, name, kind)
         method_ref("L", name, kind)
+    }
+    finish()
+}
+
+function collisions(n,    line) {
+    begin_class("T")
+    while (n > 0 && (getline line < texts_file) > 0) {
+        if (line !~ /^#/) {
+            string(line)
+            n--
+        }
     }
     finish()
 }
@@ -347,10 +365,12 @@ BEGIN {
     else if (family == "chain") add_chain(size)
     else if (family == "fields") crowd_of_fields(size)
     else if (family == "methods") crowd_of_methods(size)
+    else if (family == "overrides") overrides(size)
     else if (family == "offers") offers(50, size)
     else if (family == "shares") offers(size, 95325)
     else if (family == "long-name") long_name(size)
     else if (family == "texts") texts(size)
+    else if (family == "collisions") collisions(size)
     else if (family == "mentions") mentions(size)
     else if (family == "literals") literals(size)
     else if (family == "code") code(size)
