@@ -1,5 +1,5 @@
 -- What is answered of a folder that was loaded is what a `domain` event does by it.
-use Rattle.std.proofs.Common.{◌≡◌, ◌≢◌, ℕ, ◌≤◌, inl, inr, List, [], ◌∷◌, length, Option, Some, None, refl, sym, subst, ◌∙◌, arith}
+use Rattle.std.proofs.Common.{◌≡◌, ◌≢◌, ℕ, ◌≤◌, ◌⊎◌, inl, inr, List, [], ◌∷◌, length, Option, Some, None, refl, sym, subst, ◌∙◌, arith}
 use Rattle.jk_model.specs.declared.descriptors.MethodType.{MethodType}
 use Rattle.jk_model.specs.declared.output.Line.{Line}
 use Rattle.jk_model.specs.declared.output.Line.TheVariants.{Loaded as IsLoaded, Refused}
@@ -15,7 +15,7 @@ use Rattle.jk_model_folders.specs.declared.files.FolderFiles.{FolderFiles}
 use Rattle.jk_model_folders.specs.FolderRules.{IsFolderFault}
 use Rattle.jk_model_folders.specs.FolderTrees.{AreFiles, AreToldFiles}
 use Rattle.jk_model_folders.specs.Loads.{Loads}
-use Rattle.jk_model_machine.specs.Machine.{Machine}
+use Rattle.jk_model_machine.specs.Machine.{Machine, world_of}
 use Rattle.frame_store.specs.FrameContents.{FrameContent, IsContent}
 use Rattle.folder_loader.specs.declared.answers.LoadAnswer.{LoadAnswer}
 use Rattle.folder_loader.specs.declared.answers.LoadAnswer.TheVariants as Loading
@@ -66,7 +66,23 @@ load-few (Loading.Refused r p) a is e = (let no : Adding.Refused r p ≡ Adding.
 load-few Loading.ReadFault a is e = (let no : Adding.ReadFault ≡ Adding.TooManyDomains = sym is ∙ e in absurd cc)
 load-few Loading.OutOfMemory a is e = (let no : Adding.OutOfMemory ≡ Adding.TooManyDomains = sym is ∙ e in absurd cc)
 
+-- what a folder with a fault is answered, where it isn't loaded for it
+pub load-alone : (e : LoadAnswer) (a : AddAnswer) (rule : Rule) (place : Place) → IsLoadRefusal e a
+    → (e ≡ Loading.Refused rule place) ⊎ (e ≡ Loading.ReadFault) ⊎ (e ≡ Loading.OutOfMemory)
+    → (a ≡ Adding.Refused rule place) ⊎ (a ≡ Adding.ReadFault) ⊎ (a ≡ Adding.OutOfMemory)
+load-alone e a rule place is (inl same) = inl (subst (λ (x : LoadAnswer). IsLoadRefusal x a) same is)
+load-alone e a rule place is (inr (inl same)) = inr (inl (subst (λ (x : LoadAnswer). IsLoadRefusal x a) same is))
+load-alone e a rule place is (inr (inr same)) = inr (inr (subst (λ (x : LoadAnswer). IsLoadRefusal x a) same is))
+
 -- ---- What loading refuses.
+
+-- a fault of a folder beside the machine is one beside the kernel's world
+pub fault-here : (w : WorldRecord) (parts : List DomainPart) (threads : List (ℕ × ThreadPart)) (c : FrameContent) (nt ns : ℕ) (kind : MethodType)
+    → IsSoundKernel w parts threads c nt ns kind → (m : Machine) → machine_of w parts threads c nt ns ≡ m → (t : Tree) (root name : List ℕ)
+    (rule : Rule) (place : Place) → IsFolderFault t root (world_of m) name rule place → IsFolderFault t root w name rule place
+fault-here w parts threads c nt ns kind kernel m is t root name rule place fault =
+    subst (λ (x : WorldRecord). IsFolderFault t root x name rule place) (same-world w parts threads c nt ns kind kernel)
+    (subst (λ (x : Machine). IsFolderFault t root (world_of x) name rule place) (sym is) fault)
 
 pub refused-by-load : (w : WorldRecord) (parts : List DomainPart) (threads : List (ℕ × ThreadPart)) (c : FrameContent) (nt ns : ℕ) (kind : MethodType)
     → IsSoundKernel w parts threads c nt ns kind → (tree : Option Tree) (root name : List ℕ) (quotas : Quotas) (rule : Rule) (place : Place)

@@ -1,6 +1,6 @@
 //! Domains that are opened.
 
-ghost use Rattle.std.specs.Prelude.{◌≡◌, ◌≢◌, ℕ, ◌<◌, ◌≤◌, ◌^◌, ◌∷◌, ◌++◌, [], true, length, vec_len, List as AList, Contains, Some, None, Err, IfOk, OnErr, OnOk};
+ghost use Rattle.std.specs.Prelude.{◌≡◌, ◌≢◌, ℕ, ◌<◌, ◌≤◌, ◌^◌, ◌∷◌, ◌++◌, ◌⊎◌, [], true, length, vec_len, List as AList, Contains, Some, None, Err, IfOk, MatchResult, OnErr, OnOk};
 ghost use Rattle.std.specs.List.{AllByRecursion};
 ghost use Rattle.std.specs.Vec.{vec_capacity};
 ghost use Rattle.jk_model.specs.declared.identifiers.ClassId.{ClassId as AClassId};
@@ -14,6 +14,8 @@ ghost use Rattle.jk_model.specs.Outside.{Ask, HasRisen, NeverFalls, Tree, ◌/-�
 ghost use Rattle.jk_model_classes.specs.Classes.{HasClass};
 ghost use Rattle.jk_model_classes.specs.Worlds.{IsLiveNamed, IsNamed};
 ghost use Rattle.jk_model_domains.specs.OwnStates.{IsFirstState};
+ghost use Rattle.jk_model_folders.specs.FolderRules.{IsFolderFault};
+ghost use Rattle.jk_model_machine.specs.Machine.{world_of};
 ghost use Rattle.folder_reader.specs.FolderAnswers.{AsksWithin};
 ghost use Rattle.frame_store.specs.FrameContents.{Admits, IsSame};
 ghost use Rattle.sealed_openings.specs.OpenedDomains.{IsOpening};
@@ -62,6 +64,10 @@ impl<F: FrameStore + Drop> Kernel<F> {
             → Opens (R.tree files.old) root.now self.old name.now quotas (Says.Refused name.now rule place ∷ []) self.old }
         ensures too_many { result ≡ Err AddAnswer.TooManyDomains
             → Opens (R.tree files.old) root.now self.old name.now quotas (Says.Refused name.now RuleIs.L8 PlaceIs.Whole ∷ []) self.old }
+        // A folder of a told tree that breaks a rule is refused by exactly this rule, there, unless the files fail or memory runs out.
+        ensures only_refused { (t : Tree) (rule : ARule) (place : APlace) → R.tree files.old ≡ Some t
+            → IsFolderFault t root.now (world_of self.old) name.now rule place
+            → MatchResult result (λ _. ⊥) (λ e. (e ≡ AddAnswer.Refused rule place) ⊎ (e ≡ AddAnswer.ReadFault) ⊎ (e ≡ AddAnswer.OutOfMemory)) }
         ensures err { OnErr result (self.new ≡ self.old) }
         ensures read_fault { result ≡ Err AddAnswer.ReadFault → HasRisen (R.faults files.old) (R.faults files.new) }
         // It is never answered before something was asked.

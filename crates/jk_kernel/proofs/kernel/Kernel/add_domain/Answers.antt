@@ -7,7 +7,7 @@ use Rattle.jk_model_machine.specs.Machine.{Machine}
 use Rattle.jk_kernel.specs.KernelStates.{machine_of}
 use Rattle.jk_kernel.specs.Openings.{Opens}
 use Rattle.jk_kernel.proofs.OpenedKernels.{back-again, kernel-again, machine-again, may-open, opened-kernel}
-use Rattle.jk_kernel.proofs.OpeningsAnswered.{full-so, load-calm, load-few, load-fault, load-refused, opened-so, refused-by-load, refused-so}
+use Rattle.jk_kernel.proofs.OpeningsAnswered.{fault-here, full-so, load-alone, load-calm, load-few, load-fault, load-refused, opened-so, refused-by-load, refused-so}
 use Rattle.jk_kernel.proofs.kernel.Kernel.add_domain.Goals as goal
 
 -- an answer is in one error
@@ -26,6 +26,13 @@ returns-in-Err-clause-refused g c = λ rule place e.
 
 pub returns-in-Err-clause-too_many : goal.returns-in-Err-clause-too_many
 returns-in-Err-clause-too_many g c = λ e. absurd (load-few c.in-Err.e c.not_loaded.result c.not_loaded.ensures (same-error e))
+
+pub returns-in-Err-clause-only_refused : goal.returns-in-Err-clause-only_refused
+returns-in-Err-clause-only_refused g c = λ t rule place told fault.
+    let k = c.self.inside in
+    let here = fault-here k.world k.parts.items k.threads.entries (g.F.FrameStore.content k.frames) k.next_thread k.next_segment k.main_kind
+    c.self.invariant _ c.self.view_is t c.args.root.now c.args.name.now rule place fault in
+    load-alone c.in-Err.e c.not_loaded.result rule place c.not_loaded.ensures (c.in-Err.ensures.only_refused t rule place told here)
 
 pub returns-in-Err-clause-read_fault : goal.returns-in-Err-clause-read_fault
 returns-in-Err-clause-read_fault g c = λ e.
@@ -78,6 +85,20 @@ returns-in-Ok-open-clause-ok g c =
     h.found h.are_files c.args.name.now c.in-Ok.loaded c.load.new.world h.loads c.args.quotas (g.R.Files.tree c.args.files.now) c.args.root.now
     h.are_told c.in-Ok.ensures.typed c.holds.ensures.ordered (g.met.F.FrameStore.holds k.frames) c.open.new.world c.open.new.parts.items
     (g.F.FrameStore.content c.open.new.frames) c.in-Ok-open.ensures.ok)
+
+pub returns-in-Ok-open-clause-only_refused : goal.returns-in-Ok-open-clause-only_refused
+returns-in-Ok-open-clause-only_refused g c = λ t rule place told fault.
+    let k = c.self.inside in
+    let here = fault-here k.world k.parts.items k.threads.entries (g.F.FrameStore.content k.frames) k.next_thread k.next_segment k.main_kind
+    c.self.invariant _ c.self.view_is t c.args.root.now c.args.name.now rule place fault in
+    absurd (c.in-Ok.ensures.only_refused t rule place told here)
+
+pub returns-in-Err-open-clause-only_refused : goal.returns-in-Err-open-clause-only_refused
+returns-in-Err-open-clause-only_refused g c = λ t rule place told fault.
+    let k = c.self.inside in
+    let here = fault-here k.world k.parts.items k.threads.entries (g.F.FrameStore.content k.frames) k.next_thread k.next_segment k.main_kind
+    c.self.invariant _ c.self.view_is t c.args.root.now c.args.name.now rule place fault in
+    absurd (c.in-Ok.ensures.only_refused t rule place told here)
 
 pub returns-in-Err-open-clause-refused : goal.returns-in-Err-open-clause-refused
 returns-in-Err-open-clause-refused g c = λ rule place e.
