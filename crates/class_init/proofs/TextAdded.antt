@@ -87,7 +87,7 @@ differ_added es y h lacks i j a b p q e = by_places (old_or_last es y i a p) (ol
 pub index_added : (es : List TextEntry) (newest newest' : List (ℕ × ℕ)) (y : TextEntry) → IsIndex es newest
     → LacksText es y.text → y.before ≡ lookup (is_at (nat_cmp (fingerprint_of y.text))) newest
     → ((f : ℕ) → lookup (is_at (nat_cmp f)) newest'
-        ≡ (if is_at (nat_cmp (fingerprint_of y.text)) f then Some (length es) else lookup (is_at (nat_cmp f)) newest))
+    ≡ (if is_at (nat_cmp (fingerprint_of y.text)) f then Some (length es) else lookup (is_at (nat_cmp f)) newest))
     → IsIndex (es ++ y ∷ []) newest'
 index_added es newest newest' y h lacks before puts = record {
   newest_are =

@@ -23,8 +23,8 @@ struct TextEntry {
 #[derive(Drop)]
 pub(crate) struct KnownTexts {
     entries: Vec<TextEntry>,
-    /// The place of the newest entry whose text has a fingerprint. The map is by order: strangers choose the texts, and can bring
-    /// many to agree in the few bits of a known hash that say where a hashed map puts them.
+    /// The place of the newest entry whose text has a fingerprint. It is kept by order: strangers choose the texts, and where a
+    /// hash is known, they find many that agree in the few bits of it that say where a hashed map puts them.
     newest: BTreeMap<u64, usize>,
 }
 
