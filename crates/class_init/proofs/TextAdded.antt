@@ -57,8 +57,8 @@ newest_itself es y f same = (
 found_itself : (n m : ℕ) → n ≡ m → is_at (nat_cmp n) m ≡ true
 found_itself n m same = ap (λ (k : ℕ). is_eq (nat_cmp n k)) (sym same) ∙ ap is_eq (tied_itself nat_cmp_total n)
 
-newest_added : (es : List TextEntry) (y : TextEntry) (f : ℕ) (r : Option ℕ) → IsNewest es f (length es) r → (b : Bool) → is_at (nat_cmp (fingerprint_of y.text)) f ≡ b
-    → IsNewest (es ++ y ∷ []) f (length es + 1) (if b then Some (length es) else r)
+newest_added : (es : List TextEntry) (y : TextEntry) (f : ℕ) (r : Option ℕ) → IsNewest es f (length es) r
+    → (b : Bool) → is_at (nat_cmp (fingerprint_of y.text)) f ≡ b → IsNewest (es ++ y ∷ []) f (length es + 1) (if b then Some (length es) else r)
 newest_added es y f r h true e = newest_itself es y f (tells_apart exact_unsigned (fingerprint_of y.text) f e)
 newest_added es y f r h false e = newest_past es y f r (λ same. let yes = found_itself (fingerprint_of y.text) f same in cc) h
 
