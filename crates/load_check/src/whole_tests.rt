@@ -5,7 +5,7 @@ ghost use Rattle.jk_model_folders.specs.Loads.{MayLoad};
 use crate::cases::{Wanted, expect_answer};
 use crate::folders::{add, add_bytes};
 use crate::small_tests::SMALL;
-use crate::worlds::{Domain, answer, opened};
+use crate::worlds::{Domain, answer, first_world, opened};
 use domain_resolver::World;
 use folder_loader::LoadAnswer;
 use jk_model::{Bytes, Place, Rule};
@@ -31,24 +31,44 @@ const FOLDERS: &[(&str, Wanted<'static>)] = &[
     ("more", Wanted::Whole(Rule::L5)),
 ];
 
-/// Folders at the limits of bytes, below the root `r`.
-fn add_long_files(rt: &impl Abort, alloc: Global, files: &mut MemoryFiles) -> Result<(), Fail> {
+/// A class file of as many bytes as it may have, most of them behind its end.
+fn long_file(alloc: Global) -> Result<Bytes, Fail> {
     let zeros = vec![in alloc; 0u8; 1_048_523]?;
     let mut long = Bytes::from_slice(alloc, SMALL)?;
     long.extend_from_slice(zeros.as_slice())?;
+    Ok(long)
+}
+
+/// Folders at the limit of a file's bytes, below the root `r`.
+fn add_long_files(rt: &impl Abort, alloc: Global, files: &mut MemoryFiles) -> Result<(), Fail> {
+    let mut long = long_file(alloc)?;
     add_bytes(rt, alloc, files, "long", "A.class", long.as_slice())?;
     long.push(0)?;
     add_bytes(rt, alloc, files, "longer", "A.class", long.as_slice())?;
     add_bytes(rt, alloc, files, "longer", "resolver.txt", b"share")
 }
 
+/// Puts so many files of these bytes into the folder of a name.
+fn add_numbered(
+    rt: &impl Abort,
+    alloc: Global,
+    files: &mut MemoryFiles,
+    name: &str,
+    ending: &str,
+    bytes: &[u8],
+    count: u32,
+) -> Result<(), Fail> {
+    for i in 0..count {
+        let path = format!(in alloc; "K{i}.{ending}")?;
+        add_bytes(rt, alloc, files, name, path.as_str(), bytes)?;
+    }
+    Ok(())
+}
+
 /// Folders at the limit of class files.
 fn add_many_files(rt: &impl Abort, alloc: Global, files: &mut MemoryFiles) -> Result<(), Fail> {
-    for i in 0..512 {
-        let path = format!(in alloc; "K{i}.class")?;
-        add_bytes(rt, alloc, files, "many", path.as_str(), SMALL)?;
-        add_bytes(rt, alloc, files, "more", path.as_str(), SMALL)?;
-    }
+    add_numbered(rt, alloc, files, "many", "class", SMALL, 512)?;
+    add_numbered(rt, alloc, files, "more", "class", SMALL, 512)?;
     add_bytes(rt, alloc, files, "more", "one/more.class", b"")
 }
 
@@ -105,4 +125,19 @@ fn folders_as_a_whole(rt: HostRuntime) -> Result<(), Fail> {
     let unknown = answer(&rt, alloc, &mut files, "nothing", "b", &mut world);
     assert!(rt; matches!(unknown, Err(LoadAnswer::Refused(Rule::L1, Place::Whole))));
     Ok(())
+}
+
+/// Class files of 16,777,216 bytes together, and one byte more.
+#[test]
+fn bytes_of_a_folder(rt: HostRuntime) -> Result<(), Fail> {
+    let alloc = rt.alloc();
+    let mut files = MemoryFiles::new(alloc);
+    let mut world = first_world(alloc)?;
+    let long = long_file(alloc)?;
+    add_numbered(&rt, alloc, &mut files, "a", "class", long.as_slice(), 16)?;
+    let wanted = Wanted::At(Rule::C4, "K0.class", 53);
+    expect_answer(&rt, alloc, &mut files, "a", &mut world, wanted)?;
+    add_bytes(&rt, alloc, &mut files, "a", "one.class", b"\xca")?;
+    let wanted = Wanted::Whole(Rule::L5);
+    expect_answer(&rt, alloc, &mut files, "a", &mut world, wanted)
 }
