@@ -27,8 +27,6 @@ const FOLDERS: &[(&str, Wanted<'static>)] = &[
     ("longer", Wanted::Whole(Rule::L5)),
     ("deep", Wanted::Loads),
     ("deeper", Wanted::Whole(Rule::L5)),
-    ("many", Wanted::At(Rule::C17, "K0.class", 0)),
-    ("more", Wanted::Whole(Rule::L5)),
 ];
 
 /// A class file of as many bytes as it may have, most of them behind its end.
@@ -65,13 +63,6 @@ fn add_numbered(
     Ok(())
 }
 
-/// Folders at the limit of class files.
-fn add_many_files(rt: &impl Abort, alloc: Global, files: &mut MemoryFiles) -> Result<(), Fail> {
-    add_numbered(rt, alloc, files, "many", "class", SMALL, 512)?;
-    add_numbered(rt, alloc, files, "more", "class", SMALL, 512)?;
-    add_bytes(rt, alloc, files, "more", "one/more.class", b"")
-}
-
 /// Folders at the limit of levels.
 fn add_deep_files(rt: &impl Abort, files: &mut MemoryFiles) {
     add(
@@ -94,7 +85,7 @@ fn add_folders(rt: &impl Abort, alloc: Global, files: &mut MemoryFiles) -> Resul
     add(rt, files, "r/file", b"no folder");
     add_long_files(rt, alloc, files)?;
     add_deep_files(rt, files);
-    add_many_files(rt, alloc, files)
+    Ok(())
 }
 
 /// Asserts what is answered of each folder of a table.
@@ -125,6 +116,20 @@ fn folders_as_a_whole(rt: HostRuntime) -> Result<(), Fail> {
     let unknown = answer(&rt, alloc, &mut files, "nothing", "b", &mut world);
     assert!(rt; matches!(unknown, Err(LoadAnswer::Refused(Rule::L1, Place::Whole))));
     Ok(())
+}
+
+/// 512 class files, and one more in a folder below.
+#[test]
+fn class_files_of_a_folder(rt: HostRuntime) -> Result<(), Fail> {
+    let alloc = rt.alloc();
+    let mut files = MemoryFiles::new(alloc);
+    let mut world = first_world(alloc)?;
+    add_numbered(&rt, alloc, &mut files, "a", "class", SMALL, 512)?;
+    let wanted = Wanted::At(Rule::C17, "K0.class", 0);
+    expect_answer(&rt, alloc, &mut files, "a", &mut world, wanted)?;
+    add_bytes(&rt, alloc, &mut files, "a", "one/more.class", b"")?;
+    let wanted = Wanted::Whole(Rule::L5);
+    expect_answer(&rt, alloc, &mut files, "a", &mut world, wanted)
 }
 
 /// Class files of 16,777,216 bytes together, and one byte more.
