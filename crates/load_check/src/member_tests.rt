@@ -586,16 +586,9 @@ const FINALS: &[Case<'static>] = &[
 ];
 
 #[test]
-fn members_that_are_named(rt: HostRuntime) -> Result<(), Fail> {
-    expect_answers(&rt, rt.alloc(), &[], NAMED)
-}
-
-#[test]
-fn members_that_may_be_accessed(rt: HostRuntime) -> Result<(), Fail> {
-    expect_answers(&rt, rt.alloc(), &[], ACCESS)
-}
-
-#[test]
-fn final_methods(rt: HostRuntime) -> Result<(), Fail> {
-    expect_answers(&rt, rt.alloc(), &[], FINALS)
+fn members_of_classes(rt: HostRuntime) -> Result<(), Fail> {
+    let alloc = rt.alloc();
+    expect_answers(&rt, alloc, &[], NAMED)?;
+    expect_answers(&rt, alloc, &[], ACCESS)?;
+    expect_answers(&rt, alloc, &[], FINALS)
 }

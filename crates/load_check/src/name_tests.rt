@@ -313,16 +313,9 @@ const HIERARCHIES: &[Case<'static>] = &[
 ];
 
 #[test]
-fn paths_of_classes(rt: HostRuntime) -> Result<(), Fail> {
-    expect_answers(&rt, rt.alloc(), &[], PATHS)
-}
-
-#[test]
-fn classes_that_are_named(rt: HostRuntime) -> Result<(), Fail> {
-    expect_answers(&rt, rt.alloc(), OTHER_DOMAIN, NAMED)
-}
-
-#[test]
-fn parents_and_interfaces(rt: HostRuntime) -> Result<(), Fail> {
-    expect_answers(&rt, rt.alloc(), &[], HIERARCHIES)
+fn names_of_classes(rt: HostRuntime) -> Result<(), Fail> {
+    let alloc = rt.alloc();
+    expect_answers(&rt, alloc, &[], PATHS)?;
+    expect_answers(&rt, alloc, OTHER_DOMAIN, NAMED)?;
+    expect_answers(&rt, alloc, &[], HIERARCHIES)
 }

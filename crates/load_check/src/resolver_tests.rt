@@ -293,15 +293,8 @@ const PACKAGES: &[Case<'static>] = &[
 
 #[test]
 fn lines_of_resolvers(rt: HostRuntime) -> Result<(), Fail> {
-    expect_answers(&rt, rt.alloc(), &[], LINES)
-}
-
-#[test]
-fn imports_of_what_is_offered(rt: HostRuntime) -> Result<(), Fail> {
-    expect_answers(&rt, rt.alloc(), OFFERING, IMPORTS)
-}
-
-#[test]
-fn packages_of_two_domains(rt: HostRuntime) -> Result<(), Fail> {
-    expect_answers(&rt, rt.alloc(), SAME_PACKAGE, PACKAGES)
+    let alloc = rt.alloc();
+    expect_answers(&rt, alloc, &[], LINES)?;
+    expect_answers(&rt, alloc, OFFERING, IMPORTS)?;
+    expect_answers(&rt, alloc, SAME_PACKAGE, PACKAGES)
 }

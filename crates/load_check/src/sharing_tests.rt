@@ -287,16 +287,9 @@ const REMOTE: &[Case<'static>] = &[
 ];
 
 #[test]
-fn static_fields_of_shared_classes(rt: HostRuntime) -> Result<(), Fail> {
-    expect_answers(&rt, rt.alloc(), &[], STATICS)
-}
-
-#[test]
-fn references_of_shared_classes(rt: HostRuntime) -> Result<(), Fail> {
-    expect_answers(&rt, rt.alloc(), OTHER_DOMAIN, REFERENCES)
-}
-
-#[test]
-fn remote_interfaces(rt: HostRuntime) -> Result<(), Fail> {
-    expect_answers(&rt, rt.alloc(), &[], REMOTE)
+fn classes_that_are_shared(rt: HostRuntime) -> Result<(), Fail> {
+    let alloc = rt.alloc();
+    expect_answers(&rt, alloc, &[], STATICS)?;
+    expect_answers(&rt, alloc, OTHER_DOMAIN, REFERENCES)?;
+    expect_answers(&rt, alloc, &[], REMOTE)
 }

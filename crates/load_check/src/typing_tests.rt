@@ -123,10 +123,7 @@ const LARGE: &[Case<'static>] = &[
 
 #[test]
 fn typings_of_methods(rt: HostRuntime) -> Result<(), Fail> {
-    expect_answers(&rt, rt.alloc(), &[], TYPED)
-}
-
-#[test]
-fn sizes_of_methods(rt: HostRuntime) -> Result<(), Fail> {
-    expect_answers(&rt, rt.alloc(), &[], LARGE)
+    let alloc = rt.alloc();
+    expect_answers(&rt, alloc, &[], TYPED)?;
+    expect_answers(&rt, alloc, &[], LARGE)
 }
