@@ -1,7 +1,9 @@
 //! Worlds of domains that were loaded one after another.
 
 ghost use Rattle.std.specs.Prelude.{◌≡◌, ◌<◌, ◌-◌, ◌^◌, IfOk, OnErr, OnOk, length};
+ghost use Rattle.jk_model.specs.declared.identifiers.DomainId.{DomainId as ADomainId};
 ghost use Rattle.jk_model.specs.Outside.{◌/-◌};
+ghost use Rattle.jk_model_classes.specs.Worlds.{IsLiveNamed};
 ghost use Rattle.jk_model_folders.specs.Loads.{MayLoad};
 ghost use Rattle.folder_loader.specs.LoadAnswers.{HasLoaded};
 
@@ -59,6 +61,16 @@ pub(crate) fn answer<F: Files>(
     answered
 }
 
+/// Asserts that no live domain has a name.
+fn expect_free(rt: &impl Abort, world: &World, name: &[u8])
+    ensures { (d : ADomainId) → IsLiveNamed world.now name.now d → ⊥ }
+{
+    match world.live_named(name) {
+        None => {}
+        Some(_) => panic!(rt; "the name is taken"),
+    }
+}
+
 /// Loads the folder of a name below the root `r`, which breaks no rule, and adds its domain.
 pub(crate) fn open(
     rt: &impl Abort,
@@ -73,7 +85,7 @@ pub(crate) fn open(
     match answer(rt, alloc, files, "r", name, world) {
         Ok(loaded) => {
             let name = Bytes::from_slice(alloc, name.as_bytes())?;
-            assert!(rt; world.live_named(name.as_slice()).is_none());
+            expect_free(rt, world, name.as_slice());
             let id = world.add_domain(name, loaded.table, loaded.offers)?;
             world.holds();
             Ok(id)

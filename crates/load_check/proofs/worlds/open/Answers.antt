@@ -1,7 +1,13 @@
--- The new domain's names and offers are those that were answered.
-use Rattle.std.proofs.Common.{refl}
+-- The name is free, and the new domain's names and offers are those that were answered.
+use Rattle.std.proofs.Common.{ℕ, List, refl, subst}
+use Rattle.jk_model.specs.declared.identifiers.DomainId.{DomainId}
+use Rattle.jk_model_classes.specs.Worlds.{IsLiveNamed}
 use Rattle.load_check.proofs.WorldsAfterLoads.{may_load_opened}
 use Rattle.load_check.proofs.worlds.open.Goals as goal
+
+pub add_domain-requires-clause-free : goal.add_domain-requires-clause-free
+add_domain-requires-clause-free g c =
+    subst (λ (name : List ℕ). (d : DomainId) → IsLiveNamed c.answer.new.world name d → ⊥) c.as_slice.ensures c.expect_free.ensures
 
 pub returns : goal.returns
 returns g c =
