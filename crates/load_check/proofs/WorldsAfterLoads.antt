@@ -1,5 +1,5 @@
--- A world in which a folder may be loaded is that of the system classes alone, and one again after a folder was loaded, after a domain with its names was added, and after
--- a domain ended.
+-- A world in which a folder may be loaded is that of the system classes alone, and one again after a folder was loaded, after a domain
+-- with its names was added, and after a domain ended.
 use Rattle.std.proofs.Common.{◌≡◌, ℕ, zero, suc, ◌-◌, ◌^◌, ◌<◌, ◌⊎◌, inl, inr, false, List, [], ◌∷◌, ◌++◌, length, take, Option, Some, None, Result, Ok, Err, IfOk, OnErr, slice_get, slice_set, Contains, refl, sym, ap, subst, ◌∙◌, arith, length-append}
 use Rattle.std.specs.List.{AllByRecursion}
 use Rattle.std.proofs.lemmas.List.{take-append-le, take_all}
