@@ -1,4 +1,5 @@
 pub mod ClassesCut
+pub mod FaultsAreAnswered
 pub mod FaultsOfFiles
 pub mod FilesInTurn
 pub mod FilesRead

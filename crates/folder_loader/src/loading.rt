@@ -1,6 +1,6 @@
 //! A folder by its name below a root.
 
-ghost use Rattle.std.specs.Prelude.{◌≡◌, ◌≢◌, ◌++◌, ◌↔◌, IsTrue, IfOk, OnErr, Err, List, Some, string_bytes};
+ghost use Rattle.std.specs.Prelude.{◌≡◌, ◌≢◌, ◌++◌, ◌↔◌, ◌⊎◌, IsTrue, IfOk, MatchResult, OnErr, Err, List, Some, string_bytes};
 ghost use Rattle.std.specs.List.{AllByRecursion};
 ghost use Rattle.jk_model.specs.declared.output.Place.{Place as APlace};
 ghost use Rattle.jk_model.specs.declared.output.Rule.{Rule as ARule};
@@ -70,6 +70,10 @@ pub fn load<F: Files>(
         → IsRefused (F.tree files.old) root.now world.old name.now rule place }
     ensures folder_fault { (t : Tree) (rule : ARule) (place : APlace) → F.tree files.old ≡ Some t → result ≡ Err (LoadAnswer.Refused rule place)
         → IsFolderFault t root.now world.old name.now rule place }
+    // A folder of a told tree that breaks a rule is refused by exactly this rule, there, unless the files fail or memory runs out.
+    ensures only_refused { (t : Tree) (rule : ARule) (place : APlace) → F.tree files.old ≡ Some t
+        → IsFolderFault t root.now world.old name.now rule place
+        → MatchResult result (λ _. ⊥) (λ e. (e ≡ LoadAnswer.Refused rule place) ⊎ (e ≡ LoadAnswer.ReadFault) ⊎ (e ≡ LoadAnswer.OutOfMemory)) }
     ensures read_fault { result ≡ Err LoadAnswer.ReadFault → HasRisen (F.faults files.old) (F.faults files.new) }
     // It is never answered before something was asked.
     ensures something { result ≡ Err LoadAnswer.ReadFault → F.asked files.new ≢ F.asked files.old }

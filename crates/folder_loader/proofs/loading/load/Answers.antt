@@ -1,8 +1,12 @@
 -- What the parts answer is answered of the folder.
 use Rattle.std.proofs.Common.{Err, ap, subst, sym, ◌∙◌}
 use Rattle.std.specs.Prelude.{List, ℕ}
+use Rattle.jk_model.specs.declared.output.Place.TheVariants.{Whole}
+use Rattle.jk_model.specs.declared.output.Rule.TheVariants.{L1}
 use Rattle.jk_model.specs.Outside.{◌/-◌}
 use Rattle.jk_model_folders.specs.FolderRules.{IsLive}
+use Rattle.folder_loader.specs.declared.answers.LoadAnswer.TheVariants.{Refused}
+use Rattle.folder_loader.proofs.FaultsAreAnswered.{fault_answered}
 use Rattle.folder_loader.proofs.LoadedFolders.{folder_loads}
 use Rattle.folder_loader.proofs.ToldRefusals.{asks_of, files_refused, folder_fault, live_refused, not_live_by, read_refused, refused_by}
 use Rattle.folder_loader.proofs.loading.load.Goals as goal
@@ -57,3 +61,18 @@ returns-in-Ok-clause-ok g c =
     folder_loads (g.F.Files.tree c.args.files.now) c.as_str.result.now (c.args.root.now /- c.args.name.now) c.as_bytes.result.now c.args.name.now
     c.in-Ok.found c.args.world.now c.load_files.new.world c.load_files.result (c.as_str.ensures.value ∙ c.in_ok-folder.ensures) c.as_bytes.ensures.value
     c.in-Ok.ensures.files c.in-Ok.ensures.told c.load_files.ensures.ok
+
+pub returns-then-is_live-clause-only_refused : goal.returns-then-is_live-clause-only_refused
+returns-then-is_live-clause-only_refused g c = λ t rule place told fault.
+    fault_answered (g.F.Files.tree c.args.files.now) t told c.args.root.now c.args.world.now c.args.name.now c.args.world.now (Err (Refused L1 Whole))
+    rule place tt (λ r p. returns-then-is_live-clause-folder_fault g c t r p told) fault
+
+pub returns-clause-only_refused : goal.returns-clause-only_refused
+returns-clause-only_refused g c = λ t rule place told fault.
+    fault_answered (g.F.Files.tree c.args.files.now) t told c.args.root.now c.args.world.now c.args.name.now c.args.world.now (Err c.not_read.result)
+    rule place tt (λ r p. returns-clause-folder_fault g c t r p told) fault
+
+pub returns-in-Ok-clause-only_refused : goal.returns-in-Ok-clause-only_refused
+returns-in-Ok-clause-only_refused g c = λ t rule place told fault.
+    fault_answered (g.F.Files.tree c.args.files.now) t told c.args.root.now c.args.world.now c.args.name.now c.load_files.new.world c.load_files.result
+    rule place (returns-in-Ok-clause-ok g c) (λ r p. returns-in-Ok-clause-folder_fault g c t r p told) fault
