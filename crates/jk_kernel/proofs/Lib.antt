@@ -10,6 +10,7 @@ pub mod FirstFrames
 pub mod FirstKernel
 pub mod FramesLeft
 pub mod FramesResumed
+pub mod GoesOnInFrame
 pub mod HeldThreads
 pub mod InstructionsBegin
 pub mod ItemsLent
