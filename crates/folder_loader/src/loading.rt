@@ -71,6 +71,8 @@ pub fn load<F: Files>(
     ensures folder_fault { (t : Tree) (rule : ARule) (place : APlace) → F.tree files.old ≡ Some t → result ≡ Err (LoadAnswer.Refused rule place)
         → IsFolderFault t root.now world.old name.now rule place }
     ensures read_fault { result ≡ Err LoadAnswer.ReadFault → HasRisen (F.faults files.old) (F.faults files.new) }
+    // It is never answered before something was asked.
+    ensures something { result ≡ Err LoadAnswer.ReadFault → F.asked files.new ≢ F.asked files.old }
 
     // An answer other than `ReadFault` counted no fault of told files.
     ensures calm { (t : Tree) → F.tree files.old ≡ Some t → result ≢ Err LoadAnswer.ReadFault → F.faults files.new ≡ F.faults files.old }

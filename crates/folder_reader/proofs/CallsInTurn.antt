@@ -1,6 +1,7 @@
 -- What calls of the files leave one after the other.
-use Rattle.std.proofs.Common.{◌≡◌, ℕ, ◌^◌, ◌<◌, List, [], ◌++◌, Option, Result, Ok, Err, IfOk, refl, sym, ap, ◌∙◌, subst, append_assoc, append-nil}
+use Rattle.std.proofs.Common.{◌≡◌, ◌≢◌, ℕ, ◌^◌, ◌<◌, List, [], ◌++◌, length, Option, Result, Ok, Err, IfOk, refl, sym, ap, ◌∙◌, subst, append_assoc, append-nil, arith, length-append}
 use Rattle.std.specs.Result.{IsErrAnd}
+use Rattle.std.proofs.lemmas.List.{nil_from_length}
 use Rattle.std.proofs.lemmas.Result.{err_from_is_err_and}
 use Rattle.jk_model.specs.Outside.{Ask, Tree}
 use Rattle.jk_model.proofs.CountsNeverFall.{NeverFalls-after, NeverFalls-refl}
@@ -24,6 +25,19 @@ moves_on root t t' t'' n n' n'' k k' k'' a a' a'' first second = record {
     all_append (AsksWithin root) first.asks.0 second.asks.0 first.asks.2 second.asks.2,
   );
 }
+
+-- where the second of two calls asked for something, both together did
+pub asked_since : (root : List ℕ) (t t' t'' : Option Tree) (n n' n'' k k' k'' : ℕ) (a a' a'' : List Ask)
+    → Moves root t t' n n' k k' a a' → Moves root t' t'' n' n'' k' k'' a' a'' → a'' ≢ a' → a'' ≢ a
+asked_since root t t' t'' n n' n'' k k' k'' a a' a'' first second other = λ same.
+    let before = first.asks.0 in
+    let after = second.asks.0 in
+    let all = sym same ∙ second.asks.1 ∙ ap (λ (x : List Ask). x ++ after) first.asks.1 in
+    let longer = length-append (a ++ before) after in
+    let long = length-append a before in
+    let as_long = ap length all in
+    let none = nil_from_length after (omega (arith, longer, long, as_long)) in
+    other (second.asks.1 ∙ ap (λ (x : List Ask). a' ++ x) none ∙ append-nil a')
 
 -- an error that is handed on is the one that came
 pub handed_on : {T U E : Type 0} (r : Result T E) (e y : E) (s : Result U E) → IsErrAnd r (λ z. z ≡ e) → r ≡ Err y → s ≡ Err e → s ≡ Err y

@@ -87,6 +87,7 @@ fn read_class<F: Files>(
     ensures no_folder { result ≢ Err Why.NoFolder }
     ensures too_large { result ≡ Err Why.TooLarge → IsLarge (F.tree files.old) root.now }
     ensures read_fault { result ≡ Err Why.ReadFault → HasRisen (F.faults files.old) (F.faults files.new) }
+    ensures something { result ≡ Err Why.ReadFault → F.asked files.new ≢ F.asked files.old }
     ensures calm { (t : Tree) → F.tree files.old ≡ Some t → result ≢ Err Why.ReadFault → F.faults files.new ≡ F.faults files.old }
     ensures moves { Moves root.now (F.tree files.old) (F.tree files.new) (F.faults files.old) (F.faults files.new)
         (F.taken files.old) (F.taken files.new) (F.asked files.old) (F.asked files.new) }
@@ -110,6 +111,7 @@ pub(crate) fn read_classes<F: Files>(
     ensures no_folder { result ≢ Err Why.NoFolder }
     ensures too_large { result ≡ Err Why.TooLarge → IsLarge (F.tree files.old) root.now }
     ensures read_fault { result ≡ Err Why.ReadFault → HasRisen (F.faults files.old) (F.faults files.new) }
+    ensures something { result ≡ Err Why.ReadFault → F.asked files.new ≢ F.asked files.old }
     ensures calm { (t : Tree) → F.tree files.old ≡ Some t → result ≢ Err Why.ReadFault → F.faults files.new ≡ F.faults files.old }
     ensures moves { Moves root.now (F.tree files.old) (F.tree files.new) (F.faults files.old) (F.faults files.new)
         (F.taken files.old) (F.taken files.new) (F.asked files.old) (F.asked files.new) }
@@ -141,6 +143,7 @@ pub(crate) fn read_resolver<F: Files>(
     ensures no_folder { result ≢ Err Why.NoFolder }
     ensures too_large { result ≡ Err Why.TooLarge → (list_any is_resolver found.now ≡ true) × IsLongFile (F.tree files.old) (whole_path root.now RESOLVER) }
     ensures read_fault { result ≡ Err Why.ReadFault → HasRisen (F.faults files.old) (F.faults files.new) }
+    ensures something { result ≡ Err Why.ReadFault → F.asked files.new ≢ F.asked files.old }
     ensures calm { (t : Tree) → F.tree files.old ≡ Some t → result ≢ Err Why.ReadFault → F.faults files.new ≡ F.faults files.old }
     ensures moves { Moves root.now (F.tree files.old) (F.tree files.new) (F.faults files.old) (F.faults files.new)
         (F.taken files.old) (F.taken files.new) (F.asked files.old) (F.asked files.new) }

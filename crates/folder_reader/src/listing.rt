@@ -32,6 +32,7 @@ fn entries_of<F: Files>(files: &mut F, root: &str, folder: &str) -> Result<List<
     ensures too_large { result ≡ Err Why.TooLarge
         → FolderIsLong (F.tree files.old) folder.now MOST_ENTRIES (F.taken files.old) (F.taken files.new) }
     ensures read_fault { result ≡ Err Why.ReadFault → HasRisen (F.faults files.old) (F.faults files.new) }
+    ensures something { F.asked files.new ≢ F.asked files.old }
     ensures calm { (t : Tree) → F.tree files.old ≡ Some t → result ≢ Err Why.ReadFault → F.faults files.new ≡ F.faults files.old }
     ensures moves { Moves root.now (F.tree files.old) (F.tree files.new) (F.faults files.old) (F.faults files.new)
         (F.taken files.old) (F.taken files.new) (F.asked files.old) (F.asked files.new) }
@@ -96,6 +97,7 @@ pub(crate) fn below_of<F: Files>(
     ensures no_folder { result ≡ Err Why.NoFolder → IsAbsent (F.tree files.old) root.now }
     ensures too_large { result ≡ Err Why.TooLarge → IsLarge (F.tree files.old) root.now }
     ensures read_fault { result ≡ Err Why.ReadFault → HasRisen (F.faults files.old) (F.faults files.new) }
+    ensures something { result ≡ Err Why.ReadFault → F.asked files.new ≢ F.asked files.old }
     ensures calm { (t : Tree) → F.tree files.old ≡ Some t → result ≢ Err Why.ReadFault → F.faults files.new ≡ F.faults files.old }
     ensures moves { Moves root.now (F.tree files.old) (F.tree files.new) (F.faults files.old) (F.faults files.new)
         (F.taken files.old) (F.taken files.new) (F.asked files.old) (F.asked files.new) }
@@ -122,6 +124,7 @@ pub(crate) fn read_file<F: Files>(
     ensures no_folder { result ≢ Err Why.NoFolder }
     ensures too_large { result ≡ Err Why.TooLarge → IsLongFile (F.tree files.old) (whole_path root.now path.now) }
     ensures read_fault { result ≡ Err Why.ReadFault → HasRisen (F.faults files.old) (F.faults files.new) }
+    ensures something { result ≡ Err Why.ReadFault → F.asked files.new ≢ F.asked files.old }
     ensures calm { (t : Tree) → F.tree files.old ≡ Some t → result ≢ Err Why.ReadFault → F.faults files.new ≡ F.faults files.old }
     ensures moves { Moves root.now (F.tree files.old) (F.tree files.new) (F.faults files.old) (F.faults files.new)
         (F.taken files.old) (F.taken files.new) (F.asked files.old) (F.asked files.new) }

@@ -58,6 +58,8 @@ pub fn read_folder<F: Files>(
     ensures no_folder { result ≡ Err Why.NoFolder → IsAbsent (F.tree files.old) root.now }
     ensures too_large { result ≡ Err Why.TooLarge → IsLarge (F.tree files.old) root.now }
     ensures read_fault { result ≡ Err Why.ReadFault → HasRisen (F.faults files.old) (F.faults files.new) }
+    // It is never answered before something was asked.
+    ensures something { result ≡ Err Why.ReadFault → F.asked files.new ≢ F.asked files.old }
 
     // An answer other than `ReadFault` counted no fault of told files.
     ensures calm { (t : Tree) → F.tree files.old ≡ Some t → result ≢ Err Why.ReadFault → F.faults files.new ≡ F.faults files.old }

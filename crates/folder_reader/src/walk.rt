@@ -40,6 +40,7 @@ fn look_at<F: Files>(
     ensures no_folder { result ≡ Err Why.NoFolder → IsAbsent (F.tree files.old) root.now }
     ensures too_large { result ≡ Err Why.TooLarge → IsLarge (F.tree files.old) root.now }
     ensures read_fault { result ≡ Err Why.ReadFault → HasRisen (F.faults files.old) (F.faults files.new) }
+    ensures something { result ≡ Err Why.ReadFault → F.asked files.new ≢ F.asked files.old }
     ensures calm { (t : Tree) → F.tree files.old ≡ Some t → result ≢ Err Why.ReadFault → F.faults files.new ≡ F.faults files.old }
     ensures moves { Moves root.now (F.tree files.old) (F.tree files.new) (F.faults files.old) (F.faults files.new)
         (F.taken files.old) (F.taken files.new) (F.asked files.old) (F.asked files.new) }
@@ -87,6 +88,7 @@ pub(crate) fn found_below<F: Files>(
     ensures no_folder { result ≡ Err Why.NoFolder → IsAbsent (F.tree files.old) root.now }
     ensures too_large { result ≡ Err Why.TooLarge → IsLarge (F.tree files.old) root.now }
     ensures read_fault { result ≡ Err Why.ReadFault → HasRisen (F.faults files.old) (F.faults files.new) }
+    ensures something { result ≡ Err Why.ReadFault → F.asked files.new ≢ F.asked files.old }
     ensures calm { (t : Tree) → F.tree files.old ≡ Some t → result ≢ Err Why.ReadFault → F.faults files.new ≡ F.faults files.old }
     ensures moves { Moves root.now (F.tree files.old) (F.tree files.new) (F.faults files.old) (F.faults files.new)
         (F.taken files.old) (F.taken files.new) (F.asked files.old) (F.asked files.new) }

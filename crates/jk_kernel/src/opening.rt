@@ -64,6 +64,8 @@ impl<F: FrameStore + Drop> Kernel<F> {
             → Opens (R.tree files.old) root.now self.old name.now quotas (Says.Refused name.now RuleIs.L8 PlaceIs.Whole ∷ []) self.old }
         ensures err { OnErr result (self.new ≡ self.old) }
         ensures read_fault { result ≡ Err AddAnswer.ReadFault → HasRisen (R.faults files.old) (R.faults files.new) }
+        // It is never answered before something was asked.
+        ensures something { result ≡ Err AddAnswer.ReadFault → R.asked files.new ≢ R.asked files.old }
         // An answer other than `ReadFault` counted no fault of told files.
         ensures calm { (t : Tree) → R.tree files.old ≡ Some t → result ≢ Err AddAnswer.ReadFault → R.faults files.new ≡ R.faults files.old }
         ensures stays { R.tree files.new ≡ R.tree files.old }

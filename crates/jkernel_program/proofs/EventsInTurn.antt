@@ -1,5 +1,5 @@
 -- What all events leave and ask, from what each of them does.
-use Rattle.std.proofs.Common.{◌≡◌, ℕ, zero, suc, ◌+◌, ◌<◌, ◌≤◌, List, [], ◌∷◌, ◌++◌, length, take, get_or, Option, Some, Ok, Err, inr, refl, sym, ap, subst, ◌∙◌, append_assoc, append-nil, arith}
+use Rattle.std.proofs.Common.{◌≡◌, ◌≢◌, ℕ, zero, suc, ◌+◌, ◌<◌, ◌≤◌, List, [], ◌∷◌, ◌++◌, length, take, get_or, Option, Some, Ok, Err, inr, refl, sym, ap, subst, ◌∙◌, append_assoc, append-nil, arith}
 use Rattle.std.specs.Prelude.{slice_get}
 use Rattle.std.proofs.lemmas.List.{take_more}
 use Rattle.jk_model.specs.declared.output.Line.{Line}
@@ -128,9 +128,9 @@ first_events root opens events i m a b within so_far = record {
 
 stops_reading : (root : List ℕ) (opens : DomainEvent) (events : List Event) (i : ℕ) (event : Event) (m : Machine) (a b c : Moment) → i < length events
     → event ≡ get_or events i event
-    → RunsSoFar root opens events i m a b → c.out ≡ b.out → IsDomainEvent event → EventAsks root event b.asked c.asked
+    → RunsSoFar root opens events i m a b → c.out ≡ b.out → IsDomainEvent event → c.asked ≢ b.asked → EventAsks root event b.asked c.asked
     → StopsAtDomain root opens events a c
-stops_reading root opens events i (Domain name quotas) m a b c lt is so_far quiet domain asks = record {
+stops_reading root opens events i (Domain name quotas) m a b c lt is so_far quiet domain more asks = record {
   k = i;
   whole = record {
     lines = so_far.lines;
@@ -145,12 +145,13 @@ stops_reading root opens events i (Domain name quotas) m a b c lt is so_far quie
   asked_before = so_far.for_events;
   at_last = asks.0;
   asked_at_last = asks.1;
+  something = λ none. more (asks.2 ∙ ap (λ (x : List Ask). b.asked ++ x) none ∙ append-nil b.asked);
   asked = asks.2 ∙ ap (λ (x : List Ask). x ++ asks.0) so_far.asked ∙ append_assoc a.asked so_far.asks asks.0;
 }
-stops_reading root opens events i (Start name class words) m a b c lt is so_far quiet domain asks = absurd domain
-stops_reading root opens events i (Turn thread steps) m a b c lt is so_far quiet domain asks = absurd domain
-stops_reading root opens events i (Round rounds steps) m a b c lt is so_far quiet domain asks = absurd domain
-stops_reading root opens events i (Kill name) m a b c lt is so_far quiet domain asks = absurd domain
+stops_reading root opens events i (Start name class words) m a b c lt is so_far quiet domain more asks = absurd domain
+stops_reading root opens events i (Turn thread steps) m a b c lt is so_far quiet domain more asks = absurd domain
+stops_reading root opens events i (Round rounds steps) m a b c lt is so_far quiet domain more asks = absurd domain
+stops_reading root opens events i (Kill name) m a b c lt is so_far quiet domain more asks = absurd domain
 
 -- an event that stops the run
 pub run_stops : (root : List ℕ) (opens : DomainEvent) (events : List Event) (i : ℕ) (event : Event) (m new : Machine) (a b c : Moment) (stop : Stop)
@@ -158,7 +159,7 @@ pub run_stops : (root : List ℕ) (opens : DomainEvent) (events : List Event) (i
     → RunsSoFar root opens events i m a b → NeverFalls a.files_faults b.files_faults → NeverFalls a.out_faults b.out_faults
     → EventEnds opens event m new b c (Err stop) → EventAsks root event b.asked c.asked → RunEnds root opens events a c (Err stop)
 run_stops root opens events i event m new a b c ReadFault lt is so_far files faults ends asks = (
-  stops_reading root opens events i event m a b c lt is so_far ends.1 ends.0 asks,
+  stops_reading root opens events i event m a b c lt is so_far ends.1 ends.0 ends.3 asks,
   HasRisen-after a.files_faults b.files_faults c.files_faults files ends.2,
 )
 run_stops root opens events i event m new a b c WriteFault lt is so_far files faults ends asks = (

@@ -140,6 +140,7 @@ module _ (t : Option Tree) (words : List (List ℕ)) (root script : List ℕ) (e
       asked_before = h.0.asked_before;
       at_last = h.0.at_last;
       asked_at_last = h.0.asked_at_last;
+      something = h.0.something;
       asks = all_asked (h.0.before ++ h.0.at_last) h.0.asked;
     }),
   )

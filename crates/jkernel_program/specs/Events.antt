@@ -1,5 +1,5 @@
 -- What an event of a script, and all of them, leave behind, by how they ended.
-use Rattle.std.specs.Prelude.{◌≡◌, ℕ, ◌≤◌, ◌⊎◌, ⊤, true, List, [], ◌++◌, length, take, slice_get, Option, Some, Result, Ok, Err}
+use Rattle.std.specs.Prelude.{◌≡◌, ◌≢◌, ℕ, ◌≤◌, ◌⊎◌, ⊤, true, List, [], ◌++◌, length, take, slice_get, Option, Some, Result, Ok, Err}
 use Rattle.jk_model.specs.declared.output.Line.{Line}
 use Rattle.jk_model.specs.declared.script.Event.{Event}
 use Rattle.jk_model.specs.declared.script.Event.TheVariants.{Domain, Start, Turn, Round, Kill}
@@ -64,13 +64,14 @@ IsPrinted Happened new old out faults faults' (Err WriteFault) =
 IsPrinted Happened new old out faults faults' (Err OutOfMemory) = out ≡ old
 IsPrinted Happened new old out faults faults' (Err ReadFault) = ⊥
 
--- One event, from one machine and moment to another. Where the files failed, nothing happened.
+-- One event, from one machine and moment to another. Where the files failed, nothing happened but that they were asked for something.
 abbrev pub EventEnds : DomainEvent → Event → Machine → Machine → Moment → Moment → Result (Unit {0}) Stop → Type 0
 EventEnds opens event m new a b (Ok x) = IsPrinted (Happens opens event m) new a.out b.out a.out_faults b.out_faults (Ok x)
 EventEnds opens event m new a b (Err WriteFault) =
     IsPrinted (Happens opens event m) new a.out b.out a.out_faults b.out_faults (Err WriteFault)
 EventEnds opens event m new a b (Err OutOfMemory) = b.out ≡ a.out
-EventEnds opens event m new a b (Err ReadFault) = IsDomainEvent event × (b.out ≡ a.out) × HasRisen a.files_faults b.files_faults
+EventEnds opens event m new a b (Err ReadFault) =
+    IsDomainEvent event × (b.out ≡ a.out) × HasRisen a.files_faults b.files_faults × (b.asked ≢ a.asked)
 
 -- what an event asked of the files
 abbrev pub EventAsks : List ℕ → Event → List Ask → List Ask → Type 0
@@ -98,7 +99,7 @@ pub record RunsPart (opens : DomainEvent) (events : List Event) (a b : Moment) :
   pub run : FirstEvents opens events k lines last
   pub text : AppendsPart a.out b.out (text_of lines)
 
--- The first k events were run, and what was asked last is what the next event, a `domain` event, asked for.
+-- The first k events were run, and what was asked last is what the next event, a `domain` event, asked for, which is something.
 pub record StopsAtDomain (root : List ℕ) (opens : DomainEvent) (events : List Event) (a b : Moment) : Type 0 where
   pub k : ℕ
   pub whole : RunsWhole opens events k a b
@@ -109,6 +110,7 @@ pub record StopsAtDomain (root : List ℕ) (opens : DomainEvent) (events : List 
   pub asked_before : AsksForEvents root (take k events) before
   pub at_last : List Ask
   pub asked_at_last : AsksForFolder (root /- name) at_last
+  pub something : at_last ≢ []
   pub asked : b.asked ≡ a.asked ++ (before ++ at_last)
 
 -- All events, from a machine without domains. There may be no memory even for that one.

@@ -1,5 +1,5 @@
 -- What each status of the program says of its run. A tree is told or not, and so are the bytes of a sink.
-use Rattle.std.specs.Prelude.{◌≡◌, ℕ, ◌≤◌, ◌⊎◌, List, [], ◌∷◌, ◌++◌, Option, Some, None, take, slice_get, length}
+use Rattle.std.specs.Prelude.{◌≡◌, ◌≢◌, ℕ, ◌≤◌, ◌⊎◌, List, [], ◌∷◌, ◌++◌, Option, Some, None, take, slice_get, length}
 use Rattle.jk_model.specs.declared.output.Line.{Line}
 use Rattle.jk_model.specs.declared.script.Event.{Event}
 use Rattle.jk_model.specs.declared.script.Event.TheVariants.{Domain}
@@ -69,7 +69,7 @@ pub record IsStopped (tree : Option Tree) (words : List (List ℕ)) (old new : O
   pub text : AppendsPart old new (text_of lines)
 
 -- Stopped at a `domain` event: the whole text of the events before it went out, and what was asked last is what that
--- event asked for.
+-- event asked for, which is something.
 pub record IsStoppedBefore (tree : Option Tree) (words : List (List ℕ)) (old new : Option (List ℕ)) (asked asked' : List Ask) : Type 0 where
   pub root : List ℕ
   pub events : List Event
@@ -85,6 +85,7 @@ pub record IsStoppedBefore (tree : Option Tree) (words : List (List ℕ)) (old n
   pub asked_before : AsksForEvents root (take k events) before
   pub at_last : List Ask
   pub asked_at_last : AsksForFolder (root /- name) at_last
+  pub something : at_last ≢ []
   pub asks : asked' ≡ asked ++ ask_for_script has.script ∷ (before ++ at_last)
 
 -- Nothing but the script was asked for, and nothing went out.

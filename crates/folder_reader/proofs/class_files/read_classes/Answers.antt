@@ -1,6 +1,6 @@
 -- One class file more is read, and is of those that make the folder too large.
 use Rattle.std.proofs.Common.{Some, sym, ap, ◌∙◌, arith}
-use Rattle.folder_reader.proofs.CallsInTurn.{moves_on}
+use Rattle.folder_reader.proofs.CallsInTurn.{asked_since, handed_on, moves_on}
 use Rattle.folder_reader.proofs.ToldOrNot.{file_is_read, path_get, to_read_at}
 use Rattle.folder_reader.proofs.WholeWalk.{read_more, sum_more, too_long_with}
 use Rattle.folder_reader.proofs.class_files.read_classes.Goals as goal
@@ -35,3 +35,10 @@ loop-path-preserved g c =
       moves = moves_on c.args.root.now _ _ _ _ _ _ _ _ _ _ _ _ c.loop-path.invariant.moves c.in_ok-class.ensures.moves;
       calm = λ t is. c.in_ok-class.ensures.calm t (c.loop-path.invariant.moves.stays ∙ is) (λ fault. cc) ∙ c.loop-path.invariant.calm t is;
     }
+
+pub returns-in_err-class-clause-something : goal.returns-in_err-class-clause-something
+returns-in_err-class-clause-something g c = λ is.
+    let r = c.from_residual in
+    asked_since c.args.root.now _ _ _ _ _ _ _ _ _ _ _ _ c.loop-path.invariant.moves c.read_class.ensures.moves
+    (c.read_class.ensures.something
+    (handed_on r.result c.in_err-class.field-0.0 _ c.read_class.result r.ensures.1 is c.in_err-class.was))

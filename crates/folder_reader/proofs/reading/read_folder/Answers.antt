@@ -11,7 +11,7 @@ use Rattle.folder_reader.specs.Calls.{HasFile, HasFolder, IsLongFile}
 use Rattle.folder_reader.specs.Listings.{AreRead, IsToRead}
 use Rattle.folder_reader.specs.Paths.{class_paths, is_resolver, whole_path}
 use Rattle.folder_reader.specs.Walks.{IsFound, IsToldWalk}
-use Rattle.folder_reader.proofs.CallsInTurn.{handed_on, moved, moved_back}
+use Rattle.folder_reader.proofs.CallsInTurn.{asked_since, handed_on, moved, moved_back, moves_on}
 use Rattle.folder_reader.proofs.WholeWalk.{are_files, are_told_files, folder_there, resolver_there, to_read_all, too_long_resolver, too_many_files}
 use Rattle.folder_reader.proofs.reading.read_folder.Goals as goal
 
@@ -88,3 +88,18 @@ returns-clause-told g c =
     (λ path h. c.in_ok-paths.ensures.kept path (subst (λ (xs : List Found). Contains (class_paths xs) path) (sym c.as_slice.ensures.value) h)) to_read
     (λ has. subst (λ (t : Option Tree). FileIs t (whole_path root RESOLVER) c.in_ok-resolver.resolver) stays (c.in_ok-resolver.ensures.bytes (any ∙ has)))
     (λ none. c.in_ok-resolver.ensures.none (any ∙ none)) c.in_ok-resolver.ensures.short
+
+pub returns-in_err-classes-clause-something : goal.returns-in_err-classes-clause-something
+returns-in_err-classes-clause-something g c = λ is.
+    let r = c.from_residual-in_err-classes in
+    asked_since c.args.root.now _ _ _ _ _ _ _ _ _ _ _ _ c.in_ok-found.ensures.moves c.read_classes.ensures.moves
+    (c.read_classes.ensures.something
+    (handed_on r.result c.in_err-classes.field-0.0 _ c.read_classes.result r.ensures.1 is c.in_err-classes.was))
+
+pub returns-in_err-resolver-clause-something : goal.returns-in_err-resolver-clause-something
+returns-in_err-resolver-clause-something g c = λ is.
+    let r = c.from_residual-in_err-resolver in
+    let before = moves_on c.args.root.now _ _ _ _ _ _ _ _ _ _ _ _ c.in_ok-found.ensures.moves c.in_ok-classes.ensures.moves in
+    asked_since c.args.root.now _ _ _ _ _ _ _ _ _ _ _ _ before c.read_resolver.ensures.moves
+    (c.read_resolver.ensures.something
+    (handed_on r.result c.in_err-resolver.field-0.0 _ c.read_resolver.result r.ensures.1 is c.in_err-resolver.was))

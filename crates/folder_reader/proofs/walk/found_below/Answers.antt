@@ -2,7 +2,7 @@
 use Rattle.std.proofs.Common.{◌≡◌, ℕ, length, vec_len, refl, sym, ap, subst, arith}
 use Rattle.std.proofs.lemmas.Str.{IsUtf8-nil}
 use Rattle.folder_reader.specs.Walks.{AreFound, IsToldWalk}
-use Rattle.folder_reader.proofs.CallsInTurn.{no_move}
+use Rattle.folder_reader.proofs.CallsInTurn.{asked_since, handed_on, no_move}
 use Rattle.folder_reader.proofs.PathsTellNames.{within_self}
 use Rattle.folder_reader.proofs.ToldOrNot.{begins}
 use Rattle.folder_reader.proofs.walk.found_below.Goals as goal
@@ -25,3 +25,10 @@ returns-clause-walk g c =
     let v = c.loop-next.found in
     let all : c.loop-next.next ≡ vec_len v = omega (arith, c.loop-next-test.false, c.len.ensures, c.loop-next.invariant.within) in
     subst (λ (n : ℕ). IsToldWalk (g.F.Files.tree c.args.files.now) c.args.root.now v.items n) all c.loop-next.invariant.walk
+
+pub returns-in_err-look_at-clause-something : goal.returns-in_err-look_at-clause-something
+returns-in_err-look_at-clause-something g c = λ is.
+    let r = c.from_residual-in_err-look_at in
+    asked_since c.args.root.now _ _ _ _ _ _ _ _ _ _ _ _ c.loop-next.invariant.moves c.look_at.ensures.moves
+    (c.look_at.ensures.something
+    (handed_on r.result c.in_err-look_at.field-0.0 _ c.look_at.result r.ensures.1 is c.in_err-look_at.was))

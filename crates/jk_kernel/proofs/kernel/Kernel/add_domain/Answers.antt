@@ -31,6 +31,10 @@ pub returns-in-Err-clause-read_fault : goal.returns-in-Err-clause-read_fault
 returns-in-Err-clause-read_fault g c = λ e.
     c.load.ensures.read_fault (c.in-Err.is ∙ ap Err (load-fault c.in-Err.e c.not_loaded.result c.not_loaded.ensures (same-error e)))
 
+pub returns-in-Err-clause-something : goal.returns-in-Err-clause-something
+returns-in-Err-clause-something g c = λ e.
+    c.load.ensures.something (c.in-Err.is ∙ ap Err (load-fault c.in-Err.e c.not_loaded.result c.not_loaded.ensures (same-error e)))
+
 pub returns-in-Err-clause-calm : goal.returns-in-Err-clause-calm
 returns-in-Err-clause-calm g c = λ t told other.
     c.load.ensures.calm t told
