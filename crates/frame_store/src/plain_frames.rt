@@ -120,7 +120,7 @@ impl PlainFrames {
 }
 
 impl PlainFrames {
-    ghost use Rattle.std.specs.Prelude.{◌≡◌, ◌-◌, Some, IsTrue, ◌↔◌, length, slice_get};
+    ghost use Rattle.std.specs.Prelude.{◌≡◌, ℕ, ◌-◌, Some, IsTrue, ◌↔◌, length, slice_get};
     ghost use Rattle.jk_model_domains.specs.Frames.{FrameState as AFrame};
     ghost use Rattle.frame_store.specs.FrameContents.{HasTop, HasLocal, HasEntry, TopFrame};
     ghost use Rattle.frame_store.specs.StoreContents.{content_of, StandsAt};
@@ -139,6 +139,7 @@ impl PlainFrames {
     fn touch(&mut self, s: SegmentNo)
         requires { HasTop (content_of self.old.domains self.old.places) s }
         ensures same { content_of self.new.domains self.new.places ≡ content_of self.old.domains self.old.places }
+        ensures at { self.new.cursor.segment ≡ s.0 }
         ensures points { PointsAt self.new.domains self.new.places s.0 self.new.cursor }
     {
         if !self.is_at(s) {
@@ -152,6 +153,7 @@ impl PlainFrames {
     fn move_to(&mut self, s: SegmentNo)
         requires { HasTop (content_of self.old.domains self.old.places) s }
         ensures same { content_of self.new.domains self.new.places ≡ content_of self.old.domains self.old.places }
+        ensures at { self.new.cursor.segment ≡ s.0 }
         ensures points { PointsAt self.new.domains self.new.places s.0 self.new.cursor }
     {
         self.cursor = self.look_up(s);
