@@ -281,7 +281,7 @@ impl FrameStore for PlainFrames {
         let place = self.index_of(p.domain);
         match self.domains.get_index_mut(place) {
             Some(x) => x.push(p.slot, head),
-            None => Ok(()),
+            None => unreachable!(),
         }
     }
 
@@ -289,8 +289,9 @@ impl FrameStore for PlainFrames {
         self.cursor.set = false;
         let p = self.place(s);
         let place = self.index_of(p.domain);
-        if let Some(x) = self.domains.get_index_mut(place) {
-            x.pop(p.slot);
+        match self.domains.get_index_mut(place) {
+            Some(x) => x.pop(p.slot),
+            None => unreachable!(),
         }
     }
 
