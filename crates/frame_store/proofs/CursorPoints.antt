@@ -12,7 +12,7 @@ use Rattle.frame_store.specs.declared.segment_table.SegmentTable.{SegmentTable}
 use Rattle.frame_store.specs.FrameContents.{TopFrame}
 use Rattle.frame_store.specs.TableMoves as table
 use Rattle.frame_store.specs.ChainMoves.{count, place}
-use Rattle.frame_store.specs.DomainMoves.{lowest_block, value_at, top_number, HasTop, IsTopOf, IsFrameNumber}
+use Rattle.frame_store.specs.DomainMoves.{lowest_block, value_at, IsTopOf, IsFrameNumber}
 use Rattle.frame_store.specs.StoreContents.{content_of, IsStore, IsFound, IsStanding, StandsAt}
 use Rattle.frame_store.specs.StoreIsContent.{stands}
 use Rattle.frame_store.specs.Cursors.{HasDomainAt, IsTopAt, PointsAt}
@@ -26,7 +26,8 @@ some_place None e = absurd (cc)
 some_place (Some p) e = (p, refl)
 
 -- the frame in a domain in which the segment is found
-module _ {S : Type 0} (m : IndexMap ℕ DomainFrames S) (t : SegmentTable) (owed : ℕ) (s : SegmentNo) (h : IsStore m t owed) (at frame : ℕ) (k : IsTopAt m t s.0 at frame)
+module _ {S : Type 0} (m : IndexMap ℕ DomainFrames S) (t : SegmentTable) (owed : ℕ) (s : SegmentNo) (h : IsStore m t owed)
+    (at frame : ℕ) (k : IsTopAt m t s.0 at frame)
     (x : DomainFrames) (slot : ℕ) (f : IsFound m t s.0 x slot) where
   pub frame_is : IsFrameNumber x frame
   frame_is = let top = k.top x slot f in is_top_frame x slot frame top.has_top top.is
@@ -34,7 +35,8 @@ module _ {S : Type 0} (m : IndexMap ℕ DomainFrames S) (t : SegmentTable) (owed
   pub value_is : (g : FrameState) → TopFrame (content_of m t) s g → g ≡ value_at x frame
   value_is g top = (found_top_is m t owed s h x slot f g top).1 ∙ ap (value_at x) (sym (k.top x slot f).is)
 
-module _ {S : Type 0} (m : IndexMap ℕ DomainFrames S) (t : SegmentTable) (owed : ℕ) (s : SegmentNo) (h : IsStore m t owed) (at frame : ℕ) (k : IsTopAt m t s.0 at frame) where
+module _ {S : Type 0} (m : IndexMap ℕ DomainFrames S) (t : SegmentTable) (owed : ℕ) (s : SegmentNo) (h : IsStore m t owed)
+    (at frame : ℕ) (k : IsTopAt m t s.0 at frame) where
   -- the segment's domain
   abbrev pub found_at : IsStanding m t s.0
   found_at =
@@ -52,7 +54,8 @@ module _ {S : Type 0} (m : IndexMap ℕ DomainFrames S) (t : SegmentTable) (owed
   module _ (x : DomainFrames) (reads : (d : ℕ) (stands : StandsAt m d at) → x ≡ stands.domain) where
     pub found_here : IsFound m t s.0 x found_at.1
     found_here =
-        record { domain = found_at.2.domain; at = found_at.2.at; is = found_at.2.is ∙ ap (λ (z : DomainFrames). Some z) (sym (reads found_at.2.domain stands_at)) }
+        let same = reads found_at.2.domain stands_at in
+        record { domain = found_at.2.domain; at = found_at.2.at; is = found_at.2.is ∙ ap (λ (z : DomainFrames). Some z) (sym same) }
 
     pub frame_here : IsFrameNumber x frame
     frame_here = frame_is m t owed s h at frame k x found_at.1 found_here
@@ -107,8 +110,8 @@ same_top x y i frame chunks frames top =
     let Is : Chains → Type 0 = λ (q : Chains). frame ≡ place q i (count q i - 1) in
     record { has_top = (subst (λ n. i < n) (sym chunks) top.has_top.0, subst Deep (sym frames) top.has_top.1); is = subst Is (sym frames) top.is }
 
-module _ {S : Type 0} (m : IndexMap ℕ DomainFrames S) (t : SegmentTable) (owed : ℕ) (s : SegmentNo) (x y : DomainFrames) (slot : ℕ) (h : IsStore m t owed) (c : Cursor)
-    (k : PointsAt m t s.0 c) (f : IsFound m t s.0 x slot)
+module _ {S : Type 0} (m : IndexMap ℕ DomainFrames S) (t : SegmentTable) (owed : ℕ) (s : SegmentNo) (x y : DomainFrames) (slot : ℕ)
+    (h : IsStore m t owed) (c : Cursor) (k : PointsAt m t s.0 c) (f : IsFound m t s.0 x slot)
     (wrote : WritesThrough nat_eq (nat_eq f.domain) m y (with_value_at m c.domain y))
     (chunks : y.chunks ≡ x.chunks) (frames : y.frames ≡ x.frames) (parts : y.parts ≡ x.parts) where
   pub still_points : PointsAt (with_value_at m c.domain y) t s.0 c

@@ -22,7 +22,9 @@ module _ {S : Type 0} (old : FrameContent) (m : IndexMap ℕ DomainFrames S) (t 
     (k : PointsAt m t s.0 c) (same : content_of m t ≡ old) where
   -- a domain is at the cursor
   pub some_domain : None ≡ slice_get (values m) c.domain → ⊥
-  some_domain e = let found = found_at m t owed s h c.domain c.frame k.top in never_none m found.2.domain c.domain (stands_at m t owed s h c.domain c.frame k.top) e
+  some_domain e =
+      let found = found_at m t owed s h c.domain c.frame k.top in
+      never_none m found.2.domain c.domain (stands_at m t owed s h c.domain c.frame k.top) e
 
   module _ (x : DomainFrames) (read : Some x ≡ slice_get (values m) c.domain) where
     abbrev slot : ℕ
@@ -85,10 +87,14 @@ module _ {S : Type 0} (old : FrameContent) (m : IndexMap ℕ DomainFrames S) (t 
           let P : FrameState → Type 0 = λ g. SetsTop old (content_of n t) s (change g) in
           subst P (sym (was_top f top)) (sets_by f (change (top_of x slot)) top (b slot top_is))
 
-      pub taken_stays : (v : Value) → ((i : ℕ) → IsTopOf x i c.frame → TakesTopEntry x y i v) → y.frames ≡ x.frames → y.parts ≡ x.parts → c.segment ≡ s.0 → Stays
+      -- an entry is taken off the top frame
+      abbrev TakesOff : Value → Type 0
+      TakesOff v = (i : ℕ) → IsTopOf x i c.frame → TakesTopEntry x y i v
+
+      pub taken_stays : (v : Value) → TakesOff v → y.frames ≡ x.frames → y.parts ≡ x.parts → c.segment ≡ s.0 → Stays
       taken_stays v b frames parts at = stays_by _ (b slot top_is).2 frames parts at
 
-      pub takes : (v : Value) → ((i : ℕ) → IsTopOf x i c.frame → TakesTopEntry x y i v) → (f : FrameState) → TopFrame old s f → TakesEntry old (content_of n t) s f v
+      pub takes : (v : Value) → TakesOff v → (f : FrameState) → TopFrame old s f → TakesEntry old (content_of n t) s f v
       takes v b f top =
           let e = b slot top_is in
           let P : FrameState → Type 0 = λ g. SetsTop old (content_of n t) s (record g { stack = e.0 }) in (

@@ -1,5 +1,5 @@
 -- Where the top frame of a segment is.
-use Rattle.std.specs.Prelude.{◌≡◌, ℕ, Option, Some, IsSome, true, slice_get}
+use Rattle.std.specs.Prelude.{◌≡◌, ℕ, Some, IsSome, true, slice_get}
 use Rattle.indexmap.specs.IndexMap.{IndexMap}
 use Rattle.frame_store.specs.declared.cursor.Cursor.{Cursor}
 use Rattle.frame_store.specs.declared.domain_frames.DomainFrames.{DomainFrames}

@@ -1,5 +1,5 @@
 -- The local alone is written.
-use Rattle.std.proofs.Common.{◌≡◌, ◌≢◌, ◌<◌, ◌*◌, ◌∙◌, ◌++◌, ◌∷◌, [], ℕ, length, set, refl, sym, ap, subst, arith}
+use Rattle.std.proofs.Common.{◌≡◌, ◌≢◌, ◌<◌, ◌*◌, ◌∙◌, ◌++◌, ◌∷◌, [], ℕ, set, refl, sym, ap, subst, arith}
 use Rattle.frame_store.specs.ChainMoves.{count}
 use Rattle.frame_store.specs.FrameBlocks.{record_at, index_of, value_of, lowest_in}
 use Rattle.frame_store.specs.DomainMoves.{depth_of, lower_of, value_at, IsFrameNumber}

@@ -7,15 +7,16 @@ use Rattle.frame_store.proofs.plain_frames.PlainFramesFrameStore.head.Goals as g
 pub at-requires : goal.at-requires
 at-requires c =
     let st = c.args.self.now in
-    has_domain st.domains st.places st.owed c.args.s st.ok _ _ c.top-domain.ensures
+    has_domain _ _ _ c.args.s st.ok _ _ c.top-domain.ensures
 
 pub head-requires : goal.head-requires
 head-requires c =
     let st = c.args.self.now in
-    frame_here st.domains st.places st.owed c.args.s st.ok _ _ c.top-domain.ensures c.at.result.now c.at.ensures
+    frame_here _ _ _ c.args.s st.ok _ _ c.top-domain.ensures c.at.result.now c.at.ensures
 
 pub returns : goal.returns
 returns c =
     let st = c.args.self.now in
     λ f top.
-    c.head.ensures ∙ ap (λ (g : FrameState). g.head) (sym (value_here st.domains st.places st.owed c.args.s st.ok _ _ c.top-domain.ensures c.at.result.now c.at.ensures f top))
+    c.head.ensures
+    ∙ ap (λ (g : FrameState). g.head) (sym (value_here _ _ _ c.args.s st.ok _ _ c.top-domain.ensures c.at.result.now c.at.ensures f top))

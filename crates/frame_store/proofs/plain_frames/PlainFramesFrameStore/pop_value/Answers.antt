@@ -1,8 +1,7 @@
 -- An entry is taken off in the domain at the cursor.
 use Rattle.std.proofs.Common.{◌<◌, length, subst}
 use Rattle.jk_model_domains.specs.Frames.{FrameState}
-use Rattle.frame_store.specs.StoreContents.{content_of}
-use Rattle.frame_store.proofs.CursorWrites.{some_domain, frame_at, lowest_at, value_was, set_stays, sets, taken_stays, takes}
+use Rattle.frame_store.proofs.CursorWrites.{some_domain, frame_at, lowest_at, value_was, taken_stays, takes}
 use Rattle.frame_store.proofs.plain_frames.PlainFramesFrameStore.pop_value.Goals as goal
 
 pub touch-requires : goal.touch-requires
@@ -11,32 +10,39 @@ touch-requires c = (c.requires.0, c.requires.1)
 pub pop_value-requires-clause-frame : goal.pop_value-requires-clause-frame
 pop_value-requires-clause-frame c =
     let st = c.touch.new.self in
-    frame_at (content_of c.args.self.now.domains c.args.self.now.places) st.domains st.places st.owed c.args.s st.ok st.cursor c.touch.ensures.points c.touch.ensures.same c.in-Some.x.now c.in-Some.ensures.value
+    frame_at _ _ _ _ c.args.s st.ok st.cursor c.touch.ensures.points c.touch.ensures.same
+    c.in-Some.x.now c.in-Some.ensures.value
 
 pub pop_value-requires-clause-lowest : goal.pop_value-requires-clause-lowest
 pop_value-requires-clause-lowest c =
     let st = c.touch.new.self in
-    lowest_at (content_of c.args.self.now.domains c.args.self.now.places) st.domains st.places st.owed c.args.s st.ok st.cursor c.touch.ensures.points c.touch.ensures.same c.in-Some.x.now c.in-Some.ensures.value
+    lowest_at _ _ _ _ c.args.s st.ok st.cursor c.touch.ensures.points c.touch.ensures.same
+    c.in-Some.x.now c.in-Some.ensures.value
 
 pub pop_value-requires-clause-some : goal.pop_value-requires-clause-some
 pop_value-requires-clause-some c =
     let st = c.touch.new.self in
     let P : FrameState → Type 0 = λ (g : FrameState). 0 < length g.stack in
-    subst P (value_was (content_of c.args.self.now.domains c.args.self.now.places) st.domains st.places st.owed c.args.s st.ok st.cursor c.touch.ensures.points c.touch.ensures.same c.in-Some.x.now c.in-Some.ensures.value c.requires.0 c.requires.1) c.requires.2
+    subst P (value_was _ _ _ _ c.args.s st.ok st.cursor c.touch.ensures.points c.touch.ensures.same
+    c.in-Some.x.now c.in-Some.ensures.value c.requires.0 c.requires.1) c.requires.2
 
 pub invariant_of-self : goal.invariant_of-self
 invariant_of-self c =
     let st = c.touch.new.self in
     let e = c.pop_value.ensures in
-    let stays = taken_stays (content_of c.args.self.now.domains c.args.self.now.places) st.domains st.places st.owed c.args.s st.ok st.cursor c.touch.ensures.points c.touch.ensures.same c.in-Some.x.now c.in-Some.ensures.value c.pop_value.new.self c.get_index_mut.ensures.unique c.pop_value.result e.becomes e.frames e.parts c.touch.ensures.at in
+    let stays =
+    taken_stays _ _ _ _ c.args.s st.ok st.cursor c.touch.ensures.points c.touch.ensures.same
+    c.in-Some.x.now c.in-Some.ensures.value c.pop_value.new.self c.get_index_mut.ensures.unique
+    c.pop_value.result e.becomes e.frames e.parts c.touch.ensures.at in
     record { ok = stays.0; at = stays.1 }
 
 pub unreachable-requires : goal.unreachable-requires
 unreachable-requires c =
     let st = c.touch.new.self in
-    some_domain (content_of c.args.self.now.domains c.args.self.now.places) st.domains st.places st.owed c.args.s st.ok st.cursor c.touch.ensures.points c.touch.ensures.same c.in-None.ensures.value
+    some_domain _ _ _ _ c.args.s st.ok st.cursor c.touch.ensures.points c.touch.ensures.same c.in-None.ensures.value
 
 pub returns : goal.returns
 returns c =
     let st = c.touch.new.self in
-    takes (content_of c.args.self.now.domains c.args.self.now.places) st.domains st.places st.owed c.args.s st.ok st.cursor c.touch.ensures.points c.touch.ensures.same c.in-Some.x.now c.in-Some.ensures.value c.pop_value.new.self c.get_index_mut.ensures.unique c.pop_value.result c.pop_value.ensures.becomes
+    takes _ _ _ _ c.args.s st.ok st.cursor c.touch.ensures.points c.touch.ensures.same
+    c.in-Some.x.now c.in-Some.ensures.value c.pop_value.new.self c.get_index_mut.ensures.unique c.pop_value.result c.pop_value.ensures.becomes
