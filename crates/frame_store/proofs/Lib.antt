@@ -1,5 +1,7 @@
 pub mod BlocksAreGiven
 mod WrittenAt
+pub mod CursorPoints
+pub mod CursorWrites
 pub mod DomainCloses
 pub mod DomainIsEntered
 pub mod DomainIsKept

@@ -31,6 +31,10 @@ top_of d i = value_at d (top_number d i)
 abbrev pub lower_of : DomainFrames → ℕ → List FrameState
 lower_of d i = lowest_in d.frames d.parts d.records.items d.values.items i (depth_of d i - 1)
 
+-- the lowest block of the frame of this number
+abbrev pub lowest_block : DomainFrames → ℕ → ℕ
+lowest_block d f = place d.parts f 0
+
 -- a segment is in this slot
 abbrev pub IsSlot : DomainFrames → ℕ → Type 0
 IsSlot d i = (i < d.chunks) × IsLive d.slots i
@@ -38,6 +42,11 @@ IsSlot d i = (i < d.chunks) × IsLive d.slots i
 -- a segment with a frame is in this slot
 abbrev pub HasTop : DomainFrames → ℕ → Type 0
 HasTop d i = (i < d.chunks) × (0 < depth_of d i)
+
+-- The top frame of the segment in this slot has this number.
+pub record IsTopOf (d : DomainFrames) (i f : ℕ) : Type 0 where
+  pub has_top : HasTop d i
+  pub is : f ≡ top_number d i
 
 -- a frame has this number
 pub record IsFrameNumber (d : DomainFrames) (f : ℕ) : Type 0 where

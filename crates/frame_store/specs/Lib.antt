@@ -1,6 +1,7 @@
 pub mod Builds
 pub mod ChainMoves
 pub mod Chains
+pub mod Cursors
 pub mod DomainMoves
 pub mod Entries
 pub mod FrameBlocks

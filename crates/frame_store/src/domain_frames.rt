@@ -25,9 +25,9 @@ pub(crate) struct DomainFrames {
 }
 
 impl DomainFrames {
-    ghost use Rattle.std.specs.Prelude.{◌≡◌, ◌+◌, ◌-◌, ◌*◌, ◌^◌, ◌<◌, ◌≤◌, ◌++◌, ◌∷◌, [], Some, length, slice_get, slice_set, IfOk, OnOk, OnErr};
+    ghost use Rattle.std.specs.Prelude.{◌≡◌, ℕ, ◌+◌, ◌-◌, ◌*◌, ◌^◌, ◌<◌, ◌≤◌, ◌++◌, ◌∷◌, [], Some, length, slice_get, slice_set, IfOk, OnOk, OnErr};
     ghost use Rattle.jk_model_domains.specs.Frames.{FrameState as AFrame, new_frame, head_chunks, frames_chunks};
-    ghost use Rattle.frame_store.specs.DomainMoves.{depth_of, frames_of, top_of, top_number, lower_of, value_at, IsSlot, HasTop, IsFrameNumber, IsFresh, Opens, Becomes, Begins, Ends, TakesTopEntry};
+    ghost use Rattle.frame_store.specs.DomainMoves.{depth_of, frames_of, top_of, top_number, lower_of, lowest_block, value_at, IsSlot, HasTop, IsTopOf, IsFrameNumber, IsFresh, Opens, Becomes, Begins, Ends, TakesTopEntry};
 
     /// A domain without segments, which may use so many chunks.
     pub(crate) fn new(alloc: Global, chunks: u32) -> Result<DomainFrames, OutOfMemory>
@@ -155,81 +155,102 @@ impl DomainFrames {
         self.records[frame as usize].height
     }
 
-    /// A local of a frame.
-    pub(crate) fn local(&self, frame: u32, i: u16) -> Value
+    /// The lowest block of a frame.
+    pub(crate) fn lowest(&self, frame: u32) -> u32
+        requires { IsFrameNumber self.now frame }
+        ensures { result ≡ lowest_block self.now frame }
+    {
+        self.parts.at(frame, 0)
+    }
+
+    /// A local of a frame, whose lowest block this is.
+    pub(crate) fn local(&self, frame: u32, lowest: u32, i: u16) -> Value
         requires frame { IsFrameNumber self.now frame }
+        requires lowest { lowest ≡ lowest_block self.now frame }
         requires there { i < length (value_at self.now frame).locals }
         ensures { slice_get (value_at self.now frame).locals i ≡ Some result }
     {
-        self.values[value_index(&self.parts, frame, u32::from(i))]
+        self.values[value_index(&self.parts, frame, lowest, u32::from(i))]
     }
 
-    /// An entry of the operand stack of a frame.
-    pub(crate) fn entry(&self, frame: u32, i: u16) -> Value
+    /// An entry of the operand stack of a frame, whose lowest block this is.
+    pub(crate) fn entry(&self, frame: u32, lowest: u32, i: u16) -> Value
         requires frame { IsFrameNumber self.now frame }
+        requires lowest { lowest ≡ lowest_block self.now frame }
         requires there { i < length (value_at self.now frame).stack }
         ensures { slice_get (value_at self.now frame).stack i ≡ Some result }
     {
         let locals = self.records[frame as usize].head.max_locals;
-        self.values[value_index(&self.parts, frame, u32::from(locals) + u32::from(i))]
+        self.values[value_index(&self.parts, frame, lowest, u32::from(locals) + u32::from(i))]
     }
 
-    /// Sets where the top frame stands, and which class it needs.
-    pub(crate) fn go(&mut self, slot: u32, at: u32, need: Option<ClassId>)
-        requires { HasTop self.old slot }
-        ensures { let f = top_of self.old slot in
+    /// An entry of the operand stack of a frame, whose lowest block this is, by how many entries are above it.
+    pub(crate) fn entry_below(&self, frame: u32, lowest: u32, above: u16) -> Value
+        requires frame { IsFrameNumber self.now frame }
+        requires lowest { lowest ≡ lowest_block self.now frame }
+        requires there { above < length (value_at self.now frame).stack }
+        ensures { let entries = (value_at self.now frame).stack in slice_get entries (length entries - 1 - above) ≡ Some result }
+    {
+        self.entry(frame, lowest, self.height(frame) - 1 - above)
+    }
+
+    /// Sets where a top frame stands, and which class it needs.
+    pub(crate) fn go(&mut self, frame: u32, at: u32, need: Option<ClassId>)
+        requires { IsFrameNumber self.old frame }
+        ensures frames { self.new.frames ≡ self.old.frames }
+        ensures parts { self.new.parts ≡ self.old.parts }
+        ensures becomes { (slot : ℕ) → IsTopOf self.old slot frame → let f = top_of self.old slot in
             Becomes self.old self.new slot (lower_of self.old slot ++ record f { head = record f.head { at = at; need = need } } ∷ []) self.old.used }
     {
-        let frame = self.frames.top(slot);
         let set = &mut self.records[frame as usize];
         set.head.at = at;
         set.head.need = need;
     }
 
-    /// Sets a local of the top frame.
-    pub(crate) fn set_local(&mut self, slot: u32, i: u16, v: Value)
-        requires top { HasTop self.old slot }
-        requires there { i < length (top_of self.old slot).locals }
-        ensures { let f = top_of self.old slot in
+    /// Sets a local of a top frame, whose lowest block this is.
+    pub(crate) fn set_local(&mut self, frame: u32, lowest: u32, i: u16, v: Value)
+        requires frame { IsFrameNumber self.old frame }
+        requires lowest { lowest ≡ lowest_block self.old frame }
+        requires there { i < length (value_at self.old frame).locals }
+        ensures frames { self.new.frames ≡ self.old.frames }
+        ensures parts { self.new.parts ≡ self.old.parts }
+        ensures becomes { (slot : ℕ) → IsTopOf self.old slot frame → let f = top_of self.old slot in
             Becomes self.old self.new slot (lower_of self.old slot ++ record f { locals = slice_set f.locals i v } ∷ []) self.old.used }
     {
-        let frame = self.frames.top(slot);
-        let index = value_index(&self.parts, frame, u32::from(i));
+        let index = value_index(&self.parts, frame, lowest, u32::from(i));
         self.values[index] = v;
     }
 
-    /// Pushes an entry on the operand stack of the top frame.
-    pub(crate) fn push_value(&mut self, slot: u32, v: Value)
-        requires top { HasTop self.old slot }
-        requires room { length (top_of self.old slot).stack < (top_of self.old slot).head.max_stack }
-        ensures { let f = top_of self.old slot in
+    /// Pushes an entry on the operand stack of a top frame, whose lowest block this is.
+    pub(crate) fn push_value(&mut self, frame: u32, lowest: u32, v: Value)
+        requires frame { IsFrameNumber self.old frame }
+        requires lowest { lowest ≡ lowest_block self.old frame }
+        requires room { length (value_at self.old frame).stack < (value_at self.old frame).head.max_stack }
+        ensures frames { self.new.frames ≡ self.old.frames }
+        ensures parts { self.new.parts ≡ self.old.parts }
+        ensures becomes { (slot : ℕ) → IsTopOf self.old slot frame → let f = top_of self.old slot in
             Becomes self.old self.new slot (lower_of self.old slot ++ record f { stack = f.stack ++ v ∷ [] } ∷ []) self.old.used }
     {
-        let frame = self.frames.top(slot);
-        let top = self.records[frame as usize];
-        let index = value_index(
-            &self.parts,
-            frame,
-            u32::from(top.head.max_locals) + u32::from(top.height),
-        );
+        let record = &mut self.records[frame as usize];
+        let value = u32::from(record.head.max_locals) + u32::from(record.height);
+        record.height += 1;
+        let index = value_index(&self.parts, frame, lowest, value);
         self.values[index] = v;
-        self.records[frame as usize].height = top.height + 1;
     }
 
-    /// Takes the top entry off the operand stack of the top frame.
-    pub(crate) fn pop_value(&mut self, slot: u32) -> Value
-        requires top { HasTop self.old slot }
-        requires some { 0 < length (top_of self.old slot).stack }
-        ensures { TakesTopEntry self.old self.new slot result }
+    /// Takes the top entry off the operand stack of a top frame, whose lowest block this is.
+    pub(crate) fn pop_value(&mut self, frame: u32, lowest: u32) -> Value
+        requires frame { IsFrameNumber self.old frame }
+        requires lowest { lowest ≡ lowest_block self.old frame }
+        requires some { 0 < length (value_at self.old frame).stack }
+        ensures frames { self.new.frames ≡ self.old.frames }
+        ensures parts { self.new.parts ≡ self.old.parts }
+        ensures becomes { (slot : ℕ) → IsTopOf self.old slot frame → TakesTopEntry self.old self.new slot result }
     {
-        let frame = self.frames.top(slot);
-        let top = self.records[frame as usize];
-        let index = value_index(
-            &self.parts,
-            frame,
-            u32::from(top.head.max_locals) + u32::from(top.height) - 1,
-        );
-        self.records[frame as usize].height = top.height - 1;
+        let record = &mut self.records[frame as usize];
+        record.height -= 1;
+        let value = u32::from(record.head.max_locals) + u32::from(record.height);
+        let index = value_index(&self.parts, frame, lowest, value);
         self.values[index]
     }
 

@@ -4,7 +4,7 @@
 ghost use Rattle.std.specs.Prelude.{◌≡◌, ◌≢◌, ◌+◌, ◌*◌, ◌^◌, ◌<◌, ◌≤◌, length, slice_index_or};
 ghost use Rattle.jk_model.specs.declared.values.Value.TheVariants.{Unset};
 ghost use Rattle.jk_model_domains.specs.Frames.{head_chunks};
-ghost use Rattle.frame_store.specs.ChainMoves.{count, nodes, stacks};
+ghost use Rattle.frame_store.specs.ChainMoves.{count, place, nodes, stacks};
 ghost use Rattle.frame_store.specs.FrameBlocks.{index_of, IsCleared, TakesBlocks, GivesBlocks};
 
 use crate::chains::Chains;
@@ -26,13 +26,17 @@ pub(crate) fn head_chunks(head: &FrameHead) -> u32
     (4 + u32::from(head.max_locals) + u32::from(head.max_stack) + 19) / 20
 }
 
-/// Where a value of a frame is.
-pub(crate) fn value_index(parts: &Chains, frame: u32, value: u32) -> usize
+/// Where a value of a frame is, whose lowest block this is: most values are in it.
+pub(crate) fn value_index(parts: &Chains, frame: u32, lowest: u32, value: u32) -> usize
     requires there { frame < stacks parts.now }
+    requires lowest { lowest ≡ place parts.now frame 0 }
     requires some { value < 20 * count parts.now frame }
     ensures index { result ≡ index_of parts.now frame value }
     ensures within { result < 20 * nodes parts.now }
 {
+    if value < 20 {
+        return 20 * lowest as usize + value as usize;
+    }
     let block = parts.at(frame, value / 20);
     20 * block as usize + (value % 20) as usize
 }

@@ -4,6 +4,7 @@
 #![tactic(auto)]
 
 mod chains;
+mod cursor;
 mod domain_frames;
 mod frame_blocks;
 mod plain_frames;

@@ -3,7 +3,9 @@
 ghost use Rattle.std.specs.Prelude.{◌≡◌, ◌≤◌, IsSome, Some, None, nat_eq};
 ghost use Rattle.indexmap.specs.IndexMap.{get};
 ghost use Rattle.frame_store.specs.StoreContents.{IsStore, AreForgotten};
+ghost use Rattle.frame_store.specs.Cursors.{IsCursor};
 
+use crate::cursor::{Cursor, UNSET};
 use crate::domain_frames::DomainFrames;
 use crate::segment_table::{Place, SegmentTable};
 use crate::slot_set::SlotSet;
@@ -22,7 +24,10 @@ pub struct PlainFrames {
     places: SegmentTable,
     /// How many more segments the domains may begin.
     owed: u64,
+    /// Where the store was last at work.
+    cursor: Cursor,
     ghost ok: { IsStore domains places owed },
+    ghost at: { IsCursor domains places cursor },
 }
 
 impl PlainFrames {
@@ -45,6 +50,7 @@ impl PlainFrames {
             domains: IndexMap::new(alloc),
             places: SegmentTable::empty(alloc),
             owed: 0,
+            cursor: UNSET,
         }
     }
 
@@ -92,6 +98,7 @@ impl PlainFrames {
         ensures ok { OnOk result (Enters self.old.domains self.new.domains self.old.places self.new.places d fresh) }
         ensures err { OnErr result (IsUnentered self.old.domains self.new.domains self.old.places self.new.places) }
     {
+        self.cursor.set = false;
         let more = self.owed + u64::from(fresh.chunks);
         if more >= 2_147_483_648 {
             return Err(OutOfMemory);
@@ -112,6 +119,126 @@ impl PlainFrames {
     }
 }
 
+impl PlainFrames {
+    ghost use Rattle.std.specs.Prelude.{◌≡◌, ℕ, ◌-◌, Some, IsTrue, ◌↔◌, length, slice_get};
+    ghost use Rattle.jk_model_domains.specs.Frames.{FrameState as AFrame};
+    ghost use Rattle.frame_store.specs.FrameContents.{HasTop, HasLocal, HasEntry, TopFrame};
+    ghost use Rattle.frame_store.specs.StoreContents.{content_of, StandsAt};
+    ghost use Rattle.frame_store.specs.Cursors.{HasDomainAt, IsTopAt, PointsAt};
+
+    /// Whether the cursor is at a segment.
+    fn is_at(&self, s: SegmentNo) -> bool
+        ensures is { IsTrue result ↔ (IsTrue self.now.cursor.set × (self.now.cursor.segment ≡ s.0)) }
+        ensures points { IsTrue result → PointsAt self.now.domains self.now.places s.0 self.now.cursor }
+    {
+        self.cursor.set && self.cursor.segment == s.0
+    }
+
+    /// Moves the cursor to a segment, if it isn't there.
+    #[inline(always)]
+    fn touch(&mut self, s: SegmentNo)
+        requires { HasTop (content_of self.old.domains self.old.places) s }
+        ensures same { content_of self.new.domains self.new.places ≡ content_of self.old.domains self.old.places }
+        ensures at { self.new.cursor.segment ≡ s.0 }
+        ensures points { PointsAt self.new.domains self.new.places s.0 self.new.cursor }
+    {
+        if !self.is_at(s) {
+            self.move_to(s);
+        }
+    }
+
+    /// Moves the cursor to a segment.
+    #[cold]
+    #[inline(never)]
+    fn move_to(&mut self, s: SegmentNo)
+        requires { HasTop (content_of self.old.domains self.old.places) s }
+        ensures same { content_of self.new.domains self.new.places ≡ content_of self.old.domains self.old.places }
+        ensures at { self.new.cursor.segment ≡ s.0 }
+        ensures points { PointsAt self.new.domains self.new.places s.0 self.new.cursor }
+    {
+        self.cursor = self.look_up(s);
+    }
+
+    /// Where the top frame of a segment is.
+    fn look_up(&self, s: SegmentNo) -> Cursor
+        requires { HasTop (content_of self.now.domains self.now.places) s }
+        ensures set { IsTrue result.set }
+        ensures segment { result.segment ≡ s.0 }
+        ensures points { PointsAt self.now.domains self.now.places s.0 result }
+    {
+        let p = self.place(s);
+        let domain = self.index_of(p.domain);
+        let x = self.at(domain);
+        let frame = x.top(p.slot);
+        Cursor {
+            set: true,
+            segment: s.0,
+            domain,
+            frame,
+            lowest: x.lowest(frame),
+        }
+    }
+
+    /// The domain at a place of the map.
+    fn at(&self, place: usize) -> &DomainFrames
+        requires { HasDomainAt self.now.domains place }
+        ensures { (d : ℕ) (stands : StandsAt self.now.domains d place) → result.now ≡ stands.domain }
+    {
+        match self.domains.get_index(place) {
+            Some((_, x)) => x,
+            None => unreachable!(),
+        }
+    }
+
+    /// The place of a segment's domain in the map, and the number of the segment's top frame.
+    #[inline(always)]
+    fn top(&self, s: SegmentNo) -> (usize, u32)
+        requires { HasTop (content_of self.now.domains self.now.places) s }
+        ensures { IsTopAt self.now.domains self.now.places s.0 result.0 result.1 }
+    {
+        if self.is_at(s) {
+            (self.cursor.domain, self.cursor.frame)
+        } else {
+            self.far_top(s)
+        }
+    }
+
+    /// As `top`, where the cursor is elsewhere.
+    #[cold]
+    #[inline(never)]
+    fn far_top(&self, s: SegmentNo) -> (usize, u32)
+        requires { HasTop (content_of self.now.domains self.now.places) s }
+        ensures { IsTopAt self.now.domains self.now.places s.0 result.0 result.1 }
+    {
+        let found = self.look_up(s);
+        (found.domain, found.frame)
+    }
+
+    /// As `local`, where the cursor is elsewhere.
+    #[cold]
+    #[inline(never)]
+    fn far_local(&self, s: SegmentNo, i: u16) -> Value
+        requires { HasLocal (content_of self.now.domains self.now.places) s i }
+        ensures { (f : AFrame) → TopFrame (content_of self.now.domains self.now.places) s f → slice_get f.locals i ≡ Some result }
+    {
+        let found = self.look_up(s);
+        self.at(found.domain).local(found.frame, found.lowest, i)
+    }
+
+    /// As `peek`, where the cursor is elsewhere.
+    #[cold]
+    #[inline(never)]
+    fn far_peek(&self, s: SegmentNo, below: u16) -> Value
+        requires { HasEntry (content_of self.now.domains self.now.places) s below }
+        ensures { (f : AFrame) → TopFrame (content_of self.now.domains self.now.places) s f
+            → slice_get f.stack (length f.stack - 1 - below) ≡ Some result }
+    {
+        let found = self.look_up(s);
+        self.at(found.domain)
+            .entry_below(found.frame, found.lowest, below)
+    }
+}
+
 impl FrameStore for PlainFrames {
     ghost use Rattle.frame_store.specs.StoreContents.{content_of};
     ghost use Rattle.frame_store.specs.StoreIsContent.{store_holds};
@@ -129,6 +256,7 @@ impl FrameStore for PlainFrames {
     }
 
     fn begin(&mut self, d: DomainId, s: SegmentNo, head: FrameHead) -> Result<(), NoChunks> {
+        self.cursor.set = false;
         if let Some(x) = self.domains.get_mut(&d.0) {
             let slot = x.begin(s.0, head)?;
             self.places.insert(s.0, Place { domain: d.0, slot });
@@ -138,6 +266,7 @@ impl FrameStore for PlainFrames {
     }
 
     fn end(&mut self, s: SegmentNo) {
+        self.cursor.set = false;
         let p = self.place(s);
         if let Some(x) = self.domains.get_mut(&p.domain) {
             x.end(p.slot);
@@ -147,19 +276,22 @@ impl FrameStore for PlainFrames {
     }
 
     fn push(&mut self, s: SegmentNo, head: FrameHead) -> Result<(), NoChunks> {
+        self.cursor.set = false;
         let p = self.place(s);
         let place = self.index_of(p.domain);
         match self.domains.get_index_mut(place) {
             Some(x) => x.push(p.slot, head),
-            None => Ok(()),
+            None => unreachable!(),
         }
     }
 
     fn pop(&mut self, s: SegmentNo) {
+        self.cursor.set = false;
         let p = self.place(s);
         let place = self.index_of(p.domain);
-        if let Some(x) = self.domains.get_index_mut(place) {
-            x.pop(p.slot);
+        match self.domains.get_index_mut(place) {
+            Some(x) => x.pop(p.slot),
+            None => unreachable!(),
         }
     }
 
@@ -168,61 +300,76 @@ impl FrameStore for PlainFrames {
         x.depth(slot)
     }
 
+    #[inline(always)]
     fn head(&self, s: SegmentNo) -> FrameHead {
-        let (x, slot) = self.find(s);
-        x.head(x.top(slot))
+        let (domain, frame) = self.top(s);
+        self.at(domain).head(frame)
     }
 
+    #[inline(always)]
     fn go(&mut self, s: SegmentNo, at: u32, need: Option<ClassId>) {
-        let p = self.place(s);
-        let place = self.index_of(p.domain);
-        if let Some(x) = self.domains.get_index_mut(place) {
-            x.go(p.slot, at, need);
+        self.touch(s);
+        match self.domains.get_index_mut(self.cursor.domain) {
+            Some(x) => x.go(self.cursor.frame, at, need),
+            None => unreachable!(),
         }
     }
 
+    #[inline(always)]
     fn local(&self, s: SegmentNo, i: u16) -> Value {
-        let (x, slot) = self.find(s);
-        x.local(x.top(slot), i)
+        if self.is_at(s) {
+            self.at(self.cursor.domain)
+                .local(self.cursor.frame, self.cursor.lowest, i)
+        } else {
+            self.far_local(s, i)
+        }
     }
 
+    #[inline(always)]
     fn set_local(&mut self, s: SegmentNo, i: u16, v: Value) {
-        let p = self.place(s);
-        let place = self.index_of(p.domain);
-        if let Some(x) = self.domains.get_index_mut(place) {
-            x.set_local(p.slot, i, v);
+        self.touch(s);
+        match self.domains.get_index_mut(self.cursor.domain) {
+            Some(x) => x.set_local(self.cursor.frame, self.cursor.lowest, i, v),
+            None => unreachable!(),
         }
     }
 
+    #[inline(always)]
     fn height(&self, s: SegmentNo) -> u16 {
-        let (x, slot) = self.find(s);
-        x.height(x.top(slot))
+        let (domain, frame) = self.top(s);
+        self.at(domain).height(frame)
     }
 
+    #[inline(always)]
     fn peek(&self, s: SegmentNo, below: u16) -> Value {
-        let (x, slot) = self.find(s);
-        let top = x.top(slot);
-        x.entry(top, x.height(top) - 1 - below)
-    }
-
-    fn push_value(&mut self, s: SegmentNo, v: Value) {
-        let p = self.place(s);
-        let place = self.index_of(p.domain);
-        if let Some(x) = self.domains.get_index_mut(place) {
-            x.push_value(p.slot, v);
+        if self.is_at(s) {
+            let x = self.at(self.cursor.domain);
+            x.entry_below(self.cursor.frame, self.cursor.lowest, below)
+        } else {
+            self.far_peek(s, below)
         }
     }
 
+    #[inline(always)]
+    fn push_value(&mut self, s: SegmentNo, v: Value) {
+        self.touch(s);
+        match self.domains.get_index_mut(self.cursor.domain) {
+            Some(x) => x.push_value(self.cursor.frame, self.cursor.lowest, v),
+            None => unreachable!(),
+        }
+    }
+
+    #[inline(always)]
     fn pop_value(&mut self, s: SegmentNo) -> Value {
-        let p = self.place(s);
-        let place = self.index_of(p.domain);
-        match self.domains.get_index_mut(place) {
-            Some(x) => x.pop_value(p.slot),
-            None => Value::Unset,
+        self.touch(s);
+        match self.domains.get_index_mut(self.cursor.domain) {
+            Some(x) => x.pop_value(self.cursor.frame, self.cursor.lowest),
+            None => unreachable!(),
         }
     }
 
     fn close(&mut self, d: DomainId) {
+        self.cursor.set = false;
         if let Some(x) = self.domains.get(&d.0) {
             let chunks = x.chunks;
             let live = x.slots.live;
@@ -247,14 +394,15 @@ impl FrameStore for PlainFrames {
 
     fn local_at(&self, s: SegmentNo, n: u32, i: u16) -> Value {
         let (x, slot) = self.find(s);
-        x.local(x.frame(slot, n), i)
+        let frame = x.frame(slot, n);
+        x.local(frame, x.lowest(frame), i)
     }
 
     fn entry_at(&self, s: SegmentNo, n: u32, i: u16) -> Option<Value> {
         let (x, slot) = self.find(s);
         let frame = x.frame(slot, n);
         if i < x.height(frame) {
-            Some(x.entry(frame, i))
+            Some(x.entry(frame, x.lowest(frame), i))
         } else {
             None
         }

@@ -1,80 +1,72 @@
 -- The height alone is written.
-use Rattle.std.proofs.Common.{◌≡◌, ◌<◌, ◌+◌, ◌-◌, ◌^◌, ◌∙◌, ◌++◌, ◌∷◌, [], ℕ, length, get_or, set, refl, sym, ap, subst, arith}
+use Rattle.std.proofs.Common.{◌≡◌, ◌<◌, ◌+◌, ◌-◌, ◌^◌, ◌∙◌, ◌++◌, ◌∷◌, [], ℕ, get_or, set, refl, sym, ap, subst, arith}
 use Rattle.std.proofs.lemmas.List.{get_or_read}
 use Rattle.jk_model.specs.declared.values.Value.TheVariants.{Unset}
 use Rattle.jk_model_domains.specs.Frames.{head_chunks}
 use Rattle.frame_store.specs.declared.frame_blocks.FrameRecord.{FrameRecord}
 use Rattle.frame_store.specs.FrameBlocks.{build, no_record, record_at, index_of, value_of, frame_of, lowest_in}
 use Rattle.frame_store.specs.DomainMoves.{depth_of, lower_of, value_at}
-use Rattle.frame_store.proofs.TopIsWritten.{is_top_frame, record_lt, in_blocks, value_lt, values_few, write_top, write_others, other_records_of, record_keeps}
+use Rattle.frame_store.proofs.TopIsWritten.{record_lt, in_blocks, value_lt, values_few, write_top, write_others, other_records_of, record_keeps}
 use Rattle.frame_store.proofs.TopValues.{entry_is_off, entry_was_top, height_is}
 use Rattle.frame_store.proofs.domain_frames.DomainFrames.pop_value.Goals as goal
 
-pub overflow_add-from : goal.overflow_add-from
-overflow_add-from c =
+pub overflow_add-value : goal.overflow_add-value
+overflow_add-value c =
     let d = c.args.self.now in
-    let f = c.top-frame.result in
-    let is = is_top_frame d c.args.slot f c.requires.top c.top-frame.ensures.top in
-    let read = get_or_read d.records.items _ _ (record_lt d f is) c.index-top.ensures no_record in
+    let f = c.args.frame in
+    let is = c.requires.frame in
+    let read = get_or_read d.records.items _ _ (record_lt d f is) c.index_mut-record.ensures.value no_record in
     omega (arith, c.from.ensures, c.from-2.ensures, ap (λ (r : FrameRecord). r.head.max_locals + r.height) read, values_few d f is)
 
 pub invariant_of-self : goal.invariant_of-self
 invariant_of-self c =
     let d = c.args.self.now in
-    let f = c.top-frame.result in
-    let is = is_top_frame d c.args.slot f c.requires.top c.top-frame.ensures.top in
-    let read = get_or_read d.records.items _ _ (record_lt d f is) c.index-top.ensures no_record in
-    let again = get_or_read d.records.items _ _ (record_lt d f is) c.index_mut.ensures.value no_record in
+    let f = c.args.frame in
+    let is = c.requires.frame in
+    let read = get_or_read d.records.items _ _ (record_lt d f is) c.index_mut-record.ensures.value no_record in
     let Q : FrameRecord → Type 0 = λ (x : FrameRecord). x.head.max_stack < 2 ^ 16 in
-    let most : c.index_mut.result.now.head.max_stack ≡ (record_at d.records.items f).head.max_stack = ap (λ (r : FrameRecord). r.head.max_stack) again in
-    let height : c.index-top.result.now.height ≡ (record_at d.records.items f).height = ap (λ (r : FrameRecord). r.height) read in
+    let most : c.index_mut-record.result.now.head.max_stack ≡ (record_at d.records.items f).head.max_stack = ap (λ (r : FrameRecord). r.head.max_stack) read in
+    let height : c.index_mut-record.result.now.height ≡ (record_at d.records.items f).height = ap (λ (r : FrameRecord). r.height) read in
     record {
       ok =
-          record_keeps d f (record c.index_mut.result.now { height = c.index-top.result.now.height - 1 }) d.values.items refl is.within
-          (ap (λ (x : FrameRecord). head_chunks x.head) again) (omega (arith, is.framed.low)) (subst Q (sym again) is.framed.small);
+          record_keeps d f (record c.index_mut-record.result.now { height = c.index_mut-record.result.now.height - 1 }) d.values.items refl is.within
+          (ap (λ (x : FrameRecord). head_chunks x.head) read) (omega (arith, is.framed.low)) (subst Q (sym read) is.framed.small);
     }
 
-pub returns : goal.returns
-returns c =
+pub returns-clause-becomes : goal.returns-clause-becomes
+returns-clause-becomes c =
     let d = c.args.self.now in
-    let i = c.args.slot in
-    let f = c.top-frame.result in
-    let is = is_top_frame d i f c.requires.top c.top-frame.ensures.top in
-    let read = get_or_read d.records.items _ _ (record_lt d f is) c.index-top.ensures no_record in
-    let again = get_or_read d.records.items _ _ (record_lt d f is) c.index_mut.ensures.value no_record in
+    let f = c.args.frame in
+    let is = c.requires.frame in
+    let read = get_or_read d.records.items _ _ (record_lt d f is) c.index_mut-record.ensures.value no_record in
     let r = record_at d.records.items f in
     let q = r.head.max_locals + (r.height - 1) in
-    let P : ℕ → Type 0 = λ g. 0 < length (value_at d g).stack in
-    let some : 0 < r.height = omega (arith, subst P (sym c.top-frame.ensures.top) c.requires.some, height_is d f is) in
-    let sum : c.from.result + c.from-2.result - 1 ≡ q =
+    let some : 0 < r.height = omega (arith, c.requires.some, height_is d f is) in
+    let sum : c.from.result + c.from-2.result ≡ q =
     omega (arith, c.from.ensures, c.from-2.ensures, ap (λ (x : FrameRecord). x.head.max_locals) read, ap (λ (x : FrameRecord). x.height) read) in
     let at : c.value_index-index.result ≡ index_of d.parts f q = c.value_index-index.ensures.index ∙ ap (index_of d.parts f) sum in
     let lt = value_lt d f q is (in_blocks d f q is (omega (arith, is.framed.low))) in
     let value = get_or_read d.values.items _ _ (omega (arith, at)) c.index.ensures Unset in
     let v : c.index.result.now ≡ value_of d.parts d.values.items f q = value ∙ ap (λ k. get_or d.values.items k Unset) at in
     let below = build (λ p. value_of d.parts d.values.items f (r.head.max_locals + p)) (r.height - 1) in
-    let written : FrameRecord = record c.index_mut.result.now { height = c.index-top.result.now.height - 1 } in
+    let written : FrameRecord = record c.index_mut-record.result.now { height = c.index_mut-record.result.now.height - 1 } in
     let records = set d.records.items f written in
-    let down : FrameRecord = record c.index_mut.result.now { height = c.index_mut.result.now.height - 1 } in
-    let same : written ≡ down =
-    ap (λ n. let x : FrameRecord = record c.index_mut.result.now { height = n - 1 } in x)
-    (ap (λ (x : FrameRecord). x.height) read ∙ sym (ap (λ (x : FrameRecord). x.height) again)) in
     let off : frame_of d.parts records d.values.items f ≡ record (value_at d f) { stack = below } =
-    ap (λ x. frame_of d.parts (set d.records.items f x) d.values.items f) same
-    ∙ entry_is_off d f is c.index_mut.result.now again in
+    entry_is_off d f is c.index_mut-record.result.now read in
+    λ i top.
     let S : ℕ → Type 0 = λ k. lowest_in d.frames d.parts records d.values.items i (depth_of d i) ≡ lower_of d i ++ record (value_at d k) { stack = below } ∷ [] in
     let T : ℕ → Type 0 = λ k. (value_at d k).stack ≡ below ++ c.index.result.now ∷ [] in (
       below,
-      subst T c.top-frame.ensures.top (entry_was_top d f is some ∙ ap (λ x. below ++ x ∷ []) (sym v)),
+      subst T top.is (entry_was_top d f is some ∙ ap (λ x. below ++ x ∷ []) (sym v)),
       record {
         same_chunks = refl;
         same_slots = refl;
         becomes =
-            subst S c.top-frame.ensures.top
-            (write_top d i f c.requires.top c.top-frame.ensures.top records d.values.items (λ g ne. other_records_of d.records.items f g written ne)
+            subst S top.is
+            (write_top d i f top.has_top top.is records d.values.items (λ g ne. other_records_of d.records.items f g written ne)
             (λ _ _ _ _ _. refl) _ off);
         others =
-            write_others d i f c.requires.top c.top-frame.ensures.top records d.values.items (λ g ne. other_records_of d.records.items f g written ne)
+            write_others d i f top.has_top top.is records d.values.items (λ g ne. other_records_of d.records.items f g written ne)
             (λ _ _ _ _ _. refl);
         uses = refl;
       },

@@ -1,90 +1,80 @@
 -- The entry is written above the others.
-use Rattle.std.proofs.Common.{◌≡◌, ◌≢◌, ◌<◌, ◌+◌, ◌*◌, ◌^◌, ◌∙◌, ◌++◌, ◌∷◌, [], ℕ, length, set, refl, sym, ap, subst, arith}
+use Rattle.std.proofs.Common.{◌≡◌, ◌≢◌, ◌<◌, ◌+◌, ◌*◌, ◌^◌, ◌∙◌, ◌++◌, ◌∷◌, [], ℕ, set, refl, sym, ap, subst, arith}
 use Rattle.std.proofs.lemmas.List.{get_or_read, length-set}
 use Rattle.jk_model_domains.specs.Frames.{head_chunks}
 use Rattle.frame_store.specs.declared.frame_blocks.FrameRecord.{FrameRecord}
 use Rattle.frame_store.specs.ChainMoves.{count}
 use Rattle.frame_store.specs.FrameBlocks.{no_record, record_at, index_of, value_of, frame_of, lowest_in}
 use Rattle.frame_store.specs.DomainMoves.{depth_of, lower_of, value_at, IsFrameNumber}
-use Rattle.frame_store.proofs.TopIsWritten.{is_top_frame, record_lt, in_blocks, values_few, write_top, write_others, other_records_of, other_value, record_keeps}
+use Rattle.frame_store.proofs.TopIsWritten.{record_lt, in_blocks, values_few, write_top, write_others, other_records_of, other_value, record_keeps}
 use Rattle.frame_store.proofs.TopValues.{entry_is_pushed, height_is}
 use Rattle.frame_store.proofs.domain_frames.DomainFrames.push_value.Goals as goal
 
-pub overflow_add-from : goal.overflow_add-from
-overflow_add-from c =
+pub overflow_add-value : goal.overflow_add-value
+overflow_add-value c =
     let d = c.args.self.now in
-    let f = c.top-frame.result in
-    let is = is_top_frame d c.args.slot f c.requires.top c.top-frame.ensures.top in
-    let read = get_or_read d.records.items _ _ (record_lt d f is) c.index-top.ensures no_record in
+    let f = c.args.frame in
+    let is = c.requires.frame in
+    let read = get_or_read d.records.items _ _ (record_lt d f is) c.index_mut-record.ensures.value no_record in
     omega (arith, c.from.ensures, c.from-2.ensures, ap (λ (r : FrameRecord). r.head.max_locals + r.height) read, values_few d f is)
 
-pub overflow_add-top : goal.overflow_add-top
-overflow_add-top c =
+pub overflow_add-record : goal.overflow_add-record
+overflow_add-record c =
     let d = c.args.self.now in
-    let f = c.top-frame.result in
-    let is = is_top_frame d c.args.slot f c.requires.top c.top-frame.ensures.top in
-    let read = get_or_read d.records.items _ _ (record_lt d f is) c.index-top.ensures no_record in
-    let P : ℕ → Type 0 = λ g. length (value_at d g).stack < (value_at d g).head.max_stack in
-    let room = subst P (sym c.top-frame.ensures.top) c.requires.room in
+    let f = c.args.frame in
+    let is = c.requires.frame in
+    let read = get_or_read d.records.items _ _ (record_lt d f is) c.index_mut-record.ensures.value no_record in
+    let room = c.requires.room in
     omega (arith, ap (λ (r : FrameRecord). r.height) read, room, height_is d f is, is.framed.small)
 
 pub invariant_of-self : goal.invariant_of-self
 invariant_of-self c =
     let d = c.args.self.now in
-    let f = c.top-frame.result in
-    let is = is_top_frame d c.args.slot f c.requires.top c.top-frame.ensures.top in
-    let read = get_or_read d.records.items _ _ (record_lt d f is) c.index-top.ensures no_record in
-    let again = get_or_read d.records.items _ _ (record_lt d f is) c.index_mut-2.ensures.value no_record in
-    let P : ℕ → Type 0 = λ g. length (value_at d g).stack < (value_at d g).head.max_stack in
-    let room = subst P (sym c.top-frame.ensures.top) c.requires.room in
+    let f = c.args.frame in
+    let is = c.requires.frame in
+    let read = get_or_read d.records.items _ _ (record_lt d f is) c.index_mut-record.ensures.value no_record in
+    let room = c.requires.room in
     let Q : FrameRecord → Type 0 = λ (x : FrameRecord). x.head.max_stack < 2 ^ 16 in
-    let most : c.index_mut-2.result.now.head.max_stack ≡ (record_at d.records.items f).head.max_stack = ap (λ (r : FrameRecord). r.head.max_stack) again in
-    let height : c.index-top.result.now.height ≡ (record_at d.records.items f).height = ap (λ (r : FrameRecord). r.height) read in
+    let most : c.index_mut-record.result.now.head.max_stack ≡ (record_at d.records.items f).head.max_stack = ap (λ (r : FrameRecord). r.head.max_stack) read in
+    let height : c.index_mut-record.result.now.height ≡ (record_at d.records.items f).height = ap (λ (r : FrameRecord). r.height) read in
     record {
       ok =
-          record_keeps d f (record c.index_mut-2.result.now { height = c.index-top.result.now.height + 1 }) (set d.values.items c.value_index-index.result c.args.v)
+          record_keeps d f (record c.index_mut-record.result.now { height = c.index_mut-record.result.now.height + 1 }) (set d.values.items c.value_index-index.result c.args.v)
           (length-set d.values.items c.value_index-index.result c.args.v) is.within
-          (ap (λ (x : FrameRecord). head_chunks x.head) again) (omega (arith, room, height_is d f is)) (subst Q (sym again) is.framed.small);
+          (ap (λ (x : FrameRecord). head_chunks x.head) read) (omega (arith, room, height_is d f is)) (subst Q (sym read) is.framed.small);
     }
 
-pub returns : goal.returns
-returns c =
+pub returns-clause-becomes : goal.returns-clause-becomes
+returns-clause-becomes c =
     let d = c.args.self.now in
-    let i = c.args.slot in
-    let f = c.top-frame.result in
-    let is = is_top_frame d i f c.requires.top c.top-frame.ensures.top in
-    let read = get_or_read d.records.items _ _ (record_lt d f is) c.index-top.ensures no_record in
-    let again = get_or_read d.records.items _ _ (record_lt d f is) c.index_mut-2.ensures.value no_record in
+    let f = c.args.frame in
+    let is = c.requires.frame in
+    let read = get_or_read d.records.items _ _ (record_lt d f is) c.index_mut-record.ensures.value no_record in
     let r = record_at d.records.items f in
     let q = r.head.max_locals + r.height in
-    let P : ℕ → Type 0 = λ g. length (value_at d g).stack < (value_at d g).head.max_stack in
-    let room = subst P (sym c.top-frame.ensures.top) c.requires.room in
+    let room = c.requires.room in
     let low : r.height < r.head.max_stack = omega (arith, room, height_is d f is) in
     let sum : c.from.result + c.from-2.result ≡ q =
     omega (arith, c.from.ensures, c.from-2.ensures, ap (λ (x : FrameRecord). x.head.max_locals) read, ap (λ (x : FrameRecord). x.height) read) in
     let at : c.value_index-index.result ≡ index_of d.parts f q = c.value_index-index.ensures.index ∙ ap (index_of d.parts f) sum in
     let values = set d.values.items c.value_index-index.result c.args.v in
-    let written : FrameRecord = record c.index_mut-2.result.now { height = c.index-top.result.now.height + 1 } in
+    let written : FrameRecord = record c.index_mut-record.result.now { height = c.index_mut-record.result.now.height + 1 } in
     let records = set d.records.items f written in
     let others : (g p : ℕ) → IsFrameNumber d g → g ≢ f → p < 20 * count d.parts g → value_of d.parts values g p ≡ value_of d.parts d.values.items g p =
     λ g p g_is ne p_lt.
     let R : ℕ → Type 0 = λ k. value_of d.parts (set d.values.items k c.args.v) g p ≡ value_of d.parts d.values.items g p in
     subst R (sym at) (other_value d f q g p c.args.v is g_is (in_blocks d f q is (omega arith)) p_lt (λ e. absurd (ne e))) in
-    let up : FrameRecord = record c.index_mut-2.result.now { height = c.index_mut-2.result.now.height + 1 } in
-    let same : written ≡ up =
-    ap (λ n. let x : FrameRecord = record c.index_mut-2.result.now { height = n + 1 } in x)
-    (ap (λ (x : FrameRecord). x.height) read ∙ sym (ap (λ (x : FrameRecord). x.height) again)) in
     let pushed : frame_of d.parts records values f ≡ record (value_at d f) { stack = (value_at d f).stack ++ c.args.v ∷ [] } =
-    ap (λ x. frame_of d.parts (set d.records.items f x) values f) same
-    ∙ entry_is_pushed d f is c.value_index-index.result c.args.v c.index_mut-2.result.now again at low in
+    entry_is_pushed d f is c.value_index-index.result c.args.v c.index_mut-record.result.now read at low in
+    λ i top.
     let S : ℕ → Type 0 = λ k. lowest_in d.frames d.parts records values i (depth_of d i)
     ≡ lower_of d i ++ record (value_at d k) { stack = (value_at d k).stack ++ c.args.v ∷ [] } ∷ [] in
     record {
       same_chunks = refl;
       same_slots = refl;
       becomes =
-          subst S c.top-frame.ensures.top
-          (write_top d i f c.requires.top c.top-frame.ensures.top records values (λ g ne. other_records_of d.records.items f g written ne) others _ pushed);
-      others = write_others d i f c.requires.top c.top-frame.ensures.top records values (λ g ne. other_records_of d.records.items f g written ne) others;
+          subst S top.is
+          (write_top d i f top.has_top top.is records values (λ g ne. other_records_of d.records.items f g written ne) others _ pushed);
+      others = write_others d i f top.has_top top.is records values (λ g ne. other_records_of d.records.items f g written ne) others;
       uses = refl;
     }

@@ -13,6 +13,7 @@ invariant_of-self-in-Break-branch-2 c =
       ok =
           entered_store m n st.places c.reserve.new.self st.owed st.ok c.args.d c.requires.new (λ e _. get_unchanged m n same e) c.reserve.ensures.same st.owed
           (owes_unchanged m n st.owed same st.ok.owes) (le_part st.owed _ _ c.in_ok-reserve.ensures.ok);
+      at = λ e. absurd (cc);
     }
 
 pub invariant_of-self-2 : goal.invariant_of-self-2
@@ -26,4 +27,5 @@ invariant_of-self-2 c =
           (others_by_updates m n c.args.d _ c.in_ok-insert.ensures.updates.0) c.reserve.ensures.same (st.owed + c.from.result)
           (owes_entered m n c.args.d c.args.fresh st.owed c.from.result c.requires.new c.in_ok-insert.ensures.entries c.requires.none st.ok.owes c.from.ensures)
           c.in_ok-reserve.ensures.ok;
+      at = λ e. absurd (cc);
     }

@@ -11,7 +11,7 @@ invariant_of-self c =
     let is = sym c.in-Some.ensures.value in
     let y = c.begin.new.self in
     let wrote = c.get_mut.follows.holds y in
-    record { ok = same_store _ _ c.args.d.0 x y is wrote c.in_err-slot.ensures.err st.places st.owed st.ok }
+    record { ok = same_store _ _ c.args.d.0 x y is wrote c.in_err-slot.ensures.err st.places st.owed st.ok; at = λ e. absurd (cc) }
 
 pub returns-in_err-slot-clause-err : goal.returns-in_err-slot-clause-err
 returns-in_err-slot-clause-err c =
@@ -38,6 +38,7 @@ invariant_of-self-in-Some c =
       ok =
           begun_store _ _ c.args.d.0 x y is wrote st.places c.insert.new.self st.owed c.args.s c.args.head c.in_ok-slot.slot st.ok c.in_ok-slot.ensures.ok
           c.insert.ensures (live_lt x _ c.in_ok-slot.ensures.room);
+      at = λ e. absurd (cc);
     }
 
 pub returns-in_ok-slot-clause-ok : goal.returns-in_ok-slot-clause-ok

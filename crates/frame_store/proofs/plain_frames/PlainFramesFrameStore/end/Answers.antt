@@ -21,8 +21,8 @@ overflow_add-self c =
     let small = owed_small st.owed _ st.ok.enough (room_small st.places) in
     omega (arith, small)
 
-pub invariant_of-self : goal.invariant_of-self
-invariant_of-self c =
+pub invariant_of-self-in-Some : goal.invariant_of-self-in-Some
+invariant_of-self-in-Some c =
     let st = c.args.self.now in
     let x = c.in-Some.x.now in
     let p = c.place-p.result in
@@ -30,7 +30,7 @@ invariant_of-self c =
     let found : IsFound st.domains st.places c.args.s.0 x p.slot = record { domain = p.domain; at = c.place-p.ensures; is = is } in
     let y = c.end.new.self in
     let wrote = c.get_mut.follows.holds y in
-    record { ok = gone_kept _ _ st.places c.remove.new.self st.owed c.args.s p x y st.ok c.place-p.ensures is wrote c.end.ensures c.remove.ensures }
+    record { ok = gone_kept _ _ st.places c.remove.new.self st.owed c.args.s p x y st.ok c.place-p.ensures is wrote c.end.ensures c.remove.ensures; at = λ e. absurd (cc) }
 
 pub returns-in-Some : goal.returns-in-Some
 returns-in-Some c =

@@ -1,37 +1,42 @@
--- The top frame is found in its domain.
-use Rattle.std.proofs.Common.{◌<◌, ◌∙◌, ℕ, length, slice_get, sym, ap, subst}
+-- The top frame is read where the cursor has it.
+use Rattle.std.proofs.Common.{◌<◌, ◌∙◌, length, slice_get, ap, subst}
 use Rattle.jk_model_domains.specs.Frames.{FrameState}
-use Rattle.frame_store.specs.DomainMoves.{value_at}
-use Rattle.frame_store.proofs.StoreChanges.{standing_at, found_top, found_top_is}
+use Rattle.frame_store.proofs.CursorPoints.{has_domain, found_here, frame_here, value_here}
 use Rattle.frame_store.proofs.plain_frames.PlainFramesFrameStore.local.Goals as goal
 
-pub find-slot-requires : goal.find-slot-requires
-find-slot-requires c = standing_at _ _ _ c.args.s c.args.self.now.ok c.requires.1.segment c.requires.1.is_there
-
-pub top-requires : goal.top-requires
-top-requires c =
+pub at-requires : goal.at-requires
+at-requires c =
     let st = c.args.self.now in
-    let x = c.find-slot.result.0.now in
-    let i = c.find-slot.result.1 in
-    let found = c.find-slot.ensures in
-    found_top _ _ _ c.args.s st.ok x i found c.requires.0 c.requires.1
+    let k = c.is_at.ensures.points c.if-is_at.true in
+    has_domain _ _ _ c.args.s st.ok _ _ k.top
+
+pub local-requires-clause-frame : goal.local-requires-clause-frame
+local-requires-clause-frame c =
+    let st = c.args.self.now in
+    let k = c.is_at.ensures.points c.if-is_at.true in
+    let x = c.at.result.now in
+    frame_here _ _ _ c.args.s st.ok _ _ k.top x c.at.ensures
+
+pub local-requires-clause-lowest : goal.local-requires-clause-lowest
+local-requires-clause-lowest c =
+    let st = c.args.self.now in
+    let k = c.is_at.ensures.points c.if-is_at.true in
+    let x = c.at.result.now in
+    k.lowest x _ (found_here _ _ _ c.args.s st.ok _ _ k.top x c.at.ensures)
 
 pub local-requires-clause-there : goal.local-requires-clause-there
 local-requires-clause-there c =
     let st = c.args.self.now in
-    let x = c.find-slot.result.0.now in
-    let i = c.find-slot.result.1 in
-    let found = c.find-slot.ensures in
+    let k = c.is_at.ensures.points c.if-is_at.true in
+    let x = c.at.result.now in
     let P : FrameState → Type 0 = λ (g : FrameState). c.args.i < length g.locals in
-    let Q : ℕ → Type 0 = λ g. c.args.i < length (value_at x g).locals in
-    subst Q (sym c.top.ensures.number) (subst P (found_top_is _ _ _ c.args.s st.ok x i found c.requires.0 c.requires.1).1 c.requires.2)
+    subst P (value_here _ _ _ c.args.s st.ok _ _ k.top x c.at.ensures c.requires.0 c.requires.1) c.requires.2
 
-pub returns : goal.returns
-returns c =
+pub returns-then-is_at : goal.returns-then-is_at
+returns-then-is_at c =
     let st = c.args.self.now in
-    let x = c.find-slot.result.0.now in
-    let i = c.find-slot.result.1 in
-    let found = c.find-slot.ensures in
+    let k = c.is_at.ensures.points c.if-is_at.true in
+    let x = c.at.result.now in
     λ f top.
-    ap (λ (g : FrameState). slice_get g.locals c.args.i) (found_top_is _ _ _ c.args.s st.ok x i found f top).1
-    ∙ ap (λ g. slice_get (value_at x g).locals c.args.i) (sym c.top.ensures.number) ∙ c.local.ensures
+    ap (λ (g : FrameState). slice_get g.locals c.args.i) (value_here _ _ _ c.args.s st.ok _ _ k.top x c.at.ensures f top)
+    ∙ c.local.ensures

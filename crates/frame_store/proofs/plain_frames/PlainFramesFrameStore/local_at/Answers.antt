@@ -6,16 +6,16 @@ use Rattle.frame_store.proofs.plain_frames.PlainFramesFrameStore.local_at.Goals 
 pub find-slot-requires : goal.find-slot-requires
 find-slot-requires c = standing_at _ _ _ c.args.s c.args.self.now.ok c.requires.1.0 c.requires.1.1
 
-pub frame-requires-clause-slot : goal.frame-requires-clause-slot
-frame-requires-clause-slot c =
+pub frame-frame-requires-clause-slot : goal.frame-frame-requires-clause-slot
+frame-frame-requires-clause-slot c =
     let st = c.args.self.now in
     let x = c.find-slot.result.0.now in
     let i = c.find-slot.result.1 in
     let found = c.find-slot.ensures in
     (found_slot _ _ _ c.args.s st.ok x i found).0
 
-pub frame-requires-clause-there : goal.frame-requires-clause-there
-frame-requires-clause-there c =
+pub frame-frame-requires-clause-there : goal.frame-frame-requires-clause-there
+frame-frame-requires-clause-there c =
     let st = c.args.self.now in
     let x = c.find-slot.result.0.now in
     let i = c.find-slot.result.1 in

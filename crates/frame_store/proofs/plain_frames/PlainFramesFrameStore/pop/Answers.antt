@@ -1,7 +1,7 @@
 -- The top frame goes in its domain.
 use Rattle.frame_store.specs.StoreContents.{IsFound}
 use Rattle.frame_store.proofs.StoreChanges.{found_top, store_kept}
-use Rattle.frame_store.proofs.WrittenAt.{read_at, written_at}
+use Rattle.frame_store.proofs.WrittenAt.{never_none, read_at, written_at}
 use Rattle.frame_store.proofs.StoreSteps.{steps_pop}
 use Rattle.frame_store.proofs.plain_frames.PlainFramesFrameStore.pop.Goals as goal
 
@@ -14,8 +14,8 @@ pop-requires c =
     let found : IsFound st.domains st.places c.args.s.0 x p.slot = record { domain = p.domain; at = c.place-p.ensures; is = is } in
     found_top _ _ _ c.args.s st.ok x p.slot found c.requires.0 c.requires.1
 
-pub invariant_of-self : goal.invariant_of-self
-invariant_of-self c =
+pub invariant_of-self-in-Some : goal.invariant_of-self-in-Some
+invariant_of-self-in-Some c =
     let st = c.args.self.now in
     let x = c.in-Some.x.now in
     let p = c.place-p.result in
@@ -23,10 +23,10 @@ invariant_of-self c =
     let found : IsFound st.domains st.places c.args.s.0 x p.slot = record { domain = p.domain; at = c.place-p.ensures; is = is } in
     let y = c.pop.new.self in
     let wrote = written_at st.domains p.domain c.index_of-place.result c.index_of-place.ensures y c.get_index_mut.ensures.unique in
-    record { ok = store_kept _ _ st.places st.owed c.args.s p x y st.ok c.place-p.ensures is wrote c.pop.ensures.same_chunks c.pop.ensures.same_slots }
+    record { ok = store_kept _ _ st.places st.owed c.args.s p x y st.ok c.place-p.ensures is wrote c.pop.ensures.same_chunks c.pop.ensures.same_slots; at = λ e. absurd (cc) }
 
-pub returns-in-Some : goal.returns-in-Some
-returns-in-Some c =
+pub returns : goal.returns
+returns c =
     let st = c.args.self.now in
     let x = c.in-Some.x.now in
     let p = c.place-p.result in
@@ -35,3 +35,7 @@ returns-in-Some c =
     let y = c.pop.new.self in
     let wrote = written_at st.domains p.domain c.index_of-place.result c.index_of-place.ensures y c.get_index_mut.ensures.unique in
     steps_pop _ _ st.places st.owed c.args.s p x y st.ok c.place-p.ensures is wrote (found_top _ _ _ c.args.s st.ok x p.slot found c.requires.0 c.requires.1) c.pop.ensures
+
+pub unreachable-requires : goal.unreachable-requires
+unreachable-requires c =
+    never_none c.args.self.now.domains c.place-p.result.domain c.index_of-place.result c.index_of-place.ensures c.in-None.ensures.value

@@ -1,56 +1,48 @@
--- An entry is taken off in the domain.
-use Rattle.std.proofs.Common.{◌<◌, length, sym, subst}
+-- An entry is taken off in the domain at the cursor.
+use Rattle.std.proofs.Common.{◌<◌, length, subst}
 use Rattle.jk_model_domains.specs.Frames.{FrameState}
-use Rattle.indexmap.specs.IndexMap.{with_value_at}
-use Rattle.frame_store.specs.FrameContents.{TakesEntry}
-use Rattle.frame_store.specs.StoreContents.{content_of, IsFound}
-use Rattle.frame_store.proofs.StoreChanges.{found_top, found_top_is, store_kept}
-use Rattle.frame_store.proofs.WrittenAt.{read_at, written_at}
-use Rattle.frame_store.proofs.StoreSteps.{steps_top}
+use Rattle.frame_store.proofs.CursorWrites.{some_domain, frame_at, lowest_at, value_was, taken_stays, takes}
 use Rattle.frame_store.proofs.plain_frames.PlainFramesFrameStore.pop_value.Goals as goal
 
-pub pop_value-requires-clause-top : goal.pop_value-requires-clause-top
-pop_value-requires-clause-top c =
-    let st = c.args.self.now in
-    let x = c.in-Some.x.now in
-    let p = c.place-p.result in
-    let is = read_at st.domains p.domain c.index_of-place.result c.index_of-place.ensures x c.in-Some.ensures.value in
-    let found : IsFound st.domains st.places c.args.s.0 x p.slot = record { domain = p.domain; at = c.place-p.ensures; is = is } in
-    found_top _ _ _ c.args.s st.ok x p.slot found c.requires.0 c.requires.1
+pub touch-requires : goal.touch-requires
+touch-requires c = (c.requires.0, c.requires.1)
+
+pub pop_value-requires-clause-frame : goal.pop_value-requires-clause-frame
+pop_value-requires-clause-frame c =
+    let st = c.touch.new.self in
+    frame_at _ _ _ _ c.args.s st.ok st.cursor c.touch.ensures.points c.touch.ensures.same
+    c.in-Some.x.now c.in-Some.ensures.value
+
+pub pop_value-requires-clause-lowest : goal.pop_value-requires-clause-lowest
+pop_value-requires-clause-lowest c =
+    let st = c.touch.new.self in
+    lowest_at _ _ _ _ c.args.s st.ok st.cursor c.touch.ensures.points c.touch.ensures.same
+    c.in-Some.x.now c.in-Some.ensures.value
 
 pub pop_value-requires-clause-some : goal.pop_value-requires-clause-some
 pop_value-requires-clause-some c =
-    let st = c.args.self.now in
-    let x = c.in-Some.x.now in
-    let p = c.place-p.result in
-    let is = read_at st.domains p.domain c.index_of-place.result c.index_of-place.ensures x c.in-Some.ensures.value in
-    let found : IsFound st.domains st.places c.args.s.0 x p.slot = record { domain = p.domain; at = c.place-p.ensures; is = is } in
-    let P : FrameState → Type 0 = λ (k : FrameState). 0 < length k.stack in
-    subst P (found_top_is _ _ _ c.args.s st.ok x p.slot found c.requires.0 c.requires.1).1 c.requires.2
+    let st = c.touch.new.self in
+    let P : FrameState → Type 0 = λ (g : FrameState). 0 < length g.stack in
+    subst P (value_was _ _ _ _ c.args.s st.ok st.cursor c.touch.ensures.points c.touch.ensures.same
+    c.in-Some.x.now c.in-Some.ensures.value c.requires.0 c.requires.1) c.requires.2
 
 pub invariant_of-self : goal.invariant_of-self
 invariant_of-self c =
-    let st = c.args.self.now in
-    let x = c.in-Some.x.now in
-    let p = c.place-p.result in
-    let is = read_at st.domains p.domain c.index_of-place.result c.index_of-place.ensures x c.in-Some.ensures.value in
-    let found : IsFound st.domains st.places c.args.s.0 x p.slot = record { domain = p.domain; at = c.place-p.ensures; is = is } in
-    let y = c.pop_value.new.self in
-    let wrote = written_at st.domains p.domain c.index_of-place.result c.index_of-place.ensures y c.get_index_mut.ensures.unique in
-    let b = c.pop_value.ensures.2 in
-    record { ok = store_kept _ _ st.places st.owed c.args.s p x y st.ok c.place-p.ensures is wrote b.same_chunks b.same_slots }
-
-pub returns-in-Some : goal.returns-in-Some
-returns-in-Some c =
-    let st = c.args.self.now in
-    let x = c.in-Some.x.now in
-    let p = c.place-p.result in
-    let is = read_at st.domains p.domain c.index_of-place.result c.index_of-place.ensures x c.in-Some.ensures.value in
-    let found : IsFound st.domains st.places c.args.s.0 x p.slot = record { domain = p.domain; at = c.place-p.ensures; is = is } in
-    let y = c.pop_value.new.self in
-    let wrote = written_at st.domains p.domain c.index_of-place.result c.index_of-place.ensures y c.get_index_mut.ensures.unique in
-    λ f top.
+    let st = c.touch.new.self in
     let e = c.pop_value.ensures in
-    let P : FrameState → Type 0 = λ (k : FrameState). TakesEntry (content_of st.domains st.places) (content_of (with_value_at st.domains c.index_of-place.result y) st.places) c.args.s k c.pop_value.result in
-    let same = (found_top_is _ _ _ c.args.s st.ok x p.slot found f top).1 in
-    subst P (sym same) (e.0, e.1, steps_top _ _ st.places st.owed c.args.s p x y st.ok c.place-p.ensures is wrote (found_top _ _ _ c.args.s st.ok x p.slot found f top) _ e.2)
+    let stays =
+    taken_stays _ _ _ _ c.args.s st.ok st.cursor c.touch.ensures.points c.touch.ensures.same
+    c.in-Some.x.now c.in-Some.ensures.value c.pop_value.new.self c.get_index_mut.ensures.unique
+    c.pop_value.result e.becomes e.frames e.parts c.touch.ensures.at in
+    record { ok = stays.0; at = stays.1 }
+
+pub unreachable-requires : goal.unreachable-requires
+unreachable-requires c =
+    let st = c.touch.new.self in
+    some_domain _ _ _ _ c.args.s st.ok st.cursor c.touch.ensures.points c.touch.ensures.same c.in-None.ensures.value
+
+pub returns : goal.returns
+returns c =
+    let st = c.touch.new.self in
+    takes _ _ _ _ c.args.s st.ok st.cursor c.touch.ensures.points c.touch.ensures.same
+    c.in-Some.x.now c.in-Some.ensures.value c.pop_value.new.self c.get_index_mut.ensures.unique c.pop_value.result c.pop_value.ensures.becomes

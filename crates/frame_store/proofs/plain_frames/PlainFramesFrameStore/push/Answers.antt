@@ -24,8 +24,8 @@ push-requires c =
     let found : IsFound st.domains st.places c.args.s.0 x p.slot = record { domain = p.domain; at = c.place-p.ensures; is = is } in
     found_slot _ _ _ c.args.s st.ok x p.slot found
 
-pub invariant_of-self : goal.invariant_of-self
-invariant_of-self c =
+pub invariant_of-self-in-Some : goal.invariant_of-self-in-Some
+invariant_of-self-in-Some c =
     let st = c.args.self.now in
     let x = c.in-Some.x.now in
     let p = c.place-p.result in
@@ -40,10 +40,11 @@ invariant_of-self c =
           store_kept _ _ st.places st.owed c.args.s p x y st.ok c.place-p.ensures is wrote b.same_chunks b.same_slots)
           (λ (e : y ≡ x). store_kept _ _ st.places st.owed c.args.s p x y st.ok c.place-p.ensures is wrote (ap (λ (z : DomainFrames). z.chunks) e) (ap (λ (z : DomainFrames). z.slots) e))
           c.push.ensures.ok c.push.ensures.err;
+      at = λ e. absurd (cc);
     }
 
-pub returns-in-Some-clause-ok : goal.returns-in-Some-clause-ok
-returns-in-Some-clause-ok c =
+pub returns-clause-ok : goal.returns-clause-ok
+returns-clause-ok c =
     let st = c.args.self.now in
     let x = c.in-Some.x.now in
     let p = c.place-p.result in
@@ -55,8 +56,8 @@ returns-in-Some-clause-ok c =
     (λ (b : Becomes x y p.slot (frames_of x p.slot ++ new_frame c.args.head ∷ []) (x.used + head_chunks c.args.head)). steps_push _ _ st.places st.owed c.args.s p x y st.ok c.place-p.ensures is wrote c.args.head b)
     c.push.ensures.ok
 
-pub returns-in-Some-clause-err : goal.returns-in-Some-clause-err
-returns-in-Some-clause-err c =
+pub returns-clause-err : goal.returns-clause-err
+returns-clause-err c =
     let st = c.args.self.now in
     let x = c.in-Some.x.now in
     let p = c.place-p.result in
@@ -76,8 +77,8 @@ free_is m places d x is =
 too_many : (a b c : ℕ) → a < b → b ≤ c → c ≡ a → ⊥
 too_many a b c low high same = omega arith
 
-pub returns-in-Some-clause-room : goal.returns-in-Some-clause-room
-returns-in-Some-clause-room c =
+pub returns-clause-room : goal.returns-clause-room
+returns-clause-room c =
     let st = c.args.self.now in
     let x = c.in-Some.x.now in
     let p = c.place-p.result in
@@ -92,8 +93,8 @@ returns-in-Some-clause-room c =
     ))
     c.push.ensures.room
 
-pub returns-in-Some-clause-no_room : goal.returns-in-Some-clause-no_room
-returns-in-Some-clause-no_room c =
+pub returns-clause-no_room : goal.returns-clause-no_room
+returns-clause-no_room c =
     let st = c.args.self.now in
     let x = c.in-Some.x.now in
     let p = c.place-p.result in
@@ -106,10 +107,6 @@ returns-in-Some-clause-no_room c =
     too_many _ _ _ short room.2 (free_is st.domains st.places room.0.domain x of_domain))
     c.push.ensures.no_room
 
-pub returns-in-None-clause-ok : goal.returns-in-None-clause-ok
-returns-in-None-clause-ok c =
-    absurd (never_none c.args.self.now.domains c.place-p.result.domain c.index_of-place.result c.index_of-place.ensures c.in-None.ensures.value)
-
-pub returns-in-None-clause-room : goal.returns-in-None-clause-room
-returns-in-None-clause-room c =
-    absurd (never_none c.args.self.now.domains c.place-p.result.domain c.index_of-place.result c.index_of-place.ensures c.in-None.ensures.value)
+pub unreachable-requires : goal.unreachable-requires
+unreachable-requires c =
+    never_none c.args.self.now.domains c.place-p.result.domain c.index_of-place.result c.index_of-place.ensures c.in-None.ensures.value

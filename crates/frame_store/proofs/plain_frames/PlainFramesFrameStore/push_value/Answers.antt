@@ -1,54 +1,49 @@
--- An entry is pushed in the domain.
-use Rattle.std.proofs.Common.{◌<◌, ◌++◌, ◌∷◌, [], length, sym, subst}
+-- An entry is pushed in the domain at the cursor.
+use Rattle.std.proofs.Common.{◌<◌, ◌++◌, ◌∷◌, [], length, subst}
 use Rattle.jk_model_domains.specs.Frames.{FrameState}
-use Rattle.indexmap.specs.IndexMap.{with_value_at}
-use Rattle.frame_store.specs.FrameContents.{SetsTop}
-use Rattle.frame_store.specs.StoreContents.{content_of, IsFound}
-use Rattle.frame_store.proofs.StoreChanges.{found_top, found_top_is, store_kept}
-use Rattle.frame_store.proofs.WrittenAt.{read_at, written_at}
-use Rattle.frame_store.proofs.StoreSteps.{steps_top}
+use Rattle.frame_store.proofs.CursorWrites.{some_domain, frame_at, lowest_at, value_was, set_stays, sets}
 use Rattle.frame_store.proofs.plain_frames.PlainFramesFrameStore.push_value.Goals as goal
 
-pub push_value-requires-clause-top : goal.push_value-requires-clause-top
-push_value-requires-clause-top c =
-    let st = c.args.self.now in
-    let x = c.in-Some.x.now in
-    let p = c.place-p.result in
-    let is = read_at st.domains p.domain c.index_of-place.result c.index_of-place.ensures x c.in-Some.ensures.value in
-    let found : IsFound st.domains st.places c.args.s.0 x p.slot = record { domain = p.domain; at = c.place-p.ensures; is = is } in
-    found_top _ _ _ c.args.s st.ok x p.slot found c.requires.0 c.requires.1
+pub touch-requires : goal.touch-requires
+touch-requires c = (c.requires.0, c.requires.1)
+
+pub push_value-requires-clause-frame : goal.push_value-requires-clause-frame
+push_value-requires-clause-frame c =
+    let st = c.touch.new.self in
+    frame_at _ _ _ _ c.args.s st.ok st.cursor c.touch.ensures.points c.touch.ensures.same
+    c.in-Some.x.now c.in-Some.ensures.value
+
+pub push_value-requires-clause-lowest : goal.push_value-requires-clause-lowest
+push_value-requires-clause-lowest c =
+    let st = c.touch.new.self in
+    lowest_at _ _ _ _ c.args.s st.ok st.cursor c.touch.ensures.points c.touch.ensures.same
+    c.in-Some.x.now c.in-Some.ensures.value
 
 pub push_value-requires-clause-room : goal.push_value-requires-clause-room
 push_value-requires-clause-room c =
-    let st = c.args.self.now in
-    let x = c.in-Some.x.now in
-    let p = c.place-p.result in
-    let is = read_at st.domains p.domain c.index_of-place.result c.index_of-place.ensures x c.in-Some.ensures.value in
-    let found : IsFound st.domains st.places c.args.s.0 x p.slot = record { domain = p.domain; at = c.place-p.ensures; is = is } in
-    let P : FrameState → Type 0 = λ (k : FrameState). length k.stack < k.head.max_stack in
-    subst P (found_top_is _ _ _ c.args.s st.ok x p.slot found c.requires.0 c.requires.1).1 c.requires.2
+    let st = c.touch.new.self in
+    let P : FrameState → Type 0 = λ (g : FrameState). length g.stack < g.head.max_stack in
+    subst P (value_was _ _ _ _ c.args.s st.ok st.cursor c.touch.ensures.points c.touch.ensures.same
+    c.in-Some.x.now c.in-Some.ensures.value c.requires.0 c.requires.1) c.requires.2
 
 pub invariant_of-self : goal.invariant_of-self
 invariant_of-self c =
-    let st = c.args.self.now in
-    let x = c.in-Some.x.now in
-    let p = c.place-p.result in
-    let is = read_at st.domains p.domain c.index_of-place.result c.index_of-place.ensures x c.in-Some.ensures.value in
-    let found : IsFound st.domains st.places c.args.s.0 x p.slot = record { domain = p.domain; at = c.place-p.ensures; is = is } in
-    let y = c.push_value.new.self in
-    let wrote = written_at st.domains p.domain c.index_of-place.result c.index_of-place.ensures y c.get_index_mut.ensures.unique in
-    record { ok = store_kept _ _ st.places st.owed c.args.s p x y st.ok c.place-p.ensures is wrote c.push_value.ensures.same_chunks c.push_value.ensures.same_slots }
+    let st = c.touch.new.self in
+    let e = c.push_value.ensures in
+    let stays =
+    set_stays _ _ _ _ c.args.s st.ok st.cursor c.touch.ensures.points c.touch.ensures.same
+    c.in-Some.x.now c.in-Some.ensures.value c.push_value.new.self c.get_index_mut.ensures.unique
+    (λ (g : FrameState). record g { stack = g.stack ++ c.args.v ∷ [] }) e.becomes e.frames e.parts c.touch.ensures.at in
+    record { ok = stays.0; at = stays.1 }
 
-pub returns-in-Some : goal.returns-in-Some
-returns-in-Some c =
-    let st = c.args.self.now in
-    let x = c.in-Some.x.now in
-    let p = c.place-p.result in
-    let is = read_at st.domains p.domain c.index_of-place.result c.index_of-place.ensures x c.in-Some.ensures.value in
-    let found : IsFound st.domains st.places c.args.s.0 x p.slot = record { domain = p.domain; at = c.place-p.ensures; is = is } in
-    let y = c.push_value.new.self in
-    let wrote = written_at st.domains p.domain c.index_of-place.result c.index_of-place.ensures y c.get_index_mut.ensures.unique in
-    λ f top.
-    let P : FrameState → Type 0 = λ (k : FrameState). SetsTop (content_of st.domains st.places) (content_of (with_value_at st.domains c.index_of-place.result y) st.places) c.args.s (record k { stack = k.stack ++ c.args.v ∷ [] }) in
-    let same = (found_top_is _ _ _ c.args.s st.ok x p.slot found f top).1 in
-    subst P (sym same) (steps_top _ _ st.places st.owed c.args.s p x y st.ok c.place-p.ensures is wrote (found_top _ _ _ c.args.s st.ok x p.slot found f top) _ c.push_value.ensures)
+pub unreachable-requires : goal.unreachable-requires
+unreachable-requires c =
+    let st = c.touch.new.self in
+    some_domain _ _ _ _ c.args.s st.ok st.cursor c.touch.ensures.points c.touch.ensures.same c.in-None.ensures.value
+
+pub returns : goal.returns
+returns c =
+    let st = c.touch.new.self in
+    sets _ _ _ _ c.args.s st.ok st.cursor c.touch.ensures.points c.touch.ensures.same
+    c.in-Some.x.now c.in-Some.ensures.value c.push_value.new.self c.get_index_mut.ensures.unique
+    (λ (g : FrameState). record g { stack = g.stack ++ c.args.v ∷ [] }) c.push_value.ensures.becomes

@@ -1,0 +1,123 @@
+-- The top frame of a segment, where a cursor or a look-up has it.
+use Rattle.std.proofs.Common.{◌≡◌, ◌<◌, ◌-◌, ℕ, List, ◌∷◌, [], Option, Some, None, IsSome, is_some, nat_eq, slice_get, refl, sym, ap, subst, zero, suc, ◌∙◌}
+use Rattle.std.specs.HashMap.{WritesThrough}
+use Rattle.jk_model.specs.declared.identifiers.SegmentNo.{SegmentNo}
+use Rattle.jk_model_domains.specs.Frames.{FrameState}
+use Rattle.indexmap.specs.IndexMap.{IndexMap, get, values, with_value_at, set_value_at}
+use Rattle.frame_store.specs.declared.chains.Chains.{Chains}
+use Rattle.frame_store.specs.declared.cursor.Cursor.{Cursor}
+use Rattle.frame_store.specs.declared.domain_frames.DomainFrames.{DomainFrames}
+use Rattle.frame_store.specs.declared.segment_table.Place.{Place}
+use Rattle.frame_store.specs.declared.segment_table.SegmentTable.{SegmentTable}
+use Rattle.frame_store.specs.FrameContents.{TopFrame}
+use Rattle.frame_store.specs.TableMoves as table
+use Rattle.frame_store.specs.ChainMoves.{count, place}
+use Rattle.frame_store.specs.DomainMoves.{lowest_block, value_at, IsTopOf, IsFrameNumber}
+use Rattle.frame_store.specs.StoreContents.{content_of, IsStore, IsFound, IsStanding, StandsAt}
+use Rattle.frame_store.specs.StoreIsContent.{stands}
+use Rattle.frame_store.specs.Cursors.{HasDomainAt, IsTopAt, PointsAt}
+use Rattle.frame_store.proofs.StoreChanges.{same_some, found_top_is, get_here}
+use Rattle.frame_store.proofs.TopIsWritten.{is_top_frame}
+use Rattle.frame_store.proofs.WrittenAt.{read_at}
+
+-- where an option has a place
+pub some_place : (o : Option Place) → IsSome o → (p : Place) × (o ≡ Some p)
+some_place None e = absurd (cc)
+some_place (Some p) e = (p, refl)
+
+-- the frame in a domain in which the segment is found
+module _ {S : Type 0} (m : IndexMap ℕ DomainFrames S) (t : SegmentTable) (owed : ℕ) (s : SegmentNo) (h : IsStore m t owed)
+    (at frame : ℕ) (k : IsTopAt m t s.0 at frame)
+    (x : DomainFrames) (slot : ℕ) (f : IsFound m t s.0 x slot) where
+  pub frame_is : IsFrameNumber x frame
+  frame_is = let top = k.top x slot f in is_top_frame x slot frame top.has_top top.is
+
+  pub value_is : (g : FrameState) → TopFrame (content_of m t) s g → g ≡ value_at x frame
+  value_is g top = (found_top_is m t owed s h x slot f g top).1 ∙ ap (value_at x) (sym (k.top x slot f).is)
+
+module _ {S : Type 0} (m : IndexMap ℕ DomainFrames S) (t : SegmentTable) (owed : ℕ) (s : SegmentNo) (h : IsStore m t owed)
+    (at frame : ℕ) (k : IsTopAt m t s.0 at frame) where
+  -- the segment's domain
+  abbrev pub found_at : IsStanding m t s.0
+  found_at =
+      let p = some_place (table.place_in t s.0) k.in_table in
+      let x = stands m t owed h s.0 p.0 p.1 in
+      (x.0, p.0.slot, record { domain = p.0.domain; at = p.1; is = x.1.is })
+
+  abbrev pub stands_at : StandsAt m found_at.2.domain at
+  stands_at = record { domain = found_at.0; entry = k.entry found_at.0 found_at.1 found_at.2; is = found_at.2.is }
+
+  pub has_domain : HasDomainAt m at
+  has_domain = (found_at.2.domain, stands_at)
+
+  -- where a call reads the domain at the place
+  module _ (x : DomainFrames) (reads : (d : ℕ) (stands : StandsAt m d at) → x ≡ stands.domain) where
+    pub found_here : IsFound m t s.0 x found_at.1
+    found_here =
+        let same = reads found_at.2.domain stands_at in
+        record { domain = found_at.2.domain; at = found_at.2.at; is = found_at.2.is ∙ ap (λ (z : DomainFrames). Some z) (sym same) }
+
+    pub frame_here : IsFrameNumber x frame
+    frame_here = frame_is m t owed s h at frame k x found_at.1 found_here
+
+    pub value_here : (g : FrameState) → TopFrame (content_of m t) s g → g ≡ value_at x frame
+    value_here = value_is m t owed s h at frame k x found_at.1 found_here
+
+  -- where a call may write there
+  abbrev pub found_read : (x : DomainFrames) → Some x ≡ slice_get (values m) at → IsFound m t s.0 x found_at.1
+  found_read x e =
+      record { domain = found_at.2.domain; at = found_at.2.at; is = read_at m found_at.2.domain at stands_at x e }
+
+-- ---- A cursor that has what is found.
+
+module _ {S : Type 0} (m : IndexMap ℕ DomainFrames S) (t : SegmentTable) (s : ℕ) (c : Cursor) (x : DomainFrames) (slot : ℕ) (f : IsFound m t s x slot)
+    (entry_is : slice_get m.entries c.domain ≡ Some (f.domain, x)) (top_is : IsTopOf x slot c.frame) (lowest_is : c.lowest ≡ lowest_block x c.frame) where
+  module _ (z : DomainFrames) (i : ℕ) (g : IsFound m t s z i) where
+    same_place : (let here : Place = record { domain = g.domain; slot = i } in let there : Place = record { domain = f.domain; slot = slot } in here ≡ there)
+    same_place = same_some _ _ (sym g.at ∙ f.at)
+
+    same_domain : g.domain ≡ f.domain
+    same_domain = ap (λ (q : Place). q.domain) same_place
+
+    same_frames : z ≡ x
+    same_frames = same_some z x (sym g.is ∙ ap (get nat_eq m) same_domain ∙ f.is)
+
+    entry_at : slice_get m.entries c.domain ≡ Some (g.domain, z)
+    entry_at = entry_is ∙ ap (λ d. Some (d, x)) (sym same_domain) ∙ ap (λ (w : DomainFrames). Some (g.domain, w)) (sym same_frames)
+
+    top_at : IsTopOf z i c.frame
+    top_at =
+        let Here : ℕ → Type 0 = λ j. IsTopOf x j c.frame in
+        let There : DomainFrames → Type 0 = λ (w : DomainFrames). IsTopOf w i c.frame in
+        subst There (sym same_frames) (subst Here (sym (ap (λ (q : Place). q.slot) same_place)) top_is)
+
+    lowest_at : c.lowest ≡ lowest_block z c.frame
+    lowest_at = lowest_is ∙ ap (λ (w : DomainFrames). lowest_block w c.frame) (sym same_frames)
+
+  pub points : PointsAt m t s c
+  points = record { top = record { in_table = ap is_some f.at; entry = entry_at; top = top_at }; lowest = lowest_at }
+
+-- ---- After a write in the domain that leaves its chains as they are.
+
+set_here : {X : Type 0} (es : List (ℕ × X)) (i d : ℕ) (x y : X) → slice_get es i ≡ Some (d, x) → slice_get (set_value_at es i y) i ≡ Some (d, y)
+set_here [] i d x y e = absurd (cc)
+set_here (f ∷ es) zero d x y e = let same : f.0 ≡ d = cc in ap (λ k. Some (k, y)) same
+set_here (f ∷ es) (suc i) d x y e = set_here es i d x y e
+
+same_top : (x y : DomainFrames) (i frame : ℕ) → y.chunks ≡ x.chunks → y.frames ≡ x.frames → IsTopOf x i frame → IsTopOf y i frame
+same_top x y i frame chunks frames top =
+    let Deep : Chains → Type 0 = λ (q : Chains). 0 < count q i in
+    let Is : Chains → Type 0 = λ (q : Chains). frame ≡ place q i (count q i - 1) in
+    record { has_top = (subst (λ n. i < n) (sym chunks) top.has_top.0, subst Deep (sym frames) top.has_top.1); is = subst Is (sym frames) top.is }
+
+module _ {S : Type 0} (m : IndexMap ℕ DomainFrames S) (t : SegmentTable) (owed : ℕ) (s : SegmentNo) (x y : DomainFrames) (slot : ℕ)
+    (h : IsStore m t owed) (c : Cursor) (k : PointsAt m t s.0 c) (f : IsFound m t s.0 x slot)
+    (wrote : WritesThrough nat_eq (nat_eq f.domain) m y (with_value_at m c.domain y))
+    (chunks : y.chunks ≡ x.chunks) (frames : y.frames ≡ x.frames) (parts : y.parts ≡ x.parts) where
+  pub still_points : PointsAt (with_value_at m c.domain y) t s.0 c
+  still_points =
+      let n = with_value_at m c.domain y in
+      let p : Place = record { domain = f.domain; slot = slot } in
+      let g : IsFound n t s.0 y slot = record { domain = f.domain; at = f.at; is = get_here m n t owed s p x y h f.at f.is wrote } in
+      points n t s.0 c y slot g (set_here m.entries c.domain f.domain x y (k.top.entry x slot f)) (same_top x y slot c.frame chunks frames (k.top.top x slot f))
+      (k.lowest x slot f ∙ ap (λ (q : Chains). place q c.frame 0) (sym parts))

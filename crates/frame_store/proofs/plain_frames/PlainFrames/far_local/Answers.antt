@@ -1,0 +1,45 @@
+-- The top frame is found in its domain.
+use Rattle.std.proofs.Common.{◌<◌, ◌∙◌, length, slice_get, ap, subst}
+use Rattle.jk_model_domains.specs.Frames.{FrameState}
+use Rattle.frame_store.proofs.CursorPoints.{has_domain, found_here, frame_here, value_here}
+use Rattle.frame_store.proofs.plain_frames.PlainFrames.far_local.Goals as goal
+
+pub look_up-found-requires : goal.look_up-found-requires
+look_up-found-requires c = (c.requires.0, c.requires.1)
+
+pub at-requires : goal.at-requires
+at-requires c =
+    let st = c.args.self.now in
+    let k = c.look_up-found.ensures.points in
+    has_domain _ _ _ c.args.s st.ok _ _ k.top
+
+pub local-requires-clause-frame : goal.local-requires-clause-frame
+local-requires-clause-frame c =
+    let st = c.args.self.now in
+    let k = c.look_up-found.ensures.points in
+    let x = c.at.result.now in
+    frame_here _ _ _ c.args.s st.ok _ _ k.top x c.at.ensures
+
+pub local-requires-clause-lowest : goal.local-requires-clause-lowest
+local-requires-clause-lowest c =
+    let st = c.args.self.now in
+    let k = c.look_up-found.ensures.points in
+    let x = c.at.result.now in
+    k.lowest x _ (found_here _ _ _ c.args.s st.ok _ _ k.top x c.at.ensures)
+
+pub local-requires-clause-there : goal.local-requires-clause-there
+local-requires-clause-there c =
+    let st = c.args.self.now in
+    let k = c.look_up-found.ensures.points in
+    let x = c.at.result.now in
+    let P : FrameState → Type 0 = λ (g : FrameState). c.args.i < length g.locals in
+    subst P (value_here _ _ _ c.args.s st.ok _ _ k.top x c.at.ensures c.requires.0 c.requires.1) c.requires.2
+
+pub returns : goal.returns
+returns c =
+    let st = c.args.self.now in
+    let k = c.look_up-found.ensures.points in
+    let x = c.at.result.now in
+    λ f top.
+    ap (λ (g : FrameState). slice_get g.locals c.args.i) (value_here _ _ _ c.args.s st.ok _ _ k.top x c.at.ensures f top)
+    ∙ c.local.ensures

@@ -1,0 +1,45 @@
+-- The top frame is found in its domain.
+use Rattle.std.proofs.Common.{◌<◌, ◌-◌, ◌∙◌, length, slice_get, ap, subst}
+use Rattle.jk_model_domains.specs.Frames.{FrameState}
+use Rattle.frame_store.proofs.CursorPoints.{has_domain, found_here, frame_here, value_here}
+use Rattle.frame_store.proofs.plain_frames.PlainFrames.far_peek.Goals as goal
+
+pub look_up-found-requires : goal.look_up-found-requires
+look_up-found-requires c = (c.requires.0, c.requires.1)
+
+pub at-requires : goal.at-requires
+at-requires c =
+    let st = c.args.self.now in
+    let k = c.look_up-found.ensures.points in
+    has_domain _ _ _ c.args.s st.ok _ _ k.top
+
+pub entry_below-requires-clause-frame : goal.entry_below-requires-clause-frame
+entry_below-requires-clause-frame c =
+    let st = c.args.self.now in
+    let k = c.look_up-found.ensures.points in
+    let x = c.at.result.now in
+    frame_here _ _ _ c.args.s st.ok _ _ k.top x c.at.ensures
+
+pub entry_below-requires-clause-lowest : goal.entry_below-requires-clause-lowest
+entry_below-requires-clause-lowest c =
+    let st = c.args.self.now in
+    let k = c.look_up-found.ensures.points in
+    let x = c.at.result.now in
+    k.lowest x _ (found_here _ _ _ c.args.s st.ok _ _ k.top x c.at.ensures)
+
+pub entry_below-requires-clause-there : goal.entry_below-requires-clause-there
+entry_below-requires-clause-there c =
+    let st = c.args.self.now in
+    let k = c.look_up-found.ensures.points in
+    let x = c.at.result.now in
+    let P : FrameState → Type 0 = λ (g : FrameState). c.args.below < length g.stack in
+    subst P (value_here _ _ _ c.args.s st.ok _ _ k.top x c.at.ensures c.requires.0 c.requires.1) c.requires.2
+
+pub returns : goal.returns
+returns c =
+    let st = c.args.self.now in
+    let k = c.look_up-found.ensures.points in
+    let x = c.at.result.now in
+    λ f top.
+    ap (λ (g : FrameState). slice_get g.stack (length g.stack - 1 - c.args.below)) (value_here _ _ _ c.args.s st.ok _ _ k.top x c.at.ensures f top)
+    ∙ c.entry_below.ensures

@@ -1,0 +1,30 @@
+-- Where the top frame of a segment is.
+use Rattle.std.specs.Prelude.{◌≡◌, ℕ, Some, IsSome, true, slice_get}
+use Rattle.indexmap.specs.IndexMap.{IndexMap}
+use Rattle.frame_store.specs.declared.cursor.Cursor.{Cursor}
+use Rattle.frame_store.specs.declared.domain_frames.DomainFrames.{DomainFrames}
+use Rattle.frame_store.specs.declared.segment_table.SegmentTable.{SegmentTable}
+use Rattle.frame_store.specs.DomainMoves.{lowest_block, IsTopOf}
+use Rattle.frame_store.specs.StoreContents.{StandsAt, IsFound}
+use Rattle.frame_store.specs.TableMoves as table
+
+module _ {S : Type 0} where
+  -- The segment is in the table. The domain and the slot in which it is found: the domain is at this place of the map,
+  -- and the slot's top frame has this number.
+  pub record IsTopAt (domains : IndexMap ℕ DomainFrames S) (places : SegmentTable) (s place frame : ℕ) : Type 0 where
+    pub in_table : IsSome (table.place_in places s)
+    pub entry : (x : DomainFrames) (slot : ℕ) (found : IsFound domains places s x slot) → slice_get domains.entries place ≡ Some (found.domain, x)
+    pub top : (x : DomainFrames) (slot : ℕ) → IsFound domains places s x slot → IsTopOf x slot frame
+
+  -- The cursor has where the segment's top frame is, and that frame's lowest block.
+  pub record PointsAt (domains : IndexMap ℕ DomainFrames S) (places : SegmentTable) (s : ℕ) (c : Cursor) : Type 0 where
+    pub top : IsTopAt domains places s c.domain c.frame
+    pub lowest : (x : DomainFrames) (slot : ℕ) → IsFound domains places s x slot → c.lowest ≡ lowest_block x c.frame
+
+  -- The cursor, where it is set, has where the top frame of its segment is.
+  abbrev pub IsCursor : IndexMap ℕ DomainFrames S → SegmentTable → Cursor → Type 0
+  IsCursor domains places c = c.set ≡ true → PointsAt domains places c.segment c
+
+  -- A domain stands at this place of the map.
+  abbrev pub HasDomainAt : IndexMap ℕ DomainFrames S → ℕ → Type 0
+  HasDomainAt domains place = (d : ℕ) × StandsAt domains d place
