@@ -37,6 +37,7 @@ pub mod PoppedValues
 pub mod PrintedTypes
 pub mod PrintedValues
 pub mod PrintlnCalled
+pub mod QuickSteps
 pub mod RunningThread
 pub mod SaidOnTop
 pub mod SegmentsOfAMachine
@@ -57,6 +58,7 @@ pub mod ThreadsOfTheMap
 pub mod TopAlone
 pub mod TopCode
 pub mod TopFrameFits
+pub mod TurnsSoFar
 pub mod WaysJoined
 pub mod WaysSoFar
 pub mod WorldOfSystem

@@ -181,7 +181,10 @@ pub(crate) fn stays_in_frame(at: &StandsAt<'_>) -> bool
     ensures { result ≡ true → StaysInFrame (scope_of at.now.code) at.now.instr.now }
 {
     match at.instr.op {
-        LDC => text_of(at).is_none(),
+        LDC => match text_of(at) {
+            Some(_) => false,
+            None => true,
+        },
         IDIV | LDIV | IREM | LREM => false,
         op => op < IRETURN,
     }

@@ -115,13 +115,18 @@ pub(crate) fn quick_step<F: FrameStore>(
     ensures no { result ≡ false → (frames.new ≡ frames.old) × (d.new ≡ d.old) }
 {
     let head = frames.head(r.segment);
-    if head.need.is_some() {
-        return false;
+    let t = w.classes();
+    match head.need {
+        Some(_) => return false,
+        None => {}
     }
-    let Some(at) = stands_at(w.classes(), &head) else {
+    let Some(at) = stands_at(t, &head) else {
         return false;
     };
-    if !stays_in_frame(&at) || !pays(d) {
+    if !stays_in_frame(&at) {
+        return false;
+    }
+    if !pays(d) {
         return false;
     }
     do_in_frame(w, d, frames, r, &head, &at);
