@@ -1,7 +1,12 @@
 -- Texts that get one more keep their index.
-use Rattle.std.proofs.Common.{◌≡◌, ℕ, ◌+◌, ◌<◌, ◌≤◌, ◌⊎◌, inl, inr, Bool, true, false, List, [], ◌∷◌, ◌++◌, length, refl, sym, ◌∙◌, ap, arith, Option, Some, None, slice_get, nat_eq, length-append, if◌then◌else◌}
+use Rattle.std.proofs.Common.{◌≡◌, ℕ, ◌+◌, ◌<◌, ◌≤◌, ◌⊎◌, inl, inr, Bool, true, false, List, [], ◌∷◌, ◌++◌, length, refl, sym, ◌∙◌, ap, arith, Option, Some, None, slice_get, length-append, if◌then◌else◌}
+use Rattle.std.specs.BTreeMap.{is_at}
 use Rattle.std.specs.Map.{lookup}
-use Rattle.std.proofs.lemmas.Bool.{cases_lt, eqb-true, eq-eqb}
+use Rattle.std.specs.Ordering.{is_eq, nat_cmp}
+use Rattle.std.proofs.lemmas.Bool.{cases_lt}
+use Rattle.std.proofs.lemmas.Cmp.{nat_cmp_total, tied_itself}
+use Rattle.std.proofs.lemmas.Map.Lookups.{exact_unsigned}
+use Rattle.std.proofs.lemmas.Map.Views.{tells_apart}
 use Rattle.std.proofs.lemmas.Option.{same_Some}
 use Rattle.shared_values.specs.Fingerprints.{fingerprint_of}
 use Rattle.class_init.specs.declared.known_texts.TextEntry.{TextEntry}
@@ -48,10 +53,14 @@ newest_itself es y f same = (
   λ k after low has. absurd (omega arith),
 )
 
-newest_added : (es : List TextEntry) (y : TextEntry) (f : ℕ) (r : Option ℕ) → IsNewest es f (length es) r → (b : Bool) → nat_eq (fingerprint_of y.text) f ≡ b
-    → IsNewest (es ++ y ∷ []) f (length es + 1) (if b then Some (length es) else r)
-newest_added es y f r h true e = newest_itself es y f (eqb-true (fingerprint_of y.text) f e)
-newest_added es y f r h false e = newest_past es y f r (λ same. let yes = eq-eqb (fingerprint_of y.text) f same in cc) h
+-- a number is found where it is looked for
+found_itself : (n m : ℕ) → n ≡ m → is_at (nat_cmp n) m ≡ true
+found_itself n m same = ap (λ (k : ℕ). is_eq (nat_cmp n k)) (sym same) ∙ ap is_eq (tied_itself nat_cmp_total n)
+
+newest_added : (es : List TextEntry) (y : TextEntry) (f : ℕ) (r : Option ℕ) → IsNewest es f (length es) r
+    → (b : Bool) → is_at (nat_cmp (fingerprint_of y.text)) f ≡ b → IsNewest (es ++ y ∷ []) f (length es + 1) (if b then Some (length es) else r)
+newest_added es y f r h true e = newest_itself es y f (tells_apart exact_unsigned (fingerprint_of y.text) f e)
+newest_added es y f r h false e = newest_past es y f r (λ same. let yes = found_itself (fingerprint_of y.text) f same in cc) h
 
 chained_added : (es : List TextEntry) (y : TextEntry) → AreChained es → IsNewest es (fingerprint_of y.text) (length es) y.before → AreChained (es ++ y ∷ [])
 chained_added es y h last place e at = by_place (old_or_last es y place e at)
@@ -76,13 +85,14 @@ differ_added es y h lacks i j a b p q e = by_places (old_or_last es y i a p) (ol
     by_places (inr x) (inr z) = x.0 ∙ sym z.0
 
 pub index_added : (es : List TextEntry) (newest newest' : List (ℕ × ℕ)) (y : TextEntry) → IsIndex es newest
-    → LacksText es y.text → y.before ≡ lookup (nat_eq (fingerprint_of y.text)) newest
-    → ((f : ℕ) → lookup (nat_eq f) newest' ≡ (if nat_eq (fingerprint_of y.text) f then Some (length es) else lookup (nat_eq f) newest))
+    → LacksText es y.text → y.before ≡ lookup (is_at (nat_cmp (fingerprint_of y.text))) newest
+    → ((f : ℕ) → lookup (is_at (nat_cmp f)) newest'
+    ≡ (if is_at (nat_cmp (fingerprint_of y.text)) f then Some (length es) else lookup (is_at (nat_cmp f)) newest))
     → IsIndex (es ++ y ∷ []) newest'
 index_added es newest newest' y h lacks before puts = record {
   newest_are =
       λ f.
-      let added = newest_added es y f (lookup (nat_eq f) newest) (h.newest_are f) (nat_eq (fingerprint_of y.text) f) refl in
+      let added = newest_added es y f (lookup (is_at (nat_cmp f)) newest) (h.newest_are f) (is_at (nat_cmp (fingerprint_of y.text)) f) refl in
       rw (puts f, length-append es (y ∷ [])) added;
   chained = chained_added es y h.chained (rw before (h.newest_are (fingerprint_of y.text)));
   texts_differ = differ_added es y h.texts_differ lacks;

@@ -1,6 +1,8 @@
 -- How known texts are indexed: by fingerprints, from the newest entry on to older ones.
-use Rattle.std.specs.Prelude.{◌≡◌, ◌≢◌, ℕ, ◌<◌, ◌⊎◌, ◌++◌, ◌∷◌, [], List, length, Contains, nat_eq, Option, Some, None, slice_get}
+use Rattle.std.specs.Prelude.{◌≡◌, ◌≢◌, ℕ, ◌<◌, ◌⊎◌, ◌++◌, ◌∷◌, [], List, length, Contains, Option, Some, None, slice_get}
+use Rattle.std.specs.BTreeMap.{is_at}
 use Rattle.std.specs.Map.{lookup}
+use Rattle.std.specs.Ordering.{nat_cmp}
 use Rattle.shared_values.specs.Fingerprints.{fingerprint_of}
 use Rattle.class_init.specs.declared.known_texts.TextEntry.{TextEntry}
 
@@ -35,7 +37,7 @@ pub record HasTextAt (entries : List TextEntry) (text : List ℕ) (place : ℕ) 
   pub is : entry.text ≡ text
 
 pub record IsIndex (entries : List TextEntry) (newest : List (ℕ × ℕ)) : Type 0 where
-  pub newest_are : (f : ℕ) → IsNewest entries f (length entries) (lookup (nat_eq f) newest)
+  pub newest_are : (f : ℕ) → IsNewest entries f (length entries) (lookup (is_at (nat_cmp f)) newest)
   pub chained : AreChained entries
   pub texts_differ : (i j : ℕ) (a b : TextEntry) → slice_get entries i ≡ Some a → slice_get entries j ≡ Some b → a.text ≡ b.text → i ≡ j
 

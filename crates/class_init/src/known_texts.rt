@@ -4,10 +4,10 @@ ghost use Rattle.std.specs.Prelude.{◌≡◌, ◌<◌, ◌++◌, ◌∷◌, [],
 ghost use Rattle.shared_values.specs.Fingerprints.{fingerprint_of};
 ghost use Rattle.class_init.specs.Texts.{AddsText, AreChained, HasTextAt, IsNewest, LacksText};
 
-use indexmap::IndexMap;
 use jk_model::OutOfMemory;
 use shared_values::{Text, fingerprint};
 use std::alloc::Global;
+use std::collections::BTreeMap;
 use std::marker::Model;
 
 /// A text that is known.
@@ -23,8 +23,9 @@ struct TextEntry {
 #[derive(Drop)]
 pub(crate) struct KnownTexts {
     entries: Vec<TextEntry>,
-    /// The place of the newest entry whose text has a fingerprint.
-    newest: IndexMap<u64, usize>,
+    /// The place of the newest entry whose text has a fingerprint. It is kept by order: strangers choose the texts, and where a
+    /// hash is known, they find many that agree in the few bits of it that say where a hashed map puts them.
+    newest: BTreeMap<u64, usize>,
 }
 
 impl Model for KnownTexts {
@@ -46,7 +47,7 @@ impl KnownTexts {
     {
         KnownTexts {
             entries: Vec::new(alloc),
-            newest: IndexMap::new(alloc),
+            newest: BTreeMap::new(alloc),
         }
     }
 

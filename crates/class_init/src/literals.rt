@@ -19,6 +19,8 @@ use std::marker::Model;
 pub(crate) struct Literals {
     texts: KnownTexts,
     /// By the place of a text, the name of its object, in the order in which they were given.
+    /// The map's hash is known, but nobody picks its keys: they are places below the number of texts, and it has room for all
+    /// of these from the beginning. So no more of them meet in it than of the numbers from 0 on, which spread.
     names: IndexMap<usize, u32>,
 }
 

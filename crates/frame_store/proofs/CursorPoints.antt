@@ -1,6 +1,7 @@
 -- The top frame of a segment, where a cursor or a look-up has it.
-use Rattle.std.proofs.Common.{◌≡◌, ◌<◌, ◌-◌, ℕ, List, ◌∷◌, [], Option, Some, None, IsSome, is_some, nat_eq, slice_get, refl, sym, ap, subst, zero, suc, ◌∙◌}
+use Rattle.std.proofs.Common.{◌≡◌, ◌<◌, ◌-◌, ℕ, List, ◌∷◌, ◌++◌, [], length, arith, Option, Some, None, IsSome, is_some, nat_eq, slice_get, refl, sym, ap, subst, zero, suc, ◌∙◌}
 use Rattle.std.specs.HashMap.{WritesThrough}
+use Rattle.std.proofs.lemmas.List.{length_push}
 use Rattle.jk_model.specs.declared.identifiers.SegmentNo.{SegmentNo}
 use Rattle.jk_model_domains.specs.Frames.{FrameState}
 use Rattle.indexmap.specs.IndexMap.{IndexMap, get, values, with_value_at, set_value_at}
@@ -9,13 +10,16 @@ use Rattle.frame_store.specs.declared.cursor.Cursor.{Cursor}
 use Rattle.frame_store.specs.declared.domain_frames.DomainFrames.{DomainFrames}
 use Rattle.frame_store.specs.declared.segment_table.Place.{Place}
 use Rattle.frame_store.specs.declared.segment_table.SegmentTable.{SegmentTable}
+use Rattle.frame_store.specs.declared.slot_set.SlotSet.{SlotSet}
 use Rattle.frame_store.specs.FrameContents.{TopFrame}
 use Rattle.frame_store.specs.TableMoves as table
+use Rattle.frame_store.specs.Builds.{length-build}
+use Rattle.frame_store.specs.SlotMoves.{IsLive}
 use Rattle.frame_store.specs.ChainMoves.{count, place}
-use Rattle.frame_store.specs.DomainMoves.{lowest_block, value_at, IsTopOf, IsFrameNumber}
+use Rattle.frame_store.specs.DomainMoves.{depth_of, frames_of, lowest_block, top_number, value_at, HasTop, IsSlot, IsTopOf, IsFrameNumber, Becomes}
 use Rattle.frame_store.specs.StoreContents.{content_of, IsStore, IsFound, IsStanding, StandsAt}
 use Rattle.frame_store.specs.StoreIsContent.{stands}
-use Rattle.frame_store.specs.Cursors.{HasDomainAt, IsTopAt, PointsAt}
+use Rattle.frame_store.specs.Cursors.{HasDomainAt, HasTopAt, IsTopAt, PointsAt}
 use Rattle.frame_store.proofs.StoreChanges.{same_some, found_top_is, get_here}
 use Rattle.frame_store.proofs.TopIsWritten.{is_top_frame}
 use Rattle.frame_store.proofs.WrittenAt.{read_at}
@@ -97,6 +101,20 @@ module _ {S : Type 0} (m : IndexMap ℕ DomainFrames S) (t : SegmentTable) (s : 
   pub points : PointsAt m t s c
   points = record { top = record { in_table = ap is_some f.at; entry = entry_at; top = top_at }; lowest = lowest_at }
 
+module _ {S : Type 0} (m : IndexMap ℕ DomainFrames S) (t : SegmentTable) (s at slot : ℕ) (k : HasTopAt m t s at slot) where
+  abbrev pub place_stands : HasDomainAt m at
+  place_stands = (k.found.domain, record { domain = k.domain; entry = k.entry; is = k.found.is })
+
+  -- where a call reads the domain at the place
+  pub points_at : (c : Cursor) (x : DomainFrames) → x ≡ k.domain → c.domain ≡ at → c.frame ≡ top_number x slot → c.lowest ≡ lowest_block x c.frame
+      → PointsAt m t s c
+  points_at c x same here frame lowest =
+      let z = k.domain in
+      points m t s c z slot k.found
+      (ap (λ i. slice_get m.entries i) here ∙ k.entry)
+      (record { has_top = k.has_top; is = frame ∙ ap (λ (w : DomainFrames). top_number w slot) same })
+      (lowest ∙ ap (λ (w : DomainFrames). lowest_block w c.frame) same)
+
 -- ---- After a write in the domain that leaves its chains as they are.
 
 set_here : {X : Type 0} (es : List (ℕ × X)) (i d : ℕ) (x y : X) → slice_get es i ≡ Some (d, x) → slice_get (set_value_at es i y) i ≡ Some (d, y)
@@ -121,3 +139,39 @@ module _ {S : Type 0} (m : IndexMap ℕ DomainFrames S) (t : SegmentTable) (owed
       let g : IsFound n t s.0 y slot = record { domain = f.domain; at = f.at; is = get_here m n t owed s p x y h f.at f.is wrote } in
       points n t s.0 c y slot g (set_here m.entries c.domain f.domain x y (k.top.entry x slot f)) (same_top x y slot c.frame chunks frames (k.top.top x slot f))
       (k.lowest x slot f ∙ ap (λ (q : Chains). place q c.frame 0) (sym parts))
+
+-- ---- After a frame is pushed or popped in the domain.
+
+-- as many frames as the stack of the slot has nodes
+depth_is : (x : DomainFrames) (i : ℕ) → length (frames_of x i) ≡ depth_of x i
+depth_is x i = length-build (λ k. value_at x (place x.frames i k)) (depth_of x i)
+
+module _ (x y : DomainFrames) (i used : ℕ) (frames : List FrameState) (b : Becomes x y i frames used) (was : IsSlot x i) where
+  pub still_slot : IsSlot y i
+  still_slot =
+      let Within : ℕ → Type 0 = λ n. i < n in
+      let Live : SlotSet → Type 0 = λ (q : SlotSet). IsLive q i in
+      (subst Within (sym b.same_chunks) was.0, subst Live (sym b.same_slots) was.1)
+
+  pub has_some : 0 < length frames → HasTop y i
+  has_some some =
+      let same : length frames ≡ depth_of y i = ap (λ (fs : List FrameState). length fs) (sym b.becomes) ∙ depth_is y i in
+      let Some_there : ℕ → Type 0 = λ n. 0 < n in
+      (still_slot.0, subst Some_there same some)
+
+pub some_pushed : (fs : List FrameState) (f : FrameState) → 0 < length (fs ++ f ∷ [])
+some_pushed fs f = omega (arith, length_push fs f)
+
+module _ {S : Type 0} (m : IndexMap ℕ DomainFrames S) (t : SegmentTable) (owed : ℕ) (s : SegmentNo) (x y : DomainFrames) (slot : ℕ)
+    (h : IsStore m t owed) (f : IsFound m t s.0 x slot) (at : ℕ) (stands : StandsAt m f.domain at)
+    (wrote : WritesThrough nat_eq (nat_eq f.domain) m y (with_value_at m at y)) where
+  -- the segment is found where it was
+  pub found_again : HasTop y slot → HasTopAt (with_value_at m at y) t s.0 at slot
+  found_again top =
+      let p : Place = record { domain = f.domain; slot = slot } in
+      record {
+        domain = y;
+        found = record { domain = f.domain; at = f.at; is = get_here m (with_value_at m at y) t owed s p x y h f.at f.is wrote };
+        entry = set_here m.entries at f.domain stands.domain y stands.entry;
+        has_top = top;
+      }

@@ -21,14 +21,6 @@ use Rattle.frame_store.specs.DomainMoves as domain
 use Rattle.frame_store.specs.StoreContents.{content_of, stored, owed_by, IsStore}
 use Rattle.frame_store.proofs.StoreChanges.{segment_in, get_here, get_other, read_some, read_same, map_same, other_slot, slot_in, others_by, segment_is, used_is, lt_by}
 
-pub on_ok : {T E : Type 0} (r : Result T E) (P Q : Type 0) → (P → Q) → OnOk r P → OnOk r Q
-on_ok (Ok x) P Q f h = f h
-on_ok (Err e) P Q f h = h
-
-pub on_err : {T E : Type 0} (r : Result T E) (P Q : Type 0) → (P → Q) → OnErr r P → OnErr r Q
-on_err (Ok x) P Q f h = h
-on_err (Err e) P Q f h = f h
-
 pub either_way : {T E : Type 0} (r : Result T E) (P Q R : Type 0) → (P → R) → (Q → R) → OnOk r P → OnErr r Q → R
 either_way (Ok x) P Q R f g h k = f h
 either_way (Err e) P Q R f g h k = g k

@@ -4,7 +4,7 @@ use Rattle.indexmap.specs.IndexMap.{IndexMap}
 use Rattle.frame_store.specs.declared.cursor.Cursor.{Cursor}
 use Rattle.frame_store.specs.declared.domain_frames.DomainFrames.{DomainFrames}
 use Rattle.frame_store.specs.declared.segment_table.SegmentTable.{SegmentTable}
-use Rattle.frame_store.specs.DomainMoves.{lowest_block, IsTopOf}
+use Rattle.frame_store.specs.DomainMoves.{lowest_block, HasTop, IsTopOf}
 use Rattle.frame_store.specs.StoreContents.{StandsAt, IsFound}
 use Rattle.frame_store.specs.TableMoves as table
 
@@ -28,3 +28,10 @@ module _ {S : Type 0} where
   -- A domain stands at this place of the map.
   abbrev pub HasDomainAt : IndexMap ℕ DomainFrames S → ℕ → Type 0
   HasDomainAt domains place = (d : ℕ) × StandsAt domains d place
+
+  -- The segment is found in this slot of the domain at this place of the map, and has a frame.
+  pub record HasTopAt (domains : IndexMap ℕ DomainFrames S) (places : SegmentTable) (s place slot : ℕ) : Type 0 where
+    pub domain : DomainFrames
+    pub found : IsFound domains places s domain slot
+    pub entry : slice_get domains.entries place ≡ Some (found.domain, domain)
+    pub has_top : HasTop domain slot

@@ -124,7 +124,7 @@ impl PlainFrames {
     ghost use Rattle.jk_model_domains.specs.Frames.{FrameState as AFrame};
     ghost use Rattle.frame_store.specs.FrameContents.{HasTop, HasLocal, HasEntry, TopFrame};
     ghost use Rattle.frame_store.specs.StoreContents.{content_of, StandsAt};
-    ghost use Rattle.frame_store.specs.Cursors.{HasDomainAt, IsTopAt, PointsAt};
+    ghost use Rattle.frame_store.specs.Cursors.{HasDomainAt, HasTopAt, IsTopAt, PointsAt};
 
     /// Whether the cursor is at a segment.
     fn is_at(&self, s: SegmentNo) -> bool
@@ -168,12 +168,30 @@ impl PlainFrames {
     {
         let p = self.place(s);
         let domain = self.index_of(p.domain);
-        let x = self.at(domain);
-        let frame = x.top(p.slot);
+        self.cursor_at(s, domain, p.slot)
+    }
+
+    /// Moves the cursor to a segment that was found.
+    fn aim(&mut self, s: SegmentNo, place: usize, slot: u32)
+        requires { HasTopAt self.old.domains self.old.places s.0 place slot }
+        ensures { content_of self.new.domains self.new.places ≡ content_of self.old.domains self.old.places }
+    {
+        self.cursor = self.cursor_at(s, place, slot);
+    }
+
+    /// Where the top frame of a segment is, which is found in this slot of the domain at this place of the map.
+    fn cursor_at(&self, s: SegmentNo, place: usize, slot: u32) -> Cursor
+        requires { HasTopAt self.now.domains self.now.places s.0 place slot }
+        ensures set { IsTrue result.set }
+        ensures segment { result.segment ≡ s.0 }
+        ensures points { PointsAt self.now.domains self.now.places s.0 result }
+    {
+        let x = self.at(place);
+        let frame = x.top(slot);
         Cursor {
             set: true,
             segment: s.0,
-            domain,
+            domain: place,
             frame,
             lowest: x.lowest(frame),
         }
@@ -280,18 +298,26 @@ impl FrameStore for PlainFrames {
         let p = self.place(s);
         let place = self.index_of(p.domain);
         match self.domains.get_index_mut(place) {
-            Some(x) => x.push(p.slot, head),
+            Some(x) => x.push(p.slot, head)?,
             None => unreachable!(),
         }
+        self.aim(s, place, p.slot);
+        Ok(())
     }
 
     fn pop(&mut self, s: SegmentNo) {
         self.cursor.set = false;
         let p = self.place(s);
         let place = self.index_of(p.domain);
-        match self.domains.get_index_mut(place) {
-            Some(x) => x.pop(p.slot),
+        let frames = match self.domains.get_index_mut(place) {
+            Some(x) => {
+                x.pop(p.slot);
+                x.depth(p.slot)
+            }
             None => unreachable!(),
+        };
+        if frames > 0 {
+            self.aim(s, place, p.slot);
         }
     }
 

@@ -10,6 +10,7 @@ pub mod FirstFrames
 pub mod FirstKernel
 pub mod FramesLeft
 pub mod FramesResumed
+pub mod GoesOnInFrame
 pub mod HeldThreads
 pub mod InstructionsBegin
 pub mod ItemsLent
@@ -36,6 +37,7 @@ pub mod PoppedValues
 pub mod PrintedTypes
 pub mod PrintedValues
 pub mod PrintlnCalled
+pub mod QuickSteps
 pub mod RunningThread
 pub mod SaidOnTop
 pub mod SegmentsOfAMachine
@@ -56,6 +58,7 @@ pub mod ThreadsOfTheMap
 pub mod TopAlone
 pub mod TopCode
 pub mod TopFrameFits
+pub mod TurnsSoFar
 pub mod WaysJoined
 pub mod WaysSoFar
 pub mod WorldOfSystem

@@ -19,5 +19,6 @@ pub mod SegmentFrames
 pub mod SoundKernels
 pub mod StandsAt
 pub mod StaysApart
+pub mod StaysInFrame
 pub mod Throwing
 pub mod Touching

@@ -1,6 +1,6 @@
 //! Where a frame stands, and which class it needs before it goes on.
 
-ghost use Rattle.std.specs.Prelude.{◌≡◌, ℕ, IfNone, IfSome, List as AList, MatchOption, Some, pos, slice_get};
+ghost use Rattle.std.specs.Prelude.{◌≡◌, ℕ, IfNone, IfSome, List as AList, MatchOption, Some, pos, slice_get, true};
 ghost use Rattle.jk_model.specs.declared.identifiers.ClassId.{ClassId as AClassId};
 ghost use Rattle.jk_model.specs.declared.identifiers.MemberId.{MemberId as AMemberId};
 ghost use Rattle.jk_model.specs.declared.instructions.Instr.{Instr as AnInstr};
@@ -10,6 +10,7 @@ ghost use Rattle.jk_model_machine.specs.Initialising.{InstrNeeds};
 ghost use Rattle.type_rows.specs.CodeViews.{scope_of};
 ghost use Rattle.type_rows.specs.Operands.{HasNoLink, IsLink};
 ghost use Rattle.jk_kernel.specs.StandsAt.{StandsIn};
+ghost use Rattle.jk_kernel.specs.StaysInFrame.{StaysInFrame};
 
 use class_table::ClassTable;
 use jk_model::{ClassId, FrameHead, Instr, MemberId};
@@ -29,6 +30,18 @@ pub(crate) const INVOKESTATIC: u8 = 0xb8;
 const NEW: u8 = 0xbb;
 
 pub(crate) const LDC: u8 = 0x13;
+
+/// The divisions and remainders of ints and longs, which raise an exception where the divisor is 0.
+const IDIV: u8 = 0x6c;
+
+const LDIV: u8 = 0x6d;
+
+const IREM: u8 = 0x70;
+
+const LREM: u8 = 0x71;
+
+/// The first of the returns. Before it stand constants, locals, the operand stack, arithmetic, jumps and switches.
+const IRETURN: u8 = 0xac;
 
 /// The instruction at which a frame stands, with what its method's code is judged in.
 #[derive(Clone, Copy)]
@@ -160,5 +173,19 @@ pub(crate) fn needed_by(at: &StandsAt<'_>) -> Option<ClassId>
         INVOKESTATIC => method_class(at),
         NEW => named_class(at),
         _ => None,
+    }
+}
+
+/// Whether an instruction only computes or jumps within its frame, if it is one that runs so far.
+pub(crate) fn stays_in_frame(at: &StandsAt<'_>) -> bool
+    ensures { result ≡ true → StaysInFrame (scope_of at.now.code) at.now.instr.now }
+{
+    match at.instr.op {
+        LDC => match text_of(at) {
+            Some(_) => false,
+            None => true,
+        },
+        IDIV | LDIV | IREM | LREM => false,
+        op => op < IRETURN,
     }
 }

@@ -1,15 +1,20 @@
 //! One step of the top segment of a thread, over the parts of the machine that it touches.
 
+ghost use Rattle.std.specs.Prelude.{◌≡◌, true, false};
+ghost use Rattle.jk_kernel.specs.declared.happened.Happened.TheVariants as Came;
+ghost use Rattle.type_rows.specs.CodeViews.{scope_of};
+ghost use Rattle.jk_kernel.specs.Executing.{ExecutesSo, MayExecute};
 ghost use Rattle.jk_kernel.specs.Following.{FollowsSo, MayFollow};
 ghost use Rattle.jk_kernel.specs.Needs.{IsNeeded, Meets};
 ghost use Rattle.jk_kernel.specs.LocalSteps.{StandsInMachine, StepsBy};
+ghost use Rattle.jk_kernel.specs.StaysInFrame.{StaysInFrame};
 
 use crate::calls::give_back;
 use crate::domain_parts::{DomainPart, pays};
 use crate::executing::execute;
 use crate::happened::Happened;
 use crate::initialising::{need_falls, touch};
-use crate::places::{needed_by, stands_at};
+use crate::places::{StandsAt, needed_by, stands_at, stays_in_frame};
 use crate::system_classes::NO_CLASS_DEF_FOUND_ERROR;
 use crate::throwing::{raised_class, throw};
 use class_init::{Own, look};
@@ -94,6 +99,56 @@ pub(crate) fn step<F: FrameStore>(
                 None => unreachable!(),
             },
         },
+    }
+}
+
+/// One step whose instruction only computes or jumps within its frame, as most do. It answers false where the next step is another;
+/// nothing changed then. It costs less than `step`, which does each kind of step.
+pub(crate) fn quick_step<F: FrameStore>(
+    w: &World,
+    d: &mut DomainPart,
+    frames: &mut F,
+    r: Runs,
+) -> bool
+    requires { StandsInMachine (F.content frames.old) w.now d.old r }
+    ensures yes { result ≡ true → StepsBy (F.content frames.old) (F.content frames.new) w.now d.old d.new r Came.Silent }
+    ensures no { result ≡ false → (frames.new ≡ frames.old) × (d.new ≡ d.old) }
+{
+    let head = frames.head(r.segment);
+    let t = w.classes();
+    match head.need {
+        Some(_) => return false,
+        None => {}
+    }
+    let Some(at) = stands_at(t, &head) else {
+        return false;
+    };
+    if !stays_in_frame(&at) {
+        return false;
+    }
+    if !pays(d) {
+        return false;
+    }
+    do_in_frame(w, d, frames, r, &head, &at);
+    true
+}
+
+/// Does an instruction that only computes or jumps within its frame.
+fn do_in_frame<F: FrameStore>(
+    w: &World,
+    _d: &DomainPart,
+    frames: &mut F,
+    r: Runs,
+    _head: &FrameHead,
+    at: &StandsAt<'_>,
+)
+    requires may { MayExecute (F.content frames.old) w.now _d.now r _head.now (scope_of at.now.code) at.now.instr.now }
+    requires stays { StaysInFrame (scope_of at.now.code) at.now.instr.now }
+    ensures { ExecutesSo (F.content frames.old) (F.content frames.new) w.now _d.now _d.now r _head.now (scope_of at.now.code) at.now.instr.now Came.Silent }
+{
+    match number_ops::step(frames, w, r.segment, at.instr) {
+        After::Goto(n) => frames.go(r.segment, n, None),
+        _ => unreachable!(),
     }
 }
 

@@ -1,6 +1,5 @@
 -- A class whose state was read has a part.
-use Rattle.std.proofs.Common.{◌≡◌, true, is_some, sym, ◌∙◌, ap}
-use Rattle.std.specs.Option.{option_map}
+use Rattle.std.proofs.Common.{is_some, sym, ◌∙◌, ap}
 use Rattle.jk_model_domains.specs.OwnStates.{ClassPart}
 use Rattle.class_init.specs.Parts.{part_in}
 use Rattle.class_init.proofs.WhatIsThere.{some_mapped}

@@ -1,8 +1,12 @@
 -- The top frame goes in its domain.
-use Rattle.frame_store.specs.StoreContents.{IsFound}
-use Rattle.frame_store.proofs.StoreChanges.{found_top, store_kept}
+use Rattle.std.proofs.Common.{ℕ, ◌<◌, List, length, subst, sym, ap, ◌∙◌}
+use Rattle.jk_model_domains.specs.Frames.{FrameState}
+use Rattle.frame_store.specs.FrameContents.{FrameContent, Pops}
+use Rattle.frame_store.specs.StoreContents.{content_of, IsFound}
+use Rattle.frame_store.proofs.StoreChanges.{found_slot, found_top, store_kept}
 use Rattle.frame_store.proofs.WrittenAt.{never_none, read_at, written_at}
 use Rattle.frame_store.proofs.StoreSteps.{steps_pop}
+use Rattle.frame_store.proofs.CursorPoints.{still_slot, has_some, found_again}
 use Rattle.frame_store.proofs.plain_frames.PlainFramesFrameStore.pop.Goals as goal
 
 pub pop-requires : goal.pop-requires
@@ -23,18 +27,65 @@ invariant_of-self-in-Some c =
     let found : IsFound st.domains st.places c.args.s.0 x p.slot = record { domain = p.domain; at = c.place-p.ensures; is = is } in
     let y = c.pop.new.self in
     let wrote = written_at st.domains p.domain c.index_of-place.result c.index_of-place.ensures y c.get_index_mut.ensures.unique in
-    record { ok = store_kept _ _ st.places st.owed c.args.s p x y st.ok c.place-p.ensures is wrote c.pop.ensures.same_chunks c.pop.ensures.same_slots; at = λ e. absurd (cc) }
+    let b = c.pop.ensures in
+    record { ok = store_kept _ _ st.places st.owed c.args.s p x y st.ok c.place-p.ensures is wrote b.same_chunks b.same_slots; at = λ e. absurd (cc) }
 
-pub returns : goal.returns
-returns c =
+pub depth-frames-requires : goal.depth-frames-requires
+depth-frames-requires c =
     let st = c.args.self.now in
     let x = c.in-Some.x.now in
     let p = c.place-p.result in
-    let is = read_at st.domains p.domain c.index_of-place.result c.index_of-place.ensures x c.in-Some.ensures.value in
+    let at = c.index_of-place.result in
+    let stands = c.index_of-place.ensures in
+    let is = read_at st.domains p.domain at stands x c.in-Some.ensures.value in
+    let found : IsFound st.domains st.places c.args.s.0 x p.slot = record { domain = p.domain; at = c.place-p.ensures; is = is } in
+    still_slot x c.pop.new.self p.slot _ _ c.pop.ensures (found_slot _ _ _ c.args.s st.ok x p.slot found)
+
+pub aim-requires : goal.aim-requires
+aim-requires c =
+    let st = c.args.self.now in
+    let x = c.in-Some.x.now in
+    let p = c.place-p.result in
+    let at = c.index_of-place.result in
+    let stands = c.index_of-place.ensures in
+    let is = read_at st.domains p.domain at stands x c.in-Some.ensures.value in
     let found : IsFound st.domains st.places c.args.s.0 x p.slot = record { domain = p.domain; at = c.place-p.ensures; is = is } in
     let y = c.pop.new.self in
-    let wrote = written_at st.domains p.domain c.index_of-place.result c.index_of-place.ensures y c.get_index_mut.ensures.unique in
-    steps_pop _ _ st.places st.owed c.args.s p x y st.ok c.place-p.ensures is wrote (found_top _ _ _ c.args.s st.ok x p.slot found c.requires.0 c.requires.1) c.pop.ensures
+    let wrote = written_at st.domains p.domain at stands y c.get_index_mut.ensures.unique in
+    let Some_left : ℕ → Type 0 = λ n. 0 < n in
+    let some = subst Some_left (c.depth-frames.ensures ∙ ap (λ (fs : List FrameState). length fs) c.pop.ensures.becomes) c.if-frames-gt0.true in
+    let top = has_some x y p.slot _ _ c.pop.ensures (found_slot _ _ _ c.args.s st.ok x p.slot found) some in
+    found_again st.domains st.places st.owed c.args.s x y p.slot st.ok found at stands wrote top
+
+pub returns-then-frames-gt0 : goal.returns-then-frames-gt0
+returns-then-frames-gt0 c =
+    let st = c.args.self.now in
+    let x = c.in-Some.x.now in
+    let p = c.place-p.result in
+    let at = c.index_of-place.result in
+    let stands = c.index_of-place.ensures in
+    let is = read_at st.domains p.domain at stands x c.in-Some.ensures.value in
+    let found : IsFound st.domains st.places c.args.s.0 x p.slot = record { domain = p.domain; at = c.place-p.ensures; is = is } in
+    let y = c.pop.new.self in
+    let wrote = written_at st.domains p.domain at stands y c.get_index_mut.ensures.unique in
+    let top = found_top _ _ _ c.args.s st.ok x p.slot found c.requires.0 c.requires.1 in
+    let P : FrameContent → Type 0 = λ q. Pops (content_of st.domains st.places) q c.args.s in
+    subst P (sym c.aim.ensures)
+    (steps_pop _ _ st.places st.owed c.args.s p x y st.ok c.place-p.ensures is wrote top c.pop.ensures)
+
+pub returns-else-frames-gt0 : goal.returns-else-frames-gt0
+returns-else-frames-gt0 c =
+    let st = c.args.self.now in
+    let x = c.in-Some.x.now in
+    let p = c.place-p.result in
+    let at = c.index_of-place.result in
+    let stands = c.index_of-place.ensures in
+    let is = read_at st.domains p.domain at stands x c.in-Some.ensures.value in
+    let found : IsFound st.domains st.places c.args.s.0 x p.slot = record { domain = p.domain; at = c.place-p.ensures; is = is } in
+    let y = c.pop.new.self in
+    let wrote = written_at st.domains p.domain at stands y c.get_index_mut.ensures.unique in
+    let top = found_top _ _ _ c.args.s st.ok x p.slot found c.requires.0 c.requires.1 in
+    steps_pop _ _ st.places st.owed c.args.s p x y st.ok c.place-p.ensures is wrote top c.pop.ensures
 
 pub unreachable-requires : goal.unreachable-requires
 unreachable-requires c =

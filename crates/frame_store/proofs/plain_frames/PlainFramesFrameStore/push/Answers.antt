@@ -6,13 +6,15 @@ use Rattle.frame_store.specs.declared.domain_frames.DomainFrames.{DomainFrames}
 use Rattle.indexmap.specs.IndexMap.{IndexMap, get, with_value_at}
 use Rattle.jk_model.specs.declared.identifiers.DomainId.{DomainId}
 use Rattle.frame_store.specs.declared.segment_table.SegmentTable.{SegmentTable}
-use Rattle.frame_store.specs.FrameContents.{HasRoomFor, IsSame, Pushes, StoredSegment, free_chunks}
+use Rattle.frame_store.specs.FrameContents.{FrameContent, HasRoomFor, Pushes, StoredSegment, free_chunks}
 use Rattle.frame_store.specs.StoreContents.{content_of, IsFound, IsStore}
 use Rattle.frame_store.specs.DomainMoves.{frames_of, Becomes}
 use Rattle.frame_store.proofs.StoreChanges.{found_segment, found_slot, same_some, segment_in, store_kept}
 use Rattle.frame_store.proofs.WrittenAt.{never_none, read_at, written_at}
 use Rattle.frame_store.proofs.StoreSteps.{steps_push, steps_none}
-use Rattle.frame_store.proofs.SegmentGoes.{on_ok, on_err, either_way}
+use Rattle.frame_store.proofs.SegmentGoes.{either_way}
+use Rattle.frame_store.proofs.SegmentBegins.{to_err}
+use Rattle.frame_store.proofs.CursorPoints.{has_some, some_pushed, found_again}
 use Rattle.frame_store.proofs.plain_frames.PlainFramesFrameStore.push.Goals as goal
 
 pub push-requires : goal.push-requires
@@ -38,35 +40,53 @@ invariant_of-self-in-Some c =
           either_way c.push.result _ _ (IsStore (with_value_at st.domains c.index_of-place.result y) st.places st.owed)
           (λ (b : Becomes x y p.slot (frames_of x p.slot ++ new_frame c.args.head ∷ []) (x.used + head_chunks c.args.head)).
           store_kept _ _ st.places st.owed c.args.s p x y st.ok c.place-p.ensures is wrote b.same_chunks b.same_slots)
-          (λ (e : y ≡ x). store_kept _ _ st.places st.owed c.args.s p x y st.ok c.place-p.ensures is wrote (ap (λ (z : DomainFrames). z.chunks) e) (ap (λ (z : DomainFrames). z.slots) e))
+          (λ (e : y ≡ x).
+          store_kept _ _ st.places st.owed c.args.s p x y st.ok c.place-p.ensures is wrote
+          (ap (λ (z : DomainFrames). z.chunks) e) (ap (λ (z : DomainFrames). z.slots) e))
           c.push.ensures.ok c.push.ensures.err;
       at = λ e. absurd (cc);
     }
+
+pub returns-in_err-push-in-Some-clause-err : goal.returns-in_err-push-in-Some-clause-err
+returns-in_err-push-in-Some-clause-err c =
+    let st = c.args.self.now in
+    let x = c.in-Some.x.now in
+    let p = c.place-p.result in
+    let at = c.index_of-place.result in
+    let stands = c.index_of-place.ensures in
+    let is = read_at st.domains p.domain at stands x c.in-Some.ensures.value in
+    let y = c.push.new.self in
+    let wrote = written_at st.domains p.domain at stands y c.get_index_mut.ensures.unique in
+    to_err _ _ (steps_none _ _ st.places st.owed c.args.s p x y st.ok c.place-p.ensures is wrote c.in_err-push-in-Some.ensures.err)
+
+pub aim-requires : goal.aim-requires
+aim-requires c =
+    let st = c.args.self.now in
+    let x = c.in-Some.x.now in
+    let p = c.place-p.result in
+    let at = c.index_of-place.result in
+    let stands = c.index_of-place.ensures in
+    let is = read_at st.domains p.domain at stands x c.in-Some.ensures.value in
+    let found : IsFound st.domains st.places c.args.s.0 x p.slot = record { domain = p.domain; at = c.place-p.ensures; is = is } in
+    let y = c.push.new.self in
+    let wrote = written_at st.domains p.domain at stands y c.get_index_mut.ensures.unique in
+    let some = some_pushed (frames_of x p.slot) (new_frame c.args.head) in
+    let top = has_some x y p.slot _ _ c.in_ok-push-in-Some.ensures.ok (found_slot _ _ _ c.args.s st.ok x p.slot found) some in
+    found_again st.domains st.places st.owed c.args.s x y p.slot st.ok found at stands wrote top
 
 pub returns-clause-ok : goal.returns-clause-ok
 returns-clause-ok c =
     let st = c.args.self.now in
     let x = c.in-Some.x.now in
     let p = c.place-p.result in
-    let is = read_at st.domains p.domain c.index_of-place.result c.index_of-place.ensures x c.in-Some.ensures.value in
-    let found : IsFound st.domains st.places c.args.s.0 x p.slot = record { domain = p.domain; at = c.place-p.ensures; is = is } in
+    let at = c.index_of-place.result in
+    let stands = c.index_of-place.ensures in
+    let is = read_at st.domains p.domain at stands x c.in-Some.ensures.value in
     let y = c.push.new.self in
-    let wrote = written_at st.domains p.domain c.index_of-place.result c.index_of-place.ensures y c.get_index_mut.ensures.unique in
-    on_ok c.push.result _ (Pushes (content_of st.domains st.places) (content_of (with_value_at st.domains c.index_of-place.result y) st.places) c.args.s c.args.head)
-    (λ (b : Becomes x y p.slot (frames_of x p.slot ++ new_frame c.args.head ∷ []) (x.used + head_chunks c.args.head)). steps_push _ _ st.places st.owed c.args.s p x y st.ok c.place-p.ensures is wrote c.args.head b)
-    c.push.ensures.ok
-
-pub returns-clause-err : goal.returns-clause-err
-returns-clause-err c =
-    let st = c.args.self.now in
-    let x = c.in-Some.x.now in
-    let p = c.place-p.result in
-    let is = read_at st.domains p.domain c.index_of-place.result c.index_of-place.ensures x c.in-Some.ensures.value in
-    let found : IsFound st.domains st.places c.args.s.0 x p.slot = record { domain = p.domain; at = c.place-p.ensures; is = is } in
-    let y = c.push.new.self in
-    let wrote = written_at st.domains p.domain c.index_of-place.result c.index_of-place.ensures y c.get_index_mut.ensures.unique in
-    on_err c.push.result _ (IsSame (content_of st.domains st.places) (content_of (with_value_at st.domains c.index_of-place.result y) st.places))
-    (λ (e : y ≡ x). steps_none _ _ st.places st.owed c.args.s p x y st.ok c.place-p.ensures is wrote e) c.push.ensures.err
+    let wrote = written_at st.domains p.domain at stands y c.get_index_mut.ensures.unique in
+    let P : FrameContent → Type 0 = λ q. Pushes (content_of st.domains st.places) q c.args.s c.args.head in
+    subst P (sym c.aim.ensures)
+    (steps_push _ _ st.places st.owed c.args.s p x y st.ok c.place-p.ensures is wrote c.args.head c.in_ok-push-in-Some.ensures.ok)
 
 -- what the domain may still use
 free_is : {S : Type 0} (m : IndexMap ℕ DomainFrames S) (places : SegmentTable) (d : DomainId) (x : DomainFrames) → get nat_eq m d.0 ≡ Some x
@@ -82,30 +102,31 @@ returns-clause-room c =
     let st = c.args.self.now in
     let x = c.in-Some.x.now in
     let p = c.place-p.result in
-    let is = read_at st.domains p.domain c.index_of-place.result c.index_of-place.ensures x c.in-Some.ensures.value in
+    let at = c.index_of-place.result in
+    let stands = c.index_of-place.ensures in
+    let is = read_at st.domains p.domain at stands x c.in-Some.ensures.value in
     let d : DomainId = record { 0 = p.domain } in
-    let found : IsFound st.domains st.places c.args.s.0 x p.slot = record { domain = p.domain; at = c.place-p.ensures; is = is } in
-    on_ok c.push.result _ (HasRoomFor (content_of st.domains st.places) c.args.s c.args.head)
-    (λ (fits : head_chunks c.args.head ≤ x.chunks - x.used). (
+    let found : IsFound st.domains st.places c.args.s.0 x p.slot = record { domain = p.domain; at = c.place-p.ensures; is = is } in (
       segment_in x p.domain p.slot,
       found_segment _ _ _ c.args.s st.ok x p.slot found,
-      subst (λ k. head_chunks c.args.head ≤ k) (sym (free_is st.domains st.places d x is)) fits,
-    ))
-    c.push.ensures.room
+      subst (λ k. head_chunks c.args.head ≤ k) (sym (free_is st.domains st.places d x is)) c.in_ok-push-in-Some.ensures.room,
+    )
 
-pub returns-clause-no_room : goal.returns-clause-no_room
-returns-clause-no_room c =
+pub returns-in_err-push-in-Some-clause-no_room : goal.returns-in_err-push-in-Some-clause-no_room
+returns-in_err-push-in-Some-clause-no_room c =
     let st = c.args.self.now in
     let x = c.in-Some.x.now in
     let p = c.place-p.result in
-    let is = read_at st.domains p.domain c.index_of-place.result c.index_of-place.ensures x c.in-Some.ensures.value in
+    let at = c.index_of-place.result in
+    let stands = c.index_of-place.ensures in
+    let is = read_at st.domains p.domain at stands x c.in-Some.ensures.value in
     let found : IsFound st.domains st.places c.args.s.0 x p.slot = record { domain = p.domain; at = c.place-p.ensures; is = is } in
-    on_err c.push.result _ (HasRoomFor (content_of st.domains st.places) c.args.s c.args.head → ⊥)
-    (λ (short : x.chunks - x.used < head_chunks c.args.head) (room : HasRoomFor (content_of st.domains st.places) c.args.s c.args.head).
+    let never : HasRoomFor (content_of st.domains st.places) c.args.s c.args.head → ⊥ =
+    λ room.
     let same = same_some (segment_in x p.domain p.slot) room.0 (sym (found_segment _ _ _ c.args.s st.ok x p.slot found) ∙ room.1) in
     let of_domain : get nat_eq st.domains room.0.domain.0 ≡ Some x = ap (λ (g : StoredSegment). get nat_eq st.domains g.domain.0) (sym same) ∙ is in
-    too_many _ _ _ short room.2 (free_is st.domains st.places room.0.domain x of_domain))
-    c.push.ensures.no_room
+    too_many _ _ _ c.in_err-push-in-Some.ensures.no_room room.2 (free_is st.domains st.places room.0.domain x of_domain) in
+    to_err _ _ never
 
 pub unreachable-requires : goal.unreachable-requires
 unreachable-requires c =

@@ -1,0 +1,2 @@
+-- What holds of the world in which folders are loaded one after another.
+pub mod WorldsAfterLoads

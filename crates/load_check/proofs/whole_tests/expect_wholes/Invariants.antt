@@ -1,0 +1,6 @@
+-- After each folder the next one may be loaded.
+use Rattle.jk_model_folders.specs.Loads.{MayLoad}
+use Rattle.load_check.proofs.whole_tests.expect_wholes.Given as goal
+
+abbrev pub invariant-loop-name : goal.invariant-loop-name
+invariant-loop-name g l = MayLoad l.world
