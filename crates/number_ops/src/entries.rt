@@ -9,6 +9,7 @@ use frame_store::FrameStore;
 use jk_model::{SegmentNo, Value};
 
 /// Pushes an entry.
+#[inline(always)]
 pub(crate) fn push<F: FrameStore>(frames: &mut F, s: SegmentNo, v: Value)
     requires { OnTopWithRoom (F.content frames.old) s [] 1 }
     ensures { Turns (F.content frames.old) (F.content frames.new) s [] (v ∷ []) }
@@ -17,6 +18,7 @@ pub(crate) fn push<F: FrameStore>(frames: &mut F, s: SegmentNo, v: Value)
 }
 
 /// Takes the top entry.
+#[inline(always)]
 pub(crate) fn pop<F: FrameStore>(frames: &mut F, s: SegmentNo) -> Value
     requires { (v : AValue) × OnTop (F.content frames.old) s (v ∷ []) }
     ensures { Turns (F.content frames.old) (F.content frames.new) s (result ∷ []) [] }
@@ -25,6 +27,7 @@ pub(crate) fn pop<F: FrameStore>(frames: &mut F, s: SegmentNo) -> Value
 }
 
 /// Takes an int from the top.
+#[inline(always)]
 pub(crate) fn pop_int<F: FrameStore>(frames: &mut F, s: SegmentNo) -> i32
     requires { (n : ℤ) × OnTop (F.content frames.old) s (Int n ∷ []) }
     ensures { Turns (F.content frames.old) (F.content frames.new) s (Int result ∷ []) [] }
