@@ -1,4 +1,4 @@
-//! Fingerprints: 64 bits that a text determines, and that strangers can't bring to agree for many texts.
+//! Fingerprints: 64 bits that a text determines. Strangers can't bring many texts to agree in all of them.
 
 ghost use Rattle.std.specs.Prelude.{◌≡◌};
 ghost use Rattle.jk_model.specs.Descriptors.{method_text};
@@ -14,8 +14,9 @@ use sha2::{Digest, Sha256};
 ///
 /// The texts come from strangers, who would slow each search by fingerprint if they could bring many to
 /// agree. For SHA-256 nobody knows a cheaper way than to try texts: some 2^32 of them for a pair that agrees,
-/// and some 2^64 for a text that agrees with a given one. It costs some 100 instructions a unit, and some
-/// 3,000 at least.
+/// and some 2^64 for a text that agrees with a given one. That holds of all 64 bits, and not of the fewer by
+/// which a hashed map finds a place: what is kept by fingerprints of strangers' texts is kept in their order.
+/// One costs some 100 instructions a unit, and some 3,000 at least.
 pub fn fingerprint(units: &[u16]) -> u64
     ensures { result ≡ fingerprint_of units.now }
 {
