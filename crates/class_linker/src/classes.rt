@@ -18,7 +18,7 @@ fn class_at(c: &ClassFile, texts: &ClassTexts, names: &NameTable, i: u16) -> Opt
 {
     let _pool = &c.pool;
     match texts.text(i) {
-        Some(name) => names.resolve(name.as_slice()),
+        Some(name) => names.resolve_text(name),
         None => None,
     }
 }

@@ -9,9 +9,11 @@ ghost use Rattle.class_linker.specs.LinkParts.{AreFields, AreMethods, key_of};
 ghost use Rattle.class_linker.specs.TextsSaid.{IsPairOf, SaysField, SaysMethod};
 
 use crate::linking::Linking;
-use jk_model::{ClassId, MemberId, MethodType, OutOfMemory};
+use class_table::{FieldKey, MethodKey};
+use jk_model::{ClassId, MemberId, OutOfMemory};
 use jk_model_classes::TypeRef;
-use member_lookup::{find_field, find_method};
+use member_lookup::{find_field_by, find_method_by};
+use shared_values::{SharedKind, Text};
 use std::collections::BTreeMap;
 
 /// What was found before. It goes by order, and not by a hash: a file could pick its references so that their hashes meet.
@@ -45,7 +47,7 @@ pub(crate) fn field_found(
     found: &mut Found,
     class: ClassId,
     pair: u16,
-    name: &[u16],
+    name: &Text,
     kind: TypeRef,
 ) -> Result<Option<MemberId>, OutOfMemory>
     requires pair { IsPairOf (SaysField l.now.names.now l.now.pool.now) l.now.pool.now pair name.now kind }
@@ -57,7 +59,7 @@ pub(crate) fn field_found(
     if let Some(m) = found_at(found, key) {
         return Ok(m);
     }
-    let m = find_field(l.t, class, name, &kind);
+    let m = find_field_by(l.t, class, &FieldKey::of_text(name, kind));
     remember(found, key, m)?;
     Ok(m)
 }
@@ -68,8 +70,8 @@ pub(crate) fn method_found(
     found: &mut Found,
     class: ClassId,
     pair: u16,
-    name: &[u16],
-    kind: &MethodType,
+    name: &Text,
+    kind: &SharedKind,
 ) -> Result<Option<MemberId>, OutOfMemory>
     requires pair { IsPairOf (SaysMethod l.now.pool.now) l.now.pool.now pair name.now kind.now }
     requires known { AreMethods l.now (λ key. get nat_cmp found.old key) }
@@ -80,7 +82,7 @@ pub(crate) fn method_found(
     if let Some(m) = found_at(found, key) {
         return Ok(m);
     }
-    let m = find_method(l.t, class, name, kind);
+    let m = find_method_by(l.t, class, &MethodKey::of_shared(name, kind));
     remember(found, key, m)?;
     Ok(m)
 }

@@ -12,8 +12,9 @@ use crate::said::Said;
 use class_table::ClassTable;
 use class_texts::ClassTexts;
 use domain_resolver::NameTable;
-use jk_model::{ClassId, MethodType, PoolEntry};
+use jk_model::{ClassId, PoolEntry};
 use jk_model_classes::TypeRef;
+use shared_values::{SharedKind, Text};
 
 /// A class file that is linked: all classes, what names mean, and what its pool says.
 #[derive(Clone, Copy)]
@@ -90,7 +91,7 @@ fn field_at(l: &Linking<'_>, d: u16) -> Option<TypeRef>
 }
 
 /// The type of a method that the text at an index says.
-fn method_at<'a>(l: &Linking<'a>, d: u16) -> Option<&'a MethodType>
+fn method_at<'a>(l: &Linking<'a>, d: u16) -> Option<&'a SharedKind>
     requires { IsReady l.now }
     ensures { MatchOption result ((kind : AMethodType) → SaysMethod l.now.pool.now d kind → ⊥) (λ kind. SaysMethod l.now.pool.now d kind.now) }
 {
@@ -104,7 +105,7 @@ fn method_at<'a>(l: &Linking<'a>, d: u16) -> Option<&'a MethodType>
 }
 
 /// The name and the type of a field that the NameAndType entry at an index says.
-pub(crate) fn field_pair<'a>(l: &Linking<'a>, i: u16) -> Option<(&'a [u16], TypeRef)>
+pub(crate) fn field_pair<'a>(l: &Linking<'a>, i: u16) -> Option<(&'a Text, TypeRef)>
     requires { IsReady l.now }
     ensures { MatchOption result ((name : List ℕ) (kind : ATypeRef) → IsPairOf (SaysField l.now.names.now l.now.pool.now) l.now.pool.now i name kind → ⊥)
         (λ p. IsPairOf (SaysField l.now.names.now l.now.pool.now) l.now.pool.now i p.0.now p.1) }
@@ -116,14 +117,14 @@ pub(crate) fn field_pair<'a>(l: &Linking<'a>, i: u16) -> Option<(&'a [u16], Type
 }
 
 /// The text at one index, with the type of a field that the text at the other says.
-fn field_by<'a>(l: &Linking<'a>, n: u16, d: u16) -> Option<(&'a [u16], TypeRef)>
+fn field_by<'a>(l: &Linking<'a>, n: u16, d: u16) -> Option<(&'a Text, TypeRef)>
     requires { IsReady l.now }
     ensures { MatchOption result ((name : List ℕ) (kind : ATypeRef) → TextAt l.now.pool.now n name → SaysField l.now.names.now l.now.pool.now d kind → ⊥)
         (λ p. TextAt l.now.pool.now n p.0.now × SaysField l.now.names.now l.now.pool.now d p.1) }
 {
     match l.texts.text(n) {
         Some(name) => match field_at(l, d) {
-            Some(kind) => Some((name.as_slice(), kind)),
+            Some(kind) => Some((name, kind)),
             None => None,
         },
         None => None,
@@ -131,7 +132,7 @@ fn field_by<'a>(l: &Linking<'a>, n: u16, d: u16) -> Option<(&'a [u16], TypeRef)>
 }
 
 /// The name and the type of a method that the NameAndType entry at an index says.
-pub(crate) fn method_pair<'a>(l: &Linking<'a>, i: u16) -> Option<(&'a [u16], &'a MethodType)>
+pub(crate) fn method_pair<'a>(l: &Linking<'a>, i: u16) -> Option<(&'a Text, &'a SharedKind)>
     requires { IsReady l.now }
     ensures { MatchOption result ((name : List ℕ) (kind : AMethodType) → IsPairOf (SaysMethod l.now.pool.now) l.now.pool.now i name kind → ⊥)
         (λ p. IsPairOf (SaysMethod l.now.pool.now) l.now.pool.now i p.0.now p.1.now) }
@@ -143,14 +144,14 @@ pub(crate) fn method_pair<'a>(l: &Linking<'a>, i: u16) -> Option<(&'a [u16], &'a
 }
 
 /// The text at one index, with the type of a method that the text at the other says.
-fn method_by<'a>(l: &Linking<'a>, n: u16, d: u16) -> Option<(&'a [u16], &'a MethodType)>
+fn method_by<'a>(l: &Linking<'a>, n: u16, d: u16) -> Option<(&'a Text, &'a SharedKind)>
     requires { IsReady l.now }
     ensures { MatchOption result ((name : List ℕ) (kind : AMethodType) → TextAt l.now.pool.now n name → SaysMethod l.now.pool.now d kind → ⊥)
         (λ p. TextAt l.now.pool.now n p.0.now × SaysMethod l.now.pool.now d p.1.now) }
 {
     match l.texts.text(n) {
         Some(name) => match method_at(l, d) {
-            Some(kind) => Some((name.as_slice(), kind)),
+            Some(kind) => Some((name, kind)),
             None => None,
         },
         None => None,

@@ -18,8 +18,9 @@ use crate::said::{Said, said_in};
 use class_table::ClassTable;
 use class_texts::ClassTexts;
 use domain_resolver::NameTable;
-use jk_model::{ClassFile, ClassId, List, MethodType, OutOfMemory, PoolEntry};
+use jk_model::{ClassFile, ClassId, List, OutOfMemory, PoolEntry};
 use jk_model_classes::{BaseRef, Link, TypeRef};
+use shared_values::{SharedKind, Text};
 use std::alloc::Global;
 use std::collections::BTreeMap;
 
@@ -198,7 +199,7 @@ fn field_link_by(
     found: &mut Found,
     class: ClassId,
     pair: u16,
-    name: &[u16],
+    name: &Text,
     kind: TypeRef,
 ) -> Result<Link, OutOfMemory>
     requires pair { IsPairOf (SaysField l.now.names.now l.now.pool.now) l.now.pool.now pair name.now kind }
@@ -255,8 +256,8 @@ fn method_link_by(
     found: &mut Found,
     class: ClassId,
     pair: u16,
-    name: &[u16],
-    kind: &MethodType,
+    name: &Text,
+    kind: &SharedKind,
 ) -> Result<Link, OutOfMemory>
     requires pair { IsPairOf (SaysMethod l.now.pool.now) l.now.pool.now pair name.now kind.now }
     requires known { AreMethods l.now (λ key. get nat_cmp found.old key) }

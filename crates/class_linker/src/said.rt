@@ -12,8 +12,9 @@ ghost use Rattle.class_linker.specs.TextsSaid.{Answers, AreSaid, IsFieldTextFor,
 use class_texts::ClassTexts;
 use descriptors::{DescriptorError, field_type, method_type};
 use domain_resolver::NameTable;
-use jk_model::{Base, ClassFile, ClassId, FieldType, List, MethodType, OutOfMemory};
+use jk_model::{Base, ClassFile, ClassId, FieldType, List, OutOfMemory};
 use jk_model_classes::{BaseRef, TypeRef};
+use shared_values::{SharedKind, Text};
 use std::alloc::Global;
 
 /// What a text says.
@@ -24,7 +25,7 @@ pub(crate) struct Said {
     /// The type of a field of which it is the descriptor, if its class is known.
     pub(crate) field: Option<TypeRef>,
     /// The type of a method of which it is the descriptor.
-    pub(crate) method: Option<MethodType>,
+    pub(crate) method: Option<SharedKind>,
 }
 
 /// What each text of a class file says, in time and memory in proportion to the pool.
@@ -61,7 +62,7 @@ fn said_at(
 {
     let _pool = &c.pool;
     match texts.text(i) {
-        Some(text) => said_by(alloc, names, text.as_slice()),
+        Some(text) => said_by(alloc, names, text),
         None => Ok(Said {
             class: None,
             field: None,
@@ -70,14 +71,14 @@ fn said_at(
     }
 }
 
-/// What units say.
-fn said_by(alloc: Global, names: &NameTable, units: &[u16]) -> Result<Said, OutOfMemory>
-    requires { length units.now < 2 ^ 31 }
-    ensures { IfOk result (λ said. IsSaid names.now units.now said) }
+/// What a text says.
+fn said_by(alloc: Global, names: &NameTable, text: &Text) -> Result<Said, OutOfMemory>
+    requires { length text.now < 2 ^ 31 }
+    ensures { IfOk result (λ said. IsSaid names.now text.now said) }
 {
-    let class = names.resolve(units);
-    let field = field_said(alloc, names, units)?;
-    let method = method_said(alloc, units)?;
+    let class = names.resolve_text(text);
+    let field = field_said(alloc, names, text.as_slice())?;
+    let method = method_said(alloc, text.as_slice())?;
     Ok(Said {
         class,
         field,
@@ -102,12 +103,12 @@ fn field_said(
 }
 
 /// The type of a method of which units are the descriptor.
-fn method_said(alloc: Global, units: &[u16]) -> Result<Option<MethodType>, OutOfMemory>
+fn method_said(alloc: Global, units: &[u16]) -> Result<Option<SharedKind>, OutOfMemory>
     requires { length units.now < 2 ^ 31 }
     ensures { IfOk result (λ kind. Answers (IsMethodText units.now) kind) }
 {
     match method_type(alloc, units) {
-        Ok(kind) => Ok(Some(kind)),
+        Ok(kind) => Ok(Some(SharedKind::new(alloc, kind)?)),
         Err(DescriptorError::BadDescriptor(_)) => Ok(None),
         Err(DescriptorError::OutOfMemory) => Err(OutOfMemory),
     }

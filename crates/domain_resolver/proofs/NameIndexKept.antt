@@ -2,10 +2,15 @@
 use Rattle.std.proofs.Common.{◌≡◌, ℕ, ◌+◌, ◌<◌, ◌≤◌, ◌⊎◌, inl, inr, Bool, true, false, List, [], ◌∷◌, ◌++◌, length, map, refl, sym, ◌∙◌, ap, arith, Option, Some, None, slice_get, nat_eq, length-append, if◌then◌else◌}
 use Rattle.std.specs.Prelude.{IsTrue, ◌↔◌, Contains}
 use Rattle.std.specs.List.{list_any}
+use Rattle.std.specs.BTreeMap.{is_at}
 use Rattle.std.specs.Map.{lookup}
+use Rattle.std.specs.Ordering.{is_eq, nat_cmp}
 use Rattle.std.proofs.lemmas.Bool.{cases_lt, eqb-true, eq-eqb}
+use Rattle.std.proofs.lemmas.Cmp.{nat_cmp_total, tied_itself}
 use Rattle.std.proofs.lemmas.List.{map-append}
 use Rattle.std.proofs.lemmas.List.Elements.{Contains-append_left, Contains-push, Contains-push_cases}
+use Rattle.std.proofs.lemmas.Map.Lookups.{exact_unsigned}
+use Rattle.std.proofs.lemmas.Map.Views.{tells_apart}
 use Rattle.std.proofs.lemmas.Option.{same_Some}
 use Rattle.jk_model.specs.declared.identifiers.ClassId.{ClassId}
 use Rattle.shared_values.specs.Fingerprints.{fingerprint_of}
@@ -58,10 +63,15 @@ newest_itself es y f same = (
   λ k after low has. absurd (omega arith),
 )
 
-newest_added : (es : List NameEntry) (y : NameEntry) (f : ℕ) (r : Option ℕ) → IsNewest es f (length es) r → (b : Bool) → nat_eq (fingerprint_of y.name) f ≡ b
+-- a number is found where it is looked for
+found_itself : (n m : ℕ) → n ≡ m → is_at (nat_cmp n) m ≡ true
+found_itself n m same = ap (λ (k : ℕ). is_eq (nat_cmp n k)) (sym same) ∙ ap is_eq (tied_itself nat_cmp_total n)
+
+newest_added : (es : List NameEntry) (y : NameEntry) (f : ℕ) (r : Option ℕ) → IsNewest es f (length es) r
+    → (b : Bool) → is_at (nat_cmp (fingerprint_of y.name)) f ≡ b
     → IsNewest (es ++ y ∷ []) f (length es + 1) (if b then Some (length es) else r)
-newest_added es y f r h true e = newest_itself es y f (eqb-true (fingerprint_of y.name) f e)
-newest_added es y f r h false e = newest_past es y f r (λ same. let yes = eq-eqb (fingerprint_of y.name) f same in cc) h
+newest_added es y f r h true e = newest_itself es y f (tells_apart exact_unsigned (fingerprint_of y.name) f e)
+newest_added es y f r h false e = newest_past es y f r (λ same. let yes = found_itself (fingerprint_of y.name) f same in cc) h
 
 chained_added : (es : List NameEntry) (y : NameEntry) → AreChained es → IsNewest es (fingerprint_of y.name) (length es) y.before → AreChained (es ++ y ∷ [])
 chained_added es y h last place e at = by_place (old_or_last es y place e at)
@@ -120,14 +130,15 @@ differ_added es y differ lacks i j a b p q same = by_places (old_or_last es y i 
 
 -- one more entry, which leads on to the newest before it with its fingerprint, and whose name is new
 pub index_added : (es : List NameEntry) (newest newest' : List (ℕ × ℕ)) (classes classes' : List ℕ) (y : NameEntry) → IsIndex es newest classes
-    → LacksName es y.name → y.before ≡ lookup (nat_eq (fingerprint_of y.name)) newest
-    → ((f : ℕ) → lookup (nat_eq f) newest' ≡ (if nat_eq (fingerprint_of y.name) f then Some (length es) else lookup (nat_eq f) newest))
+    → LacksName es y.name → y.before ≡ lookup (is_at (nat_cmp (fingerprint_of y.name))) newest
+    → ((f : ℕ) → lookup (is_at (nat_cmp f)) newest'
+        ≡ (if is_at (nat_cmp (fingerprint_of y.name)) f then Some (length es) else lookup (is_at (nat_cmp f)) newest))
     → ((n : ℕ) → list_any (nat_eq n) classes' ≡ (if nat_eq y.class.0 n then true else list_any (nat_eq n) classes))
     → IsIndex (es ++ y ∷ []) newest' classes'
 index_added es newest newest' classes classes' y h lacks before puts adds = record {
   newest_are =
       λ f.
-      let added = newest_added es y f (lookup (nat_eq f) newest) (h.newest_are f) (nat_eq (fingerprint_of y.name) f) refl in
+      let added = newest_added es y f (lookup (is_at (nat_cmp f)) newest) (h.newest_are f) (is_at (nat_cmp (fingerprint_of y.name)) f) refl in
       rw (puts f, length-append es (y ∷ [])) added;
   chained = chained_added es y h.chained (rw before (h.newest_are (fingerprint_of y.name)));
   classes_are =

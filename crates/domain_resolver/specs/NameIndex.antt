@@ -1,7 +1,9 @@
 -- How a table of names is indexed: by fingerprints, from the newest entry on to older ones, and by classes.
 use Rattle.std.specs.Prelude.{◌≡◌, ◌≢◌, ℕ, ◌<◌, ◌↔◌, IsTrue, List, length, map, nat_eq, Option, Some, None, slice_get}
 use Rattle.std.specs.List.{list_any}
+use Rattle.std.specs.BTreeMap.{is_at}
 use Rattle.std.specs.Map.{lookup}
+use Rattle.std.specs.Ordering.{nat_cmp}
 use Rattle.jk_model.specs.declared.identifiers.ClassId.{ClassId}
 use Rattle.shared_values.specs.Fingerprints.{fingerprint_of}
 use Rattle.jk_model_classes.specs.Worlds.{NamedClass, IsNamed}
@@ -40,7 +42,7 @@ pub record HasName (entries : List NameEntry) (name : List ℕ) (class : ClassId
   pub classed : entry.class ≡ class
 
 pub record IsIndex (entries : List NameEntry) (newest : List (ℕ × ℕ)) (classes : List ℕ) : Type 0 where
-  pub newest_are : (f : ℕ) → IsNewest entries f (length entries) (lookup (nat_eq f) newest)
+  pub newest_are : (f : ℕ) → IsNewest entries f (length entries) (lookup (is_at (nat_cmp f)) newest)
   pub chained : AreChained entries
   pub classes_are : (c : ClassId) → IsTrue (list_any (nat_eq c.0) classes) ↔ IsNamed (map named_class entries) c
   pub names_differ : (i j : ℕ) (a b : NameEntry) → slice_get entries i ≡ Some a → slice_get entries j ≡ Some b → a.name ≡ b.name → i ≡ j

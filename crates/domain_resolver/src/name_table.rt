@@ -6,10 +6,11 @@ ghost use Rattle.shared_values.specs.Fingerprints.{fingerprint_of};
 ghost use Rattle.jk_model_classes.specs.Worlds.{NamedClass, class_named, Gives, IsNamed};
 ghost use Rattle.domain_resolver.specs.NameIndex.{IsNewest, AreChained, HasName, LacksName};
 
-use indexmap::{IndexMap, IndexSet};
+use indexmap::IndexSet;
 use jk_model::{ClassId, OutOfMemory};
 use shared_values::{Text, fingerprint};
 use std::alloc::Global;
+use std::collections::BTreeMap;
 use std::marker::Model;
 
 /// A name and the class that it means.
@@ -26,8 +27,9 @@ struct NameEntry {
 #[derive(Drop)]
 pub struct NameTable {
     entries: Vec<NameEntry>,
-    /// The place of the newest entry whose name has a fingerprint.
-    newest: IndexMap<u64, usize>,
+    /// The place of the newest entry whose name has a fingerprint. It is kept by order: strangers choose the names, and where a
+    /// hash is known, they find many that agree in the few bits of it that say where a hashed map puts them.
+    newest: BTreeMap<u64, usize>,
     /// The numbers of the classes that some name means.
     classes: IndexSet<u32>,
 }
@@ -51,7 +53,7 @@ impl NameTable {
     {
         NameTable {
             entries: Vec::new(alloc),
-            newest: IndexMap::new(alloc),
+            newest: BTreeMap::new(alloc),
             classes: IndexSet::new(alloc),
         }
     }
@@ -61,7 +63,7 @@ impl NameTable {
         ensures given { IfOk result (λ given. Gives self.old name.now class given self.new) }
         ensures err { OnErr result (self.new ≡ self.old) }
     {
-        if let Some(other) = self.class_of(name.as_slice(), name.fingerprint()) {
+        if let Some(other) = self.resolve_text(name) {
             return Ok(other == class);
         }
         let name = name.share()?;
@@ -74,6 +76,14 @@ impl NameTable {
         ensures { result ≡ class_named self.now name.now }
     {
         self.class_of(name, fingerprint(name))
+    }
+
+    /// What a name means that keeps its fingerprint. It takes no memory, and goes over the name only to compare it with one that
+    /// has the same fingerprint.
+    pub fn resolve_text(&self, name: &Text) -> Option<ClassId>
+        ensures { result ≡ class_named self.now name.now }
+    {
+        self.class_of(name.as_slice(), name.fingerprint())
     }
 
     /// Whether some name means this class. It takes no memory, and constant time.

@@ -12,7 +12,8 @@ use Rattle.placed_rules.proofs.PlacedFolders.{linked_of, recorded_of}
 use Rattle.folder_loader.specs.ClassesInOrder.{IsPlacing, links_in}
 use Rattle.folder_loader.specs.declared.placed.Placed.{Placed}
 
-module _ (w : WorldRecord) (lines : List ResolverLine) (files : List ClassFile) (names : List NamedClass) (x : Placed) (is : IsPlacing w lines files names x) where
+module _ (w : WorldRecord) (lines : List ResolverLine) (files : List ClassFile) (names : List NamedClass) (x : Placed)
+    (is : IsPlacing w lines files names x) where
   abbrev from : ClassId
   from = record { 0 = length w.classes }
 

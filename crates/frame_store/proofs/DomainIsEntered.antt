@@ -59,14 +59,16 @@ module _ {S : Type 0} (m n : IndexMap ℕ DomainFrames S) (t u : SegmentTable) (
     before : (r : ℕ) (q : Place) → table.place_in u r ≡ Some q → table.place_in t r ≡ Some q
     before r q e = sym (places r) ∙ e
 
-    read : (r : ℕ) (q : Place) → table.place_in t r ≡ Some q → (f : DomainFrames → ℕ) → option_map_or f (get nat_eq n q.domain) 0 ≡ option_map_or f (get nat_eq m q.domain) 0
+    read : (r : ℕ) (q : Place) → table.place_in t r ≡ Some q → (f : DomainFrames → ℕ)
+        → option_map_or f (get nat_eq n q.domain) 0 ≡ option_map_or f (get nat_eq m q.domain) 0
     read r q e f = ap (λ o. option_map_or f o 0) (others q.domain (other_domain r q e))
 
     pub entered_store : (more : ℕ) → more ≡ sum_by owed_by (values n) → more ≤ table.room u → IsStore n u more
     entered_store more owes enough =
         record {
           in_domain =
-              λ r q e. lt_by q.slot (option_map_or (λ (z : DomainFrames). z.chunks) (get nat_eq m q.domain) 0) q.slot (option_map_or (λ (z : DomainFrames). z.chunks) (get nat_eq n q.domain) 0)
+              λ r q e. lt_by q.slot (option_map_or (λ (z : DomainFrames). z.chunks) (get nat_eq m q.domain) 0) q.slot
+                  (option_map_or (λ (z : DomainFrames). z.chunks) (get nat_eq n q.domain) 0)
               (h.in_domain r q (before r q e)) refl (read r q (before r q e) (λ (z : DomainFrames). z.chunks));
           is_live =
               λ r q e. lt_by _ _ _ _ (h.is_live r q (before r q e))
@@ -111,7 +113,8 @@ others_by_updates m n d x h e ne =
 pub get_unchanged : {S : Type 0} (m n : IndexMap ℕ DomainFrames S) → n.entries ≡ m.entries → (e : ℕ) → get nat_eq n e ≡ get nat_eq m e
 get_unchanged m n same e = ap (lookup (nat_eq e)) same
 
-pub owes_unchanged : {S : Type 0} (m n : IndexMap ℕ DomainFrames S) (owed : ℕ) → n.entries ≡ m.entries → owed ≡ sum_by owed_by (values m) → owed ≡ sum_by owed_by (values n)
+pub owes_unchanged : {S : Type 0} (m n : IndexMap ℕ DomainFrames S) (owed : ℕ) → n.entries ≡ m.entries → owed ≡ sum_by owed_by (values m)
+    → owed ≡ sum_by owed_by (values n)
 owes_unchanged m n owed same e = e ∙ ap (λ es. sum_by owed_by (values_of es)) (sym same)
 
 pub le_part : (a b c : ℕ) → a + b ≤ c → a ≤ c
@@ -139,11 +142,13 @@ none_by : (o : Option DomainFrames) → option_map (λ (z : DomainFrames). z.chu
 none_by None e = refl
 none_by (Some x) e = absurd (cc)
 
-pub not_admitted : {S : Type 0} (m : IndexMap ℕ DomainFrames S) (d : ℕ) → option_map (λ (z : DomainFrames). z.chunks) (get nat_eq m d) ≡ None → get nat_eq m d ≡ None
+pub not_admitted : {S : Type 0} (m : IndexMap ℕ DomainFrames S) (d : ℕ) → option_map (λ (z : DomainFrames). z.chunks) (get nat_eq m d) ≡ None
+    → get nat_eq m d ≡ None
 not_admitted m d e = none_by (get nat_eq m d) e
 
 pub owes_entered : {S : Type 0} (m n : IndexMap ℕ DomainFrames S) (d : ℕ) (x : DomainFrames) (owed chunks : ℕ) → get nat_eq m d ≡ None
-    → n.entries ≡ insert_entry nat_eq m.entries d x → x.slots.live ≡ 0 → owed ≡ sum_by owed_by (values m) → chunks ≡ x.chunks → owed + chunks ≡ sum_by owed_by (values n)
+    → n.entries ≡ insert_entry nat_eq m.entries d x → x.slots.live ≡ 0 → owed ≡ sum_by owed_by (values m) → chunks ≡ x.chunks
+        → owed + chunks ≡ sum_by owed_by (values n)
 owes_entered m n d x owed chunks none entries live owes e =
     add_fresh owed chunks (sum_by owed_by (values m)) (owed_by x) (sum_by owed_by (values n)) x.chunks owes
     (owed_fresh x.chunks x.slots.live live) e (ap (λ es. sum_by owed_by (values_of es)) entries ∙ sum_insert owed_by d x m.entries none)

@@ -18,7 +18,8 @@ pub fresh_domain : (chunks : ℕ) (slots : SlotSet) (frames parts : Chains) (rec
     → nodes frames ≡ chunks → stacks frames ≡ chunks + 1 → ((i : ℕ) → i < chunks → count frames i ≡ 0)
     → nodes parts ≡ chunks → stacks parts ≡ chunks + 1 → count parts chunks ≡ chunks → ((i : ℕ) → i < chunks → count parts i ≡ 0)
     → length records ≡ chunks → length values ≡ 20 * chunks → IsDomain chunks 0 slots frames parts records values
-fresh_domain chunks slots frames parts records values least most slots_size none frames_nodes frames_stacks no_frames parts_nodes parts_stacks all_free no_parts records_size values_size =
+fresh_domain chunks slots frames parts records values least most slots_size none frames_nodes frames_stacks no_frames parts_nodes parts_stacks
+    all_free no_parts records_size values_size =
     let no_cost =
     sum_below-none (cost_in frames records) chunks
     (λ i lt. ap (cost_below frames records i) (no_frames i lt)) in

@@ -119,7 +119,8 @@ entry-placed t s h p e =
     ap (option_map (λ b. (entry_at t.entries.items b).place)) f
     ∙ ap (λ j. Some (entry_of t j p).place) e.bucket
 
-pub nothing-placed : (t : SegmentTable) (s : ℕ) → ((p : ℕ) → p < count t.chains (s % t.buckets) → (entry_of t (s % t.buckets) p).number ≢ s) → place_in t s ≡ None
+pub nothing-placed : (t : SegmentTable) (s : ℕ) → ((p : ℕ) → p < count t.chains (s % t.buckets) → (entry_of t (s % t.buckets) p).number ≢ s)
+    → place_in t s ≡ None
 nothing-placed t s none =
     ap (option_map (λ b. (entry_at t.entries.items b).place))
     (found-none t.chains.nodes.items t.entries.items (s % t.buckets) s (count t.chains (s % t.buckets)) none)

@@ -129,7 +129,8 @@ module _ (old : SegmentTable) (chains : Chains) (s h b : ℕ) (new_place : Place
             ];
       }
 
-  pub put_inserts : (new : SegmentTable) → new.chains.nodes.items ≡ chains.nodes.items → new.chains.stacks.items ≡ chains.stacks.items → new.entries.items ≡ entries
+  pub put_inserts : (new : SegmentTable) → new.chains.nodes.items ≡ chains.nodes.items → new.chains.stacks.items ≡ chains.stacks.items
+      → new.entries.items ≡ entries
       → new.buckets ≡ old.buckets → Inserts old new s new_place
   put_inserts new e_nodes e_stacks e_entries e_buckets =
       let counts : (k : ℕ) → count new.chains k ≡ count chains k = λ k. rw (e_stacks) refl in

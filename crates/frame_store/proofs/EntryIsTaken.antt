@@ -195,7 +195,8 @@ module _ (old : SegmentTable) (chains : Chains) (s h b top : ℕ) (last : Entry)
             ]
       ]
 
-  pub taken_removes : (new : SegmentTable) → new.chains.nodes.items ≡ chains.nodes.items → new.chains.stacks.items ≡ chains.stacks.items → new.entries.items ≡ entries
+  pub taken_removes : (new : SegmentTable) → new.chains.nodes.items ≡ chains.nodes.items → new.chains.stacks.items ≡ chains.stacks.items
+      → new.entries.items ≡ entries
       → new.buckets ≡ old.buckets → Removes old new s
   taken_removes new e_nodes e_stacks e_entries e_buckets =
       let counts : (k : ℕ) → count new.chains k ≡ count chains k = λ k. rw (e_stacks) refl in

@@ -28,7 +28,8 @@ pub record IsMoved (nodes new_nodes : List Node) (stacks new_stacks : List Stack
   pub moved : node_at new_nodes m ≡ record { stack = to; position = count_of stacks to; below = (stack_at stacks to).top; jump = jump }
   pub other_nodes : (b : ℕ) → b ≢ m → node_at new_nodes b ≡ node_at nodes b
 
-module _ (nodes new_nodes : List Node) (stacks new_stacks : List Stack) (from to m jump : ℕ) (h : IsMoved nodes new_nodes stacks new_stacks from to m jump) where
+module _ (nodes new_nodes : List Node) (stacks new_stacks : List Stack) (from to m jump : ℕ)
+    (h : IsMoved nodes new_nodes stacks new_stacks from to m jump) where
   -- where the moved node was
   was : (m < length nodes) × ((node_at nodes m).stack ≡ from) × ((node_at nodes m).position + 1 ≡ count_of stacks from)
   was =

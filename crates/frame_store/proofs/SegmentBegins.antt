@@ -83,7 +83,8 @@ no_place m t owed h s (Some p) e f =
 
 -- ---- A domain is written.
 
-module _ {S : Type 0} (m n : IndexMap ℕ DomainFrames S) (d : ℕ) (x y : DomainFrames) (is : get nat_eq m d ≡ Some x) (wrote : WritesThrough nat_eq (nat_eq d) m y n) where
+module _ {S : Type 0} (m n : IndexMap ℕ DomainFrames S) (d : ℕ) (x y : DomainFrames) (is : get nat_eq m d ≡ Some x)
+    (wrote : WritesThrough nat_eq (nat_eq d) m y n) where
   here : get nat_eq n d ≡ Some y
   here = (wrote.3 (ap is_some is)).1
 
@@ -144,7 +145,8 @@ module _ {S : Type 0} (m n : IndexMap ℕ DomainFrames S) (d : ℕ) (x y : Domai
   same_store e t owed h =
       record {
         in_domain =
-            λ r q f. lt_by q.slot (option_map_or (λ (z : DomainFrames). z.chunks) (get nat_eq m q.domain) 0) q.slot (option_map_or (λ (z : DomainFrames). z.chunks) (get nat_eq n q.domain) 0)
+            λ r q f. lt_by q.slot (option_map_or (λ (z : DomainFrames). z.chunks) (get nat_eq m q.domain) 0) q.slot
+                (option_map_or (λ (z : DomainFrames). z.chunks) (get nat_eq n q.domain) 0)
             (h.in_domain r q f) refl (ap (λ o. option_map_or (λ (z : DomainFrames). z.chunks) o 0) (all_is e q.domain));
         is_live =
             λ r q f. lt_by _ _ _ _ (h.is_live r q f)
@@ -191,7 +193,8 @@ module _ {S : Type 0} (m n : IndexMap ℕ DomainFrames S) (d : ℕ) (x y : Domai
     good_before : (r : ℕ) (q : Place) → table.place_in t r ≡ Some q → IsGood r q
     good_before r q e =
         let chunks =
-        lt_by q.slot (option_map_or (λ (z : DomainFrames). z.chunks) (get nat_eq m q.domain) 0) q.slot (option_map_or (λ (z : DomainFrames). z.chunks) (get nat_eq n q.domain) 0)
+        lt_by q.slot (option_map_or (λ (z : DomainFrames). z.chunks) (get nat_eq m q.domain) 0) q.slot
+            (option_map_or (λ (z : DomainFrames). z.chunks) (get nat_eq n q.domain) 0)
         (h.in_domain r q e) refl (read_is (λ (z : DomainFrames). z.chunks) begins.same_chunks q.domain) in
         elim (cases_eq q.domain d) [
           | inl same ↦
@@ -275,5 +278,6 @@ module _ {S : Type 0} (m n : IndexMap ℕ DomainFrames S) (d : ℕ) (x y : Domai
               read_some (λ (z : DomainFrames). z.used) (get nat_eq n d) y here ∙ begins.uses
               ∙ ap (λ k. k + 1 + head_chunks head) (sym (read_some (λ (z : DomainFrames). z.used) (get nat_eq m d) x is));
           other_domains =
-              λ k ne. ap (λ o. option_map_or (λ (z : DomainFrames). z.used) o 0) (elsewhere k.0 (λ same. ne (ap (λ j. let z : DomainId = record { 0 = j } in z) same)));
+              λ k ne. ap (λ o. option_map_or (λ (z : DomainFrames). z.used) o 0)
+                  (elsewhere k.0 (λ same. ne (ap (λ j. let z : DomainId = record { 0 = j } in z) same)));
         }

@@ -56,7 +56,8 @@ module _ {S : Type 0} (m n : IndexMap ℕ DomainFrames S) (t u : SegmentTable) (
       )
 
   -- what is known of it in its domain
-  kept : (r : ℕ) (q : Place) → r ≢ s.0 → table.place_in t r ≡ Some q → q.domain ≡ p.domain → (number_of y.slots q.slot ≡ number_of x.slots q.slot) × IsLive y.slots q.slot
+  kept : (r : ℕ) (q : Place) → r ≢ s.0 → table.place_in t r ≡ Some q → q.domain ≡ p.domain → (number_of y.slots q.slot ≡ number_of x.slots q.slot)
+      × IsLive y.slots q.slot
   kept r q ne e same =
       let live = live_in r q e same in
       let o = ends.gives.others q.slot live.0 (other_slot m n t owed s p x y h at is wrote r q e same ne) in
@@ -67,7 +68,8 @@ module _ {S : Type 0} (m n : IndexMap ℕ DomainFrames S) (t u : SegmentTable) (
       record {
         in_domain =
             λ r q e.
-            lt_by q.slot (option_map_or (λ (z : DomainFrames). z.chunks) (get nat_eq m q.domain) 0) q.slot (option_map_or (λ (z : DomainFrames). z.chunks) (get nat_eq n q.domain) 0)
+            lt_by q.slot (option_map_or (λ (z : DomainFrames). z.chunks) (get nat_eq m q.domain) 0) q.slot
+                (option_map_or (λ (z : DomainFrames). z.chunks) (get nat_eq n q.domain) 0)
             (h.in_domain r q (before r q e).1) refl
             (read_same m n t owed s p x y h at is wrote (λ (z : DomainFrames). z.chunks) ends.same_chunks q.domain);
         is_live =
@@ -103,7 +105,8 @@ module _ {S : Type 0} (m n : IndexMap ℕ DomainFrames S) (t u : SegmentTable) (
         owes =
             one_more (sum_by owed_by (values n)) (owed_by x) (sum_by owed_by (values m)) (owed_by y) owed 0
             (ap (λ es. sum_by owed_by (values_of es) + owed_by x) wrote.0 ∙ sum_by-set_value owed_by (nat_eq p.domain) m.entries x y is)
-            (ap (λ k. k - y.slots.live) ends.same_chunks ∙ owes_more x.chunks x.slots.live y.slots.live ends.gives.live (le_is x.slots.live (size x.slots) x.chunks x.slots.ok.few x.ok.slots_are))
+            (ap (λ k. k - y.slots.live) ends.same_chunks ∙ owes_more x.chunks x.slots.live y.slots.live ends.gives.live
+                (le_is x.slots.live (size x.slots) x.chunks x.slots.ok.few x.ok.slots_are))
             h.owes;
         enough = le_more owed (table.room t) (table.room u) h.enough removes.more_room;
       }

@@ -77,7 +77,8 @@ module _ {S : Type 0} (m n : IndexMap ℕ DomainFrames S) (t : SegmentTable) (ow
       record {
         in_domain =
             λ r q e.
-            lt_by q.slot (option_map_or (λ (z : DomainFrames). z.chunks) (get nat_eq m q.domain) 0) q.slot (option_map_or (λ (z : DomainFrames). z.chunks) (get nat_eq n q.domain) 0)
+            lt_by q.slot (option_map_or (λ (z : DomainFrames). z.chunks) (get nat_eq m q.domain) 0) q.slot
+                (option_map_or (λ (z : DomainFrames). z.chunks) (get nat_eq n q.domain) 0)
             (h.in_domain r q e) refl (read_same (λ (z : DomainFrames). z.chunks) same_chunks q.domain);
         is_live =
             λ r q e.
@@ -99,8 +100,10 @@ module _ {S : Type 0} (m n : IndexMap ℕ DomainFrames S) (t : SegmentTable) (ow
   pub other_slot : (r : ℕ) (q : Place) → table.place_in t r ≡ Some q → q.domain ≡ p.domain → r ≢ s.0 → q.slot ≢ p.slot
   other_slot r q e same ne e2 =
       let e_get : get nat_eq m q.domain ≡ Some x = ap (get nat_eq m) same ∙ is in
-      let a : number_of x.slots q.slot ≡ r = sym (read_some (λ (z : DomainFrames). number_of z.slots q.slot) (get nat_eq m q.domain) x e_get) ∙ h.has_number r q e in
-      let b : number_of x.slots p.slot ≡ s.0 = sym (read_some (λ (z : DomainFrames). number_of z.slots p.slot) (get nat_eq m p.domain) x is) ∙ h.has_number s.0 p at in
+      let a : number_of x.slots q.slot ≡ r = sym (read_some (λ (z : DomainFrames). number_of z.slots q.slot) (get nat_eq m q.domain) x e_get)
+          ∙ h.has_number r q e in
+      let b : number_of x.slots p.slot ≡ s.0 = sym (read_some (λ (z : DomainFrames). number_of z.slots p.slot) (get nat_eq m p.domain) x is)
+          ∙ h.has_number s.0 p at in
       ne (sym a ∙ ap (number_of x.slots) e2 ∙ b)
 
   pub slot_in : (r : ℕ) (q : Place) → table.place_in t r ≡ Some q → q.domain ≡ p.domain → q.slot < x.chunks
@@ -109,7 +112,8 @@ module _ {S : Type 0} (m n : IndexMap ℕ DomainFrames S) (t : SegmentTable) (ow
       lt_by q.slot (option_map_or (λ (z : DomainFrames). z.chunks) (get nat_eq m q.domain) 0) q.slot x.chunks (h.in_domain r q e) refl
       (sym (read_some (λ (z : DomainFrames). z.chunks) (get nat_eq m q.domain) x e_get))
 
-  pub others_by : ((j : ℕ) → j < x.chunks → j ≢ p.slot → frames_of y j ≡ frames_of x j) → (r : ℕ) → r ≢ s.0 → (o : Option Place) → table.place_in t r ≡ o → stored n o ≡ stored m o
+  pub others_by : ((j : ℕ) → j < x.chunks → j ≢ p.slot → frames_of y j ≡ frames_of x j) → (r : ℕ) → r ≢ s.0 → (o : Option Place)
+      → table.place_in t r ≡ o → stored n o ≡ stored m o
   others_by same r ne None e = refl
   others_by same r ne (Some q) e =
       elim (cases_eq q.domain p.domain) [
@@ -142,7 +146,8 @@ module _ {S : Type 0} (m n : IndexMap ℕ DomainFrames S) (t : SegmentTable) (ow
             λ r ne. others_by b.others r.0 (λ e. ne (ap (λ k. let z : SegmentNo = record { 0 = k } in z) e)) (table.place_in t r.0) refl;
         uses = read_some (λ (z : DomainFrames). z.used) (get nat_eq n p.domain) y get_here ∙ b.uses;
         other_domains =
-            λ e ne. ap (λ o. option_map_or (λ (z : DomainFrames). z.used) o 0) (get_other e.0 (λ same. ne (ap (λ k. let z : DomainId = record { 0 = k } in z) same)));
+            λ e ne. ap (λ o. option_map_or (λ (z : DomainFrames). z.used) o 0)
+                (get_other e.0 (λ same. ne (ap (λ k. let z : DomainId = record { 0 = k } in z) same)));
       }
 
   pub used_is : (content_of m t).used (record { 0 = p.domain }) ≡ x.used

@@ -43,7 +43,8 @@ module _ {S : Type 0} (m n : IndexMap ℕ DomainFrames S) (t : SegmentTable) (ow
         subst P (sym use_is) c,
       )
 
-  pub steps_pop : HasTop x p.slot → Becomes x y p.slot (lower_of x p.slot) (x.used - head_chunks (top_of x p.slot).head) → Pops (content_of m t) (content_of n t) s
+  pub steps_pop : HasTop x p.slot → Becomes x y p.slot (lower_of x p.slot) (x.used - head_chunks (top_of x p.slot).head)
+      → Pops (content_of m t) (content_of n t) s
   steps_pop top b =
       let c = store_changes m n t owed s p x y h at is wrote (lower_of x p.slot) (x.used - head_chunks (top_of x p.slot).head) b in
       let P : ℕ → Type 0 = λ u. ChangesTo (lower_of x p.slot) (u - head_chunks (top_of x p.slot).head) in (
@@ -57,7 +58,8 @@ module _ {S : Type 0} (m n : IndexMap ℕ DomainFrames S) (t : SegmentTable) (ow
         subst P (sym use_is) c,
       )
 
-  pub steps_push : (head : FrameHead) → Becomes x y p.slot (frames_of x p.slot ++ new_frame head ∷ []) (x.used + head_chunks head) → Pushes (content_of m t) (content_of n t) s head
+  pub steps_push : (head : FrameHead) → Becomes x y p.slot (frames_of x p.slot ++ new_frame head ∷ []) (x.used + head_chunks head)
+      → Pushes (content_of m t) (content_of n t) s head
   steps_push head b =
       let fs = frames_of x p.slot ++ new_frame head ∷ [] in
       let c = store_changes m n t owed s p x y h at is wrote fs (x.used + head_chunks head) b in

@@ -25,7 +25,8 @@ module _ (d : DomainFrames) where
   pub is_frame : (i n : ℕ) → i < d.chunks → n < depth_of d i → IsFrameNumber d (place d.frames i n)
   is_frame i n lt low = record { within = number_lt i n lt low; framed = d.ok.framed i n lt low }
 
-  pub numbers_apart : (i n j m : ℕ) → i ≤ d.chunks → n < depth_of d i → j ≤ d.chunks → m < depth_of d j → place d.frames i n ≡ place d.frames j m → (i ≡ j) × (n ≡ m)
+  pub numbers_apart : (i n j m : ℕ) → i ≤ d.chunks → n < depth_of d i → j ≤ d.chunks → m < depth_of d j → place d.frames i n ≡ place d.frames j m
+      → (i ≡ j) × (n ≡ m)
   numbers_apart i n j m i_lt n_lt j_lt m_lt e =
       places_apart d.frames i n j m (omega (arith, d.ok.segments_are)) n_lt (omega (arith, d.ok.segments_are)) m_lt e
 

@@ -111,7 +111,8 @@ unused_by : (o : Option DomainFrames) → option_map (λ (y : DomainFrames). y.c
 unused_by None e = refl
 unused_by (Some x) e = absurd (cc)
 
-pub store_holds : {S : Type 0} (domains : IndexMap ℕ DomainFrames S) (places : SegmentTable) (owed : ℕ) → IsStore domains places owed → IsContent (content_of domains places)
+pub store_holds : {S : Type 0} (domains : IndexMap ℕ DomainFrames S) (places : SegmentTable) (owed : ℕ) → IsStore domains places owed
+    → IsContent (content_of domains places)
 store_holds domains places owed h =
     record {
       owned =
@@ -120,7 +121,8 @@ store_holds domains places owed h =
           let paid : segment_chunks g.frames ≤ p.domain.used =
           let P : StoredSegment → Type 0 = λ (t : StoredSegment). segment_chunks t.frames ≤ p.domain.used in
           subst P (sym p.is) (segment_paid p.domain p.place.slot p.stands.within p.stands.live) in
-          let P : DomainId → Type 0 = λ (t : DomainId). IsAdmitted (content_of domains places) t × (segment_chunks g.frames ≤ (content_of domains places).used t) in
+          let P : DomainId → Type 0 = λ (t : DomainId). IsAdmitted (content_of domains places) t
+              × (segment_chunks g.frames ≤ (content_of domains places).used t) in
           subst P (sym (ap (λ (t : StoredSegment). t.domain) p.is))
           (owned_by (get nat_eq domains p.place.domain) p.domain g p.stands.is paid);
       sized =

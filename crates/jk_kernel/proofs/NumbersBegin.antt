@@ -24,7 +24,7 @@ use Rattle.jk_model_machine.specs.Machine.{Machine}
 use Rattle.jk_model_machine.specs.Places.{RunningSegment}
 use Rattle.jk_model_machine.specs.Sealed.{FitsAsCaller, FitsAtCall}
 use Rattle.jk_model_machine.specs.Steps.{IsThrown}
-use Rattle.frame_store.specs.FrameContents.{FrameContent}
+use Rattle.frame_store.specs.FrameContents.{FrameContent, TopFrame}
 use Rattle.number_ops.specs.FrameLaws.{FitsResult, IsTyped}
 use Rattle.number_ops.specs.NumberSteps.{DoesNumbers, IsReady}
 use Rattle.sealed_steps.proofs.CallersResume.{AnswersWell, resumes}
@@ -100,6 +100,10 @@ module _ {c : FrameContent} {w : WorldRecord} {names : DomainRecord} {d paid : D
     goes_on = goes_to;
     short = (next.at.decoded (code next).method s (code next).is_scope).short;
   }
+
+  -- The head that was read is that of the frame on top.
+  pub head_on_top : (f : FrameState) → TopFrame c r.segment f → head ≡ f.head
+  head_on_top f on = next.head_is ∙ ap (λ (x : FrameState). x.head) (same_top c r.segment (frame next) f (top next) on)
 
   -- ---- It was done: another frame is on top.
 

@@ -106,7 +106,8 @@ module _ (c : FrameContent) (w : WorldRecord) (names : DomainRecord) (d : Domain
       → state_of names (with_own_state paid own) ≡ with_own (state_of names paid) p.inside own
   with_own_is paid own pays =
       let heap : heap_of paid.texts ≡ p.inside.heap = ap heap_of (paid_texts d paid pays) ∙ sym (ap (λ (x : Inside). x.heap) at.inside) in
-      ap (λ (h : List NamedObject). let x : DomainState = record (state_of names paid) { inside = Some (let i : Inside = record { own = own; heap = h } in i) } in x) heap
+      ap (λ (h : List NamedObject). let x : DomainState = record (state_of names paid)
+          { inside = Some (let i : Inside = record { own = own; heap = h } in i) } in x) heap
 
   abbrev pub acting : (paid : DomainPart) → PaysFor d paid true → (IsHeld p → ⊥) → RunningFrame p → ActingFrame m r.thread.0
   acting paid pays free running = record {
@@ -148,7 +149,8 @@ module _ (c : FrameContent) (w : WorldRecord) (names : DomainRecord) (d : Domain
         leads = ap (without_running p) (with_own_is paid own pays);
       }
 
-  pub goes_out : (new : FrameContent) (own after : OwnState) (thrown left : ClassId) → IsContent c → LeavesSegment w.classes c new r.segment own after thrown left
+  pub goes_out : (new : FrameContent) (own after : OwnState) (thrown left : ClassId) → IsContent c
+      → LeavesSegment w.classes c new r.segment own after thrown left
       → IsGoneNow c new r p.segment.frames
   goes_out new own after thrown left content leaves =
       now_gone new (ended c new r.segment r.domain p.segment.frames content at.stored leaves.ends)

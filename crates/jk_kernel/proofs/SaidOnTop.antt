@@ -106,7 +106,8 @@ says_one c s params t v w said is few stream some argument reads =
     }
 
 -- the argument is no PrintStream
-pub no_stream_given : (c : FrameContent) (s : SegmentNo) (params : List TypeRef) (t : TypeRef) (w : Value) → HasSaidOnTop c s params → slice_get params 0 ≡ Some t
+pub no_stream_given : (c : FrameContent) (s : SegmentNo) (params : List TypeRef) (t : TypeRef) (w : Value) → HasSaidOnTop c s params
+    → slice_get params 0 ≡ Some t
     → IsPeeked c s 0 w → (a : ℕ) → w ≡ Held.Obj a → 1 ≤ a
 no_stream_given c s params t w h is argument a e =
     let one = one_given h.given (h.as_many ∙ ap length (only_param params t is h.few)) in

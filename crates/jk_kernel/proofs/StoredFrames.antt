@@ -106,7 +106,8 @@ changes_on a b c s d x y m n first second = record {
   other_domains = λ e ne. second.other_domains e ne ∙ first.other_domains e ne;
 }
 
-pub holds_now : (c new : FrameContent) (s : SegmentNo) (d : DomainId) (before frames : List FrameState) → GetsFrames c new s d before frames → Holds new s d frames
+pub holds_now : (c new : FrameContent) (s : SegmentNo) (d : DomainId) (before frames : List FrameState) → GetsFrames c new s d before frames
+    → Holds new s d frames
 holds_now c new s d before frames h = h.changes.becomes
 
 pub gets_on : (a b c : FrameContent) (s : SegmentNo) (d : DomainId) (x y z : List FrameState) → GetsFrames a b s d x y → GetsFrames b c s d y z

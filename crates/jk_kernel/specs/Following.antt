@@ -37,7 +37,8 @@ pub record GivesBack (c new : FrameContent) (s : SegmentNo) (head : FrameHead) (
       → Holds c s id ((lower ++ below ∷ []) ++ f ∷ [])
       → (happened ≡ Came.Silent) × (after ≡ d) × GetsFrames c new s id ((lower ++ below ∷ []) ++ f ∷ []) (lower ++ resumed v below ∷ [])
 
-pub record RaisesSo (classes : List ClassRecord) (c new : FrameContent) (s : SegmentNo) (raised : Raise) (d after : DomainPart) (happened : Happened) : Type 0 where
+pub record RaisesSo (classes : List ClassRecord) (c new : FrameContent) (s : SegmentNo) (raised : Raise) (d after : DomainPart)
+    (happened : Happened) : Type 0 where
   pub thrown : ClassId
   pub is_thrown : IsThrown raised thrown
   pub left : ClassId

@@ -31,7 +31,8 @@ use Rattle.jk_model_typing.specs.Scopes.{CodeScope, IsScopeOf}
 use Rattle.jk_model.specs.declared.instructions.Instr.{Instr}
 
 -- The thread stands here: the machine's running segment of it is that of the store, in the domain of which this is the part.
-pub record IsAt (c : FrameContent) (w : WorldRecord) (names : DomainRecord) (d : DomainPart) (r : Runs) (m : Machine) (p : RunningSegment m r.thread.0) : Type 0 where
+pub record IsAt (c : FrameContent) (w : WorldRecord) (names : DomainRecord) (d : DomainPart) (r : Runs) (m : Machine)
+    (p : RunningSegment m r.thread.0) : Type 0 where
   pub classes : m.classes ≡ w.classes
   pub domain : p.domain ≡ state_of names d
   pub inside : p.inside ≡ inside_of d
@@ -112,7 +113,8 @@ LeadsOut c new names d m r p lines =
 abbrev pub Rests : FrameContent → FrameContent → DomainPart → DomainPart → (m : Machine) → (r : Runs) → List Line → Type 0
 Rests c new d after m r lines = IsSame c new × (after ≡ d) × Steps m r.thread.0 lines m
 
-abbrev pub Leads : Happened → FrameContent → FrameContent → DomainRecord → DomainPart → DomainPart → (m : Machine) → (r : Runs) → RunningSegment m r.thread.0 → List Line → Type 0
+abbrev pub Leads : Happened → FrameContent → FrameContent → DomainRecord → DomainPart → DomainPart → (m : Machine) → (r : Runs)
+    → RunningSegment m r.thread.0 → List Line → Type 0
 Leads Came.Idle c new names d after m r p lines = Rests c new d after m r lines
 Leads Came.Silent c new names d after m r p lines = LeadsOn c new names after m r p lines
 Leads (Came.Said said) c new names d after m r p lines = LeadsOn c new names after m r p lines

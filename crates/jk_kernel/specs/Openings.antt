@@ -55,7 +55,8 @@ pub data OpensIn (t : Tree) (root : List ℕ) (m : Machine) (name : List ℕ) (q
 -- Where no tree is told, some rule refuses the folder, or it has some files.
 pub data OpensSomehow (root : List ℕ) (m : Machine) (name : List ℕ) (quotas : Quotas) : List Line → Machine → Type 0 where
   refused : (rule : Rule) (place : Place) → IsRefused None root (world_of m) name rule place → OpensSomehow root m name quotas (Refused name rule place ∷ []) m
-  accepted : (f : FolderFiles) (lines : List Line) (new : Machine) → AreFiles f → OpensWith f m name quotas lines new → OpensSomehow root m name quotas lines new
+  accepted : (f : FolderFiles) (lines : List Line) (new : Machine) → AreFiles f → OpensWith f m name quotas lines new
+      → OpensSomehow root m name quotas lines new
 
 -- what a `domain` event does, whether or not a tree is told
 abbrev pub Opens : Option Tree → List ℕ → DomainEvent

@@ -27,7 +27,8 @@ pub record IsPlainClass (classes : List ClassRecord) (c : ClassId) : Type 0 wher
   pub no_clinit : HasNoClinit classes c
 
 -- a frame for it is on top, and it is in progress
-pub record BeginsClass (classes : List ClassRecord) (old new : FrameContent) (thread : ThreadNo) (s : SegmentNo) (c : ClassId) (d after : DomainPart) : Type 0 where
+pub record BeginsClass (classes : List ClassRecord) (old new : FrameContent) (thread : ThreadNo) (s : SegmentNo) (c : ClassId)
+    (d after : DomainPart) : Type 0 where
   pub head : FrameHead
   pub is_head : IsInitialiserHead classes c head
   pub room : HasRoomFor old s head

@@ -76,6 +76,6 @@ fn do_numbers<F: FrameStore>(
     ensures { ExecutesSo (F.content frames.old) (F.content frames.new) w.now d.old d.new r head.now (scope_of at.now.code) at.now.instr.now result }
 {
     returned_values_fit();
-    let after = number_ops::step(frames, w, r.segment, at.instr);
+    let after = number_ops::step(frames, w, r.segment, head, at.instr);
     follow(w, d, frames, r, head, after)
 }

@@ -139,14 +139,14 @@ fn do_in_frame<F: FrameStore>(
     _d: &DomainPart,
     frames: &mut F,
     r: Runs,
-    _head: &FrameHead,
+    head: &FrameHead,
     at: &StandsAt<'_>,
 )
-    requires may { MayExecute (F.content frames.old) w.now _d.now r _head.now (scope_of at.now.code) at.now.instr.now }
+    requires may { MayExecute (F.content frames.old) w.now _d.now r head.now (scope_of at.now.code) at.now.instr.now }
     requires stays { StaysInFrame (scope_of at.now.code) at.now.instr.now }
-    ensures { ExecutesSo (F.content frames.old) (F.content frames.new) w.now _d.now _d.now r _head.now (scope_of at.now.code) at.now.instr.now Came.Silent }
+    ensures { ExecutesSo (F.content frames.old) (F.content frames.new) w.now _d.now _d.now r head.now (scope_of at.now.code) at.now.instr.now Came.Silent }
 {
-    match number_ops::step(frames, w, r.segment, at.instr) {
+    match number_ops::step(frames, w, r.segment, head, at.instr) {
         After::Goto(n) => frames.go(r.segment, n, None),
         _ => unreachable!(),
     }

@@ -30,7 +30,8 @@ pub record AreStubs (classes : List ClassRecord) (first : ClassId) (stubs : List
 
 -- The files break no rule, and the world has their classes from now on, from `first` on; the domain's names, its offers and
 -- the stubs of the classes are these.
-pub record Loads (f : FolderFiles) (old : WorldRecord) (name : List ℕ) (first : ClassId) (table : List NamedClass) (offers : List Offer) (stubs : List Stub) (new : WorldRecord) : Type 0 where
+pub record Loads (f : FolderFiles) (old : WorldRecord) (name : List ℕ) (first : ClassId) (table : List NamedClass) (offers : List Offer)
+    (stubs : List Stub) (new : WorldRecord) : Type 0 where
   pub not_live : IsLive old name → ⊥
   pub lines : List ResolverLine
   pub good_lines : HasGoodLines f old name lines

@@ -109,7 +109,8 @@ with_own d inside own = record d { inside = Some (record inside { own = own }) }
 
 -- A throwable meets no catch entry: it leaves all frames of the lowest segment, and ends the thread by its class.
 -- An orphan would end otherwise; there is none so far.
-pub record Throws {m : Machine} {t : ℕ} (p : RunningSegment m t) (payer : DomainState) (inside : Inside) (frames : List FrameState) (r : Raise) (lines : List Line) (new : Machine) : Type 0 where
+pub record Throws {m : Machine} {t : ℕ} (p : RunningSegment m t) (payer : DomainState) (inside : Inside) (frames : List FrameState) (r : Raise)
+    (lines : List Line) (new : Machine) : Type 0 where
   pub lowest : p.lower ≡ []
   pub no_orphan : p.segment.orphan ≡ false
   pub thrown : ClassId

@@ -6,7 +6,7 @@ use crate::entries::Sought;
 use crate::marks::{Marks, type_number};
 use jk_model::MethodType;
 use jk_model_classes::{FieldRecord, MethodRecord, TypeRef};
-use shared_values::{fingerprint, kind_fingerprint};
+use shared_values::{SharedKind, Text, fingerprint, kind_fingerprint};
 use std::marker::Model;
 
 /// A name and a type of a field, with the name's fingerprint worked out. A contract sees the name and the type.
@@ -42,6 +42,21 @@ impl<'n> FieldKey<'n> {
             kind: type_number(&kind),
         };
         FieldKey { name, kind, marks }
+    }
+
+    /// The key of a field of this name and type, in constant time, since a text keeps its fingerprint.
+    pub fn of_text(name: &'n Text, kind: TypeRef) -> FieldKey<'n>
+        ensures { result ≡ record { name = name.now; kind = kind } }
+    {
+        let marks = Marks {
+            name: name.fingerprint(),
+            kind: type_number(&kind),
+        };
+        FieldKey {
+            name: name.as_slice(),
+            kind,
+            marks,
+        }
     }
 
     /// The name.
@@ -114,19 +129,26 @@ impl<'n> MethodKey<'n> {
         MethodKey { name, kind, marks }
     }
 
-    /// The key of a method's own name and type, in constant time, since a record keeps their fingerprints.
+    /// The key of a method of this name and type, in constant time, since both keep their fingerprints.
+    pub fn of_shared(name: &'n Text, kind: &'n SharedKind) -> MethodKey<'n>
+        ensures { result ≡ record { name = name.now; kind = kind.now } }
+    {
+        let marks = Marks {
+            name: name.fingerprint(),
+            kind: kind.fingerprint(),
+        };
+        MethodKey {
+            name: name.as_slice(),
+            kind: kind.get(),
+            marks,
+        }
+    }
+
+    /// The key of a method's own name and type, in constant time.
     pub fn of_method(method: &'n MethodRecord) -> MethodKey<'n>
         ensures { result ≡ record { name = method.now.name; kind = method.now.kind } }
     {
-        let marks = Marks {
-            name: method.name.fingerprint(),
-            kind: method.kind.fingerprint(),
-        };
-        MethodKey {
-            name: method.name.as_slice(),
-            kind: method.kind.get(),
-            marks,
-        }
+        MethodKey::of_shared(&method.name, &method.kind)
     }
 
     /// The name.

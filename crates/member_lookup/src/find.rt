@@ -19,7 +19,15 @@ const OBJECT: ClassId = ClassId(0);
 pub fn find_field(t: &ClassTable, c: ClassId, name: &[u16], kind: &TypeRef) -> Option<MemberId>
     ensures { FindsField t.now c name.now kind.now result }
 {
-    first_field(t, t.walk(c)?, &FieldKey::new(name, *kind))
+    find_field_by(t, c, &FieldKey::new(name, *kind))
+}
+
+/// As `find_field`, by a key, whose fingerprints are worked out already: it goes over the name only to compare it
+/// with that of a field which has the same ones.
+pub fn find_field_by(t: &ClassTable, c: ClassId, key: &FieldKey<'_>) -> Option<MemberId>
+    ensures { FindsField t.now c key.now.name key.now.kind result }
+{
+    first_field(t, t.walk(c)?, key)
 }
 
 /// The method that a reference to c finds. For a class: itself and its parents upwards, then the interfaces of each of
@@ -28,11 +36,17 @@ pub fn find_field(t: &ClassTable, c: ClassId, name: &[u16], kind: &TypeRef) -> O
 pub fn find_method(t: &ClassTable, c: ClassId, name: &[u16], kind: &MethodType) -> Option<MemberId>
     ensures { FindsMethod t.now c name.now kind.now result }
 {
-    let key = MethodKey::new(name, kind);
+    find_method_by(t, c, &MethodKey::new(name, kind))
+}
+
+/// As `find_method`, by a key, whose fingerprints are worked out already. Costs as `find_field_by`.
+pub fn find_method_by(t: &ClassTable, c: ClassId, key: &MethodKey<'_>) -> Option<MemberId>
+    ensures { FindsMethod t.now c key.now.name key.now.kind result }
+{
     if is_interface(t, c) {
-        method_of_interface(t, c, &key)
+        method_of_interface(t, c, key)
     } else {
-        method_of_class(t, c, &key)
+        method_of_class(t, c, key)
     }
 }
 

@@ -12,7 +12,7 @@ mod selection;
 mod tests;
 
 pub use access::{may_access, may_access_class};
-pub use find::{find_field, find_method};
+pub use find::{find_field, find_field_by, find_method, find_method_by};
 pub use jk_model_classes::Member;
 pub use packages::in_one_package;
 pub use records::{field_record, is_interface, method_record};

@@ -12,6 +12,9 @@ mod moves;
 mod parts;
 mod switches;
 
+ghost use Rattle.std.specs.Prelude.{◌≡◌};
+ghost use Rattle.jk_model_domains.specs.Frames.{FrameState};
+ghost use Rattle.frame_store.specs.FrameContents.{TopFrame};
 ghost use Rattle.number_ops.specs.NumberSteps.{DoesNumbers, IsReady};
 
 use crate::arithmetic::calculate;
@@ -24,19 +27,25 @@ use crate::parts::{Part, part_of};
 use crate::switches::target;
 use domain_resolver::World;
 use frame_store::FrameStore;
-use jk_model::{After, ClassId, Instr, Raise, SegmentNo};
+use jk_model::{After, ClassId, FrameHead, Instr, Raise, SegmentNo};
 
 /// java/lang/ArithmeticException, by its place in the system table.
 const ARITHMETIC_EXCEPTION: ClassId = ClassId(19);
 
 /// Does the instruction at which the top frame of a segment stands, and answers what is done next: the frame goes on at
 /// another place, an exception is raised, or the frame returns. The frame still stands at its place. A division by 0 leaves
-/// its operands on the stack, and a return takes the value off.
-pub fn step<F: FrameStore>(frames: &mut F, w: &World, s: SegmentNo, i: &Instr) -> After
-    requires { IsReady (F.content frames.old) w.now.classes s i.now }
+/// its operands on the stack, and a return takes the value off. The caller has read the frame's head, so it isn't read again.
+pub fn step<F: FrameStore>(
+    frames: &mut F,
+    w: &World,
+    s: SegmentNo,
+    head: &FrameHead,
+    i: &Instr,
+) -> After
+    requires ready { IsReady (F.content frames.old) w.now.classes s i.now }
+    requires head { (f : FrameState) → TopFrame (F.content frames.old) s f → head.now ≡ f.head }
     ensures { DoesNumbers (F.content frames.old) (F.content frames.new) w.now.classes s i.now result }
 {
-    let head = frames.head(s);
     match part_of(i.op) {
         Part::Nothing => {}
         Part::Constant => push(frames, s, constant(w, head.method, i)),

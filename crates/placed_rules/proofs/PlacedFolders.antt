@@ -38,7 +38,8 @@ unlinked_record s home c r h = record {
   references = h.references;
 }
 
-module _ (w : WorldRecord) (lines : List ResolverLine) (cs : List ClassFile) (names : List NamedClass) (p : PlacedFolder) (h : IsPlaced w lines cs names p) where
+module _ (w : WorldRecord) (lines : List ResolverLine) (cs : List ClassFile) (names : List NamedClass) (p : PlacedFolder)
+    (h : IsPlaced w lines cs names p) where
   abbrev first : ClassId
   first = record { 0 = length w.classes }
 

@@ -99,7 +99,8 @@ module _ (old : WorldRecord) (cs : List ClassFile) (p : PlacedFolder) (ordered :
 -- ---- The rules in turn.
 
 -- the class is one of the folder
-pub of_folder : (now : WorldRecord) (home : DomainId) (first : ClassId) (offers : List Offer) (declared : List (List ClassId)) (c : ClassId) (fault : ClassFault)
+pub of_folder : (now : WorldRecord) (home : DomainId) (first : ClassId) (offers : List Offer) (declared : List (List ClassId)) (c : ClassId)
+    (fault : ClassFault)
     → IsSharedFault now home first offers declared c fault → IsOfFolder now.classes first c
 of_folder now home first offers declared c fault (inl (inl h)) = h.1.breaks.0
 of_folder now home first offers declared c fault (inl (inr h)) = h.2.breaks.0

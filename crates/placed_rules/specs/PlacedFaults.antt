@@ -64,7 +64,8 @@ IsLinkedAt s c links =
     (home : DomainId) × (r : ClassRecord) × (record_of s.classes s.self ≡ Some r) × IsRecordFor s home c r × AreLinksFor s c links
 
 -- Each class of the folder has its record, and at its place in the order there are the links of its pool.
-pub record AreLinkedIn (classes : List ClassRecord) (table : List NamedClass) (first : ClassId) (order : List ℕ) (files : List ClassFile) (links : List (List Link)) : Type 0 where
+pub record AreLinkedIn (classes : List ClassRecord) (table : List NamedClass) (first : ClassId) (order : List ℕ) (files : List ClassFile)
+    (links : List (List Link)) : Type 0 where
   pub as_many : length links ≡ length order
   pub each : (k i : ℕ) (c : ClassFile) (own : List Link) → slice_get order k ≡ Some i → slice_get files i ≡ Some c → slice_get links k ≡ Some own
       → IsLinkedAt (scope_at classes table (class_at first k)) c own
@@ -87,7 +88,8 @@ abbrev pub IsLinkedAs : WorldRecord → PlacedFolder → List ClassRecord → Li
 IsLinkedAs w p classes order first = (p.classes ≡ classes) × (p.order ≡ order) × (length w.classes ≡ first.0)
 
 -- with what the domain offers, and what its methods say they throw
-pub record IsSharedAs (w : WorldRecord) (p : PlacedFolder) (now : WorldRecord) (home : DomainId) (offers : List Offer) (declared : List (List ClassId)) : Type 0 where
+pub record IsSharedAs (w : WorldRecord) (p : PlacedFolder) (now : WorldRecord) (home : DomainId) (offers : List Offer)
+    (declared : List (List ClassId)) : Type 0 where
   pub world : now ≡ record w { classes = p.classes }
   pub home_is : p.home ≡ home
   pub offers_are : p.offers ≡ offers

@@ -54,7 +54,8 @@ HaveNamesOf domains old = (d : DomainState) → Contains domains d → (e : Doma
 
 -- Files that break no rule give these names, offers, stubs and classes to the domain that is loaded next; each of the new methods
 -- with code has a least typing, and none is a class initialiser.
-pub record Accepts (f : FolderFiles) (m : Machine) (name : List ℕ) (first : ClassId) (table : List NamedClass) (offers : List Offer) (stubs : List Stub) (w : WorldRecord) : Type 0 where
+pub record Accepts (f : FolderFiles) (m : Machine) (name : List ℕ) (first : ClassId) (table : List NamedClass) (offers : List Offer)
+    (stubs : List Stub) (w : WorldRecord) : Type 0 where
   pub may : MayLoad (world_of m)
   pub loads : Loads f (world_of m) name first table offers stubs w
   pub typed : (member : MemberId) (s : CodeScope) → IsScopeOf w.classes member s → first.0 ≤ member.class.0

@@ -14,6 +14,6 @@ returns-clause-known c =
     let pool = c.args.l.now.pool.now in
     found_kept (IsPairOf (SaysMethod pool) pool) (FindsMethod c.args.l.now.t.now) (one_pair (SaysMethod pool) (one_method_said names pool) pool)
     (λ q. get nat_cmp c.args.found.now q) (λ q. get nat_cmp c.remember.new.found q) c.args.class c.args.pair c.args.name.now c.args.kind.now
-    c.find_method-m.result (omega arith) c.requires.pair c.find_method-m.ensures
-    (subst (λ (k : ℕ). (q : ℕ) → get nat_cmp c.remember.new.found q ≡ cond (nat_eq k q) (Some c.find_method-m.result) (get nat_cmp c.args.found.now q))
+    c.find_method_by-m.result (omega arith) c.requires.pair (rw c.of_shared.ensures at c.find_method_by-m.ensures)
+    (subst (λ (k : ℕ). (q : ℕ) → get nat_cmp c.remember.new.found q ≡ cond (nat_eq k q) (Some c.find_method_by-m.result) (get nat_cmp c.args.found.now q))
     c.key_of-key.ensures c.in_ok-remember.ensures) c.requires.known

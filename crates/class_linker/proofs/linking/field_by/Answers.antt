@@ -1,12 +1,9 @@
 -- The text is there, or it isn't.
-use Rattle.std.proofs.Common.{List, ℕ, sym, subst}
-use Rattle.jk_model_classes.specs.Members.{TextAt}
 use Rattle.class_linker.proofs.linking.field_by.Goals as goal
 
 pub returns-in-Some-field_at : goal.returns-in-Some-field_at
 returns-in-Some-field_at c = (
-  subst (λ (us : List ℕ). TextAt c.args.l.now.pool.now c.args.n us) (sym c.as_slice.ensures)
-      ((c.requires.texts.each c.args.n c.in-Some.name.now).1 c.in-Some.ensures),
+  (c.requires.texts.each c.args.n c.in-Some.name.now).1 c.in-Some.ensures,
   c.in-Some-field_at.ensures,
 )
 

@@ -13,7 +13,8 @@ begin-at-requires g t c κs within =
       (
         within,
         may_begin (g.F.FrameStore.content c.args.frames.now)
-            (g.F.FrameStore.content c.pop_value-v.new.self) c.args.s c.args.count c.pop_value-v.result c.pop_value-v.ensures c.if-count-eq0.false h.domain h.lower
+            (g.F.FrameStore.content c.pop_value-v.new.self) c.args.s c.args.count c.pop_value-v.result c.pop_value-v.ensures c.if-count-eq0.false
+            h.domain h.lower
             h.frame h.below h.given h.on_top h.as_many c.args.head h.locals h.room,
       ),
     )

@@ -12,7 +12,8 @@ invariant_of-self c =
     let takes = c.take_blocks.ensures in
     record {
       ok =
-          added_keeps d c.move_top-frame.new.self c.take_blocks.new.parts c.take_blocks.new.values.items c.args.slot c.move_top-frame.result c.args.blocks c.args.head
+          added_keeps d c.move_top-frame.new.self c.take_blocks.new.parts c.take_blocks.new.values.items c.args.slot c.move_top-frame.result
+              c.args.blocks c.args.head
           c.requires.slot c.requires.cost c.requires.room c.requires.small c.move_top-frame.ensures.moves takes;
     }
 
@@ -24,10 +25,12 @@ returns c =
       same_chunks = refl;
       same_slots = refl;
       becomes =
-          added_top d c.move_top-frame.new.self c.take_blocks.new.parts c.take_blocks.new.values.items c.args.slot c.move_top-frame.result c.args.blocks c.args.head
+          added_top d c.move_top-frame.new.self c.take_blocks.new.parts c.take_blocks.new.values.items c.args.slot c.move_top-frame.result
+              c.args.blocks c.args.head
           c.requires.slot c.requires.cost c.requires.room c.requires.small c.move_top-frame.ensures.moves takes;
       others =
-          added_others d c.move_top-frame.new.self c.take_blocks.new.parts c.take_blocks.new.values.items c.args.slot c.move_top-frame.result c.args.blocks c.args.head
+          added_others d c.move_top-frame.new.self c.take_blocks.new.parts c.take_blocks.new.values.items c.args.slot c.move_top-frame.result
+              c.args.blocks c.args.head
           c.requires.slot c.requires.cost c.requires.room c.requires.small c.move_top-frame.ensures.moves takes;
       uses = refl;
     }

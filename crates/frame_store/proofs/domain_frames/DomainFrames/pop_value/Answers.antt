@@ -54,7 +54,8 @@ returns-clause-becomes c =
     let off : frame_of d.parts records d.values.items f ≡ record (value_at d f) { stack = below } =
     entry_is_off d f is c.index_mut-record.result.now read in
     λ i top.
-    let S : ℕ → Type 0 = λ k. lowest_in d.frames d.parts records d.values.items i (depth_of d i) ≡ lower_of d i ++ record (value_at d k) { stack = below } ∷ [] in
+    let S : ℕ → Type 0 = λ k. lowest_in d.frames d.parts records d.values.items i (depth_of d i) ≡ lower_of d i ++ record (value_at d k)
+        { stack = below } ∷ [] in
     let T : ℕ → Type 0 = λ k. (value_at d k).stack ≡ below ++ c.index.result.now ∷ [] in (
       below,
       subst T top.is (entry_was_top d f is some ∙ ap (λ x. below ++ x ∷ []) (sym v)),

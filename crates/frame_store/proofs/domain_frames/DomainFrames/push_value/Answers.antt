@@ -39,7 +39,8 @@ invariant_of-self c =
     let height : c.index_mut-record.result.now.height ≡ (record_at d.records.items f).height = ap (λ (r : FrameRecord). r.height) read in
     record {
       ok =
-          record_keeps d f (record c.index_mut-record.result.now { height = c.index_mut-record.result.now.height + 1 }) (set d.values.items c.value_index-index.result c.args.v)
+          record_keeps d f (record c.index_mut-record.result.now { height = c.index_mut-record.result.now.height + 1 })
+              (set d.values.items c.value_index-index.result c.args.v)
           (length-set d.values.items c.value_index-index.result c.args.v) is.within
           (ap (λ (x : FrameRecord). head_chunks x.head) read) (omega (arith, room, height_is d f is)) (subst Q (sym read) is.framed.small);
     }
