@@ -63,4 +63,6 @@ fn main(rt: HostRuntime) -> ExitCode {
 }
 
 #[cfg(test)]
+mod test_classes;
+#[cfg(test)]
 mod tests;
