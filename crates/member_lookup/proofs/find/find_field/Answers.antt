@@ -1,0 +1,5 @@
+-- The key has the name and the type.
+use Rattle.member_lookup.proofs.find.find_field.Goals as goal
+
+pub returns : goal.returns
+returns c = rw c.new.ensures at c.find_field_by.ensures
