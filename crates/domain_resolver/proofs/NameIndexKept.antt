@@ -132,7 +132,7 @@ differ_added es y differ lacks i j a b p q same = by_places (old_or_last es y i 
 pub index_added : (es : List NameEntry) (newest newest' : List (ℕ × ℕ)) (classes classes' : List ℕ) (y : NameEntry) → IsIndex es newest classes
     → LacksName es y.name → y.before ≡ lookup (is_at (nat_cmp (fingerprint_of y.name))) newest
     → ((f : ℕ) → lookup (is_at (nat_cmp f)) newest'
-        ≡ (if is_at (nat_cmp (fingerprint_of y.name)) f then Some (length es) else lookup (is_at (nat_cmp f)) newest))
+    ≡ (if is_at (nat_cmp (fingerprint_of y.name)) f then Some (length es) else lookup (is_at (nat_cmp f)) newest))
     → ((n : ℕ) → list_any (nat_eq n) classes' ≡ (if nat_eq y.class.0 n then true else list_any (nat_eq n) classes))
     → IsIndex (es ++ y ∷ []) newest' classes'
 index_added es newest newest' classes classes' y h lacks before puts adds = record {

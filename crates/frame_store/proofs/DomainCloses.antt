@@ -64,7 +64,7 @@ pub owed_part : {S : Type 0} (m n : IndexMap ℕ DomainFrames S) (d : ℕ) (x : 
     → n.entries ≡ swap_remove_entry (nat_eq d) m.entries → sum_by owed_by (values n) + owed_by x ≡ sum_by owed_by (values m)
 owed_part m n d x is entries =
     ap (λ es. sum_by owed_by (values_of es) + owed_by x) entries ∙ sum_without owed_by (nat_eq d) m.entries d x
-        (position (nat_eq d) (keys_of m.entries)) is refl
+    (position (nat_eq d) (keys_of m.entries)) is refl
 
 module _ {S : Type 0} (m n : IndexMap ℕ DomainFrames S) (t u : SegmentTable) (owed d : ℕ) (x : DomainFrames) (h : IsStore m t owed)
     (is : get nat_eq m d ≡ Some x)
@@ -101,11 +101,11 @@ module _ {S : Type 0} (m n : IndexMap ℕ DomainFrames S) (t u : SegmentTable) (
       record {
         in_domain =
             λ r q e. lt_by q.slot (option_map_or (λ (z : DomainFrames). z.chunks) (get nat_eq m q.domain) 0) q.slot
-                (option_map_or (λ (z : DomainFrames). z.chunks) (get nat_eq n q.domain) 0)
+            (option_map_or (λ (z : DomainFrames). z.chunks) (get nat_eq n q.domain) 0)
             (h.in_domain r q (before r q e)) refl (read r q e (λ (z : DomainFrames). z.chunks));
         is_live =
             λ r q e. lt_by _ _ _ _ (h.is_live r q (before r q e)) (read r q e (λ (z : DomainFrames). place_in z.slots q.slot))
-                (read r q e (λ (z : DomainFrames). z.slots.live));
+            (read r q e (λ (z : DomainFrames). z.slots.live));
         has_number = λ r q e. read r q e (λ (z : DomainFrames). number_of z.slots q.slot) ∙ h.has_number r q (before r q e);
         owes = part_less owed (sum_by owed_by (values n)) (sum_by owed_by (values m)) (owed_by x) (owed_part m n d x is entries) h.owes;
         enough = less_le owed (owed_by x) (table.room t) (table.room u) h.enough forgotten.at_least;

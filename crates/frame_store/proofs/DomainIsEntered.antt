@@ -68,7 +68,7 @@ module _ {S : Type 0} (m n : IndexMap ℕ DomainFrames S) (t u : SegmentTable) (
         record {
           in_domain =
               λ r q e. lt_by q.slot (option_map_or (λ (z : DomainFrames). z.chunks) (get nat_eq m q.domain) 0) q.slot
-                  (option_map_or (λ (z : DomainFrames). z.chunks) (get nat_eq n q.domain) 0)
+              (option_map_or (λ (z : DomainFrames). z.chunks) (get nat_eq n q.domain) 0)
               (h.in_domain r q (before r q e)) refl (read r q (before r q e) (λ (z : DomainFrames). z.chunks));
           is_live =
               λ r q e. lt_by _ _ _ _ (h.is_live r q (before r q e))
@@ -148,7 +148,7 @@ not_admitted m d e = none_by (get nat_eq m d) e
 
 pub owes_entered : {S : Type 0} (m n : IndexMap ℕ DomainFrames S) (d : ℕ) (x : DomainFrames) (owed chunks : ℕ) → get nat_eq m d ≡ None
     → n.entries ≡ insert_entry nat_eq m.entries d x → x.slots.live ≡ 0 → owed ≡ sum_by owed_by (values m) → chunks ≡ x.chunks
-        → owed + chunks ≡ sum_by owed_by (values n)
+    → owed + chunks ≡ sum_by owed_by (values n)
 owes_entered m n d x owed chunks none entries live owes e =
     add_fresh owed chunks (sum_by owed_by (values m)) (owed_by x) (sum_by owed_by (values n)) x.chunks owes
     (owed_fresh x.chunks x.slots.live live) e (ap (λ es. sum_by owed_by (values_of es)) entries ∙ sum_insert owed_by d x m.entries none)

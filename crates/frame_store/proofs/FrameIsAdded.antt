@@ -47,9 +47,12 @@ module _ (d : DomainFrames) (frames parts : Chains) (values : List Value) (i f b
 
   f_lt : f < d.chunks
   f_lt =
-      omega
-      (arith, place_lt d.frames d.chunks (count d.frames d.chunks - 1) (omega (arith, d.ok.segments_are)) (let s = some_free in omega arith),
-          moves.was_top, d.ok.frames_are)
+      omega (
+        arith,
+        place_lt d.frames d.chunks (count d.frames d.chunks - 1) (omega (arith, d.ok.segments_are)) (let s = some_free in omega arith),
+        moves.was_top,
+        d.ok.frames_are,
+      )
 
   new_record : record_at records f ≡ added
   new_record = record_of d.records.items f added (omega (arith, f_lt, d.ok.records_are))
@@ -155,7 +158,7 @@ module _ (d : DomainFrames) (frames parts : Chains) (values : List Value) (i f b
       ap (λ g. head_chunks (record_at records g).head) lands ∙ ap (λ (x : FrameRecord). head_chunks x.head) new_record ∙ sym cost in
       let former = former_cost i slot.0 (depth_of d i) (omega arith) in
       let split : cost_below frames records i (suc (depth_of d i)) ≡ cost_below frames records i (depth_of d i)
-          + head_chunks (record_at records (place frames i (depth_of d i))).head = refl in
+      + head_chunks (record_at records (place frames i (depth_of d i))).head = refl in
       ap (cost_below frames records i) e ∙ split ∙ ap (λ n. n + head_chunks (record_at records (place frames i (depth_of d i))).head) former
       ∙ ap (λ n. cost_in d.frames d.records.items i + n) last
 
@@ -208,8 +211,11 @@ module _ (d : DomainFrames) (frames parts : Chains) (values : List Value) (i f b
       let locals =
       build-replicate (value_of parts values f) head.max_locals Unset
       (λ k lt. takes.unset k (omega (arith, cost))) in
-      ap (λ (r : FrameRecord). let s : FrameState = record { head = r.head; locals = build (value_of parts values f) r.head.max_locals;
-          stack = build (λ q. value_of parts values f (r.head.max_locals + q)) r.height } in s) new_record
+      ap (λ (r : FrameRecord). let s : FrameState = record {
+        head = r.head;
+        locals = build (value_of parts values f) r.head.max_locals;
+        stack = build (λ q. value_of parts values f (r.head.max_locals + q)) r.height;
+      } in s) new_record
       ∙ ap (λ (xs : List Value). let s : FrameState = record { head = head; locals = xs; stack = [] } in s) locals
 
   pub added_top : lowest_in frames parts records values i (count frames i) ≡ frames_of d i ++ new_frame head ∷ []

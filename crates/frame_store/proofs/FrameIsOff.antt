@@ -71,8 +71,11 @@ module _ (d : DomainFrames) (frames parts : Chains) (i f b : ℕ) (top : HasTop 
       let l = left j n lt low in
       let is = is_frame d j n lt l.low in
       let P : ℕ → Type 0 = λ k. IsFramed parts d.records.items k in
-      subst P (sym l.same) (record { blocks = same_blocks (place d.frames j n) is.within l.other ∙ is.framed.blocks;
-          low = is.framed.low; small = is.framed.small })
+      subst P (sym l.same) (record {
+        blocks = same_blocks (place d.frames j n) is.within l.other ∙ is.framed.blocks;
+        low = is.framed.low;
+        small = is.framed.small;
+      })
 
   bare_new : (n : ℕ) → n < count frames d.chunks → count parts (place frames d.chunks n) ≡ 0
   bare_new n low =

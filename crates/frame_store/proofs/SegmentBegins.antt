@@ -146,7 +146,7 @@ module _ {S : Type 0} (m n : IndexMap ℕ DomainFrames S) (d : ℕ) (x y : Domai
       record {
         in_domain =
             λ r q f. lt_by q.slot (option_map_or (λ (z : DomainFrames). z.chunks) (get nat_eq m q.domain) 0) q.slot
-                (option_map_or (λ (z : DomainFrames). z.chunks) (get nat_eq n q.domain) 0)
+            (option_map_or (λ (z : DomainFrames). z.chunks) (get nat_eq n q.domain) 0)
             (h.in_domain r q f) refl (ap (λ o. option_map_or (λ (z : DomainFrames). z.chunks) o 0) (all_is e q.domain));
         is_live =
             λ r q f. lt_by _ _ _ _ (h.is_live r q f)
@@ -194,7 +194,7 @@ module _ {S : Type 0} (m n : IndexMap ℕ DomainFrames S) (d : ℕ) (x y : Domai
     good_before r q e =
         let chunks =
         lt_by q.slot (option_map_or (λ (z : DomainFrames). z.chunks) (get nat_eq m q.domain) 0) q.slot
-            (option_map_or (λ (z : DomainFrames). z.chunks) (get nat_eq n q.domain) 0)
+        (option_map_or (λ (z : DomainFrames). z.chunks) (get nat_eq n q.domain) 0)
         (h.in_domain r q e) refl (read_is (λ (z : DomainFrames). z.chunks) begins.same_chunks q.domain) in
         elim (cases_eq q.domain d) [
           | inl same ↦
@@ -279,5 +279,5 @@ module _ {S : Type 0} (m n : IndexMap ℕ DomainFrames S) (d : ℕ) (x y : Domai
               ∙ ap (λ k. k + 1 + head_chunks head) (sym (read_some (λ (z : DomainFrames). z.used) (get nat_eq m d) x is));
           other_domains =
               λ k ne. ap (λ o. option_map_or (λ (z : DomainFrames). z.used) o 0)
-                  (elsewhere k.0 (λ same. ne (ap (λ j. let z : DomainId = record { 0 = j } in z) same)));
+              (elsewhere k.0 (λ same. ne (ap (λ j. let z : DomainId = record { 0 = j } in z) same)));
         }

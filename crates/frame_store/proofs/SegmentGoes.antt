@@ -69,7 +69,7 @@ module _ {S : Type 0} (m n : IndexMap ℕ DomainFrames S) (t u : SegmentTable) (
         in_domain =
             λ r q e.
             lt_by q.slot (option_map_or (λ (z : DomainFrames). z.chunks) (get nat_eq m q.domain) 0) q.slot
-                (option_map_or (λ (z : DomainFrames). z.chunks) (get nat_eq n q.domain) 0)
+            (option_map_or (λ (z : DomainFrames). z.chunks) (get nat_eq n q.domain) 0)
             (h.in_domain r q (before r q e).1) refl
             (read_same m n t owed s p x y h at is wrote (λ (z : DomainFrames). z.chunks) ends.same_chunks q.domain);
         is_live =
@@ -106,7 +106,7 @@ module _ {S : Type 0} (m n : IndexMap ℕ DomainFrames S) (t u : SegmentTable) (
             one_more (sum_by owed_by (values n)) (owed_by x) (sum_by owed_by (values m)) (owed_by y) owed 0
             (ap (λ es. sum_by owed_by (values_of es) + owed_by x) wrote.0 ∙ sum_by-set_value owed_by (nat_eq p.domain) m.entries x y is)
             (ap (λ k. k - y.slots.live) ends.same_chunks ∙ owes_more x.chunks x.slots.live y.slots.live ends.gives.live
-                (le_is x.slots.live (size x.slots) x.chunks x.slots.ok.few x.ok.slots_are))
+            (le_is x.slots.live (size x.slots) x.chunks x.slots.ok.few x.ok.slots_are))
             h.owes;
         enough = le_more owed (table.room t) (table.room u) h.enough removes.more_room;
       }

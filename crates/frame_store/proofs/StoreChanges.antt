@@ -78,7 +78,7 @@ module _ {S : Type 0} (m n : IndexMap ℕ DomainFrames S) (t : SegmentTable) (ow
         in_domain =
             λ r q e.
             lt_by q.slot (option_map_or (λ (z : DomainFrames). z.chunks) (get nat_eq m q.domain) 0) q.slot
-                (option_map_or (λ (z : DomainFrames). z.chunks) (get nat_eq n q.domain) 0)
+            (option_map_or (λ (z : DomainFrames). z.chunks) (get nat_eq n q.domain) 0)
             (h.in_domain r q e) refl (read_same (λ (z : DomainFrames). z.chunks) same_chunks q.domain);
         is_live =
             λ r q e.
@@ -101,9 +101,9 @@ module _ {S : Type 0} (m n : IndexMap ℕ DomainFrames S) (t : SegmentTable) (ow
   other_slot r q e same ne e2 =
       let e_get : get nat_eq m q.domain ≡ Some x = ap (get nat_eq m) same ∙ is in
       let a : number_of x.slots q.slot ≡ r = sym (read_some (λ (z : DomainFrames). number_of z.slots q.slot) (get nat_eq m q.domain) x e_get)
-          ∙ h.has_number r q e in
+      ∙ h.has_number r q e in
       let b : number_of x.slots p.slot ≡ s.0 = sym (read_some (λ (z : DomainFrames). number_of z.slots p.slot) (get nat_eq m p.domain) x is)
-          ∙ h.has_number s.0 p at in
+      ∙ h.has_number s.0 p at in
       ne (sym a ∙ ap (number_of x.slots) e2 ∙ b)
 
   pub slot_in : (r : ℕ) (q : Place) → table.place_in t r ≡ Some q → q.domain ≡ p.domain → q.slot < x.chunks
@@ -147,7 +147,7 @@ module _ {S : Type 0} (m n : IndexMap ℕ DomainFrames S) (t : SegmentTable) (ow
         uses = read_some (λ (z : DomainFrames). z.used) (get nat_eq n p.domain) y get_here ∙ b.uses;
         other_domains =
             λ e ne. ap (λ o. option_map_or (λ (z : DomainFrames). z.used) o 0)
-                (get_other e.0 (λ same. ne (ap (λ k. let z : DomainId = record { 0 = k } in z) same)));
+            (get_other e.0 (λ same. ne (ap (λ k. let z : DomainId = record { 0 = k } in z) same)));
       }
 
   pub used_is : (content_of m t).used (record { 0 = p.domain }) ≡ x.used

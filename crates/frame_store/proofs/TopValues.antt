@@ -40,7 +40,7 @@ module _ (d : DomainFrames) (f : ℕ) (is : IsFrameNumber d f) where
       build-same (λ p. v (locals + p)) (λ p. w (locals + p)) r.height
       (λ p p_lt. other_value d f q f (locals + p) x is is (local_in q lt) (entry_in p (omega (arith, is.framed.low))) (λ _ e. omega arith)) in
       let P : ℕ → Type 0 = λ j. frame_of d.parts d.records.items (set d.values.items j x) f ≡ record (value_at d f)
-          { locals = set (value_at d f).locals q x } in
+      { locals = set (value_at d f).locals q x } in
       subst P (sym k_is)
       (ap (λ (xs : List Value). let s : FrameState = record { head = r.head; locals = xs; stack = build (λ p. w (locals + p)) r.height } in s) of_locals
       ∙ ap (λ (xs : List Value). let s : FrameState = record { head = r.head; locals = set (build v locals) q x; stack = xs } in s) of_stack)

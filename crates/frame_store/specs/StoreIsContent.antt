@@ -122,7 +122,7 @@ store_holds domains places owed h =
           let P : StoredSegment → Type 0 = λ (t : StoredSegment). segment_chunks t.frames ≤ p.domain.used in
           subst P (sym p.is) (segment_paid p.domain p.place.slot p.stands.within p.stands.live) in
           let P : DomainId → Type 0 = λ (t : DomainId). IsAdmitted (content_of domains places) t
-              × (segment_chunks g.frames ≤ (content_of domains places).used t) in
+          × (segment_chunks g.frames ≤ (content_of domains places).used t) in
           subst P (sym (ap (λ (t : StoredSegment). t.domain) p.is))
           (owned_by (get nat_eq domains p.place.domain) p.domain g p.stands.is paid);
       sized =

@@ -140,7 +140,7 @@ module _ (c : FrameContent) (s : SegmentNo) (d : DomainId) (lower : List FrameSt
       let there : Holds next s d (under ++ begun head first ∷ []) = subst (Holds next s d) split called.changes.becomes in
       let last : FrameState = record (begun head first) { locals = set (begun head first).locals (length (locals_of first)) v } in
       let set_now = top_set next new s d under (begun head first) last there refl
-          (sets (begun head first) (top_there next next s d under (begun head first) there)) in
+      (sets (begun head first) (top_there next next s d under (begun head first) there)) in
       let fits : length (locals_of (first ++ v ∷ [])) ≤ head.max_locals = subst (λ (l : List Value). length (locals_of l) ≤ head.max_locals) taken.same room in
       let is : last ≡ begun head given = begun_on head first v fits ∙ ap (begun head) (sym taken.same) in
       let frames : under ++ last ∷ [] ≡ lower ++ with_stack f below ∷ begun head given ∷ [] =

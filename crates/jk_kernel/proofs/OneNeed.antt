@@ -135,7 +135,7 @@ by_instr classes head s i (Some k) e stands none some = record {
         let there = subst (λ (h : FrameHead). StandsIn classes h other.1.0.scope other.1.0.instr) same (runs_in classes f other.1.0) in
         let one = one_place classes head other.1.0.scope s other.1.0.instr i there stands in
         let here : InstrNeeds s i c = subst (λ (x : CodeScope). InstrNeeds x i c) one.0
-            (subst (λ (x : Instr). InstrNeeds other.1.0.scope x c) one.1 other.1.1) in
+        (subst (λ (x : Instr). InstrNeeds other.1.0.scope x c) one.1 other.1.1) in
         ap Some (one_need s i k c some here))
   ];
 }

@@ -107,7 +107,7 @@ module _ (c : FrameContent) (w : WorldRecord) (names : DomainRecord) (d : Domain
   with_own_is paid own pays =
       let heap : heap_of paid.texts ≡ p.inside.heap = ap heap_of (paid_texts d paid pays) ∙ sym (ap (λ (x : Inside). x.heap) at.inside) in
       ap (λ (h : List NamedObject). let x : DomainState = record (state_of names paid)
-          { inside = Some (let i : Inside = record { own = own; heap = h } in i) } in x) heap
+      { inside = Some (let i : Inside = record { own = own; heap = h } in i) } in x) heap
 
   abbrev pub acting : (paid : DomainPart) → PaysFor d paid true → (IsHeld p → ⊥) → RunningFrame p → ActingFrame m r.thread.0
   acting paid pays free running = record {

@@ -23,7 +23,7 @@ returns g c = λ scope lower f below given is on e.
     let many : length given ≡ c.len.result =
     e ∙ sym (ap (λ (x : CodeScope). length x.method.params) same) ∙ sym (ap length c.get.ensures) ∙ sym c.len.ensures in
     let fits : head_chunks c.call_head-head.result ≤ free_chunks old c.args.id =
-        omega (arith, c.if-free-chunks_of.false, c.free.ensures, c.chunks_of.ensures) in (
+    omega (arith, c.if-free-chunks_of.false, c.free.ensures, c.chunks_of.ensures) in (
       subst (BeginsCall old new c.args.s c.args.id lower f below given) head
           (record { room = fits; frames = c.begin-locals.ensures.frames c.args.id lower f below given on many }),
       refl,

@@ -15,5 +15,5 @@ returns c =
     let at : slice_get pool c.args.i ≡ Some e = slice_get_read pool (length pool) c.args.i e refl below read in
     let class : e ≡ Class c.in_ok-name.name = c.in_ok-name.ensures in
     class_by_text (λ (b : Bor (List ℕ)). b.now) pool c.args.self.now c.args.i c.in_ok-name.name c.requires (at ∙ ap (λ (x : PoolEntry). Some x) class)
-        c.text.result
+    c.text.result
     c.text.ensures

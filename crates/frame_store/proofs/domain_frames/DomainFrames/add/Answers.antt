@@ -13,7 +13,7 @@ invariant_of-self c =
     record {
       ok =
           added_keeps d c.move_top-frame.new.self c.take_blocks.new.parts c.take_blocks.new.values.items c.args.slot c.move_top-frame.result
-              c.args.blocks c.args.head
+          c.args.blocks c.args.head
           c.requires.slot c.requires.cost c.requires.room c.requires.small c.move_top-frame.ensures.moves takes;
     }
 
@@ -26,11 +26,11 @@ returns c =
       same_slots = refl;
       becomes =
           added_top d c.move_top-frame.new.self c.take_blocks.new.parts c.take_blocks.new.values.items c.args.slot c.move_top-frame.result
-              c.args.blocks c.args.head
+          c.args.blocks c.args.head
           c.requires.slot c.requires.cost c.requires.room c.requires.small c.move_top-frame.ensures.moves takes;
       others =
           added_others d c.move_top-frame.new.self c.take_blocks.new.parts c.take_blocks.new.values.items c.args.slot c.move_top-frame.result
-              c.args.blocks c.args.head
+          c.args.blocks c.args.head
           c.requires.slot c.requires.cost c.requires.room c.requires.small c.move_top-frame.ensures.moves takes;
       uses = refl;
     }

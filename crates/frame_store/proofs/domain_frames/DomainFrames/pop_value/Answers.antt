@@ -55,7 +55,7 @@ returns-clause-becomes c =
     entry_is_off d f is c.index_mut-record.result.now read in
     λ i top.
     let S : ℕ → Type 0 = λ k. lowest_in d.frames d.parts records d.values.items i (depth_of d i) ≡ lower_of d i ++ record (value_at d k)
-        { stack = below } ∷ [] in
+    { stack = below } ∷ [] in
     let T : ℕ → Type 0 = λ k. (value_at d k).stack ≡ below ++ c.index.result.now ∷ [] in (
       below,
       subst T top.is (entry_was_top d f is some ∙ ap (λ x. below ++ x ∷ []) (sym v)),

@@ -40,7 +40,7 @@ invariant_of-self c =
     record {
       ok =
           record_keeps d f (record c.index_mut-record.result.now { height = c.index_mut-record.result.now.height + 1 })
-              (set d.values.items c.value_index-index.result c.args.v)
+          (set d.values.items c.value_index-index.result c.args.v)
           (length-set d.values.items c.value_index-index.result c.args.v) is.within
           (ap (λ (x : FrameRecord). head_chunks x.head) read) (omega (arith, room, height_is d f is)) (subst Q (sym read) is.framed.small);
     }

@@ -13,4 +13,4 @@ pub returns-clause-ok : goal.returns-clause-ok
 returns-clause-ok c =
     let st = c.args.self.now in
     admits _ _ _ _ st.owed st.ok c.args.d c.in_ok-fresh.fresh c.args.chunks (not_admitted st.domains c.args.d.0 c.requires.new) c.in_ok-fresh.ensures
-        c.in_ok-enter.ensures.ok
+    c.in_ok-enter.ensures.ok

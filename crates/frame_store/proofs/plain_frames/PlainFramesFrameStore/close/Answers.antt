@@ -16,7 +16,7 @@ invariant_of-self c =
       ok =
           subst P (sym c.from.ensures)
           (closed_store st.domains n st.places u st.owed c.args.d.0 x st.ok (sym c.in-Some.ensures.value) e.updates.0 e.updates.1 e.entries
-              c.forget_all.ensures);
+          c.forget_all.ensures);
       at = λ e. absurd (cc);
     }
 

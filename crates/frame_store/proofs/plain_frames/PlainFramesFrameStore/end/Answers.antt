@@ -30,8 +30,10 @@ invariant_of-self-in-Some c =
     let found : IsFound st.domains st.places c.args.s.0 x p.slot = record { domain = p.domain; at = c.place-p.ensures; is = is } in
     let y = c.end.new.self in
     let wrote = c.get_mut.follows.holds y in
-    record { ok = gone_kept _ _ st.places c.remove.new.self st.owed c.args.s p x y st.ok c.place-p.ensures is wrote c.end.ensures c.remove.ensures;
-        at = λ e. absurd (cc) }
+    record {
+      ok = gone_kept _ _ st.places c.remove.new.self st.owed c.args.s p x y st.ok c.place-p.ensures is wrote c.end.ensures c.remove.ensures;
+      at = λ e. absurd (cc);
+    }
 
 pub returns-in-Some : goal.returns-in-Some
 returns-in-Some c =

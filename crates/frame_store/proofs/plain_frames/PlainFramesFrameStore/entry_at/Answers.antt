@@ -34,4 +34,4 @@ returns-else-i-height c =
     λ f at.
     let same = frame_is _ _ _ c.args.s st.ok x i found c.args.n f at (value_at x c.frame-frame.result) c.frame-frame.ensures.frame in
     sym (ap (λ (g : FrameState). slice_get g.stack c.args.i) same ∙ get_past (value_at x c.frame-frame.result).stack c.args.i
-        (index_below _ _ _ c.height.ensures c.if-i-height.false))
+    (index_below _ _ _ c.height.ensures c.if-i-height.false))

@@ -16,7 +16,7 @@ insert-requires-clause-new c =
     let read = get_or_read t.entries.items _ _ lt c.index-moved.ensures no_entry in
     ap (λ (x : Entry). place_in c.loop-entry.table x.number) read
     ∙ not_yet t c.loop-entry.table c.loop-entry.entry (omega (arith, t.ok.as_many)) (λ e. c.if-stack_of-self.true (c.stack_of.ensures ∙ e))
-        c.loop-entry.invariant.0
+    c.loop-entry.invariant.0
 
 pub loop-entry-preserved : goal.loop-entry-preserved
 loop-entry-preserved c =
@@ -32,7 +32,7 @@ loop-entry-preserved c =
           let Q : SegmentTable → Type 0 = λ (x : SegmentTable). AreMoved t x (b + 1) in (
             subst Q (sym w.table-is)
                 (one_moved t c.loop-entry.table w.insert.new.self b (omega (arith, t.ok.as_many))
-                    (λ e. w.if-stack_of-self.true (c.stack_of.ensures ∙ e)) before.0 ins),
+                (λ e. w.if-stack_of-self.true (c.stack_of.ensures ∙ e)) before.0 ins),
             omega (arith, ap room w.table-is, w.insert.ensures.less_room, before.1),
           )
       | else-stack_of-self w ↦
@@ -48,4 +48,4 @@ returns-clause-same c =
     let P : ℕ → Type 0 = λ n. AreMoved t c.loop-entry.table n in
     all_moved t c.loop-entry.table
     (subst P (omega (arith, t.entries.ok.0, t.ok.as_many, c.loop-entry-test.false, c.len-entry-end.ensures, c.loop-entry.auto.entry-end))
-        c.loop-entry.invariant.0)
+    c.loop-entry.invariant.0)
