@@ -1,5 +1,5 @@
 -- The step is one of the machine, or nothing changed, and what it leaves is a kernel again.
-use Rattle.std.proofs.Common.{◌≡◌, ap, arith}
+use Rattle.std.proofs.Common.{ap, arith}
 use Rattle.jk_kernel.proofs.KernelAdvances.{has-part, stands}
 use Rattle.jk_kernel.proofs.QuickSteps.{quick-outcome, quick-sound}
 use Rattle.jk_kernel.proofs.kernel.Kernel.goes_on.Goals as goal
