@@ -17,3 +17,6 @@ returns-clause-known c =
     c.find_field_by-m.result (omega arith) c.requires.pair (rw c.of_text.ensures at c.find_field_by-m.ensures)
     (subst (λ (k : ℕ). (q : ℕ) → get nat_cmp c.remember.new.found q ≡ cond (nat_eq k q) (Some c.find_field_by-m.result) (get nat_cmp c.args.found.now q))
     c.key_of-key.ensures c.in_ok-remember.ensures) c.requires.known
+
+pub returns-clause-found : goal.returns-clause-found
+returns-clause-found c = rw c.of_text.ensures at c.find_field_by-m.ensures
