@@ -1,0 +1,2 @@
+-- What the tests know of the frame that they run.
+pub mod RunFrames
