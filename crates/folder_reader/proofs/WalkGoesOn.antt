@@ -12,14 +12,23 @@ use Rattle.std.proofs.lemmas.Slice.Eq.{bytes_eq-Decides}
 use Rattle.jk_model.specs.declared.entries.Entry.{Entry}
 use Rattle.jk_model.specs.Outside.{IsEntryName, Tree, ◌/-◌}
 use Rattle.jk_model.proofs.EachItem.{all_append, all_weaker}
+use Rattle.jk_outside.specs.EntryNames.{IsPlainName}
 use Rattle.jk_model_folders.specs.FolderTrees.{MOST_LEVELS, StandsBelow, directly, deeper}
 use Rattle.folder_reader.specs.declared.found.Found.{Found}
 use Rattle.folder_reader.specs.Calls.{IsListing}
+use Rattle.folder_reader.specs.FolderAnswers.{IsNameBelow}
 use Rattle.folder_reader.specs.Paths.{child, child_of, children, has_name, paths_of, top, whole_path}
 use Rattle.folder_reader.specs.Walks.{HasParent, IsBelow, IsFound, IsLooked, IsPlace, IsWalk}
 use Rattle.folder_reader.proofs.ItemsOfLists.{all_of, each_of, filter_all, in_filter, in_map, item_at, of_filter, of_map, place_of}
 use Rattle.folder_reader.proofs.NoMoreThanFound.{bytes_differ}
 use Rattle.folder_reader.proofs.PathsTellNames.{child_not_empty, child_tells, named_by_test, test_of_named, utf8_child, whole_child, within_child}
+
+-- the names that are listed of a told tree lead down
+names_below : (t : Tree) (folder : List ℕ) (entries : List Entry) → IsListing (Some t) folder entries
+    → AllByRecursion (λ (x : Entry). IsNameBelow x.name) entries
+names_below t folder entries l =
+    all_of (λ (x : Entry). IsNameBelow x.name) entries (λ e h.
+    (each_of (λ (x : Entry). IsEntryName x.name) entries e l.named.0 h, each_of (λ (x : Entry). IsPlainName x.name) entries e l.plain h))
 
 -- ---- what stands in a folder that stands below
 
@@ -42,7 +51,7 @@ stands_in t root f entries e (inr b) folder listed h =
 is_below : (t : Tree) (root : List ℕ) (f : Found) (entries : List Entry) (e : Entry) → IsPlace (Some t) root f → f.folder ≡ true
     → IsListing (Some t) (whole_path root f.path) entries → Contains entries e → IsBelow t root (child_of f e)
 is_below t root f entries e place folder l h =
-    let name = each_of (λ (x : Entry). IsEntryName x.name) entries e l.named.0 h in
+    let name = each_of (λ (x : Entry). IsNameBelow x.name) entries e (names_below t _ entries l) h in
     let whole : whole_path root (child f.path e.name) ≡ whole_path root f.path /- e.name = whole_child root f.path e.name name in
     record {
       entry = e;
@@ -58,13 +67,13 @@ is_below t root f entries e place folder l h =
 -- ---- the entries that are found
 
 pub from_children : (f : Found) (entries : List Entry) (c : Found) → Contains (children f entries) c
-    → (e : Entry) × Contains entries e × IsEntryName e.name × (child_of f e ≡ c)
+    → (e : Entry) × Contains entries e × IsNameBelow e.name × (child_of f e ≡ c)
 from_children f entries c h =
     let m = of_map (child_of f) (filter has_name entries) c h in
     let k = of_filter has_name entries m.0 m.1 in
     (m.0, k.0, named_by_test m.0 k.1, m.2)
 
-to_children : (f : Found) (entries : List Entry) (e : Entry) → IsEntryName e.name → Contains entries e → Contains (children f entries) (child_of f e)
+to_children : (f : Found) (entries : List Entry) (e : Entry) → IsNameBelow e.name → Contains entries e → Contains (children f entries) (child_of f e)
 to_children f entries e name h = in_map (child_of f) (filter has_name entries) e (in_filter has_name entries e h (test_of_named e name))
 
 pub children_are_found : (root : List ℕ) (f : Found) (tree : Option Tree) (folder : List ℕ) (entries : List Entry) → IsFound root f
@@ -94,7 +103,7 @@ distinct_append (x ∷ xs) ys dx dy apart = (
     other x y true e ne = absurd (ne ((bytes_eq-Decides x y).0 e))
     other x y false e ne = refl
 
-names_apart : (f : Found) (e : Entry) (entries : List Entry) → IsEntryName e.name → AllByRecursion (λ (x : Entry). IsEntryName x.name) entries
+names_apart : (f : Found) (e : Entry) (entries : List Entry) → IsNameBelow e.name → AllByRecursion (λ (x : Entry). IsNameBelow x.name) entries
     → AllByRecursion (λ (n : List ℕ). bytes_eq e.name n ≡ false) (map (λ (x : Entry). x.name) entries)
     → AllByRecursion (λ (p : List ℕ). bytes_eq (child f.path e.name) p ≡ false) (paths_of (map (child_of f) entries))
 names_apart f e [] name names d = tt
@@ -106,16 +115,16 @@ names_apart f e (x ∷ entries) name names d =
         absurd (bytes_differ e.name x.name d.0 ((child_tells f.path f.path e.name x.name name names.0 ((bytes_eq-Decides _ _).0 is)).1))
     other false is = refl
 
-entries_apart : (f : Found) (entries : List Entry) → AllByRecursion (λ (x : Entry). IsEntryName x.name) entries
+entries_apart : (f : Found) (entries : List Entry) → AllByRecursion (λ (x : Entry). IsNameBelow x.name) entries
     → IsDistinct bytes_eq (map (λ (x : Entry). x.name) entries) → IsDistinct bytes_eq (paths_of (map (child_of f) entries))
 unfolding IsDistinct
 entries_apart f [] names d = tt
 entries_apart f (e ∷ entries) names d = (names_apart f e entries names.0 names.1 d.0, entries_apart f entries names.1 d.1)
 
-children_apart : (f : Found) (entries : List Entry) → AllByRecursion (λ (x : Entry). IsEntryName x.name) entries
+children_apart : (f : Found) (entries : List Entry) → AllByRecursion (λ (x : Entry). IsNameBelow x.name) entries
     → IsDistinct bytes_eq (map (λ (x : Entry). x.name) entries) → IsDistinct bytes_eq (paths_of (children f entries))
 children_apart f entries names d =
-    let all : filter has_name entries ≡ entries = filter_all has_name entries (all_weaker (λ (x : Entry). IsEntryName x.name) _ entries test_of_named names) in
+    let all : filter has_name entries ≡ entries = filter_all has_name entries (all_weaker (λ (x : Entry). IsNameBelow x.name) _ entries test_of_named names) in
     subst (λ (es : List Entry). IsDistinct bytes_eq (paths_of (map (child_of f) es))) (sym all) (entries_apart f entries names d)
 
 same_place : (found : List Found) (i j : ℕ) (f g : Found) → IsDistinct bytes_eq (paths_of found) → slice_get found i ≡ Some f
@@ -231,12 +240,12 @@ module _ (t : Tree) (root : List ℕ) (found : List Found) (n : ℕ) (f : Found)
   before_is_other : (g c : Found) → Contains found g → Contains (children f entries) c → g.path ≡ c.path → ⊥
   before_is_other g c hg hc same =
       let from = from_children f entries c hc in
-      let name : IsEntryName from.0.name = from.2 in
+      let name : IsNameBelow from.0.name = from.2 in
       let path : g.path ≡ child f.path from.0.name = same ∙ ap (λ (x : Found). x.path) (sym from.3) in
       let k = place_of (top ∷ w.below) g (subst (λ (xs : List Found). Contains xs g) w.shape hg) in
       by from.0.name name path k.0 k.1
     where
-      by : (m : List ℕ) → IsEntryName m → g.path ≡ child f.path m → (k : ℕ) → slice_get (top ∷ w.below) k ≡ Some g → ⊥
+      by : (m : List ℕ) → IsNameBelow m → g.path ≡ child f.path m → (k : ℕ) → slice_get (top ∷ w.below) k ≡ Some g → ⊥
       by m name path zero e =
           let one : top ≡ g = cc in
           child_not_empty f.path m name (sym path ∙ ap (λ (x : Found). x.path) (sym one))
@@ -249,7 +258,7 @@ module _ (t : Tree) (root : List ℕ) (found : List Found) (n : ℕ) (f : Found)
   apart_more =
       let path = λ (x : Found). x.path in
       subst (IsDistinct bytes_eq) (sym (map-append path found (children f entries)))
-      (distinct_append (paths_of found) (paths_of (children f entries)) w.apart (children_apart f entries l.named.0 l.named.1)
+      (distinct_append (paths_of found) (paths_of (children f entries)) w.apart (children_apart f entries (names_below t _ entries l) l.named.1)
       (λ x y hx hy same.
       let a = of_map path found x hx in
       let b = of_map path (children f entries) y hy in
@@ -263,7 +272,7 @@ module _ (t : Tree) (root : List ℕ) (found : List Found) (n : ℕ) (f : Found)
     few = l.few;
     all = all_of (λ (e : Entry). Contains (found ++ children f entries) (child_of f e)) entries (λ e h.
         Contains-append_right found (children f entries) (child_of f e)
-        (to_children f entries e (each_of (λ (x : Entry). IsEntryName x.name) entries e l.named.0 h) h));
+        (to_children f entries e (each_of (λ (x : Entry). IsNameBelow x.name) entries e (names_below t _ entries l) h) h));
   }
 
   pub walk_past_folder : f.level ≤ MOST_LEVELS → IsWalk t root (found ++ children f entries) (n + 1)

@@ -3,6 +3,7 @@ use Rattle.std.specs.Prelude.{◌≡◌, ◌≢◌, ℕ, ⊤, ◌<◌, ◌≤◌
 use Rattle.std.specs.List.{AllByRecursion}
 use Rattle.jk_model.specs.declared.entries.Entry.{Entry}
 use Rattle.jk_model.specs.Outside.{AreNamed, AreThere, Ask, FolderIs, FoldersAreThere, NeverFalls, Tree}
+use Rattle.jk_outside.specs.EntryNames.{ArePlain}
 use Rattle.jk_model_folders.specs.FolderTrees.{MAX_FILE, MOST_ENTRIES}
 use Rattle.folder_reader.specs.FolderAnswers.{AsksWithin}
 
@@ -35,5 +36,6 @@ pub record IsListing (tree : Option Tree) (folder : List ℕ) (entries : List En
   pub few : length entries ≤ MOST_ENTRIES
   pub utf8 : AllByRecursion (λ (e : Entry). IsUtf8 e.name) entries
   pub named : AreNamed tree entries
+  pub plain : ArePlain tree entries
   pub there : AreThere tree folder entries
   pub folders : FoldersAreThere tree folder entries

@@ -1,5 +1,5 @@
 -- Paths below a folder, the entries that are found at them, and which of these count.
-use Rattle.std.specs.Prelude.{ℕ, ◌+◌, ◌==◌, ◌&&◌, Bool, true, not, List, [], ◌∷◌, length, map, codes, bytes_eq, nat_eq}
+use Rattle.std.specs.Prelude.{ℕ, ◌+◌, ◌==◌, ◌&&◌, ◌||◌, Bool, true, not, List, [], ◌∷◌, length, map, codes, bytes_eq, nat_eq}
 use Rattle.std.specs.List.{AllByRecursion, ends_with, filter, list_any}
 use Rattle.jk_model.specs.declared.entries.Entry.{Entry}
 use Rattle.jk_model.specs.Outside.{◌/-◌}
@@ -25,9 +25,13 @@ top = record { path = []; level = 0; folder = true }
 abbrev pub child_of : Found → Entry → Found
 child_of above e = record { path = child above.path e.name; level = above.level + 1; folder = e.folder }
 
--- A name has a byte at least, and no slash. Entries without a name are passed over.
+-- whether it leads to the folder itself, or to the one above
+abbrev pub is_dots : List ℕ → Bool
+is_dots name = bytes_eq name (codes ".") || bytes_eq name (codes "..")
+
+-- A name has a byte at least, and no slash, and leads down. Entries without one are passed over.
 abbrev pub has_name : Entry → Bool
-has_name e = not (length e.name == 0) && not (list_any (λ c. c == 47) e.name)
+has_name e = (not (length e.name == 0) && not (list_any (λ c. c == 47) e.name)) && not (is_dots e.name)
 
 abbrev pub children : Found → List Entry → List Found
 children above entries = map (child_of above) (filter has_name entries)

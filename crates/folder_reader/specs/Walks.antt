@@ -2,10 +2,10 @@
 use Rattle.std.specs.Prelude.{◌≡◌, ◌≢◌, ℕ, ⊤, ◌<◌, ◌≤◌, ◌⊎◌, IsSome, IsUtf8, List, [], ◌∷◌, length, true, false, Contains, Option, Some, None, bytes_eq, slice_get}
 use Rattle.std.specs.List.{AllByRecursion, IsDistinct}
 use Rattle.jk_model.specs.declared.entries.Entry.{Entry}
-use Rattle.jk_model.specs.Outside.{IsEntryName, Tree}
+use Rattle.jk_model.specs.Outside.{Tree}
 use Rattle.jk_model_folders.specs.FolderTrees.{MOST_ENTRIES, MOST_LEVELS, StandsBelow}
 use Rattle.folder_reader.specs.declared.found.Found.{Found}
-use Rattle.folder_reader.specs.FolderAnswers.{IsWithin}
+use Rattle.folder_reader.specs.FolderAnswers.{IsNameBelow, IsWithin}
 use Rattle.folder_reader.specs.Paths.{child, child_of, paths_of, top, whole_path}
 
 -- The entry stands below the folder.
@@ -37,7 +37,7 @@ pub record HasParent (found : List Found) (looked : ℕ) (path : List ℕ) : Typ
   pub name : List ℕ
   pub before : at < looked
   pub found_at : slice_get found at ≡ Some above
-  pub is_name : IsEntryName name
+  pub is_name : IsNameBelow name
   pub is : path ≡ child above.path name
 
 -- The first `looked` of those found were looked at.

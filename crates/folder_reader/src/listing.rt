@@ -6,8 +6,8 @@ ghost use Rattle.jk_model.specs.declared.entries.Entry.{Entry};
 ghost use Rattle.jk_model.specs.Outside.{FileIs, FolderIsAbsent, FolderIsLong, HasRisen, Tree};
 ghost use Rattle.jk_model_folders.specs.FolderTrees.{MAX_FILE, MOST_ENTRIES};
 ghost use Rattle.folder_reader.specs.Calls.{HasFile, IsListing, IsLongFile, Moves};
-ghost use Rattle.folder_reader.specs.FolderAnswers.{IsAbsent, IsLarge, IsWithin};
-ghost use Rattle.folder_reader.specs.Paths.{child_of, children, has_name, whole_path};
+ghost use Rattle.folder_reader.specs.FolderAnswers.{Counts, IsAbsent, IsLarge, IsWithin};
+ghost use Rattle.folder_reader.specs.Paths.{child_of, children, has_name, is_dots, whole_path};
 ghost use Rattle.folder_reader.specs.Walks.{IsPlace};
 ghost use Rattle.folder_reader.specs.declared.reading.FolderError.TheVariants as Why;
 
@@ -46,11 +46,20 @@ fn entries_of<F: Files>(files: &mut F, root: &str, folder: &str) -> Result<List<
     }
 }
 
-/// Whether an entry has a name: a byte at least, and no slash.
+/// Whether a name leads to the folder itself, or to the one above.
+fn is_dots(name: &[u8]) -> bool
+    ensures { result ≡ is_dots name.now }
+{
+    name == b".".as_slice() || name == b"..".as_slice()
+}
+
+/// Whether an entry has a name that leads down: a byte at least, no slash, and neither `.` nor `..`.
 fn is_named(entry: &Entry) -> bool
     ensures { result ≡ has_name entry.now }
 {
-    entry.name.len() != 0 && !entry.name.as_slice().contains(&b'/')
+    entry.name.len() != 0
+        && !entry.name.as_slice().contains(&b'/')
+        && !is_dots(entry.name.as_slice())
 }
 
 /// An entry of a folder, as it is found.
@@ -118,6 +127,7 @@ pub(crate) fn read_file<F: Files>(
     path: &str,
 ) -> Result<Bytes, FolderError>
     requires within { IsWithin root.now (whole_path root.now path.now) }
+    requires counts { Counts path.now }
     requires there { HasFile (F.tree files.old) (whole_path root.now path.now) }
     ensures bytes { IfOk result (λ bytes. FileIs (F.tree files.old) (whole_path root.now path.now) bytes) }
     ensures short { IfOk result (λ bytes. length bytes ≤ MAX_FILE) }

@@ -1,5 +1,5 @@
 -- The names in a folder's list are texts, since the paths are.
-use Rattle.std.proofs.Common.{◌≡◌, ℕ, ◌+◌, ◌<◌, true, false, eqb, List, ◌∷◌, Option, Some, None, length, get_or, refl, ap, ◌∙◌, arith}
+use Rattle.std.proofs.Common.{◌≡◌, ℕ, ◌+◌, ◌<◌, true, eqb, List, ◌∷◌, Option, Some, None, length, get_or, refl, ap, ◌∙◌, arith}
 use Rattle.std.specs.Prelude.{◌&&◌}
 use Rattle.std.specs.List.{AllByRecursion}
 use Rattle.std.specs.Str.{IsUtf8, is_utf8}
@@ -11,6 +11,7 @@ use Rattle.std.proofs.lemmas.Str.{IsUtf8-take, IsUtf8-drop, IsCharBoundary-after
 use Rattle.jk_model.specs.declared.entries.Entry.{Entry}
 use Rattle.jk_model.proofs.EachItem.{all_from_test}
 use Rattle.jk_outside.specs.declared.memory_files.MemoryFile.{MemoryFile}
+use Rattle.jk_outside.specs.declared.memory_files.NameSoFar.TheVariants.{Empty}
 use Rattle.jk_outside.specs.MemoryTrees.{is_below, after_folder, entry_at, entry_of, slash_of, entries_of, are_paths, has_full_names}
 use Rattle.jk_outside.proofs.Below.{below_splits}
 use Rattle.jk_outside.proofs.EachEntry.{good_entries}
@@ -46,7 +47,7 @@ unfolding are_paths
 names_are_utf8 folder files u =
     good_entries (λ (e : Entry). IsUtf8 e.name) folder files
     (all_from_test (λ (f : MemoryFile). is_below folder f.path ≡ true → IsUtf8 (entry_of (after_folder folder f.path)).name)
-    (λ (f : MemoryFile). is_utf8 f.path && has_full_names false f.path)
+    (λ (f : MemoryFile). is_utf8 f.path && has_full_names Empty f.path)
     (λ f t below.
-    let text = (and_parts (is_utf8 f.path) (has_full_names false f.path) t).0 in
+    let text = (and_parts (is_utf8 f.path) (has_full_names Empty f.path) t).0 in
     name_is_utf8 (after_folder folder f.path) (rest_is_utf8 folder f.path below text)) files u)

@@ -2,6 +2,7 @@ pub mod Asks
 pub mod Counts
 pub mod CutTexts
 pub mod DiskStates
+pub mod EntryNames
 pub mod FolderWalks
 pub mod LineRefs
 pub mod Lines

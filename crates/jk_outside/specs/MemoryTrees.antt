@@ -7,6 +7,8 @@ use Rattle.jk_model.specs.Outside.{Tree, Ask, ◌/-◌}
 use Rattle.jk_model.specs.declared.entries.Entry.{Entry}
 use Rattle.jk_outside.specs.Counts.{next_number, is_named, faults_after}
 use Rattle.jk_outside.specs.declared.memory_files.MemoryFile.{MemoryFile}
+use Rattle.jk_outside.specs.declared.memory_files.NameSoFar.{NameSoFar}
+use Rattle.jk_outside.specs.declared.memory_files.NameSoFar.TheVariants.{Empty, Dot, DotDot, Name}
 
 -- the files in order, the numbers of the calls that fail, how many calls and faults there were, and what
 -- was asked
@@ -26,14 +28,27 @@ after_call s ask =
       asked = s.asked ++ ask ∷ [];
     }
 
--- whether no name of a path is empty, where one has begun or not
-abbrev pub has_full_names : Bool → List ℕ → Bool
-has_full_names begun [] = begun
-has_full_names begun (c ∷ cs) = if c == 47 then begun && has_full_names false cs else has_full_names true cs
+-- what a name is, with one more byte
+abbrev pub with_byte : NameSoFar → ℕ → NameSoFar
+with_byte Empty c = if c == 46 then Dot else Name
+with_byte Dot c = if c == 46 then DotDot else Name
+with_byte DotDot c = Name
+with_byte Name c = Name
+
+-- whether it may be the name of an entry
+abbrev pub is_full : NameSoFar → Bool
+is_full Name = true
+is_full so_far = false
+
+-- whether no name of a path is empty, `.` or `..`, where its first name goes on from what is known of it so far
+abbrev pub has_full_names : NameSoFar → List ℕ → Bool
+has_full_names so_far [] = is_full so_far
+has_full_names so_far (c ∷ cs) =
+    if c == 47 then is_full so_far && has_full_names Empty cs else has_full_names (with_byte so_far c) cs
 
 -- whether each path is a text of names joined by slashes
 unfoldable pub are_paths : List MemoryFile → Bool
-are_paths files = list_all (λ (f : MemoryFile). is_utf8 f.path && has_full_names false f.path) files
+are_paths files = list_all (λ (f : MemoryFile). is_utf8 f.path && has_full_names Empty f.path) files
 
 -- whether a path begins with a folder and a slash, and what stands after those
 unfoldable pub is_below : List ℕ → List ℕ → Bool
@@ -95,7 +110,7 @@ all_apart files path = list_all (λ (f : MemoryFile). stand_apart path f.path) f
 -- whether a file may stand at a path: it is made of names, is no folder, and runs through no file
 unfoldable pub is_addable : List MemoryFile → List ℕ → Bool
 is_addable files path =
-    has_full_names false path && all_apart files path
+    has_full_names Empty path && all_apart files path
 
 -- the files with one more, or with other bytes for one that is there
 unfoldable pub placed : Option ℕ → List MemoryFile → MemoryFile → List MemoryFile

@@ -3,6 +3,7 @@
 ghost use Rattle.std.specs.Prelude.{◌≡◌, ◌≢◌, ℕ, ◌<◌, ◌^◌, ◌≤◌, ◌⊎◌, ◌∷◌, ◌++◌, [], List, length, Option, IfOk, IsSome, Err, IsUtf8};
 ghost use Rattle.std.specs.List.{AllByRecursion};
 ghost use Rattle.jk_model.specs.Outside.{Tree, Ask, ListOf, BytesOf, AreNamed, AreThere, FoldersAreThere, FolderIs, FileIs, FolderIsAbsent, FileIsAbsent, FolderIsLong, FileIsLong, HasNoFolder, HasNoFile, HasLongFolder, HasLongFile, HasRisen, NeverFalls};
+ghost use Rattle.jk_outside.specs.EntryNames.{ArePlain};
 
 use jk_model::{Bytes, Entry, List, OutOfMemory};
 use thiserror::Error;
@@ -49,13 +50,14 @@ pub trait Files {
     ghost asked: { Self → List Ask };
 
     /// What stands in a folder, if there are at most `limit` entries. Each name is UTF-8. Where the
-    /// tree is told, names differ, what is listed as a file is there to be read, and what is listed as
-    /// a folder to be listed.
+    /// tree is told, names differ, none is `.` or `..`, what is listed as a file is there to be read, and
+    /// what is listed as a folder to be listed.
     fn list(&mut self, folder: &str, limit: u32) -> Result<List<Entry>, FilesError>
         ensures found { IfOk result (λ entries. FolderIs (tree self.old) folder.now entries) }
         ensures within { IfOk result (λ entries. length entries ≤ limit) }
         ensures names { IfOk result (λ entries. AllByRecursion (λ entry. IsUtf8 entry.name) entries) }
         ensures named { IfOk result (λ entries. AreNamed (tree self.old) entries) }
+        ensures plain { IfOk result (λ entries. ArePlain (tree self.old) entries) }
         ensures there { IfOk result (λ entries. AreThere (tree self.old) folder.now entries) }
         ensures folders { IfOk result (λ entries. FoldersAreThere (tree self.old) folder.now entries) }
 

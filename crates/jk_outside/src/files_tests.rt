@@ -86,8 +86,26 @@ fn tells_folders_of_folders(rt: HostRuntime) -> Result<(), Fail> {
 fn refuses_paths(rt: HostRuntime) -> Result<(), Fail> {
     let mut files = MemoryFiles::new(rt.alloc());
     add(&rt, &mut files, "root/one", b"");
-    for path in ["", "/a", "a/", "a//b", "root", "root/one/x"] {
+    for path in [
+        "",
+        "/a",
+        "a/",
+        "a//b",
+        "root",
+        "root/one/x",
+        ".",
+        "..",
+        "a/.",
+        "a/..",
+        "./a",
+        "../a",
+        "a/./b",
+        "a/../b",
+    ] {
         assert!(rt; !files.is_addable(path), "a file may stand at {path}");
+    }
+    for path in [".a", "a.", "..a", "...", "a/.b", "..../.a/b.."] {
+        assert!(rt; files.is_addable(path), "no file may stand at {path}");
     }
     Ok(())
 }

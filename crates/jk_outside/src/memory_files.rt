@@ -7,7 +7,8 @@ ghost use Rattle.std.specs.Str.{IsUtf8, is_utf8};
 ghost use Rattle.jk_model.specs.Outside.{ListOf, BytesOf, AreNamed, AreThere, FoldersAreThere, FolderIs, FileIs, FolderIsAbsent, FileIsAbsent, FolderIsLong, FileIsLong, HasNoFolder, HasNoFile, HasLongFolder, HasLongFile, HasRisen, NeverFalls};
 ghost use Rattle.jk_outside.specs.Asks.{ask_of};
 ghost use Rattle.jk_outside.specs.Counts.{next_number, is_named, min_fits};
-ghost use Rattle.jk_outside.specs.MemoryTrees.{after_call, are_paths, all_apart, stand_apart, place_of, slash_of, tree_of, file_of, folder_of, has_folder, entries_of, is_below, after_folder, entry_of, has_name, puts_name, has_full_names, is_addable, with_file};
+ghost use Rattle.jk_outside.specs.EntryNames.{ArePlain};
+ghost use Rattle.jk_outside.specs.MemoryTrees.{after_call, are_paths, all_apart, stand_apart, place_of, slash_of, tree_of, file_of, folder_of, has_folder, entries_of, is_below, after_folder, entry_of, has_name, puts_name, has_full_names, is_addable, is_full, with_byte, with_file};
 
 use crate::asked::{Asked, Call};
 use crate::files::{Files, FilesError};
@@ -68,8 +69,8 @@ impl MemoryFiles {
         }
     }
 
-    /// Whether a file may stand at a path: it is made of names joined by `/`, none of them empty, is
-    /// no folder yet, and runs through no file.
+    /// Whether a file may stand at a path: it is made of names joined by `/`, none of them empty, `.` or
+    /// `..`, is no folder yet, and runs through no file.
     pub fn is_addable(&self, path: &str) -> bool
         ensures { IsTrue result ↔ IsTrue (is_addable self.now.files path.now) }
     {
@@ -138,6 +139,7 @@ impl Files for MemoryFiles {
         ensures within { IfOk result (λ entries. length entries ≤ limit) }
         ensures names { IfOk result (λ entries. AllByRecursion (λ entry. IsUtf8 entry.name) entries) }
         ensures named { IfOk result (λ entries. AreNamed (Some (tree_of self.old.files)) entries) }
+        ensures plain { IfOk result (λ entries. ArePlain (Some (tree_of self.old.files)) entries) }
         ensures there { IfOk result (λ entries. AreThere (Some (tree_of self.old.files)) folder.now entries) }
         ensures folders { IfOk result (λ entries. FoldersAreThere (Some (tree_of self.old.files)) folder.now entries) }
 
@@ -220,6 +222,7 @@ fn list_of(
     ensures found { IfOk result (λ entries. folder_of files.now folder.now ≡ Some entries) }
     ensures names { IfOk result (λ entries. AllByRecursion (λ entry. IsUtf8 entry.name) entries) }
     ensures named { IfOk result (λ entries. AreNamed (Some (tree_of files.now)) entries) }
+    ensures plain { IfOk result (λ entries. ArePlain (Some (tree_of files.now)) entries) }
     ensures there { IfOk result (λ entries. AreThere (Some (tree_of files.now)) folder.now entries) }
     ensures folders { IfOk result
         (λ entries. FoldersAreThere (Some (tree_of files.now)) folder.now entries) }
@@ -415,22 +418,52 @@ fn stand_apart(path: &[u8], other: &[u8]) -> bool
     !is_below(path, other) && !is_below(other, path)
 }
 
-/// Whether a path is made of names joined by `/`, none of them empty.
-fn has_full_names(path: &[u8]) -> bool
-    ensures { result ≡ has_full_names false path.now }
-{
-    let mut begun = false;
-    for c in path {
-        if *c == b'/' {
-            if !begun {
-                return false;
-            }
-            begun = false;
-        } else {
-            begun = true;
+/// What is known of a name after some of its bytes.
+#[derive(Clone, Copy)]
+enum NameSoFar {
+    Empty,
+    Dot,
+    DotDot,
+    /// Neither of these, however it goes on.
+    Name,
+}
+
+impl NameSoFar {
+    /// What is known after one more byte.
+    fn with_byte(self, c: u8) -> NameSoFar
+        ensures { result ≡ with_byte self c }
+    {
+        match (self, c) {
+            (NameSoFar::Empty, b'.') => NameSoFar::Dot,
+            (NameSoFar::Dot, b'.') => NameSoFar::DotDot,
+            _ => NameSoFar::Name,
         }
     }
-    begun
+
+    /// Whether it may be the name of an entry.
+    fn is_full(self) -> bool
+        ensures { result ≡ is_full self }
+    {
+        matches!(self, NameSoFar::Name)
+    }
+}
+
+/// Whether a path is made of names joined by `/`, none of them empty, `.` or `..`.
+fn has_full_names(path: &[u8]) -> bool
+    ensures { result ≡ has_full_names NameSoFar.Empty path.now }
+{
+    let mut so_far = NameSoFar::Empty;
+    for c in path {
+        if *c == b'/' {
+            if !so_far.is_full() {
+                return false;
+            }
+            so_far = NameSoFar::Empty;
+        } else {
+            so_far = so_far.with_byte(*c);
+        }
+    }
+    so_far.is_full()
 }
 
 /// Puts a file after the others, or in place of the one at its path.
@@ -439,7 +472,7 @@ fn put_file(files: &mut List<MemoryFile>, file: MemoryFile) -> Result<(), OutOfM
     ensures ok { OnOk result (files.new ≡ with_file files.old file.path file.bytes) }
     ensures err { OnErr result (files.new ≡ files.old) }
     ensures paths { are_paths files.old ≡ true → is_utf8 file.path ≡ true
-        → has_full_names false file.path ≡ true → are_paths files.new ≡ true }
+        → has_full_names NameSoFar.Empty file.path ≡ true → are_paths files.new ≡ true }
 {
     match place_of(files.as_slice(), file.path.as_slice()) {
         Some(i) => {

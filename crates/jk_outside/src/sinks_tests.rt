@@ -128,6 +128,74 @@ fn goes_on_after_an_interruption(rt: HostRuntime) -> Result<(), Fail> {
     Ok(())
 }
 
+/// A call of a writer.
+#[derive(Clone, Copy, PartialEq, Eq)]
+enum WriterCall {
+    Write,
+    Flush,
+}
+
+/// A writer that counts its calls, of which those of one kind fail.
+#[derive(Drop)]
+struct Counting {
+    writes: u32,
+    flushes: u32,
+    fails: Option<WriterCall>,
+}
+
+impl Counting {
+    fn new(fails: Option<WriterCall>) -> Counting {
+        Counting {
+            writes: 0,
+            flushes: 0,
+            fails,
+        }
+    }
+}
+
+impl Write for Counting {
+    fn write(&mut self, bytes: &[u8]) -> io::Result<usize> {
+        self.writes = self.writes.saturating_add(1);
+        if self.fails == Some(WriterCall::Write) {
+            return Err(io::Error::from(ErrorKind::BrokenPipe));
+        }
+        Ok(bytes.len())
+    }
+
+    fn flush(&mut self) -> io::Result<()> {
+        self.flushes = self.flushes.saturating_add(1);
+        if self.fails == Some(WriterCall::Flush) {
+            return Err(io::Error::from(ErrorKind::BrokenPipe));
+        }
+        Ok(())
+    }
+}
+
+#[test]
+fn flushes_each_piece(rt: HostRuntime) -> Result<(), Fail> {
+    let mut sink = StreamSink::new(Counting::new(None));
+    write(&mut sink, b"ab")?;
+    write(&mut sink, b"c")?;
+    assert_eq!(rt; sink.faults(), 0);
+    let writer = sink.into_writer();
+    assert_eq!(rt; writer.writes, 2);
+    assert_eq!(rt; writer.flushes, 2);
+    Ok(())
+}
+
+#[test]
+fn a_writer_that_fails_is_a_fault(rt: HostRuntime) -> Result<(), Fail> {
+    for (fails, flushes) in [(WriterCall::Write, 0), (WriterCall::Flush, 1)] {
+        let mut sink = StreamSink::new(Counting::new(Some(fails)));
+        assert!(rt; write(&mut sink, b"ab").is_err());
+        assert_eq!(rt; sink.faults(), 1);
+        let writer = sink.into_writer();
+        assert_eq!(rt; writer.writes, 1);
+        assert_eq!(rt; writer.flushes, flushes);
+    }
+    Ok(())
+}
+
 #[test]
 fn prints_each_kind_of_line(rt: HostRuntime) -> Result<(), Fail> {
     let domain = b"store".as_slice();

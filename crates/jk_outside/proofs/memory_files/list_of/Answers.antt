@@ -1,5 +1,5 @@
 use Rattle.jk_outside.proofs.NamesAreUtf8.{names_are_utf8}
-use Rattle.jk_outside.proofs.NamesAreNames.{names_are_names}
+use Rattle.jk_outside.proofs.NamesAreNames.{names_are_names, names_are_plain}
 use Rattle.jk_outside.proofs.NamesDiffer.{names_differ}
 use Rattle.jk_outside.proofs.ListedAreThere.{files_are_there, folders_are_there}
 use Rattle.jk_outside.proofs.memory_files.list_of.Goals as goal
@@ -10,6 +10,9 @@ returns-clause-names c = rw c.in_ok-entries_in.ensures (names_are_utf8 c.args.fo
 pub returns-clause-named : goal.returns-clause-named
 returns-clause-named c =
     rw c.in_ok-entries_in.ensures (names_are_names c.args.folder.now c.args.files.now c.requires, names_differ c.args.folder.now c.args.files.now)
+
+pub returns-clause-plain : goal.returns-clause-plain
+returns-clause-plain c = rw c.in_ok-entries_in.ensures (names_are_plain c.args.folder.now c.args.files.now c.requires)
 
 pub returns-clause-there : goal.returns-clause-there
 returns-clause-there c = rw c.in_ok-entries_in.ensures (files_are_there c.args.folder.now c.args.files.now)
