@@ -29,6 +29,7 @@ use Rattle.jk_model_domains.specs.Frames.{FrameState}
 use Rattle.jk_model_domains.specs.Objects.{NamedObject, Object, Plain, Array, Text, Task, CAPABILITY, PRINT_STREAM, TASK, object_named}
 use Rattle.jk_model_domains.specs.OwnStates.{IsOwnState, Literal, OwnState, state_of, static_of}
 use Rattle.jk_model_domains.specs.ValueTypes.{EachValueFits, FrameHolds, HoldsDeclared}
+use Rattle.class_growth.specs.ClosedClasses.{IsClosed}
 use Rattle.jk_model_machine.specs.Executions.{NamesMethod}
 use Rattle.jk_model_machine.specs.Machine.{DomainState, Inside, Machine, Segment, Thread, chunks_used, domain_at, is_live_domain, is_live_thread}
 
@@ -76,11 +77,12 @@ pub record IsSealedInside (classes : List ClassRecord) (d : DomainState) (inside
 
 -- ---- Frames.
 
--- A method's code has this typing, and it is the least one among the classes that stood when the method's class was loaded.
--- Those are the first ones of all classes; no class that was loaded later can be named by the code.
+-- A method's code has this typing, and it is the least one among some first classes, to which the method's class belongs: those
+-- that stood when its folder was loaded. Each class that these mention is one of them, so no later one can come into a frame.
 pub record IsVerified (classes : List ClassRecord) (method : MemberId) (frames : List (Option FrameType)) : Type 0 where
   pub typing : IsTyping classes method frames
   pub stood : ℕ
+  pub closed : IsClosed (take stood classes)
   pub is_least : IsLeastTyping (take stood classes) method frames
 
 -- What a frame's method is judged in, and its typing.

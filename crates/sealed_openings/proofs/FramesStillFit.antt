@@ -41,6 +41,7 @@ module _ (classes more : List ClassRecord) (ordered : AreOrdered classes) (close
       record {
         typing = typing-still classes more ordered closed m frames v.typing;
         stood = stood.0;
+        closed = subst IsClosed stood.1 v.closed;
         is_least = subst (λ (cs : List ClassRecord). IsLeastTyping cs m frames) stood.1 v.is_least;
       }
 

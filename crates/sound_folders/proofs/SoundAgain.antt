@@ -30,6 +30,7 @@ use Rattle.jk_model_machine.specs.Executions.{NamesField, NamesMethod}
 use Rattle.jk_model_machine.specs.Machine.{DomainState}
 use Rattle.jk_model_machine.specs.Sealed.{IsVerified}
 use Rattle.jk_model_machine.specs.SoundClasses.{AreSoundClasses, IsClosedTable}
+use Rattle.class_growth.specs.ClosedClasses.{IsClosed}
 use Rattle.class_growth.specs.ScopesOver.{among}
 use Rattle.class_growth.proofs.ItemsOfLists.{Contains-cases, Contains-none, item-at, place-of, slice_get-append_cases}
 use Rattle.class_growth.proofs.MoreClasses.{field-before, field_walk-kept, method-before, method_walk-kept, record-still}
@@ -105,6 +106,7 @@ module _ {f : FolderFiles} {w : WorldRecord} {into : List ℕ} {first : ClassId}
           record {
             typing = typing-still w.classes (added l) may.world.ordered linked.closed m before.0 before.1.typing;
             stood = stood;
+            closed = subst IsClosed (sym same) before.1.closed;
             is_least = subst (λ (xs : List ClassRecord). IsLeastTyping xs m before.0) (sym same) before.1.is_least;
           },
         )
@@ -115,6 +117,7 @@ module _ {f : FolderFiles} {w : WorldRecord} {into : List ℕ} {first : ClassId}
           record {
             typing = least.1.typing;
             stood = length (all l);
+            closed = subst IsClosed (sym same) (closed-more l may linked.closed);
             is_least = subst (λ (xs : List ClassRecord). IsLeastTyping xs m least.0) (sym same) least.1;
           },
         )
