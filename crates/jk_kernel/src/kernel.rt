@@ -128,7 +128,7 @@ impl<F: FrameStore + Drop> Kernel<F> {
             × Appends (S.bytes out.old) (S.bytes out.new) (text_of lines)) }
         // No step of the thread changes anything until another thread acts.
         ensures rests { result ≡ Ok false → (self.new ≡ self.old) × ((more : ℕ) → Turns more thread self.old [] self.old) }
-        // The steps go on in the machine, though no more of their text goes out.
+        // The definition's steps go on to their end, though no more of their text goes out. The kernel stops in the step that failed.
         ensures failed { OnErr result ((lines : List Line) × (last : Machine) × Turns steps thread self.old lines last × IsSealed last
             × AppendsPart (S.bytes out.old) (S.bytes out.new) (text_of lines) × HasRisen (S.faults out.old) (S.faults out.new)) }
         ensures calm { OnOk result (S.faults out.new ≡ S.faults out.old) }

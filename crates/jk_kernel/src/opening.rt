@@ -11,6 +11,7 @@ ghost use Rattle.jk_model.specs.declared.output.Place.TheVariants as PlaceIs;
 ghost use Rattle.jk_model.specs.declared.output.Rule.{Rule as ARule};
 ghost use Rattle.jk_model.specs.declared.output.Rule.TheVariants as RuleIs;
 ghost use Rattle.jk_model.specs.Outside.{Ask, HasRisen, NeverFalls, Tree, ◌/-◌};
+ghost use Rattle.jk_model.specs.ScriptGrammar.{is_name};
 ghost use Rattle.jk_model_classes.specs.Classes.{HasClass};
 ghost use Rattle.jk_model_classes.specs.Worlds.{IsLiveNamed, IsNamed};
 ghost use Rattle.jk_model_domains.specs.OwnStates.{IsFirstState};
@@ -48,17 +49,19 @@ const MOST_TEXTS: usize = 0xffff_ffff;
 const MOST_DOMAINS: usize = 65535;
 
 impl<F: FrameStore + Drop> Kernel<F> {
-    /// Adds the domain of the folder of this name below a root: its classes are loaded, and the objects of their literals made. Where
-    /// the answer is an error, all is as before.
+    /// Adds the domain of the folder of this name below a root, and answers its number: the folder's classes are loaded, and the
+    /// objects of their literals made. Where the answer is an error, all is as before.
     pub fn add_domain<R: Files>(
         &mut self,
         files: &mut R,
         root: &str,
         name: &str,
         quotas: Quotas,
-    ) -> Result<(), AddAnswer>
+    ) -> Result<DomainId, AddAnswer>
+        requires named { is_name name.now ≡ true }
         requires least { 1 ≤ quotas.chunks }
         requires most { quotas.chunks ≤ 262144 }
+        ensures number { IfOk result (λ d. d.0 ≡ length self.old.domains) }
         ensures ok { OnOk result (Opens (R.tree files.old) root.now self.old name.now quotas (Says.Loaded name.now ∷ []) self.new) }
         ensures refused { (rule : ARule) (place : APlace) → result ≡ Err (AddAnswer.Refused rule place)
             → Opens (R.tree files.old) root.now self.old name.now quotas (Says.Refused name.now rule place ∷ []) self.old }
@@ -80,6 +83,7 @@ impl<F: FrameStore + Drop> Kernel<F> {
         ensures counts { (self.new.next_thread ≡ self.old.next_thread) × (self.new.next_segment ≡ self.old.next_segment) }
     {
         let first = ClassId(self.world.classes().len() as u32);
+        let number = DomainId(self.world.domain_count() as u32);
         let loaded = match load(self.alloc, files, root, name, &mut self.world) {
             Ok(loaded) => loaded,
             Err(e) => return Err(not_loaded(e)),
@@ -94,7 +98,7 @@ impl<F: FrameStore + Drop> Kernel<F> {
             name,
             quotas,
         ) {
-            Ok(()) => Ok(()),
+            Ok(()) => Ok(number),
             Err(e) => {
                 self.world.cut_classes(first);
                 Err(e)

@@ -20,7 +20,7 @@ impl<F: FrameStore + Drop> Kernel<F> {
     pub fn rounds<S: Sink>(&mut self, count: u32, steps: u32, out: &mut S) -> Result<(), SinkFailed>
         ensures event { OnOk result ((lines : List Line) × Rounds count steps self.old lines self.new
             × Appends (S.bytes out.old) (S.bytes out.new) (text_of lines)) }
-        // The rounds go on in the machine, though no more of their text goes out.
+        // The definition's rounds go on to their end, though no more of their text goes out. The kernel stops in the step that failed.
         ensures failed { OnErr result ((lines : List Line) × (last : Machine) × Rounds count steps self.old lines last × IsSealed last
             × AppendsPart (S.bytes out.old) (S.bytes out.new) (text_of lines) × HasRisen (S.faults out.old) (S.faults out.new)) }
         ensures calm { OnOk result (S.faults out.new ≡ S.faults out.old) }

@@ -63,6 +63,8 @@ fn main(rt: HostRuntime) -> ExitCode {
 }
 
 #[cfg(test)]
+mod kernel_tests;
+#[cfg(test)]
 mod test_classes;
 #[cfg(test)]
 mod tests;

@@ -95,7 +95,7 @@ pub fn open_domain<F: Files, S: Sink>(
     let added = kernel.add_domain(files, root, text, quotas);
     kernel.holds();
     match added {
-        Ok(()) => say(LineRef::Loaded { domain: name }, out),
+        Ok(_number) => say(LineRef::Loaded { domain: name }, out),
         Err(AddAnswer::Refused(rule, place)) => say_refused(out, name, rule, &place),
         Err(AddAnswer::TooManyDomains) => say_refused(out, name, Rule::L8, &Place::Whole),
         Err(AddAnswer::ReadFault) => Err(Stop::ReadFault),

@@ -99,6 +99,18 @@ method 0009 main ([Ljava/lang/String;)V 2 1
         return
 end";
 
+/// Its constructor stores into a field of its own before it calls its parent's, as compilers have it for inner classes.
+pub(crate) const INNER: &[u8] = b"class 0021 Inner java/lang/Object
+field 1010 this$0 LInner;
+method 0001 <init> (LInner;)V 2 2
+        aload 0
+        aload 1
+        putfield Inner this$0 LInner;
+        aload 0
+        invokespecial java/lang/Object <init> ()V
+        return
+end";
+
 /// Prints the remainder of 7 by -2, and divides 1 by 0.
 pub(crate) const DIVISION: &[u8] = b"class 0021 Div java/lang/Object
 method 0009 main ([Ljava/lang/String;)V 3 1

@@ -2,8 +2,8 @@
 
 use crate::test_classes::{
     BASE, CALLER, CHOICE, COUNT, DEEP, DIVISION, EMPTY_CLASS, ESCAPES, FORMS, HELLO, INITIALISED,
-    LESS_WIDE, LOWER, MEETING, NAMES_NODE, NODE, OWN_PARENT, PACKAGED, PROTECTED, SHORT_HELLO,
-    TABLE_SWITCH, TWO, UNMADE, UPPER, WIDE, WITH_STATIC,
+    INNER, LESS_WIDE, LOWER, MEETING, NAMES_NODE, NODE, OWN_PARENT, PACKAGED, PROTECTED,
+    SHORT_HELLO, TABLE_SWITCH, TWO, UNMADE, UPPER, WIDE, WITH_STATIC,
 };
 use crate::{Status, jkernel};
 use jk_model::OutOfMemory;
@@ -384,6 +384,13 @@ fn folders_load(rt: HostRuntime) -> Result<(), Fail> {
         &rt,
         rt.alloc(),
         &[("root/a/A.class", Bytes(&early))],
+        b"domain a",
+        once,
+    )?;
+    prints(
+        &rt,
+        rt.alloc(),
+        &[("root/a/Inner.class", Class(INNER))],
         b"domain a",
         once,
     )?;

@@ -6,7 +6,7 @@ use Rattle.jk_model.specs.declared.output.Rule.TheVariants as RuleIs
 use Rattle.jk_model_machine.specs.Machine.{Machine}
 use Rattle.jk_kernel.specs.KernelStates.{machine_of}
 use Rattle.jk_kernel.specs.Openings.{Opens}
-use Rattle.jk_kernel.proofs.OpenedKernels.{back-again, kernel-again, machine-again, may-open, opened-kernel}
+use Rattle.jk_kernel.proofs.OpenedKernels.{as-many-states, back-again, kernel-again, machine-again, may-open, opened-kernel}
 use Rattle.jk_kernel.proofs.OpeningsAnswered.{fault-here, full-so, load-alone, load-calm, load-few, load-fault, load-refused, opened-so, refused-by-load, refused-so}
 use Rattle.jk_kernel.proofs.kernel.Kernel.add_domain.Goals as goal
 
@@ -104,7 +104,7 @@ pub returns-in-Err-open-clause-refused : goal.returns-in-Err-open-clause-refused
 returns-in-Err-open-clause-refused g c = λ rule place e.
     let k = c.self.inside in
     let h = c.in-Ok.ensures.ok in
-    let not_run = c.in-Err-open.ensures.refused rule place e in
+    let not_run = c.in-Err-open.ensures.refused rule place (ap Err (same-error e)) in
     let by_X1 = refused-so k.world k.parts.items k.threads.entries (g.F.FrameStore.content k.frames) k.next_thread k.next_segment k.main_kind
     c.self.invariant h.found h.are_files c.args.name.now c.in-Ok.loaded c.load.new.world h.loads c.args.quotas (g.R.Files.tree c.args.files.now)
     c.args.root.now h.are_told not_run.2 in
@@ -116,7 +116,7 @@ pub returns-in-Err-open-clause-too_many : goal.returns-in-Err-open-clause-too_ma
 returns-in-Err-open-clause-too_many g c = λ e.
     let k = c.self.inside in
     let h = c.in-Ok.ensures.ok in
-    let full = c.in-Err-open.ensures.too_many e in
+    let full = c.in-Err-open.ensures.too_many (ap Err (same-error e)) in
     subst (λ (m : Machine). Opens (g.R.Files.tree c.args.files.now) c.args.root.now m c.args.name.now c.args.quotas
     (Says.Refused c.args.name.now RuleIs.L8 PlaceIs.Whole ∷ []) m) c.self.view_is
     (full-so k.world k.parts.items k.threads.entries (g.F.FrameStore.content k.frames) k.next_thread k.next_segment k.main_kind
@@ -134,3 +134,10 @@ returns-in-Err-open-clause-err g c =
     machine-again k.world k.parts.items k.threads.entries (g.F.FrameStore.content k.frames) k.next_thread k.next_segment k.main_kind c.self.invariant
     c.cut_classes.new.self c.open.new.parts.items (g.F.FrameStore.content c.open.new.frames) back keeps.parts_are keeps.frames
     ∙ c.self.view_is
+
+pub returns-in-Ok-open-clause-number : goal.returns-in-Ok-open-clause-number
+returns-in-Ok-open-clause-number g c =
+    let k = c.self.inside in
+    let states = as-many-states k.world.domains k.parts.items c.self.invariant.parts_fit.as_many in
+    let seen = ap (λ (m : Machine). length m.domains) c.self.view_is in
+    sym (sym seen ∙ states ∙ sym c.domain_count.ensures.count)
