@@ -110,6 +110,19 @@ fn prints(
 /// The folder of the first runs.
 const HELLO_TREE: Files<'static> = &[("root/hello/Hello.class", Class(SHORT_HELLO))];
 
+/// No clause says when memory may be wanting, so this does.
+#[test]
+fn ample_memory_is_enough(rt: HostRuntime) -> Result<(), Fail> {
+    prints(
+        &rt,
+        rt.alloc(),
+        HELLO_TREE,
+        b"domain hello\nstart hello Hello\nround 1 100\n",
+        b"* domain hello loaded\n* thread 1 started in hello\nhello: Hello\n* thread 1 ended\n",
+    )?;
+    Ok(())
+}
+
 #[test]
 fn a_thread_takes_its_steps(rt: HostRuntime) -> Result<(), Fail> {
     let began = b"* domain hello loaded\n* thread 1 started in hello\n".as_slice();

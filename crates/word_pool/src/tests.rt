@@ -46,18 +46,14 @@ fn words_are_cleared_again(rt: HostRuntime) -> Result<(), OutOfMemory> {
     Ok(())
 }
 
-#[test]
-fn no_words(rt: HostRuntime) -> Result<(), OutOfMemory> {
-    let mut pool = WordPool::make(rt.alloc(), 0)?;
-    pool.clear(0, 0);
-    Ok(())
-}
-
+/// Two pools, and one without words, of which the others know nothing.
 #[test]
 fn two_pools(rt: HostRuntime) -> Result<(), OutOfMemory> {
     let mut one = WordPool::make(rt.alloc(), 2)?;
+    let mut none = WordPool::make(rt.alloc(), 0)?;
     let mut other = WordPool::make(rt.alloc(), 2)?;
     one.clear(0, 2);
+    none.clear(0, 0);
     other.clear(1, 1);
     one.store(1, 5);
     other.store(1, 6);
