@@ -1,4 +1,4 @@
-/** Calls a method in a loop of eight instructions and one of two. */
+/** Calls a method of two instructions in a loop of seven more. */
 public class C {
     public static void main(String[] words) {
         int sum = 0;
