@@ -77,12 +77,12 @@ pub record IsSealedInside (classes : List ClassRecord) (d : DomainState) (inside
 
 -- ---- Frames.
 
--- A method's code has this typing, and it is the least one among some first classes, to which the method's class belongs: those
--- that stood when its folder was loaded. Each class that these mention is one of them, so no later one can come into a frame.
+-- A method's code has this typing, and it is the least one among all classes, or among some first ones that mention no other, as
+-- those do that stood when the method's folder was loaded. So no later class can come into a frame.
 pub record IsVerified (classes : List ClassRecord) (method : MemberId) (frames : List (Option FrameType)) : Type 0 where
   pub typing : IsTyping classes method frames
   pub stood : ℕ
-  pub closed : IsClosed (take stood classes)
+  pub enough : (stood ≡ length classes) ⊎ IsClosed (take stood classes)
   pub is_least : IsLeastTyping (take stood classes) method frames
 
 -- What a frame's method is judged in, and its typing.

@@ -1,6 +1,6 @@
 -- A store without segments may have a first domain; a frame that is begun has its head, also when its locals are set; and it fits the
 -- typing of its method where its locals fit the type of the first instruction.
-use Rattle.std.proofs.Common.{◌≡◌, ℕ, ◌<◌, ◌^◌, List, [], ◌∷◌, length, Option, Some, None, slice_set, refl, sym, ap, subst, ◌∙◌, arith}
+use Rattle.std.proofs.Common.{◌≡◌, ℕ, ◌<◌, ◌^◌, inl, List, [], ◌∷◌, length, Option, Some, None, slice_set, refl, sym, ap, subst, ◌∙◌, arith}
 use Rattle.std.specs.List.{AllByRecursion}
 use Rattle.std.proofs.lemmas.List.{take_all}
 use Rattle.jk_model.specs.declared.frames.FrameHead.{FrameHead}
@@ -85,6 +85,7 @@ module _ (c : FrameContent) (s : SegmentNo) where
           is_verified = record {
             typing = least.typing;
             stood = length classes;
+            enough = inl refl;
             is_least = subst (λ (l : List ClassRecord). IsLeastTyping l m frames) (sym (take_all (length classes) classes (omega arith))) least;
           };
           type = types.type;

@@ -1,7 +1,8 @@
 -- Frames that fit each other still do with more classes behind: they stand in the same typings, which are the least ones among the
 -- classes that stood when they were made.
-use Rattle.std.proofs.Common.{◌≡◌, ℕ, zero, suc, ◌⊎◌, inl, inr, List, [], ◌∷◌, ◌++◌, take, Option, Some, None, refl, sym, ap, subst, ◌∙◌}
+use Rattle.std.proofs.Common.{◌≡◌, ℕ, zero, suc, ◌⊎◌, inl, inr, List, [], ◌∷◌, ◌++◌, length, take, Option, Some, None, refl, sym, ap, subst, ◌∙◌, arith}
 use Rattle.std.specs.Option.{option_map_or}
+use Rattle.std.proofs.lemmas.List.{take_all}
 use Rattle.jk_model.specs.declared.identifiers.MemberId.{MemberId}
 use Rattle.jk_model.specs.declared.values.Value.{Value}
 use Rattle.jk_model_classes.specs.declared.records.ClassRecord.{ClassRecord}
@@ -35,13 +36,17 @@ take-longer (x ∷ xs) ys zero = (0, refl)
 take-longer (x ∷ xs) ys (suc n) = let rest = take-longer xs ys n in (suc rest.0, ap (λ zs. x ∷ zs) rest.1)
 
 module _ (classes more : List ClassRecord) (ordered : AreOrdered classes) (closed : IsClosed classes) where
+  closed-among : (n : ℕ) → (n ≡ length classes) ⊎ IsClosed (take n classes) → IsClosed (take n classes)
+  closed-among n (inl all) = subst IsClosed (sym (take_all n classes (omega (arith, all)))) closed
+  closed-among n (inr some) = some
+
   verified-still : (m : MemberId) (frames : List (Option FrameType)) → IsVerified classes m frames → IsVerified (classes ++ more) m frames
   verified-still m frames v =
       let stood = take-longer classes more v.stood in
       record {
         typing = typing-still classes more ordered closed m frames v.typing;
         stood = stood.0;
-        closed = subst IsClosed stood.1 v.closed;
+        enough = inr (subst IsClosed stood.1 (closed-among v.stood v.enough));
         is_least = subst (λ (cs : List ClassRecord). IsLeastTyping cs m frames) stood.1 v.is_least;
       }
 

@@ -1,5 +1,5 @@
 -- The classes and the names with those of an accepted folder are sound and linked as before.
-use Rattle.std.proofs.Common.{◌≡◌, ◌≢◌, ℕ, ◌+◌, ◌-◌, ◌<◌, ◌≤◌, inl, inr, min, IsTrue, List, [], ◌∷◌, ◌++◌, length, take, Option, Some, None, slice_get, Contains, sym, ap, subst, ◌∙◌, arith}
+use Rattle.std.proofs.Common.{◌≡◌, ◌≢◌, ℕ, ◌+◌, ◌-◌, ◌<◌, ◌≤◌, ◌⊎◌, inl, inr, min, IsTrue, List, [], ◌∷◌, ◌++◌, length, take, Option, Some, None, slice_get, Contains, refl, sym, ap, subst, ◌∙◌, arith}
 use Rattle.std.proofs.lemmas.Bool.{cases_lt}
 use Rattle.std.proofs.lemmas.List.{take-append-le, take_all, take_min}
 use Rattle.std.proofs.lemmas.List.Elements.{Contains-append_cases}
@@ -94,6 +94,10 @@ module _ {f : FolderFiles} {w : WorldRecord} {into : List ℕ} {first : ClassId}
         (meaning l, (own.is_record.methods.each m.index told.0 method told.1 at).params)
   ]
 
+  closed-before : (n : ℕ) → (n ≡ length w.classes) ⊎ IsClosed (take n w.classes) → IsClosed (take n w.classes)
+  closed-before n (inl whole) = subst IsClosed (sym (take_all n w.classes (omega (arith, whole)))) linked.closed
+  closed-before n (inr some) = some
+
   typed-again : AreTyped first (all l) → (m : MemberId) (s : CodeScope) → IsScopeOf (all l) m s
       → (frames : List (Option FrameType)) × IsVerified (all l) m frames
   typed-again typed m s scope = elim (cases_lt m.class.0 (length w.classes)) [
@@ -106,7 +110,7 @@ module _ {f : FolderFiles} {w : WorldRecord} {into : List ℕ} {first : ClassId}
           record {
             typing = typing-still w.classes (added l) may.world.ordered linked.closed m before.0 before.1.typing;
             stood = stood;
-            closed = subst IsClosed (sym same) before.1.closed;
+            enough = inr (subst IsClosed (sym same) (closed-before before.1.stood before.1.enough));
             is_least = subst (λ (xs : List ClassRecord). IsLeastTyping xs m before.0) (sym same) before.1.is_least;
           },
         )
@@ -117,7 +121,7 @@ module _ {f : FolderFiles} {w : WorldRecord} {into : List ℕ} {first : ClassId}
           record {
             typing = least.1.typing;
             stood = length (all l);
-            closed = subst IsClosed (sym same) (closed-more l may linked.closed);
+            enough = inl refl;
             is_least = subst (λ (xs : List ClassRecord). IsLeastTyping xs m least.0) (sym same) least.1;
           },
         )
