@@ -1,5 +1,7 @@
 //! The kernel's calls, as a host makes them that has no script.
 
+ghost use Rattle.std.specs.Prelude.{◌≡◌, IfOk};
+
 use crate::events::PlainKernel;
 use crate::test_classes::SHORT_HELLO;
 use frame_store::PlainFrames;
@@ -39,7 +41,10 @@ fn with_domain(
     rt: &impl Abort,
     alloc: Global,
     files: &mut MemoryFiles,
-) -> Result<PlainKernel, OutOfMemory> {
+) -> Result<PlainKernel, OutOfMemory>
+    ensures thread { IfOk result (λ k. k.next_thread ≡ 1) }
+    ensures segment { IfOk result (λ k. k.next_segment ≡ 1) }
+{
     let mut kernel = Kernel::new(alloc, PlainFrames::new(alloc))?;
     match kernel.add_domain(files, "root", "b", QUOTAS) {
         Err(AddAnswer::Refused(rule, Place::Whole)) => assert!(rt; rule == Rule::L2),
