@@ -1,4 +1,5 @@
-//! Reads the lines of an assembler's text: which item each line is. `docs/FORMATS.md` has the grammar.
+//! Reads the lines of an assembler's text, in which tests and examples write class files that no compiler would make: which
+//! item each line is. `docs/FORMATS.md` has the grammar.
 #![tactic(auto)]
 
 mod item_lines;

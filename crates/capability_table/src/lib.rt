@@ -1,5 +1,5 @@
-//! The table of capabilities: which were given out, whose they are, what they lead to, and whether
-//! they are revoked.
+//! The table of capabilities, the references through which domains are to call one another: which were given out, whose they
+//! are, what they lead to, and whether they are revoked.
 #![tactic(auto)]
 
 mod capability;

@@ -1,5 +1,5 @@
-//! Reads class files: which bytes are one, which record they stand for, and the first fault of
-//! bytes that are none.
+//! Reads class files: which bytes are one, which record they stand for, and the first fault of bytes that are none. The
+//! bodies of Code attributes are read too.
 #![tactic(auto)]
 
 mod class;

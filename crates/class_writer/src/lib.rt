@@ -1,4 +1,5 @@
-//! Writes class files: which records are the record of one, and its bytes; and the bodies of Code attributes.
+//! Writes class files, the way back from `class_reader`: which records are the record of one, and its bytes; and the bodies
+//! of Code attributes. The assembler stands on it.
 #![tactic(auto)]
 
 mod class;

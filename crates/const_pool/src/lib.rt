@@ -1,4 +1,5 @@
-//! The constant pool of a class file: its entries, or the first index at which it is none.
+//! The constant pool of a class file, the table of the names, numbers and references that all else in the file points to:
+//! its entries, or the first index at which it is none.
 #![tactic(auto)]
 
 mod entries;

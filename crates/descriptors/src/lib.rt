@@ -1,4 +1,5 @@
-//! Descriptors of class files: the types of fields and methods are read from UTF-16 units.
+//! Descriptors of class files, as `(IJ)V`: from their UTF-16 units to the types of fields and methods, or how far they go
+//! well.
 #![tactic(auto)]
 
 mod argument_slots;

@@ -1,4 +1,4 @@
-//! Hands out runs of pages by first fit, and takes them back.
+//! Hands out runs of pages by first fit, and takes them back: which part of a pool is whose.
 #![tactic(auto)]
 
 mod free_runs;

@@ -1,4 +1,5 @@
-//! Loads a folder: judges it by every written rule in their order, and puts its classes behind those that are loaded.
+//! Loads the folder of a domain: reads it once, judges it by every written rule in their order, and puts its classes behind
+//! those that are loaded, or names the first rule that it breaks and leaves all as it was.
 #![tactic(auto)]
 
 mod all_links;

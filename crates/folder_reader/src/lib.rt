@@ -1,4 +1,5 @@
-//! The files of a folder that count: its class files at all depths, in the order of their paths, and `resolver.txt`.
+//! The files of a domain's folder that count: its class files at all depths, in the order of their paths, and
+//! `resolver.txt`. What is too large or too deep is refused before it is read.
 #![tactic(auto)]
 
 mod class_files;

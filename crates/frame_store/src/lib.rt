@@ -1,6 +1,6 @@
-//! Stores of frames: the stacks of all threads as segments, each of a domain that pays for its frames in chunks. The trait
-//! `FrameStore` says what a store holds and what its calls do; `PlainFrames` is a store that keeps the frames of each domain
-//! in vectors of its own.
+//! Stores of frames. A frame has the locals and the operand stack of a method that runs; a segment is a stack of frames that
+//! belongs to one domain, which pays for it in chunks. The trait `FrameStore` says what a store holds and what its calls do;
+//! `PlainFrames` is a store that keeps the frames of each domain in vectors of its own.
 #![tactic(auto)]
 
 mod chains;

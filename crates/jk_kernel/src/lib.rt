@@ -1,5 +1,7 @@
-//! The machine: its classes, domains and threads, and the calls that make the events of a script happen. So far programs run
-//! whole-number code: no objects but texts of literals, no class initialisers, no exceptions that are caught.
+//! The kernel: the machine's classes, domains and threads, and the calls that make the events of a script happen. Its
+//! contracts say that each call does what the definition of its event says, and that the machine is sealed at every moment:
+//! what a domain holds names nothing of another's heap. So far programs run whole-number code: no objects but texts of
+//! literals, no class initialisers, no exceptions that are caught.
 #![tactic(auto)]
 
 mod advancing;

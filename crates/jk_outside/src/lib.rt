@@ -1,6 +1,6 @@
-//! The world outside, behind two traits: files that are listed and read, and sinks that bytes go out
-//! to. A told one has a content that contracts name; every fault is counted, so that an answer other
-//! than the good one has its cause.
+//! The world outside, behind two traits: files that are listed and read, and sinks that bytes go out to. Contracts name what
+//! is told: files in memory tell their tree, and a disk doesn't. Every fault is counted, so that an answer other than the
+//! good one has its cause.
 #![tactic(auto)]
 
 mod asked;

@@ -1,4 +1,5 @@
-//! Makes class files from an assembler's text. `docs/FORMATS.md` has its grammar.
+//! The assembler: makes class files from a text, so that tests can have any class file, a malformed one too.
+//! `docs/FORMATS.md` has its grammar.
 #![tactic(auto)]
 
 mod assembler;

@@ -1,5 +1,5 @@
-//! `jkernel ROOT SCRIPT`: runs a script over a tree of folders, a domain each, on the files and the
-//! streams of the system.
+//! `jkernel ROOT SCRIPT`: runs a script over a tree of folders, a domain each, on the files and the streams of the system.
+//! The contract of `jkernel` says that what is printed is the text of a run of the machine that the definitions describe.
 #![tactic(auto)]
 
 ghost use Rattle.std.specs.Prelude.{◌≡◌, ◌≢◌, [], None};

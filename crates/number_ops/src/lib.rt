@@ -1,5 +1,5 @@
-//! What the instructions do that work on whole numbers, on locals and on the operand stack: those that need no heap, no class
-//! and no call.
+//! What the instructions do that work on whole numbers, on locals and on the operand stack: those that need no heap, no
+//! class and no call. They change the top frame of a segment, in whatever store the frames stand.
 #![tactic(auto)]
 
 mod arithmetic;

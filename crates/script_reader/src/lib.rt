@@ -1,4 +1,5 @@
-//! Reads scripts: the events that the lines stand for, or the first line at fault and what is wrong with it.
+//! Reads scripts, which say what happens in a run: the events that the lines stand for, or the first line at fault and what
+//! is wrong with it. `docs/FORMATS.md` has the grammar.
 #![tactic(auto)]
 
 mod commands;

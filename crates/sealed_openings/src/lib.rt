@@ -1,4 +1,6 @@
-//! A domain that is opened in a sealed machine, with classes behind the others, leaves it sealed. The code here is that of laws alone.
+//! A domain that is opened, with its folder's classes behind the others, leaves a machine sealed: what each domain holds
+//! still names nothing of another's. There is no code here but that of laws: functions that do nothing, whose contracts are
+//! theorems on the definitions.
 #![tactic(auto)]
 
 pub mod laws;

@@ -1,4 +1,5 @@
-//! Stubs: what a capability shows of its target's class, and which method of the target a remote call runs.
+//! Stubs. A capability shows of its target's class only the remote interfaces, those below `jk/Remote`; the stub of a class
+//! lists them. Also which method of the target a call through a capability runs.
 #![tactic(auto)]
 
 mod remote;

@@ -1,4 +1,5 @@
-//! The records of the system classes, made from their table: what loading has as its first classes.
+//! The records of the system classes, made from their table in the form in which loaded classes are kept: what loading has
+//! as its first classes.
 #![tactic(auto)]
 
 mod members;

@@ -1,4 +1,5 @@
-//! The system classes: their order, members and flags, and their numbers by name.
+//! The system classes, those of `java.lang`, `java.io` and package `jk` that every domain knows: their order, members and
+//! flags, and their numbers by name.
 #![tactic(auto)]
 
 mod entry;

@@ -1,4 +1,5 @@
-//! Which frame type fits which, and the least one that two fit. Nothing here takes memory.
+//! Types of locals and of entries of the operand stack, as the verifier knows them: which one fits where another is
+//! expected, and the least one that two fit, for single types and for whole frames. Nothing here takes memory.
 #![tactic(auto)]
 
 mod classes;

@@ -1,4 +1,4 @@
-//! What one instruction asks of the frame before it, and which frame it leaves.
+//! The verifier's row of each instruction: what it asks of the types in the frame before it, and which it leaves.
 #![tactic(auto)]
 
 mod code_view;

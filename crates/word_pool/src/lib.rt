@@ -1,4 +1,5 @@
 //! A pool of 32-bit words in one block of memory, which is taken once and not filled. A word can be read once it is cleared.
+//! The heaps of all domains are to stand in one.
 #![tactic(auto)]
 
 mod block;
