@@ -17,5 +17,3 @@ pub use items::{
 };
 pub use lines::read_lines;
 
-#[cfg(test)]
-mod tests;

@@ -9,5 +9,3 @@ mod table;
 pub use jk_model::CapStatus;
 pub use table::{CapabilityTable, CapsError};
 
-#[cfg(test)]
-mod tests;

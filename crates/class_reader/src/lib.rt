@@ -9,5 +9,3 @@ mod sections;
 pub use class::{MAGIC, ReadRefusal, is_version, read_class};
 pub use code::{CodeRefusal, read_code};
 
-#[cfg(test)]
-mod tests;

@@ -11,8 +11,6 @@ mod own_places;
 mod places;
 mod reading;
 mod table;
-#[cfg(test)]
-mod tests;
 mod upwards;
 mod walks;
 

@@ -1,4 +1,3 @@
 -- What contracts say of the texts of a pool.
 pub mod EntryTexts
 pub mod PoolTexts
-pub mod SmallPool

@@ -2,8 +2,6 @@
 //! compared without going over their bytes again.
 #![tactic(auto)]
 
-#[cfg(test)]
-mod tests;
 mod texts;
 
 pub use texts::ClassTexts;

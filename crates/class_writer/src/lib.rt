@@ -18,5 +18,3 @@ pub use lists::append_list;
 pub use numbers::{append_u2, append_u4};
 pub use parts::Part;
 
-#[cfg(test)]
-mod tests;

@@ -10,5 +10,3 @@ mod tags;
 pub use judge::is_good_pool;
 pub use pool::{Pool, PoolError, read_pool};
 
-#[cfg(test)]
-mod tests;

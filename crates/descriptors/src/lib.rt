@@ -15,5 +15,3 @@ pub use error::DescriptorError;
 pub use fields::field_type;
 pub use methods::method_type;
 
-#[cfg(test)]
-mod tests;

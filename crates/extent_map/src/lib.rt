@@ -8,5 +8,3 @@ mod runs;
 pub use jk_model::Extent;
 pub use map::ExtentMap;
 
-#[cfg(test)]
-mod tests;

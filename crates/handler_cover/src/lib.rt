@@ -4,8 +4,6 @@
 //! entries cover however many places.
 #![tactic(auto)]
 
-#[cfg(test)]
-mod tests;
 mod tree;
 
 pub use tree::CoverTree;

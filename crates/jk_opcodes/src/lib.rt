@@ -12,5 +12,3 @@ mod switches;
 pub use code::decode;
 pub use errors::CodeError;
 
-#[cfg(test)]
-mod tests;

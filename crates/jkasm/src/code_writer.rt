@@ -377,6 +377,3 @@ pub(crate) fn write_statement(
     }
     write_in_room(pool, labels, code, statement)
 }
-
-#[cfg(test)]
-mod tests;

@@ -182,6 +182,3 @@ impl SeenLabels {
         Ok(true)
     }
 }
-
-#[cfg(test)]
-mod tests;

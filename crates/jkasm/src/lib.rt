@@ -9,7 +9,5 @@ mod field_builder;
 mod labels;
 mod method_builder;
 mod pool;
-#[cfg(test)]
-mod tests;
 
 pub use assembler::{AsmError, assemble};

@@ -416,6 +416,3 @@ impl MethodBuilder {
         })
     }
 }
-
-#[cfg(test)]
-mod tests;

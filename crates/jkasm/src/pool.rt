@@ -11,8 +11,6 @@ ghost use Rattle.jkasm.specs.PoolIndex.{HasPut, IsFull};
 ghost use Rattle.jkasm.specs.PoolKeys.{entry_of, slots_of};
 
 mod key;
-#[cfg(test)]
-mod tests;
 
 use asm_reader::{Constant, MemberKind};
 use jk_model::{List, OutOfMemory, PoolEntry};

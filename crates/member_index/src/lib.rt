@@ -8,8 +8,6 @@ mod field_index;
 mod keys;
 mod marks;
 mod method_index;
-#[cfg(test)]
-mod tests;
 
 pub use field_index::FieldIndex;
 pub use keys::{FieldKey, MethodKey};

@@ -8,8 +8,6 @@ mod flags;
 mod packages;
 mod records;
 mod selection;
-#[cfg(test)]
-mod tests;
 
 pub use access::{may_access, may_access_class};
 pub use find::{find_field, find_field_by, find_method, find_method_by};

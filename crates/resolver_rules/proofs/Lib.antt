@@ -1,6 +1,5 @@
 -- Lemmas on the lines of a `resolver.txt`, on the names of class files, and on what lines bring in.
-mod ClassesOfNames
-mod FirstWorld
+pub mod ClassesOfNames
 mod LinesBringIn
 mod LinesInTurn
 mod NamesInTheIndex

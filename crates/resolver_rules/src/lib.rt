@@ -8,8 +8,6 @@ mod imports;
 mod judged;
 mod outer;
 mod system_names;
-#[cfg(test)]
-mod tests;
 mod text_lines;
 
 pub use outer::{OuterNames, ResolverFault, outer_names};

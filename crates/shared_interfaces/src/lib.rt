@@ -11,8 +11,6 @@ mod references;
 mod remote;
 mod remote_numbers;
 mod share;
-#[cfg(test)]
-mod tests;
 
 pub use jk_model_classes::ClassFault;
 pub use path_order::is_path_before;

@@ -9,8 +9,6 @@ mod hashed_units;
 mod kinds;
 mod same_kind;
 mod shared;
-#[cfg(test)]
-mod tests;
 mod text;
 
 pub use fingerprints::{fingerprint, kind_fingerprint};

@@ -5,8 +5,6 @@
 mod members;
 mod numbers;
 mod records;
-#[cfg(test)]
-mod tests;
 mod texts;
 mod types;
 

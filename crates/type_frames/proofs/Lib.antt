@@ -5,5 +5,5 @@ mod JoinsOfTypes
 mod NearestClass
 pub mod OrderOfFrames
 pub mod OrderOfTypes
-mod RaisedByPlaces
+pub mod RaisedByPlaces
 mod UsableStacks

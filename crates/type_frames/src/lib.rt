@@ -7,8 +7,6 @@ mod flags;
 mod frames;
 mod locals;
 mod refs;
-#[cfg(test)]
-mod tests;
 mod types;
 
 pub use frames::{FrameRef, raise};

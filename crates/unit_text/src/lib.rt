@@ -8,5 +8,3 @@ mod units;
 pub use judge::bad_encoding;
 pub use units::{UnitsError, units_of};
 
-#[cfg(test)]
-mod tests;

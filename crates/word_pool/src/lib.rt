@@ -4,8 +4,6 @@
 
 mod block;
 mod pool;
-#[cfg(test)]
-mod tests;
 
 // A contract can name a pool only if the type of its field is exported.
 #[doc(hidden)]

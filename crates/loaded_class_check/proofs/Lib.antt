@@ -1,0 +1,2 @@
+-- Lemmas for tests.
+mod FirstWorld

@@ -1,0 +1,2 @@
+-- What tests ask.
+pub mod SmallPool

@@ -1,0 +1,167 @@
+//! Fingerprints that another SHA-256 worked out (Python's hashlib), types that are the same and types that are not, and owners of one value.
+
+use jk_model::{Base, FieldType, List, MethodType, OutOfMemory, Units};
+use shared_values::*;
+use std::alloc::Global;
+use std::test::Fail;
+
+/// The units of a text in ASCII.
+fn units_of(alloc: Global, text: &str) -> Result<Vec<u16>, OutOfMemory> {
+    let units = text
+        .as_bytes()
+        .iter()
+        .map(|byte| u16::from(*byte))
+        .collect(alloc)?;
+    Ok(units)
+}
+
+#[test]
+fn texts(rt: HostRuntime) -> Result<(), Fail> {
+    // At 32 units a block of the hash function is full.
+    let rows = [
+        ("", 0xe3b0_c442_98fc_1c14),
+        ("A", 0xc00b_4d3c_929c_b5cc),
+        ("java/lang/Object", 0xf419_9017_8d1e_9508),
+        ("aaaaaaaaaaaaaaaaaaaaaaaaaaaaaaa", 0xf7c5_3654_b855_5f4b),
+        ("aaaaaaaaaaaaaaaaaaaaaaaaaaaaaaaa", 0x0e63_f43d_fa95_6c00),
+        ("aaaaaaaaaaaaaaaaaaaaaaaaaaaaaaaaa", 0x8c74_b893_99e4_3e17),
+        (
+            "aaaaaaaaaaaaaaaaaaaaaaaaaaaaaaaaaaaaaaaaaaaaaaaaaaaaaaaaaaaaaaaa",
+            0x8c31_041c_ae00_3604,
+        ),
+        (
+            "aaaaaaaaaaaaaaaaaaaaaaaaaaaaaaaaaaaaaaaaaaaaaaaaaaaaaaaaaaaaaaaaa",
+            0xc395_89a7_d416_bddc,
+        ),
+    ];
+    for (text, wanted) in rows {
+        let units = units_of(rt.alloc(), text)?;
+        assert_eq!(rt; fingerprint(units.as_slice()), wanted, "of {text}");
+    }
+    let mut many = [0; 70];
+    for i in 0..70 {
+        many[i as usize] = 937 * i;
+    }
+    assert_eq!(rt; fingerprint(&many), 0x95d5_5c85_3160_1517);
+    assert_eq!(rt;
+        fingerprint(&[0xe9, 0, 0xffff, 0xd800, 0x0102]),
+        0xaa72_5636_66cf_4312
+    );
+    Ok(())
+}
+
+/// A type of a field: its dimensions, and the letter of its base or the name of its class.
+type Part = (u8, &'static str);
+
+/// The parameters and the result of a method, and the fingerprint of its descriptor.
+type Row = (&'static [Part], Option<Part>, u64);
+
+/// The base of a letter, or else the class of a name.
+fn base_of(alloc: Global, letter: &str) -> Result<Base, OutOfMemory> {
+    match letter {
+        "B" => Ok(Base::Byte),
+        "C" => Ok(Base::Char),
+        "D" => Ok(Base::Double),
+        "F" => Ok(Base::Float),
+        "I" => Ok(Base::Int),
+        "J" => Ok(Base::Long),
+        "S" => Ok(Base::Short),
+        "Z" => Ok(Base::Bool),
+        name => {
+            let units = units_of(alloc, name)?;
+            Ok(Base::Class(Units::from_slice(alloc, units.as_slice())?))
+        }
+    }
+}
+
+fn field_of(alloc: Global, part: Part) -> Result<FieldType, OutOfMemory> {
+    let (dims, letter) = part;
+    let base = base_of(alloc, letter)?;
+    Ok(FieldType { dims, base })
+}
+
+fn kind_of(alloc: Global, parts: &[Part], part: Option<Part>) -> Result<MethodType, OutOfMemory> {
+    let mut params = List::new(alloc);
+    for part in parts {
+        params.push(field_of(alloc, *part)?)?;
+    }
+    let result = match part {
+        Some(part) => Some(field_of(alloc, part)?),
+        None => None,
+    };
+    Ok(MethodType { params, result })
+}
+
+/// Each row's type differs from those of all others.
+const KINDS: [Row; 12] = [
+    (&[], None, 0x3b2c_944b_7d8a_aef9),
+    (&[], Some((0, "I")), 0xdb13_4241_2bcf_22e6),
+    (&[(0, "I")], None, 0xbdfb_0931_d3e6_2cb3),
+    (&[(0, "I")], Some((0, "I")), 0x1e75_361f_bd29_d14a),
+    (&[(0, "I"), (0, "I")], None, 0xa398_c1c4_e3cb_c5a8),
+    (&[(1, "I")], None, 0x4863_0450_3e8e_8e84),
+    (&[(0, "a")], None, 0x52f8_3db2_e812_7cc4),
+    (&[(0, "b")], None, 0x9094_c8dd_655b_57d4),
+    (&[(0, "ab")], None, 0x2672_1313_698a_e074),
+    (
+        &[
+            (0, "B"),
+            (0, "C"),
+            (0, "D"),
+            (0, "F"),
+            (0, "I"),
+            (0, "J"),
+            (0, "S"),
+            (0, "Z"),
+        ],
+        None,
+        0x4fc7_ff00_2916_ba77,
+    ),
+    (
+        &[(2, "java/lang/String"), (0, "J")],
+        Some((1, "I")),
+        0xf135_fb11_116b_7eba,
+    ),
+    (&[], Some((3, "D")), 0xdf60_9731_47b0_8d4f),
+];
+
+#[test]
+fn kinds(rt: HostRuntime) -> Result<(), Fail> {
+    let alloc = rt.alloc();
+    let mut shared = Vec::new(alloc);
+    for (params, result, wanted) in KINDS {
+        let kind = kind_of(alloc, params, result)?;
+        assert_eq!(rt; kind_fingerprint(&kind), wanted);
+        let kind = SharedKind::new(alloc, kind)?;
+        assert_eq!(rt; kind.fingerprint(), wanted);
+        shared.push(kind)?;
+    }
+    for (i, one) in shared.iter().enumerate() {
+        for (j, (params, result, _)) in KINDS.into_iter().enumerate() {
+            let other = kind_of(alloc, params, result)?;
+            assert_eq!(rt; one.is(&other), i == j, "{i} and {j}");
+        }
+    }
+    Ok(())
+}
+
+#[test]
+fn owners(rt: HostRuntime) -> Result<(), Fail> {
+    let alloc = rt.alloc();
+    let text = Text::new(alloc, &[104, 105])?;
+    let second = text.share()?;
+    drop(text);
+    assert!(rt; second.is(&[104, 105]) && second.len() == 2);
+    assert!(rt; !second.is(&[104, 106]) && !second.is(&[104]) && !second.is(&[104, 105, 0]));
+    assert_eq!(rt; second.fingerprint(), fingerprint(second.as_slice()));
+    let kind = SharedKind::new(alloc, kind_of(alloc, &[(1, "J")], None)?)?;
+    let second = kind.share()?;
+    drop(kind);
+    assert!(rt; second.is(&kind_of(alloc, &[(1, "J")], None)?));
+    assert_eq!(rt; second.fingerprint(), kind_fingerprint(second.get()));
+    let shared: Shared<u32> = Shared::new(alloc, 7)?;
+    let second = shared.share()?;
+    drop(shared);
+    assert_eq!(rt; *second.get(), 7);
+    Ok(())
+}

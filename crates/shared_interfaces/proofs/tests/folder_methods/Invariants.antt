@@ -1,7 +1,0 @@
--- The methods of the classes so far are counted.
-use Rattle.std.proofs.Common.{◌≡◌, ◌*◌, ◌≤◌}
-use Rattle.jk_model_classes.specs.SharedRules.{methods_before}
-use Rattle.shared_interfaces.proofs.tests.folder_methods.Given as goal
-
-abbrev pub invariant-loop-number : goal.invariant-loop-number
-invariant-loop-number l = (l.passed ≡ methods_before l.classes l.fn.first l.number) × (l.passed ≤ 65535 * l.number)
