@@ -1,6 +1,6 @@
 //! The values that are handed to a method.
 
-ghost use Rattle.std.specs.Prelude.{◌≡◌, ◌==◌, ◌<◌, ◌≤◌, ◌++◌, ◌∷◌, [], length, Some, slice_get};
+ghost use Rattle.std.specs.Prelude.{◌≡◌, ◌==◌, ◌<◌, ◌≤◌, ◌++◌, ◌∷◌, [], length, Some, slice_get, slice_set};
 
 use crate::values::Value;
 use std::marker::Model;
@@ -74,5 +74,14 @@ impl Args {
     {
         self.values[self.len] = value;
         self.len += 1;
+    }
+
+    /// Replaces the value at a place, counted from 0.
+    pub fn set(&mut self, i: usize, value: Value)
+        requires { i < length self.old }
+        ensures { self.new ≡ slice_set self.old i value }
+    {
+        let held = &mut self.values[..self.len];
+        held[i] = value;
     }
 }

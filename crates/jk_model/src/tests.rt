@@ -46,5 +46,9 @@ fn hands_values_over(rt: HostRuntime) -> Result<(), Fail> {
     assert_eq!(rt; args.len(), 2);
     assert!(rt; args.get(0) == Value::Int(7));
     assert!(rt; args.get(1) == Value::Null);
+    args.set(0, Value::Int(9));
+    assert_eq!(rt; args.len(), 2);
+    assert!(rt; args.get(0) == Value::Int(9));
+    assert!(rt; args.get(1) == Value::Null);
     Ok(())
 }
