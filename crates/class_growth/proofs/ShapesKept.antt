@@ -75,7 +75,7 @@ module _ {F : Type 0} (test : F → Bool) (other : F) where
   passes_at true r o here later = here
   passes_at false r o here later = later
 
-  passes_among : (rows : List (Row F)) (op : ℕ) → test other ≡ true → list_all (λ (r : Row F). test r.format) rows ≡ true
+  pub passes_among : (rows : List (Row F)) (op : ℕ) → test other ≡ true → list_all (λ (r : Row F). test r.format) rows ≡ true
       → test (format_among other rows op) ≡ true
   passes_among [] op none all = none
   passes_among (r ∷ rows) op none all =
