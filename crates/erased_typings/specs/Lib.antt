@@ -1,0 +1,2 @@
+-- What is said of the frames of least typings.
+pub mod ErasedFrames
