@@ -112,7 +112,7 @@ module _ (s : CodeScope) (mark : ClassId → Bool) (marks : AreMarks s.classes m
       },
     )
 
-    module _ (place : ℕ) (i : Instr) (g : FrameType) (sized : (f : FrameType) → FrameAt frames place f → FrameFits s.classes (lowered_frame mark f) f) where
+    module _ (place : ℕ) (i : Instr) (g : FrameType) where
       well-lowered : FrameAt frames place g → (after : FrameType) → Row s place i (lowered_frame mark g) after
           → (well : GoesWell s frames place i g) → FrameFits s.classes after well.after
           → GoesWell s (lowered_frames mark frames) place i (lowered_frame mark g)
@@ -157,7 +157,7 @@ module _ (classes : List ClassRecord) (m : MemberId) (frames : List (Option Fram
       let row = row-monotone here ordered_here place i (lowered_frame mark g) g well.after below (frame-sized mark here.classes here.code g sized) well.row in
       subst (λ (x : FrameType). GoesWell here (lowered_frames mark frames) place i x) e
       (well-lowered here mark marks_here ordered_here pushes begins frames place i g
-      (λ f at. frame-below mark here.classes f (typing.sized place f at).usable) at row.0 row.1 well row.2)
+      at row.0 row.1 well row.2)
 
   pub typing-lowered : IsTyping classes m (lowered_frames mark frames)
   typing-lowered =
