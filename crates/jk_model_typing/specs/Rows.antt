@@ -119,11 +119,9 @@ replaced test new vs = map (λ v. if test v then new else v) vs
 abbrev pub MakesAt : CodeScope → ℕ → ClassId → Type 0
 MakesAt s place c = (i : Instr) × (slice_get s.code.instrs place ≡ Some i) × (i.op ≡ NEW) × NamesClass s i c
 
--- a protected constructor of another package isn't called at an object that `new` made
+-- a protected constructor of a superclass in another runtime package isn't called at an object that `new` made
 abbrev pub MayConstruct : CodeScope → MemberId → Type 0
-MayConstruct s m =
-    (flags : ℕ) × FlagsAre s.classes (Method m) flags
-    × (IsTrue (has flags PROTECTED) → AreInOnePackage s.classes s.self m.class)
+MayConstruct s m = IsGuarded s (Method m) → ⊥
 
 -- the method's own class, or its parent
 abbrev pub IsOwnOrParent : CodeScope → ClassId → Type 0

@@ -14,7 +14,7 @@ use jk_model_typing::{Demand, VType};
 use member_lookup::{field_record, in_one_package, method_record};
 use type_frames::{fits, of_class};
 
-pub(crate) const PROTECTED: u16 = 0x0004;
+const PROTECTED: u16 = 0x0004;
 
 pub(crate) const STATIC: u16 = 0x0008;
 
@@ -86,7 +86,7 @@ fn is_receiver(view: &CodeView<'_>, named: ClassId, member: Member, v: VType) ->
 }
 
 /// Whether the member is a protected one, not static, of a superclass in another runtime package.
-fn is_guarded(view: &CodeView<'_>, member: Member) -> bool
+pub(crate) fn is_guarded(view: &CodeView<'_>, member: Member) -> bool
     ensures { IsTrue result ↔ IsGuarded (scope_of view.now) member }
 {
     let c = class_of(member);
@@ -111,7 +111,7 @@ fn class_of(member: Member) -> ClassId
 }
 
 /// The flags of a member; none where there is no such member.
-pub(crate) fn flags_of(t: &ClassTable, member: Member) -> Option<u16>
+fn flags_of(t: &ClassTable, member: Member) -> Option<u16>
     ensures none { IfNone result ((flags : ℕ) → FlagsAre t.now member flags → ⊥) }
     ensures some { IfSome result (λ flags. FlagsAre t.now member flags) }
 {

@@ -12,7 +12,7 @@ ghost use Rattle.type_rows.specs.Shapes.{argument_demands};
 ghost use Rattle.type_rows.specs.Steps.{IsConstructed, IsDone};
 
 use crate::code_view::CodeView;
-use crate::demands::{PROTECTED, flags_of, has};
+use crate::demands::is_guarded;
 use crate::entries::push;
 use crate::operands::names_class;
 use crate::shapes::Demands;
@@ -20,7 +20,6 @@ use crate::stacks::{is_stack_of, pop, take};
 use jk_model::{ClassId, List, MemberId, OutOfMemory};
 use jk_model_classes::{Member, MethodRecord, TypeRef};
 use jk_model_typing::{FrameType, VType};
-use member_lookup::in_one_package;
 use type_frames::of_class;
 
 /// The opcode of `new`.
@@ -177,14 +176,11 @@ fn makes_at(view: &CodeView<'_>, place: u32, c: ClassId) -> bool
     }
 }
 
-/// Whether a constructor may be called at a fresh object: not a protected one of another package.
+/// Whether a constructor may be called at a fresh object: not a protected one of a superclass in another package.
 fn may_construct(view: &CodeView<'_>, m: MemberId) -> bool
     ensures { IsTrue result ↔ MayConstruct (scope_of view.now) m }
 {
-    match flags_of(view.table, Member::Method(m)) {
-        Some(flags) => !has(flags, PROTECTED) || in_one_package(view.table, view.class, m.class),
-        None => false,
-    }
+    !is_guarded(view, Member::Method(m))
 }
 
 /// Whether it is the method's own class, or the parent.
