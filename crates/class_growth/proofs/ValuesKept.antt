@@ -11,7 +11,7 @@ use Rattle.jk_model_typing.specs.declared.frames.VType.{VType}
 use Rattle.jk_model_typing.specs.declared.frames.VType.TheVariants.{Unusable, Ref, Fresh, FreshThis}
 use Rattle.jk_model_typing.specs.FrameTypes.{RefFits, erased, array_type}
 use Rattle.jk_model_typing.specs.Scopes.{CodeScope}
-use Rattle.jk_model_domains.specs.Frames.{FrameState}
+use Rattle.jk_model_frames.specs.Frames.{FrameState}
 use Rattle.jk_model_domains.specs.Objects.{NamedObject, Object, CAPABILITY, class_type, type_of}
 use Rattle.jk_model_domains.specs.ValueTypes.{ObjectFits, ValueFits, EachValueFits, FrameHolds, HoldsDeclared}
 use Rattle.class_growth.specs.ClosedClasses.{HasBase, HasType}

@@ -3,7 +3,7 @@ use Rattle.std.proofs.Common.{◌≡◌, ◌<◌, ◌-◌, ℕ, List, ◌∷◌,
 use Rattle.std.specs.HashMap.{WritesThrough}
 use Rattle.std.proofs.lemmas.List.{length_push}
 use Rattle.jk_model.specs.declared.identifiers.SegmentNo.{SegmentNo}
-use Rattle.jk_model_domains.specs.Frames.{FrameState}
+use Rattle.jk_model_frames.specs.Frames.{FrameState}
 use Rattle.indexmap.specs.IndexMap.{IndexMap, get, values, with_value_at, set_value_at}
 use Rattle.frame_store.specs.declared.chains.Chains.{Chains}
 use Rattle.frame_store.specs.declared.cursor.Cursor.{Cursor}

@@ -5,7 +5,7 @@ use Rattle.std.proofs.lemmas.List.{length-set}
 use Rattle.jk_model.specs.declared.frames.FrameHead.{FrameHead}
 use Rattle.jk_model.specs.declared.values.Value.{Value}
 use Rattle.jk_model.specs.declared.values.Value.TheVariants.{Unset}
-use Rattle.jk_model_domains.specs.Frames.{FrameState, new_frame, head_chunks}
+use Rattle.jk_model_frames.specs.Frames.{FrameState, new_frame, head_chunks}
 use Rattle.frame_store.specs.declared.chains.Chains.{Chains}
 use Rattle.frame_store.specs.declared.frame_blocks.FrameRecord.{FrameRecord}
 use Rattle.frame_store.specs.declared.domain_frames.DomainFrames.{DomainFrames}

@@ -3,7 +3,7 @@ use Rattle.std.proofs.Common.{◌≡◌, ◌≢◌, ℕ, ◌+◌, ◌-◌, ◌*�
 use Rattle.std.proofs.lemmas.Bool.{cases_eq}
 use Rattle.jk_model.specs.declared.values.Value.{Value}
 use Rattle.jk_model.specs.declared.values.Value.TheVariants.{Unset}
-use Rattle.jk_model_domains.specs.Frames.{FrameState}
+use Rattle.jk_model_frames.specs.Frames.{FrameState}
 use Rattle.frame_store.specs.declared.chains.Chains.{Chains}
 use Rattle.frame_store.specs.declared.frame_blocks.FrameRecord.{FrameRecord}
 use Rattle.frame_store.specs.ChainMoves.{count, place, stacks, MovesTop}

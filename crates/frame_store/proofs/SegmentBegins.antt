@@ -10,7 +10,7 @@ use Rattle.std.proofs.lemmas.Map.Entries.{sum_by-set_value}
 use Rattle.jk_model.specs.declared.frames.FrameHead.{FrameHead}
 use Rattle.jk_model.specs.declared.identifiers.DomainId.{DomainId}
 use Rattle.jk_model.specs.declared.identifiers.SegmentNo.{SegmentNo}
-use Rattle.jk_model_domains.specs.Frames.{FrameState, new_frame, head_chunks}
+use Rattle.jk_model_frames.specs.Frames.{FrameState, new_frame, head_chunks}
 use Rattle.indexmap.specs.IndexMap.{IndexMap, get, values}
 use Rattle.frame_store.specs.declared.chains.Stack.{Stack}
 use Rattle.frame_store.specs.declared.domain_frames.DomainFrames.{DomainFrames}

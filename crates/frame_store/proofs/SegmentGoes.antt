@@ -7,7 +7,7 @@ use Rattle.std.proofs.lemmas.Bool.{cases_eq}
 use Rattle.std.proofs.lemmas.Map.Entries.{sum_by-set_value}
 use Rattle.jk_model.specs.declared.identifiers.DomainId.{DomainId}
 use Rattle.jk_model.specs.declared.identifiers.SegmentNo.{SegmentNo}
-use Rattle.jk_model_domains.specs.Frames.{segment_chunks}
+use Rattle.jk_model_frames.specs.Frames.{segment_chunks}
 use Rattle.indexmap.specs.IndexMap.{IndexMap, get, values}
 use Rattle.frame_store.specs.declared.domain_frames.DomainFrames.{DomainFrames}
 use Rattle.frame_store.specs.declared.segment_table.Place.{Place}

@@ -1,6 +1,6 @@
 -- The frames of a segment are taken off one after another.
 use Rattle.std.proofs.Common.{◌≡◌, ◌≢◌, ℕ, ◌+◌, ◌-◌, ◌<◌, ◌≤◌, refl, ap, arith, ◌∙◌}
-use Rattle.jk_model_domains.specs.Frames.{FrameState, head_chunks, frames_chunks}
+use Rattle.jk_model_frames.specs.Frames.{FrameState, head_chunks, frames_chunks}
 use Rattle.std.proofs.lemmas.List.Sums.{sum_by_push}
 use Rattle.frame_store.specs.declared.domain_frames.DomainFrames.{DomainFrames}
 use Rattle.frame_store.specs.DomainMoves.{frames_of, top_of, lower_of, HasTop, Becomes}

@@ -5,7 +5,7 @@ use Rattle.std.specs.HashMap.{WritesThrough}
 use Rattle.std.proofs.lemmas.Bool.{cases_eq}
 use Rattle.jk_model.specs.declared.frames.FrameHead.{FrameHead}
 use Rattle.jk_model.specs.declared.identifiers.SegmentNo.{SegmentNo}
-use Rattle.jk_model_domains.specs.Frames.{FrameState, new_frame, head_chunks}
+use Rattle.jk_model_frames.specs.Frames.{FrameState, new_frame, head_chunks}
 use Rattle.indexmap.specs.IndexMap.{IndexMap, get}
 use Rattle.frame_store.specs.declared.domain_frames.DomainFrames.{DomainFrames}
 use Rattle.frame_store.specs.declared.segment_table.Place.{Place}

@@ -2,7 +2,7 @@
 use Rattle.std.proofs.Common.{◌≡◌, ◌≢◌, ℕ, zero, suc, ◌+◌, ◌<◌, ◌≤◌, List, [], ◌∷◌, ◌++◌, length, set, replicate, Some, slice_get, refl, sym, ap, arith, inl, inr, ◌∙◌}
 use Rattle.std.proofs.lemmas.Bool.{cases_eq}
 use Rattle.std.proofs.lemmas.List.{length_push}
-use Rattle.jk_model_domains.specs.Frames.{FrameState, head_chunks, frames_chunks}
+use Rattle.jk_model_frames.specs.Frames.{FrameState, head_chunks, frames_chunks}
 use Rattle.std.proofs.lemmas.List.Sums.{sum_by_push}
 use Rattle.frame_store.specs.Chains.{sum_below}
 use Rattle.frame_store.specs.FrameBlocks.{build}

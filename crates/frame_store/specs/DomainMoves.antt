@@ -2,7 +2,7 @@
 use Rattle.std.specs.Prelude.{◌≡◌, ◌≢◌, ℕ, ◌+◌, ◌-◌, ◌<◌, List, [], ◌∷◌, ◌++◌}
 use Rattle.jk_model.specs.declared.frames.FrameHead.{FrameHead}
 use Rattle.jk_model.specs.declared.values.Value.{Value}
-use Rattle.jk_model_domains.specs.Frames.{FrameState, new_frame, head_chunks, segment_chunks}
+use Rattle.jk_model_frames.specs.Frames.{FrameState, new_frame, head_chunks, segment_chunks}
 use Rattle.frame_store.specs.declared.domain_frames.DomainFrames.{DomainFrames}
 use Rattle.frame_store.specs.ChainMoves.{count, place}
 use Rattle.frame_store.specs.SlotMoves.{IsLive, TakesSlot, GivesSlot}

@@ -2,7 +2,7 @@
 use Rattle.std.specs.Prelude.{◌≡◌, ◌≢◌, ℕ, zero, suc, ◌+◌, ◌*◌, ◌/◌, ◌%◌, ◌^◌, ◌<◌, ◌≤◌, List, [], ◌∷◌, ◌++◌, None, length, slice_index_or}
 use Rattle.jk_model.specs.declared.values.Value.{Value}
 use Rattle.jk_model.specs.declared.values.Value.TheVariants.{Unset}
-use Rattle.jk_model_domains.specs.Frames.{FrameState, head_chunks}
+use Rattle.jk_model_frames.specs.Frames.{FrameState, head_chunks}
 use Rattle.frame_store.specs.declared.chains.Chains.{Chains}
 use Rattle.frame_store.specs.declared.slot_set.SlotSet.{SlotSet}
 use Rattle.frame_store.specs.declared.frame_blocks.FrameRecord.{FrameRecord}

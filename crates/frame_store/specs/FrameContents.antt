@@ -7,7 +7,8 @@ use Rattle.jk_model.specs.declared.frames.FrameHead.{FrameHead}
 use Rattle.jk_model.specs.declared.identifiers.DomainId.{DomainId}
 use Rattle.jk_model.specs.declared.identifiers.SegmentNo.{SegmentNo}
 use Rattle.jk_model.specs.declared.values.Value.{Value}
-use Rattle.jk_model_domains.specs.Frames.{FrameState, new_frame, head_chunks, segment_chunks}
+use Rattle.jk_model_frames.specs.Frames.{FrameState, new_frame, head_chunks, segment_chunks}
+use Rattle.jk_model_frames.specs.Pools.{Pool, IsPlaceFor, IsPlaced}
 
 -- a segment's domain, and its frames, the lowest first
 pub record StoredSegment : Type 0 where
@@ -26,6 +27,10 @@ pub record FrameContent : Type 0 where
   -- how many chunks a domain uses
   pub used : DomainId → ℕ
   pub segment : SegmentNo → Option StoredSegment
+
+-- the store's pool, of which a chunk is a page
+abbrev pub pool_of : FrameContent → Pool
+pool_of c = record { pages = c.pages; quota = c.quota; first_page = c.first_page }
 
 abbrev pub IsAdmitted : FrameContent → DomainId → Type 0
 IsAdmitted c d = IsSome (c.quota d)
@@ -133,33 +138,12 @@ TakesEntry old new s f v =
 
 -- ---- Domains.
 
--- a free run of pages: no admitted domain has one of them
-abbrev pub IsFreeRun : FrameContent → ℕ → ℕ → Type 0
-IsFreeRun c first pages =
-    (p : ℕ) → first ≤ p → p < first + pages → (d : DomainId) (q at : ℕ) → c.quota d ≡ Some q → c.first_page d ≡ Some at
-    → at ≤ p → p < at + q → ⊥
-
-abbrev pub FitsFrom : FrameContent → ℕ → ℕ → ℕ → Type 0
-FitsFrom c limit pages first = (first + pages ≤ limit) × IsFreeRun c first pages
-
--- Where a domain of so many chunks is put: nowhere in a store without a pool, and else at the least place from which enough
--- pages are free.
-abbrev pub IsPlaceFor : FrameContent → ℕ → Option ℕ → Type 0
-IsPlaceFor c chunks place =
-    ((c.pages ≡ None) × (place ≡ None))
-    ⊎ ((limit : ℕ) × (first : ℕ) × (c.pages ≡ Some limit) × (place ≡ Some first) × FitsFrom c limit chunks first
-    × ((lower : ℕ) → lower < first → FitsFrom c limit chunks lower → ⊥))
-
--- no run of pages is long enough
-abbrev pub HasNoPlace : FrameContent → ℕ → Type 0
-HasNoPlace c chunks = (limit : ℕ) × (c.pages ≡ Some limit) × ((first : ℕ) → FitsFrom c limit chunks first → ⊥)
-
 -- A domain is admitted, without segments.
 pub record Admits (old new : FrameContent) (d : DomainId) (chunks : ℕ) : Type 0 where
   pub pages : new.pages ≡ old.pages
   pub took_all : new.took_all ≡ old.took_all
   pub quota : new.quota d ≡ Some chunks
-  pub place : IsPlaceFor old chunks (new.first_page d)
+  pub place : IsPlaceFor (pool_of old) chunks (new.first_page d)
   pub unused : new.used d ≡ 0
   pub other_quotas : (e : DomainId) → e ≢ d → new.quota e ≡ old.quota e
   pub other_places : (e : DomainId) → e ≢ d → new.first_page e ≡ old.first_page e
@@ -207,5 +191,4 @@ pub record IsContent (c : FrameContent) : Type 0 where
   pub within : (d : DomainId) (q : ℕ) → c.quota d ≡ Some q → (c.used d ≤ q) × (1 ≤ q) × (q ≤ 262144)
   pub unused : (d : DomainId) → c.quota d ≡ None → (c.used d ≡ 0) × (c.first_page d ≡ None)
   -- domains of a store with a pool have a place in it, and others none
-  pub placed : (d : DomainId) (q : ℕ) → c.quota d ≡ Some q → ((c.pages ≡ None) × (c.first_page d ≡ None))
-      ⊎ ((limit : ℕ) × (first : ℕ) × (c.pages ≡ Some limit) × (c.first_page d ≡ Some first) × (first + q ≤ limit))
+  pub placed : (d : DomainId) (q : ℕ) → c.quota d ≡ Some q → IsPlaced (pool_of c) d q

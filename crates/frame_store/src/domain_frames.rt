@@ -26,7 +26,7 @@ pub(crate) struct DomainFrames {
 
 impl DomainFrames {
     ghost use Rattle.std.specs.Prelude.{◌≡◌, ℕ, ◌+◌, ◌-◌, ◌*◌, ◌^◌, ◌<◌, ◌≤◌, ◌++◌, ◌∷◌, [], Some, length, slice_get, slice_set, IfOk, OnOk, OnErr};
-    ghost use Rattle.jk_model_domains.specs.Frames.{FrameState as AFrame, new_frame, head_chunks, frames_chunks};
+    ghost use Rattle.jk_model_frames.specs.Frames.{FrameState as AFrame, new_frame, head_chunks, frames_chunks};
     ghost use Rattle.frame_store.specs.DomainMoves.{depth_of, frames_of, top_of, top_number, lower_of, lowest_block, value_at, IsSlot, HasTop, IsTopOf, IsFrameNumber, IsFresh, Opens, Becomes, Begins, Ends, TakesTopEntry};
 
     /// A domain without segments, which may use so many chunks.

@@ -3,7 +3,7 @@
 
 ghost use Rattle.std.specs.Prelude.{◌≡◌, ◌≢◌, ◌+◌, ◌*◌, ◌^◌, ◌<◌, ◌≤◌, length, slice_index_or};
 ghost use Rattle.jk_model.specs.declared.values.Value.TheVariants.{Unset};
-ghost use Rattle.jk_model_domains.specs.Frames.{head_chunks};
+ghost use Rattle.jk_model_frames.specs.Frames.{head_chunks};
 ghost use Rattle.frame_store.specs.ChainMoves.{count, place, nodes, stacks};
 ghost use Rattle.frame_store.specs.FrameBlocks.{index_of, IsCleared, TakesBlocks, GivesBlocks};
 

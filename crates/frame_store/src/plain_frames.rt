@@ -121,7 +121,7 @@ impl PlainFrames {
 
 impl PlainFrames {
     ghost use Rattle.std.specs.Prelude.{◌≡◌, ℕ, ◌-◌, Some, IsTrue, ◌↔◌, length, slice_get};
-    ghost use Rattle.jk_model_domains.specs.Frames.{FrameState as AFrame};
+    ghost use Rattle.jk_model_frames.specs.Frames.{FrameState as AFrame};
     ghost use Rattle.frame_store.specs.FrameContents.{HasTop, HasLocal, HasEntry, TopFrame};
     ghost use Rattle.frame_store.specs.StoreContents.{content_of, StandsAt};
     ghost use Rattle.frame_store.specs.Cursors.{HasDomainAt, HasTopAt, IsTopAt, PointsAt};

@@ -2,8 +2,9 @@
 
 ghost use Rattle.std.specs.Prelude.{◌≡◌, ◌≢◌, ◌+◌, ◌-◌, ◌*◌, ◌<◌, ◌≤◌, ◌⊎◌, ◌++◌, ◌∷◌, [], true, length, option_map, slice_get, slice_set, Some, None, Err, OnOk, OnErr};
 ghost use Rattle.jk_model.specs.declared.stores.AdmitError.TheVariants as Why;
-ghost use Rattle.jk_model_domains.specs.Frames.{FrameState as AFrame, head_chunks};
-ghost use Rattle.frame_store.specs.FrameContents.{FrameContent, IsAdmitted, IsThere, HasTop, TopFrame, FrameAt, HasLocal, HasEntry, HasFreeEntry, HasFrame, HasLocalAt, HasRoomFor, TakesEntry, IsSame, Begins, Pushes, Pops, Ends, SetsTop, Admits, Closes, HasNoPlace, HasFewDomains, IsContent, free_chunks};
+ghost use Rattle.jk_model_frames.specs.Frames.{FrameState as AFrame, head_chunks};
+ghost use Rattle.jk_model_frames.specs.Pools.{HasNoPlace};
+ghost use Rattle.frame_store.specs.FrameContents.{FrameContent, IsAdmitted, IsThere, HasTop, TopFrame, FrameAt, HasLocal, HasEntry, HasFreeEntry, HasFrame, HasLocalAt, HasRoomFor, TakesEntry, IsSame, Begins, Pushes, Pops, Ends, SetsTop, Admits, Closes, HasFewDomains, IsContent, free_chunks, pool_of};
 
 use jk_model::{AdmitError, ClassId, DomainId, FrameHead, NoChunks, SegmentNo, Value};
 
@@ -22,8 +23,8 @@ pub trait FrameStore {
         requires most { chunks ≤ 262144 }
         ensures ok { OnOk result (Admits (content self.old) (content self.new) d chunks) }
         ensures err { OnErr result (IsSame (content self.old) (content self.new)) }
-        ensures no_extent { result ≡ Err Why.NoExtent → HasNoPlace (content self.old) chunks }
-        ensures only_no_extent { HasNoPlace (content self.old) chunks → (result ≡ Err Why.NoExtent) ⊎ (result ≡ Err Why.OutOfMemory) }
+        ensures no_extent { result ≡ Err Why.NoExtent → HasNoPlace (pool_of (content self.old)) chunks }
+        ensures only_no_extent { HasNoPlace (pool_of (content self.old)) chunks → (result ≡ Err Why.NoExtent) ⊎ (result ≡ Err Why.OutOfMemory) }
         ensures out_of_memory { result ≡ Err Why.OutOfMemory → (content self.old).took_all ≡ true → ⊥ };
 
     /// How many chunks a domain may still use.

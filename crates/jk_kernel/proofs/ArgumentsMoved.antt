@@ -7,7 +7,7 @@ use Rattle.jk_model.specs.declared.identifiers.DomainId.{DomainId}
 use Rattle.jk_model.specs.declared.identifiers.SegmentNo.{SegmentNo}
 use Rattle.jk_model.specs.declared.values.Value.{Value}
 use Rattle.jk_model.specs.declared.values.Value.TheVariants as Held
-use Rattle.jk_model_domains.specs.Frames.{FrameState, head_chunks, new_frame}
+use Rattle.jk_model_frames.specs.Frames.{FrameState, head_chunks, new_frame}
 use Rattle.jk_model_machine.specs.Executions.{as_locals}
 use Rattle.frame_store.specs.FrameContents.{FrameContent, Pushes, SetsTop, TakesEntry, TopFrame, free_chunks}
 use Rattle.jk_kernel.specs.Calling.{HasOnTop, MayBegin, begun, locals_of, with_stack}

@@ -5,7 +5,7 @@ use Rattle.jk_model.specs.declared.frames.FrameHead.{FrameHead}
 use Rattle.jk_model.specs.declared.identifiers.DomainId.{DomainId}
 use Rattle.jk_model.specs.declared.identifiers.SegmentNo.{SegmentNo}
 use Rattle.jk_model.specs.declared.values.Value.TheVariants as Held
-use Rattle.jk_model_domains.specs.Frames.{FrameState, head_chunks, new_frame}
+use Rattle.jk_model_frames.specs.Frames.{FrameState, head_chunks, new_frame}
 use Rattle.frame_store.specs.FrameContents.{Begins, Changes, FrameContent, HasLocal, SetsTop, TopFrame}
 use Rattle.jk_kernel.specs.Calling.{begun}
 use Rattle.jk_kernel.specs.SegmentFrames.{stored}

@@ -10,7 +10,7 @@ use Rattle.jk_model.specs.declared.identifiers.DomainId.{DomainId}
 use Rattle.jk_model.specs.declared.identifiers.SegmentNo.{SegmentNo}
 use Rattle.jk_model_classes.specs.declared.records.ClassRecord.{ClassRecord}
 use Rattle.jk_model_domains.specs.declared.states.ClassState.TheVariants as State
-use Rattle.jk_model_domains.specs.Frames.{FrameState}
+use Rattle.jk_model_frames.specs.Frames.{FrameState}
 use Rattle.jk_model_domains.specs.OwnStates.{HasState, OwnState, with_state}
 use Rattle.jk_model_machine.specs.Steps.{LeavesFrames, LeavesInitialiser}
 use Rattle.frame_store.specs.FrameContents.{Ends, FrameAt, FrameContent, HasFrame, StoredSegment}

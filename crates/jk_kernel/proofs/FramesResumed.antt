@@ -8,7 +8,7 @@ use Rattle.jk_model.specs.declared.identifiers.ClassId.{ClassId}
 use Rattle.jk_model.specs.declared.identifiers.DomainId.{DomainId}
 use Rattle.jk_model.specs.declared.identifiers.SegmentNo.{SegmentNo}
 use Rattle.jk_model.specs.declared.values.Value.{Value}
-use Rattle.jk_model_domains.specs.Frames.{FrameState}
+use Rattle.jk_model_frames.specs.Frames.{FrameState}
 use Rattle.jk_model_machine.specs.Steps.{resumed}
 use Rattle.frame_store.specs.FrameContents.{FrameContent, SetsTop, StoredSegment, TopFrame}
 use Rattle.jk_kernel.proofs.TopAlone.{same_top}

@@ -7,7 +7,7 @@ use Rattle.jk_model.specs.declared.instructions.Instr.{Instr}
 use Rattle.jk_model.specs.declared.steps.After.{After}
 use Rattle.jk_model.specs.declared.steps.After.TheVariants as Next
 use Rattle.jk_model_typing.specs.Scopes.{CodeScope}
-use Rattle.jk_model_domains.specs.Frames.{FrameState}
+use Rattle.jk_model_frames.specs.Frames.{FrameState}
 use Rattle.jk_model_domains.specs.NumberRows.{DividesByZero, HasRow, NumberRow, divides_by_zero, exchanges, int_divisions, is_return_of_value, jumps, long_divisions, returns, returns_nothing, switches, uses_local}
 use Rattle.jk_model_machine.specs.Initialising.{InstrNeeds}
 use Rattle.jk_kernel.specs.StaysInFrame.{StaysInFrame}

@@ -9,7 +9,7 @@ use Rattle.jk_model_domains.specs.declared.states.ClassState.{ClassState}
 use Rattle.jk_model_domains.specs.declared.states.ClassState.TheVariants as State
 use Rattle.jk_model_domains.specs.declared.states.Look.{Look}
 use Rattle.jk_model_domains.specs.declared.states.Look.TheVariants as Sees
-use Rattle.jk_model_domains.specs.Frames.{FrameState}
+use Rattle.jk_model_frames.specs.Frames.{FrameState}
 use Rattle.jk_model_domains.specs.OwnStates.{IsLook, OwnState, state_of}
 use Rattle.jk_model_machine.specs.Initialising.{FrameNeeds}
 use Rattle.jk_model_machine.specs.Machine.{Inside, Machine}

@@ -15,7 +15,7 @@ use Rattle.jk_model_classes.specs.declared.records.ClassRecord.{ClassRecord}
 use Rattle.jk_model_classes.specs.Classes.{record_of}
 use Rattle.jk_model_classes.specs.Worlds.{DomainRecord, WorldRecord}
 use Rattle.jk_model_typing.specs.Scopes.{CodeScope, IsScopeOf}
-use Rattle.jk_model_domains.specs.Frames.{FrameState}
+use Rattle.jk_model_frames.specs.Frames.{FrameState}
 use Rattle.jk_model_domains.specs.OwnStates.{OwnState}
 use Rattle.jk_model_machine.specs.Executions.{Executes, Outcome, Working}
 use Rattle.jk_model_machine.specs.Initialising.{RunsCode}

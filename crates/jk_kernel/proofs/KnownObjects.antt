@@ -13,7 +13,7 @@ use Rattle.jk_model_typing.specs.Groups.{Shape, group_of}
 use Rattle.jk_model_typing.specs.Rows.{Does, HasShape}
 use Rattle.jk_model_typing.specs.Scopes.{CodeScope, LeadsToLink}
 use Rattle.jk_model_typing.specs.Typing.{leaves_line}
-use Rattle.jk_model_domains.specs.Frames.{FrameState}
+use Rattle.jk_model_frames.specs.Frames.{FrameState}
 use Rattle.jk_model_domains.specs.NumberRows.{Replaces}
 use Rattle.jk_model_domains.specs.OwnStates.{IsLiteralOf, OwnState, literal_named}
 use Rattle.jk_model_machine.specs.Executions.{gets_static, loads_text}

@@ -13,7 +13,7 @@ use Rattle.jk_model.specs.declared.values.Value.{Value}
 use Rattle.jk_model_classes.specs.Worlds.{DomainRecord, WorldRecord}
 use Rattle.jk_model_typing.specs.Scopes.{CodeScope}
 use Rattle.jk_model_domains.specs.declared.states.ClassState.TheVariants as State
-use Rattle.jk_model_domains.specs.Frames.{FrameState}
+use Rattle.jk_model_frames.specs.Frames.{FrameState}
 use Rattle.jk_model_domains.specs.NumberRows.{ARITHMETIC_EXCEPTION}
 use Rattle.jk_model_domains.specs.OwnStates.{OwnState, with_state}
 use Rattle.jk_model_machine.specs.Executions.{Executes, GoesOn, Raises, Returns, Working, numbers}

@@ -12,7 +12,7 @@ use Rattle.jk_model_classes.specs.declared.records.Link.TheVariants as To
 use Rattle.jk_model_classes.specs.declared.records.TypeRef.{TypeRef}
 use Rattle.jk_model_typing.specs.FrameTypes.{array_type}
 use Rattle.jk_model_typing.specs.Scopes.{CodeScope, LeadsToLink, NamesClass}
-use Rattle.jk_model_domains.specs.Frames.{FrameState}
+use Rattle.jk_model_frames.specs.Frames.{FrameState}
 use Rattle.jk_model_machine.specs.Initialising.{InstrNeeds, RunsCode}
 use Rattle.jk_kernel.specs.Needs.{IsNeeded}
 use Rattle.jk_kernel.specs.StandsAt.{StandsIn}

@@ -13,7 +13,7 @@ use Rattle.jk_model_classes.specs.declared.sharing.Offer.{Offer}
 use Rattle.jk_model_classes.specs.Classes.{AreOrdered, HasClass}
 use Rattle.jk_model_classes.specs.Lookups.{MethodIs}
 use Rattle.jk_model_classes.specs.Worlds.{DomainRecord, IsNamed, IsWorld, NamedClass, WorldRecord}
-use Rattle.jk_model_domains.specs.Frames.{FrameState}
+use Rattle.jk_model_frames.specs.Frames.{FrameState}
 use Rattle.jk_model_folders.specs.declared.files.FolderFiles.{FolderFiles}
 use Rattle.jk_model_folders.specs.FolderRules.{IsLive}
 use Rattle.jk_model_folders.specs.FolderTrees.{AreFiles}

@@ -7,7 +7,7 @@ use Rattle.jk_model.specs.declared.identifiers.ClassId.{ClassId}
 use Rattle.jk_model.specs.declared.identifiers.DomainId.{DomainId}
 use Rattle.jk_model.specs.declared.output.Line.{Line}
 use Rattle.jk_model.specs.declared.steps.Raise.{Raise}
-use Rattle.jk_model_domains.specs.Frames.{FrameState}
+use Rattle.jk_model_frames.specs.Frames.{FrameState}
 use Rattle.jk_model_machine.specs.Executions.{Outcome, Working}
 use Rattle.jk_model_machine.specs.Machine.{DomainState, Inside, Machine, Segment, Thread, with_domain, with_thread, without_thread}
 use Rattle.jk_model_machine.specs.Places.{RunningSegment, with_frames, without_running}

@@ -12,7 +12,7 @@ use Rattle.jk_model_classes.specs.declared.records.ClassRecord.{ClassRecord}
 use Rattle.jk_model_classes.specs.Classes.{HasClass, record_of}
 use Rattle.jk_model_classes.specs.Worlds.{DomainRecord, WorldRecord}
 use Rattle.jk_model_domains.specs.declared.states.ClassState.TheVariants as State
-use Rattle.jk_model_domains.specs.Frames.{FrameState, head_chunks, new_frame}
+use Rattle.jk_model_frames.specs.Frames.{FrameState, head_chunks, new_frame}
 use Rattle.jk_model_domains.specs.Objects.{NamedObject}
 use Rattle.jk_model_domains.specs.OwnStates.{OwnState, state_of as class_state, with_state}
 use Rattle.jk_model_machine.specs.Initialising.{FrameNeeds, IsInitialiserHead}

@@ -28,7 +28,7 @@ use Rattle.jk_model_typing.specs.Groups.{Shape, group_of}
 use Rattle.jk_model_typing.specs.Rows.{AllMeet, Does, HasShape, arguments}
 use Rattle.jk_model_typing.specs.Scopes.{CodeScope, parameter_values}
 use Rattle.jk_model_typing.specs.Typing.{leaves_line}
-use Rattle.jk_model_domains.specs.Frames.{FrameState}
+use Rattle.jk_model_frames.specs.Frames.{FrameState}
 use Rattle.jk_model_domains.specs.Objects.{NamedObject, PRINT_STREAM}
 use Rattle.jk_model_domains.specs.OwnStates.{OwnState}
 use Rattle.jk_model_domains.specs.ValueTypes.{EachValueFits}

@@ -7,7 +7,7 @@ use Rattle.jk_model.specs.declared.descriptors.MethodType.{MethodType}
 use Rattle.jk_model.specs.declared.identifiers.DomainId.{DomainId}
 use Rattle.jk_model.specs.declared.identifiers.SegmentNo.{SegmentNo}
 use Rattle.jk_model_classes.specs.Worlds.{DomainRecord, WorldRecord}
-use Rattle.jk_model_domains.specs.Frames.{FrameState}
+use Rattle.jk_model_frames.specs.Frames.{FrameState}
 use Rattle.jk_model_machine.specs.Machine.{Machine, Segment, Thread, chunks_used, domain_at, thread_numbered}
 use Rattle.jk_model_machine.specs.Places.{RunningSegment}
 use Rattle.frame_store.specs.FrameContents.{FrameContent}

@@ -6,7 +6,7 @@ use Rattle.jk_model.specs.declared.identifiers.ClassId.{ClassId}
 use Rattle.jk_model.specs.declared.identifiers.DomainId.{DomainId}
 use Rattle.jk_model.specs.declared.output.Line.TheVariants as Says
 use Rattle.jk_model_classes.specs.Worlds.{WorldRecord, class_named}
-use Rattle.jk_model_domains.specs.Frames.{head_chunks}
+use Rattle.jk_model_frames.specs.Frames.{head_chunks}
 use Rattle.jk_model_machine.specs.Executions.{call_head}
 use Rattle.jk_model_machine.specs.Machine.{Machine, live_domain, started_in}
 use Rattle.jk_model_machine.specs.Starts.{HasMain, Knows, Starts, many_threads, no_chunks, no_class, no_domain, no_main}

@@ -8,7 +8,7 @@ use Rattle.jk_model.specs.declared.identifiers.DomainId.{DomainId}
 use Rattle.jk_model.specs.declared.output.Line.TheVariants as Says
 use Rattle.jk_model.specs.declared.values.Value.TheVariants as Held
 use Rattle.jk_model_classes.specs.Worlds.{DomainRecord, WorldRecord}
-use Rattle.jk_model_domains.specs.Frames.{FrameState, head_chunks, segment_chunks}
+use Rattle.jk_model_frames.specs.Frames.{FrameState, head_chunks, segment_chunks}
 use Rattle.jk_model_machine.specs.Executions.{call_head}
 use Rattle.jk_model_machine.specs.Machine.{DomainState, Machine, chunks_used, free_chunks, started_in}
 use Rattle.jk_model_machine.specs.Starts.{Starts, begins, with_new_thread}

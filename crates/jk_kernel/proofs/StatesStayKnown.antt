@@ -3,7 +3,7 @@ use Rattle.std.proofs.Common.{◌≡◌, Bool, true, false, ◌==◌, List, [], 
 use Rattle.std.specs.List.{AllByRecursion}
 use Rattle.jk_model.specs.declared.identifiers.ClassId.{ClassId}
 use Rattle.jk_model_domains.specs.declared.states.ClassState.{ClassState}
-use Rattle.jk_model_domains.specs.Frames.{FrameState}
+use Rattle.jk_model_frames.specs.Frames.{FrameState}
 use Rattle.jk_model_domains.specs.OwnStates.{ClassPart, HasState, OwnState, with_part, with_state}
 use Rattle.jk_kernel.specs.SegmentFrames.{StateIsKnown}
 

@@ -28,7 +28,7 @@ use Rattle.jk_model_typing.specs.Groups.{Shape, group_of}
 use Rattle.jk_model_typing.specs.Rows.{Does, HasShape}
 use Rattle.jk_model_typing.specs.Scopes.{CodeScope, IsScopeOf, is_static, own_receiver, parameter_values}
 use Rattle.jk_model_typing.specs.Typing.{IsStart, as_locals as type_locals}
-use Rattle.jk_model_domains.specs.Frames.{FrameState, head_chunks}
+use Rattle.jk_model_frames.specs.Frames.{FrameState, head_chunks}
 use Rattle.jk_model_domains.specs.NumberRows.{Replaces}
 use Rattle.jk_model_domains.specs.Objects.{NamedObject}
 use Rattle.jk_model_domains.specs.ValueTypes.{EachValueFits, ValueFits}

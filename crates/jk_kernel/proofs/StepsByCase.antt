@@ -19,7 +19,7 @@ use Rattle.jk_model_typing.specs.Scopes.{CodeScope}
 use Rattle.jk_model_domains.specs.declared.states.ClassState.TheVariants as State
 use Rattle.jk_model_domains.specs.declared.states.Look.{Look}
 use Rattle.jk_model_domains.specs.declared.states.Look.TheVariants as Sees
-use Rattle.jk_model_domains.specs.Frames.{FrameState}
+use Rattle.jk_model_frames.specs.Frames.{FrameState}
 use Rattle.jk_model_domains.specs.OwnStates.{HasState, IsLook, OwnState, state_of as class_state, with_state}
 use Rattle.jk_model_machine.specs.Machine.{DomainState, Machine}
 use Rattle.jk_model_machine.specs.Places.{RunningFrame, RunningSegment}

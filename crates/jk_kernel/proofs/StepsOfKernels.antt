@@ -5,7 +5,7 @@ use Rattle.std.proofs.lemmas.List.{length-set}
 use Rattle.jk_model.specs.declared.descriptors.MethodType.{MethodType}
 use Rattle.jk_model.specs.declared.output.Line.{Line}
 use Rattle.jk_model_classes.specs.Worlds.{DomainRecord, WorldRecord}
-use Rattle.jk_model_domains.specs.Frames.{FrameState}
+use Rattle.jk_model_frames.specs.Frames.{FrameState}
 use Rattle.jk_model_machine.specs.Machine.{Machine, is_live_thread}
 use Rattle.jk_model_machine.specs.Places.{RunningSegment, with_frames, without_running}
 use Rattle.jk_model_machine.specs.Steps.{Steps}

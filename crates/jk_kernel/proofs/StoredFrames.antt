@@ -5,7 +5,7 @@ use Rattle.std.proofs.lemmas.Option.{same_Some}
 use Rattle.jk_model.specs.declared.frames.FrameHead.{FrameHead}
 use Rattle.jk_model.specs.declared.identifiers.DomainId.{DomainId}
 use Rattle.jk_model.specs.declared.identifiers.SegmentNo.{SegmentNo}
-use Rattle.jk_model_domains.specs.Frames.{FrameState, frames_chunks, head_chunks, new_frame, segment_chunks}
+use Rattle.jk_model_frames.specs.Frames.{FrameState, frames_chunks, head_chunks, new_frame, segment_chunks}
 use Rattle.frame_store.specs.FrameContents.{Changes, Ends, FrameContent, IsContent, IsSame, KeepsDomains, Pops, Pushes, SetsTop, StoredSegment, TopFrame}
 use Rattle.jk_kernel.proofs.TopAlone.{one_top}
 use Rattle.jk_kernel.specs.SegmentFrames.{GetsFrames, Holds, IsOut, stored}

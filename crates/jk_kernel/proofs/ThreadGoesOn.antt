@@ -9,7 +9,7 @@ use Rattle.std.proofs.lemmas.Option.{same_Some}
 use Rattle.jk_model.specs.declared.descriptors.MethodType.{MethodType}
 use Rattle.jk_model.specs.declared.identifiers.DomainId.{DomainId}
 use Rattle.jk_model_classes.specs.Worlds.{DomainRecord, WorldRecord}
-use Rattle.jk_model_domains.specs.Frames.{FrameState, segment_chunks}
+use Rattle.jk_model_frames.specs.Frames.{FrameState, segment_chunks}
 use Rattle.jk_model_machine.specs.Machine.{DomainState, Machine, Thread, chunks_of, chunks_used, started_in, with_domain, with_thread}
 use Rattle.jk_model_machine.specs.Places.{with_frames}
 use Rattle.step_progress.specs.BuiltCodes.{HaveTexts}

@@ -15,7 +15,7 @@ use Rattle.jk_model.specs.declared.descriptors.MethodType.{MethodType}
 use Rattle.jk_model.specs.declared.identifiers.DomainId.{DomainId}
 use Rattle.jk_model.specs.declared.identifiers.SegmentNo.{SegmentNo}
 use Rattle.jk_model_classes.specs.Worlds.{DomainRecord, WorldRecord}
-use Rattle.jk_model_domains.specs.Frames.{FrameState, segment_chunks}
+use Rattle.jk_model_frames.specs.Frames.{FrameState, segment_chunks}
 use Rattle.jk_model_machine.specs.Machine.{DomainState, Machine, Thread, chunks_used, started_in}
 use Rattle.jk_model_machine.specs.Starts.{with_new_thread}
 use Rattle.step_progress.specs.BuiltCodes.{HaveTexts}

@@ -17,7 +17,7 @@ use Rattle.jk_model_typing.specs.Groups.{Takes}
 use Rattle.jk_model_typing.specs.Rows.{Does}
 use Rattle.jk_model_typing.specs.Scopes.{CodeScope}
 use Rattle.jk_model_typing.specs.Typing.{leaves_line}
-use Rattle.jk_model_domains.specs.Frames.{FrameState}
+use Rattle.jk_model_frames.specs.Frames.{FrameState}
 use Rattle.jk_model_machine.specs.Executions.{Executes, GoesOn, Outcome, Working}
 use Rattle.jk_model_machine.specs.Initialising.{RunsCode}
 use Rattle.jk_model_machine.specs.Machine.{DomainState, Inside, Machine, free_chunks}

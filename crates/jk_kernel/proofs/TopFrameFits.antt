@@ -5,7 +5,7 @@ use Rattle.jk_model.specs.declared.identifiers.ClassId.{ClassId}
 use Rattle.jk_model.specs.declared.instructions.Instr.{Instr}
 use Rattle.jk_model_classes.specs.declared.records.ClassRecord.{ClassRecord}
 use Rattle.jk_model_typing.specs.Scopes.{CodeScope}
-use Rattle.jk_model_domains.specs.Frames.{FrameState}
+use Rattle.jk_model_frames.specs.Frames.{FrameState}
 use Rattle.jk_model_domains.specs.Objects.{NamedObject}
 use Rattle.jk_model_machine.specs.Sealed.{FitsAsTop, FramesFit}
 use Rattle.jk_kernel.specs.StandsAt.{StandsIn}

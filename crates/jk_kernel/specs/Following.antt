@@ -10,7 +10,7 @@ use Rattle.jk_model.specs.declared.steps.Raise.{Raise}
 use Rattle.jk_model.specs.declared.values.Value.{Value}
 use Rattle.jk_model_classes.specs.declared.records.ClassRecord.{ClassRecord}
 use Rattle.jk_model_domains.specs.declared.states.ClassState.TheVariants as State
-use Rattle.jk_model_domains.specs.Frames.{FrameState}
+use Rattle.jk_model_frames.specs.Frames.{FrameState}
 use Rattle.jk_model_domains.specs.OwnStates.{OwnState, with_state}
 use Rattle.jk_model_machine.specs.Steps.{IsThrown, resumed}
 use Rattle.frame_store.specs.FrameContents.{FrameContent, HasTop, SetsTop, TopFrame}

@@ -10,7 +10,7 @@ use Rattle.jk_model.specs.declared.output.Line.{Line}
 use Rattle.jk_model.specs.declared.output.Line.TheVariants as Says
 use Rattle.jk_model.specs.declared.values.Value.TheVariants as Held
 use Rattle.jk_model_classes.specs.declared.records.LinkedCode.{LinkedCode}
-use Rattle.jk_model_domains.specs.Frames.{head_chunks}
+use Rattle.jk_model_frames.specs.Frames.{head_chunks}
 use Rattle.jk_model_machine.specs.Executions.{call_head}
 use Rattle.jk_model_machine.specs.Machine.{Machine, free_chunks}
 use Rattle.jk_model_machine.specs.Starts.{HasFewThreads, HasMain, IsMain, Starts}

@@ -4,7 +4,7 @@ use Rattle.std.specs.Option.{option_map_or}
 use Rattle.jk_model.specs.declared.identifiers.DomainId.{DomainId}
 use Rattle.jk_model.specs.declared.identifiers.SegmentNo.{SegmentNo}
 use Rattle.jk_model_classes.specs.Worlds.{DomainRecord, WorldRecord}
-use Rattle.jk_model_domains.specs.Frames.{FrameState}
+use Rattle.jk_model_frames.specs.Frames.{FrameState}
 use Rattle.jk_model_domains.specs.Objects.{NamedObject, Plain, Text, PRINT_STREAM}
 use Rattle.jk_model_domains.specs.OwnStates.{IsLiteralOf, literal_named}
 use Rattle.jk_model_machine.specs.Machine.{DomainState, Inside, Machine, Segment, Thread, chunks_used, started_in}

@@ -8,7 +8,7 @@ use Rattle.jk_model.specs.declared.identifiers.ThreadNo.{ThreadNo}
 use Rattle.jk_model_classes.specs.declared.records.ClassRecord.{ClassRecord}
 use Rattle.jk_model_classes.specs.Classes.{record_of}
 use Rattle.jk_model_classes.specs.Worlds.{DomainRecord, IsNamed, WorldRecord}
-use Rattle.jk_model_domains.specs.Frames.{FrameState, segment_chunks}
+use Rattle.jk_model_frames.specs.Frames.{FrameState, segment_chunks}
 use Rattle.jk_model_machine.specs.Executions.{number_text}
 use Rattle.jk_model_domains.specs.OwnStates.{IsLiteralOf, literal_named}
 use Rattle.jk_model_machine.specs.Initialising.{HasNoClinit}

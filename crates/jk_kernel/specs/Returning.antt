@@ -5,7 +5,7 @@ use Rattle.jk_model.specs.declared.identifiers.ClassId.{ClassId}
 use Rattle.jk_model.specs.declared.identifiers.DomainId.{DomainId}
 use Rattle.jk_model.specs.declared.identifiers.SegmentNo.{SegmentNo}
 use Rattle.jk_model.specs.declared.values.Value.{Value}
-use Rattle.jk_model_domains.specs.Frames.{FrameState}
+use Rattle.jk_model_frames.specs.Frames.{FrameState}
 use Rattle.jk_model_domains.specs.OwnStates.{HasState, OwnState}
 use Rattle.frame_store.specs.FrameContents.{FrameContent}
 use Rattle.jk_kernel.specs.SegmentFrames.{Holds}

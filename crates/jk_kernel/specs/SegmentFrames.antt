@@ -4,7 +4,7 @@ use Rattle.std.specs.List.{AllByRecursion}
 use Rattle.jk_model.specs.declared.identifiers.ClassId.{ClassId}
 use Rattle.jk_model.specs.declared.identifiers.DomainId.{DomainId}
 use Rattle.jk_model.specs.declared.identifiers.SegmentNo.{SegmentNo}
-use Rattle.jk_model_domains.specs.Frames.{FrameState, segment_chunks}
+use Rattle.jk_model_frames.specs.Frames.{FrameState, segment_chunks}
 use Rattle.jk_model_domains.specs.OwnStates.{HasState, OwnState}
 use Rattle.frame_store.specs.FrameContents.{Changes, FrameContent, StoredSegment}
 

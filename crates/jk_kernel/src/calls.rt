@@ -5,7 +5,7 @@ ghost use Rattle.jk_model.specs.declared.identifiers.ClassId.{ClassId as AClassI
 ghost use Rattle.jk_model.specs.declared.identifiers.DomainId.{DomainId as ADomainId};
 ghost use Rattle.jk_model_domains.specs.declared.states.ClassState.TheVariants as State;
 ghost use Rattle.jk_model.specs.declared.values.Value.{Value as AValue};
-ghost use Rattle.jk_model_domains.specs.Frames.{FrameState, head_chunks};
+ghost use Rattle.jk_model_frames.specs.Frames.{FrameState, head_chunks};
 ghost use Rattle.jk_model_typing.specs.Scopes.{CodeScope, IsScopeOf};
 ghost use Rattle.jk_model_machine.specs.Executions.{as_locals, call_head};
 ghost use Rattle.jk_model_domains.specs.OwnStates.{with_state};

@@ -3,7 +3,7 @@
 ghost use Rattle.std.specs.Prelude.{◌≡◌, ◌++◌, ◌∷◌, [], List as AList, Some};
 ghost use Rattle.jk_model.specs.declared.identifiers.DomainId.{DomainId as ADomainId};
 ghost use Rattle.jk_model_classes.specs.declared.records.Link.TheVariants as To;
-ghost use Rattle.jk_model_domains.specs.Frames.{FrameState};
+ghost use Rattle.jk_model_frames.specs.Frames.{FrameState};
 ghost use Rattle.jk_model_machine.specs.Steps.{resumed};
 ghost use Rattle.type_rows.specs.CodeViews.{scope_of};
 ghost use Rattle.type_rows.specs.Operands.{IsLink};

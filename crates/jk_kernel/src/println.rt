@@ -6,7 +6,7 @@ ghost use Rattle.jk_model.specs.declared.identifiers.DomainId.{DomainId as ADoma
 ghost use Rattle.jk_model.specs.declared.values.Value.{Value as AValue};
 ghost use Rattle.jk_model.specs.declared.values.Value.TheVariants as Held;
 ghost use Rattle.jk_model_classes.specs.declared.records.Link.TheVariants as To;
-ghost use Rattle.jk_model_domains.specs.Frames.{FrameState};
+ghost use Rattle.jk_model_frames.specs.Frames.{FrameState};
 ghost use Rattle.jk_model_machine.specs.Executions.{ReadsAs};
 ghost use Rattle.type_rows.specs.CodeViews.{scope_of};
 ghost use Rattle.type_rows.specs.Operands.{IsLink};

@@ -8,7 +8,7 @@ ghost use Rattle.jk_model.specs.Outside.{Appends, AppendsPart, HasRisen, NeverFa
 ghost use Rattle.jk_model.specs.Output.{text_of};
 ghost use Rattle.jk_model_classes.specs.ClassFlags.{has, PUBLIC, STATIC};
 ghost use Rattle.jk_model_classes.specs.Worlds.{DomainRecord, class_named, domain_of};
-ghost use Rattle.jk_model_domains.specs.Frames.{head_chunks};
+ghost use Rattle.jk_model_frames.specs.Frames.{head_chunks};
 ghost use Rattle.jk_model_machine.specs.Machine.{started_in};
 ghost use Rattle.jk_model_machine.specs.Starts.{Starts};
 ghost use Rattle.frame_store.specs.FrameContents.{IsAdmitted, free_chunks};

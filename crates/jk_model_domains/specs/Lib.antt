@@ -1,4 +1,3 @@
-pub mod Frames
 pub mod NumberRows
 pub mod Objects
 pub mod OwnStates

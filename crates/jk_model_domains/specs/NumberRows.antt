@@ -16,7 +16,7 @@ use Rattle.jk_model_classes.specs.declared.records.Link.TheVariants as To
 use Rattle.jk_model_classes.specs.Items.{HasItem}
 use Rattle.jk_model_classes.specs.MemberCode.{is_switch}
 use Rattle.jk_model_typing.specs.Scopes.{CodeScope, LeadsToLink}
-use Rattle.jk_model_domains.specs.Frames.{FrameState}
+use Rattle.jk_model_frames.specs.Frames.{FrameState}
 
 -- ---- Tables: an opcode, and what it stands for.
 

@@ -13,7 +13,7 @@ use Rattle.jk_model_typing.specs.declared.frames.VType.TheVariants.{Unusable, In
 use Rattle.jk_model_typing.specs.FrameTypes.{RefFits, value_of}
 use Rattle.jk_model_typing.specs.Rows.{MakesAt}
 use Rattle.jk_model_typing.specs.Scopes.{CodeScope}
-use Rattle.jk_model_domains.specs.Frames.{FrameState}
+use Rattle.jk_model_frames.specs.Frames.{FrameState}
 use Rattle.jk_model_domains.specs.Objects.{NamedObject, Object, Plain, CAPABILITY, class_type, object_named, type_of}
 
 -- ---- In a frame of a method, whose code is judged in a scope.

@@ -25,7 +25,7 @@ use Rattle.jk_model_classes.specs.declared.records.TypeRef.{TypeRef}
 use Rattle.jk_model_classes.specs.Lookups.{FieldIs, MethodIs}
 use Rattle.jk_model_typing.specs.FrameTypes.{STRING, array_type}
 use Rattle.jk_model_typing.specs.Scopes.{CodeScope, LeadsToLink}
-use Rattle.jk_model_domains.specs.Frames.{FrameState, head_chunks}
+use Rattle.jk_model_frames.specs.Frames.{FrameState, head_chunks}
 use Rattle.jk_model_domains.specs.NumberRows.{IsOnTop, NumberRow, Replaces}
 use Rattle.jk_model_domains.specs.Objects.{NamedObject, Text, PRINT_STREAM, class_type, object_named}
 use Rattle.jk_model_domains.specs.OwnStates.{OwnState, literal_named, static_of, with_static}

@@ -14,7 +14,7 @@ use Rattle.jk_model_classes.specs.Classes.{record_of}
 use Rattle.jk_model_classes.specs.Lookups.{MethodIs}
 use Rattle.jk_model_classes.specs.Members.{CLINIT}
 use Rattle.jk_model_typing.specs.Scopes.{CodeScope, IsScopeOf, LeadsToLink, NamesClass}
-use Rattle.jk_model_domains.specs.Frames.{FrameState}
+use Rattle.jk_model_frames.specs.Frames.{FrameState}
 
 -- ---- What needs a class.
 

@@ -8,7 +8,7 @@ use Rattle.jk_model_classes.specs.declared.records.ClassRecord.{ClassRecord}
 use Rattle.jk_model_classes.specs.declared.sharing.Offer.{Offer}
 use Rattle.jk_model_classes.specs.SystemRecords.{AreSystemRecords}
 use Rattle.jk_model_classes.specs.Worlds.{NamedClass, WorldRecord}
-use Rattle.jk_model_domains.specs.Frames.{FrameState, segment_chunks}
+use Rattle.jk_model_frames.specs.Frames.{FrameState, segment_chunks}
 use Rattle.jk_model_domains.specs.Objects.{NamedObject}
 use Rattle.jk_model_domains.specs.OwnStates.{OwnState}
 

@@ -1,6 +1,6 @@
 -- Where a thread runs: its top segment, the top frame of that, and the segment's domain.
 use Rattle.std.specs.Prelude.{◌≡◌, ℕ, List, [], ◌∷◌, ◌++◌, Some}
-use Rattle.jk_model_domains.specs.Frames.{FrameState}
+use Rattle.jk_model_frames.specs.Frames.{FrameState}
 use Rattle.jk_model_machine.specs.Machine.{DomainState, Inside, Machine, Segment, Thread, domain_at, thread_numbered, with_domain, with_thread, without_thread}
 
 -- The top segment of the thread of this number.

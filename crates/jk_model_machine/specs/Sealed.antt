@@ -25,7 +25,7 @@ use Rattle.jk_model_typing.specs.FrameTypes.{STRING}
 use Rattle.jk_model_typing.specs.Typing.{FrameAt, IsLeastTyping, IsTyping}
 use Rattle.jk_model_domains.specs.declared.states.ClassState.{ClassState}
 use Rattle.jk_model_domains.specs.declared.states.ClassState.TheVariants as State
-use Rattle.jk_model_domains.specs.Frames.{FrameState}
+use Rattle.jk_model_frames.specs.Frames.{FrameState}
 use Rattle.jk_model_domains.specs.Objects.{NamedObject, Object, Plain, Array, Text, Task, CAPABILITY, PRINT_STREAM, TASK, object_named}
 use Rattle.jk_model_domains.specs.OwnStates.{IsOwnState, Literal, OwnState, state_of, static_of}
 use Rattle.jk_model_domains.specs.ValueTypes.{EachValueFits, FrameHolds, HoldsDeclared}

@@ -14,7 +14,7 @@ use Rattle.jk_model_classes.specs.declared.records.MethodRecord.{MethodRecord}
 use Rattle.jk_model_classes.specs.ClassFlags.{has, PUBLIC, STATIC}
 use Rattle.jk_model_classes.specs.Lookups.{FindsMethod, MethodIs}
 use Rattle.jk_model_classes.specs.Worlds.{class_named}
-use Rattle.jk_model_domains.specs.Frames.{FrameState, head_chunks}
+use Rattle.jk_model_frames.specs.Frames.{FrameState, head_chunks}
 use Rattle.jk_model_machine.specs.Executions.{IsCalledFrame, call_head}
 use Rattle.jk_model_machine.specs.Machine.{DomainState, Machine, Segment, Thread, free_chunks, live_domain, started_in}
 

@@ -14,7 +14,7 @@ use Rattle.jk_model.specs.declared.values.Value.{Value}
 use Rattle.jk_model_classes.specs.declared.records.ClassRecord.{ClassRecord}
 use Rattle.jk_model_classes.specs.Classes.{IsSubclass, record_of}
 use Rattle.jk_model_domains.specs.declared.states.ClassState.TheVariants as State
-use Rattle.jk_model_domains.specs.Frames.{FrameState, head_chunks, new_frame}
+use Rattle.jk_model_frames.specs.Frames.{FrameState, head_chunks, new_frame}
 use Rattle.jk_model_domains.specs.OwnStates.{OwnState, state_of, with_state}
 use Rattle.jk_model_machine.specs.Executions.{Calls, Executes, GoesOn, Outcome, Raises, Returns, Says, Working}
 use Rattle.jk_model_machine.specs.Initialising.{FrameNeeds, IsInitialiserHead, RunsCode}

@@ -13,7 +13,7 @@ use Rattle.jk_model_typing.specs.declared.frames.FrameType.{FrameType}
 use Rattle.jk_model_typing.specs.declared.frames.VType.{VType}
 use Rattle.jk_model_typing.specs.Scopes.{CodeScope, IsScopeOf}
 use Rattle.jk_model_typing.specs.Typing.{FrameAt, IsLeastTyping}
-use Rattle.jk_model_domains.specs.Frames.{FrameState, new_frame}
+use Rattle.jk_model_frames.specs.Frames.{FrameState, new_frame}
 use Rattle.jk_model_domains.specs.ValueTypes.{EachValueFits}
 use Rattle.frame_store.specs.FrameContents.{Begins, FrameContent, HasFewDomains, HasLocal, IsAdmitted, IsContent, MOST_DOMAINS, SetsTop, TopFrame}
 use Rattle.number_check.specs.RunFrames.{AreFirst, HEAP, IsBegun, RunsIn}

@@ -4,7 +4,7 @@ use Rattle.std.specs.List.{AllByRecursion}
 use Rattle.std.proofs.lemmas.List.{length_push}
 use Rattle.std.proofs.lemmas.Option.{same_Some}
 use Rattle.jk_model.specs.declared.identifiers.SegmentNo.{SegmentNo}
-use Rattle.jk_model_domains.specs.Frames.{FrameState}
+use Rattle.jk_model_frames.specs.Frames.{FrameState}
 use Rattle.frame_store.specs.FrameContents.{FrameContent, IsContent, IsSized, SetsTop, StoredSegment, TopFrame}
 use Rattle.class_table.proofs.ItemsByPlace.{slice_get-last}
 use Rattle.sealed_steps.proofs.FramesInARow.{all-pop}

@@ -3,7 +3,7 @@
 ghost use Rattle.std.specs.Prelude.{◌≡◌, IfOk, None};
 ghost use Rattle.jk_model.specs.declared.identifiers.DomainId.{DomainId as ADomain};
 ghost use Rattle.jk_model.specs.declared.identifiers.SegmentNo.{SegmentNo as ASegment};
-ghost use Rattle.jk_model_domains.specs.Frames.{FrameState};
+ghost use Rattle.jk_model_frames.specs.Frames.{FrameState};
 ghost use Rattle.frame_store.specs.FrameContents.{HasTop, TopFrame};
 ghost use Rattle.number_check.specs.RunFrames.{IsBegun};
 

@@ -3,7 +3,7 @@ use Rattle.std.proofs.Common.{◌≡◌, ℕ, ◌+◌, ◌≤◌, List, [], ◌�
 use Rattle.std.proofs.lemmas.List.{append-nil, length-append}
 use Rattle.jk_model.specs.declared.identifiers.SegmentNo.{SegmentNo}
 use Rattle.jk_model.specs.declared.values.Value.{Value}
-use Rattle.jk_model_domains.specs.Frames.{FrameState}
+use Rattle.jk_model_frames.specs.Frames.{FrameState}
 use Rattle.frame_store.specs.FrameContents.{FrameContent, TopFrame}
 use Rattle.number_ops.specs.TopChanges.{OnTop, OnTopWithRoom, Turns}
 use Rattle.number_ops.proofs.SameEnds.{one_split}

@@ -21,7 +21,7 @@ use Rattle.jk_model_typing.specs.FrameTypes.{IsFrameOf, IsUsable, slots, slots_o
 use Rattle.jk_model_typing.specs.Groups.{Group, Shape, Always, LoadsLocal, StoresLocal, IncrementsLocal, LoadsConstant, LoadsLong, ReturnsInt, ReturnsLong, ReturnsReference, Takes, Drops, Copies, Swaps, Loads, Stores, Increments, group_of}
 use Rattle.jk_model_typing.specs.Rows.{Does, HasShape, cut, cut_before, with_local}
 use Rattle.jk_model_typing.specs.Scopes.{CodeScope}
-use Rattle.jk_model_domains.specs.Frames.{FrameState}
+use Rattle.jk_model_frames.specs.Frames.{FrameState}
 use Rattle.jk_model_domains.specs.Objects.{NamedObject}
 use Rattle.jk_model_domains.specs.ValueTypes.{EachValueFits, FrameHolds, ValueFits}
 use Rattle.frame_store.specs.FrameContents.{FrameContent, TopFrame}

@@ -8,7 +8,7 @@ use Rattle.jk_model.specs.declared.identifiers.SegmentNo.{SegmentNo}
 use Rattle.jk_model.specs.declared.instructions.Instr.{Instr}
 use Rattle.jk_model.specs.declared.values.Value.{Value}
 use Rattle.jk_model.specs.declared.values.Value.TheVariants.{Int, Long, Null, Obj, Cap, Unset}
-use Rattle.jk_model_domains.specs.Frames.{FrameState}
+use Rattle.jk_model_frames.specs.Frames.{FrameState}
 use Rattle.jk_model_domains.specs.NumberRows.{is_load, is_store_of_top, with_value}
 use Rattle.frame_store.specs.FrameContents.{FrameContent, HasLocal, SetsTop, TopFrame}
 use Rattle.number_ops.specs.TopChanges.{Becomes, HasAtMostLocals, HasInLocal, HasLocals, Turns, Uses}

@@ -16,7 +16,7 @@ use Rattle.jk_model_typing.specs.FrameTypes.{Fits}
 use Rattle.jk_model_typing.specs.Groups.{Group, Shape, ReturnsInt, ReturnsLong, ReturnsReference, Takes, group_of}
 use Rattle.jk_model_typing.specs.Rows.{AllMeet, Does, HasShape, Meets}
 use Rattle.jk_model_typing.specs.Scopes.{CodeScope}
-use Rattle.jk_model_domains.specs.Frames.{FrameState}
+use Rattle.jk_model_frames.specs.Frames.{FrameState}
 use Rattle.jk_model_domains.specs.NumberRows.{NumberRow, Replaces, divides_by_zero, exchanges, is_return_of_value, jumps, returns, returns_nothing, switches, uses_local}
 use Rattle.jk_model_domains.specs.Objects.{CAPABILITY, NamedObject, class_type, type_of}
 use Rattle.jk_model_domains.specs.ValueTypes.{EachValueFits, ValueFits}

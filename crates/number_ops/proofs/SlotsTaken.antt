@@ -4,7 +4,7 @@ use Rattle.std.proofs.lemmas.List.Sums.{sum_by-cons}
 use Rattle.jk_model.specs.declared.identifiers.SegmentNo.{SegmentNo}
 use Rattle.jk_model.specs.declared.values.Value.{Value}
 use Rattle.jk_model.specs.declared.values.Value.TheVariants.{Int, Long, Null, Obj, Cap, Unset}
-use Rattle.jk_model_domains.specs.Frames.{FrameState}
+use Rattle.jk_model_frames.specs.Frames.{FrameState}
 use Rattle.jk_model_domains.specs.NumberRows.{value_slots, values_slots}
 use Rattle.frame_store.specs.FrameContents.{FrameContent}
 use Rattle.number_ops.specs.TopChanges.{OnTop, OnTopWithRoom, Turns}

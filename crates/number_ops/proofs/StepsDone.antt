@@ -25,7 +25,7 @@ use Rattle.jk_model_typing.specs.Groups.{Group, Shape, NoGroup, group_of, has_gr
 use Rattle.jk_model_typing.specs.Rows.{HasShape}
 use Rattle.jk_model_typing.specs.Scopes.{CodeScope, LeadsToLink}
 use Rattle.jk_model_typing.specs.Typing.{GoesOnAt}
-use Rattle.jk_model_domains.specs.Frames.{FrameState}
+use Rattle.jk_model_frames.specs.Frames.{FrameState}
 use Rattle.jk_model_domains.specs.NumberRows.{ARITHMETIC_EXCEPTION, Exchanges, NumberRow, Replaces, exchanges, uses_local, jumps, switches, divides_by_zero, returns, returns_nothing, is_return_of_value, number_opcodes, place_after, switch_target, Pushes}
 use Rattle.frame_store.specs.FrameContents.{FrameContent, SetsTop}
 use Rattle.number_ops.specs.NumberSteps.{DoesNumbers, IsReady}

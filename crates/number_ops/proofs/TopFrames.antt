@@ -2,7 +2,7 @@
 use Rattle.std.proofs.Common.{◌≡◌, List, [], ◌∷◌, ◌++◌, Some, refl, sym, ap, subst, ◌∙◌}
 use Rattle.std.proofs.lemmas.Option.{same_Some}
 use Rattle.jk_model.specs.declared.identifiers.SegmentNo.{SegmentNo}
-use Rattle.jk_model_domains.specs.Frames.{FrameState}
+use Rattle.jk_model_frames.specs.Frames.{FrameState}
 use Rattle.frame_store.specs.FrameContents.{Changes, FrameContent, KeepsDomains, SetsTop, StoredSegment, TopFrame}
 use Rattle.number_ops.proofs.SameEnds.{one_top}
 use Rattle.number_ops.specs.TopChanges.{Becomes}

@@ -23,7 +23,7 @@ use Rattle.jk_model_typing.specs.Groups.{Group, Shape, Always, LoadsLocal, Store
 use Rattle.jk_model_typing.specs.Rows.{AllMeet, Does, HasShape, cut, cut_before, with_local}
 use Rattle.jk_model_typing.specs.Scopes.{CodeScope, LeadsToLink}
 use Rattle.jk_model_typing.specs.Typing.{GoesOnAt, leaves_line}
-use Rattle.jk_model_domains.specs.Frames.{FrameState}
+use Rattle.jk_model_frames.specs.Frames.{FrameState}
 use Rattle.jk_model_domains.specs.NumberRows.{Calculates, Decides, Exchanges, HasRow, IsConversion, Moves, NumberRow, Pushes, Replaces, UsesLocal, comparisons, copies, drops, exchanges, int_divisions, int_operations, is_load, is_store_of_top, jumps, divides_by_zero, long_divisions, long_operations, long_shifts, place_after, returns, returns_nothing, switches, switch_target, uses_local, value_slots, values_slots, with_value}
 use Rattle.jk_model_domains.specs.Objects.{NamedObject}
 use Rattle.jk_model_domains.specs.ValueTypes.{EachValueFits, FrameHolds, ValueFits}

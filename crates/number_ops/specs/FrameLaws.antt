@@ -7,7 +7,7 @@ use Rattle.jk_model_typing.specs.declared.frames.FrameType.{FrameType}
 use Rattle.jk_model_typing.specs.FrameTypes.{IsFrameOf, value_of}
 use Rattle.jk_model_typing.specs.Rows.{Row}
 use Rattle.jk_model_typing.specs.Scopes.{CodeScope}
-use Rattle.jk_model_domains.specs.Frames.{FrameState}
+use Rattle.jk_model_frames.specs.Frames.{FrameState}
 use Rattle.jk_model_domains.specs.Objects.{NamedObject}
 use Rattle.jk_model_domains.specs.ValueTypes.{FrameHolds, ValueFits}
 

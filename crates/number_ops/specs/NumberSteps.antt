@@ -12,7 +12,7 @@ use Rattle.jk_model_typing.specs.FrameTypes.{IsFrameOf}
 use Rattle.jk_model_typing.specs.Rows.{Row}
 use Rattle.jk_model_typing.specs.Scopes.{CodeScope, IsScopeOf}
 use Rattle.jk_model_typing.specs.Typing.{GoesOnAt}
-use Rattle.jk_model_domains.specs.Frames.{FrameState}
+use Rattle.jk_model_frames.specs.Frames.{FrameState}
 use Rattle.jk_model_domains.specs.NumberRows.{IsOfNumbers, NumberRow}
 use Rattle.jk_model_domains.specs.Objects.{NamedObject}
 use Rattle.jk_model_domains.specs.ValueTypes.{FrameHolds}

@@ -8,7 +8,7 @@ ghost use Rattle.jk_model_classes.specs.Classes.{AreOrdered};
 ghost use Rattle.jk_model_typing.specs.declared.frames.FrameType.{FrameType as AType};
 ghost use Rattle.jk_model_typing.specs.Scopes.{CodeScope};
 ghost use Rattle.jk_model_typing.specs.Typing.{GoesOnAt};
-ghost use Rattle.jk_model_domains.specs.Frames.{FrameState};
+ghost use Rattle.jk_model_frames.specs.Frames.{FrameState};
 ghost use Rattle.jk_model_domains.specs.NumberRows.{NumberRow};
 ghost use Rattle.jk_model_domains.specs.Objects.{NamedObject};
 ghost use Rattle.jk_model_domains.specs.ValueTypes.{FrameHolds};

@@ -13,7 +13,7 @@ mod parts;
 mod switches;
 
 ghost use Rattle.std.specs.Prelude.{◌≡◌};
-ghost use Rattle.jk_model_domains.specs.Frames.{FrameState};
+ghost use Rattle.jk_model_frames.specs.Frames.{FrameState};
 ghost use Rattle.frame_store.specs.FrameContents.{TopFrame};
 ghost use Rattle.number_ops.specs.NumberSteps.{DoesNumbers, IsReady};
 

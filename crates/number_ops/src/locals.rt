@@ -3,7 +3,7 @@
 ghost use Rattle.std.specs.Prelude.{◌≡◌, ℕ, ℤ, ◌+◌, ◌<◌, ◌≤◌, ◌∷◌, [], IsTrue, length, pos};
 ghost use Rattle.jk_model.specs.declared.values.Value.{Value as AValue};
 ghost use Rattle.jk_model.specs.declared.values.Value.TheVariants.{Int};
-ghost use Rattle.jk_model_domains.specs.Frames.{FrameState};
+ghost use Rattle.jk_model_frames.specs.Frames.{FrameState};
 ghost use Rattle.jk_model_domains.specs.NumberRows.{is_load, is_store_of_top, value_slots};
 ghost use Rattle.number_ops.specs.TopChanges.{HasAtMostLocals, HasInLocal, HasLocals, OnTop, OnTopWithRoom, Uses};
 

@@ -15,7 +15,7 @@ use Rattle.jk_model_typing.specs.declared.frames.VType.{VType}
 use Rattle.jk_model_typing.specs.FrameTypes.{value_of}
 use Rattle.jk_model_typing.specs.Scopes.{CodeScope, IsScopeOf, result_values}
 use Rattle.jk_model_typing.specs.Typing.{IsLeastTyping}
-use Rattle.jk_model_domains.specs.Frames.{FrameState}
+use Rattle.jk_model_frames.specs.Frames.{FrameState}
 use Rattle.jk_model_domains.specs.Objects.{NamedObject}
 use Rattle.jk_model_domains.specs.ValueTypes.{EachValueFits, FrameHolds}
 use Rattle.jk_model_machine.specs.Executions.{NamesMethod}

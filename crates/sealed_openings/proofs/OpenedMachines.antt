@@ -12,7 +12,7 @@ use Rattle.jk_model_classes.specs.Worlds.{IsNamed}
 use Rattle.jk_model_domains.specs.declared.states.ClassState.{ClassState}
 use Rattle.jk_model_domains.specs.declared.states.ClassState.TheVariants as State
 use Rattle.jk_model_domains.specs.OwnStates.{OwnState, state_of}
-use Rattle.jk_model_domains.specs.Frames.{segment_chunks}
+use Rattle.jk_model_frames.specs.Frames.{segment_chunks}
 use Rattle.jk_model_machine.specs.Machine.{DomainState, Inside, Machine, Segment, Thread, chunks_of, chunks_used, is_live_domain}
 use Rattle.jk_model_machine.specs.Sealed.{IsSealed, IsSealedInside, IsSealedSegment, in_progress_by, initialisers_of, segment_initialisers}
 use Rattle.jk_model_machine.specs.SoundClasses.{AreSoundClasses}

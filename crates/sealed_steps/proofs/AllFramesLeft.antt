@@ -8,7 +8,7 @@ use Rattle.jk_model.specs.declared.identifiers.ClassId.{ClassId}
 use Rattle.jk_model.specs.declared.identifiers.ThreadNo.{ThreadNo}
 use Rattle.jk_model_classes.specs.declared.records.ClassRecord.{ClassRecord}
 use Rattle.jk_model_domains.specs.declared.states.ClassState.TheVariants as State
-use Rattle.jk_model_domains.specs.Frames.{FrameState}
+use Rattle.jk_model_frames.specs.Frames.{FrameState}
 use Rattle.jk_model_domains.specs.OwnStates.{OwnState, state_of, with_state}
 use Rattle.jk_model_machine.specs.Machine.{DomainState, Inside}
 use Rattle.jk_model_machine.specs.Sealed.{IsSealedInside, in_progress_by, initialises}

@@ -15,7 +15,7 @@ use Rattle.jk_model_typing.specs.declared.frames.VType.TheVariants.{Unusable, Lo
 use Rattle.jk_model_typing.specs.FrameTypes.{IsUsable, dims_value, value_of}
 use Rattle.jk_model_typing.specs.Scopes.{CodeScope, IsScopeOf, is_static, own_receiver, parameter_values}
 use Rattle.jk_model_typing.specs.Typing.{FitsAt, FrameAt, IsStart, as_locals as type_locals}
-use Rattle.jk_model_domains.specs.Frames.{FrameState}
+use Rattle.jk_model_frames.specs.Frames.{FrameState}
 use Rattle.jk_model_domains.specs.Objects.{NamedObject}
 use Rattle.jk_model_domains.specs.ValueTypes.{EachValueFits, ValueFits}
 use Rattle.jk_model_machine.specs.Executions.{as_locals}

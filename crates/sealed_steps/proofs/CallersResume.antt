@@ -18,7 +18,7 @@ use Rattle.jk_model_typing.specs.Groups.{Shape, group_of}
 use Rattle.jk_model_typing.specs.Rows.{Does, HasShape, Row, arguments}
 use Rattle.jk_model_typing.specs.Scopes.{CodeScope, result_values}
 use Rattle.jk_model_typing.specs.Typing.{FitsAt, leaves_line}
-use Rattle.jk_model_domains.specs.Frames.{FrameState}
+use Rattle.jk_model_frames.specs.Frames.{FrameState}
 use Rattle.jk_model_domains.specs.Objects.{NamedObject}
 use Rattle.jk_model_domains.specs.ValueTypes.{EachValueFits, FrameHolds}
 use Rattle.jk_model_machine.specs.Executions.{NamesMethod}

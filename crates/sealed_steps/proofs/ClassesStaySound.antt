@@ -5,7 +5,7 @@ use Rattle.jk_model.specs.declared.output.Line.{Line}
 use Rattle.jk_model.specs.declared.steps.Raise.{Raise}
 use Rattle.jk_model_classes.specs.declared.records.ClassRecord.{ClassRecord}
 use Rattle.jk_model_classes.specs.Worlds.{NamedClass}
-use Rattle.jk_model_domains.specs.Frames.{FrameState}
+use Rattle.jk_model_frames.specs.Frames.{FrameState}
 use Rattle.jk_model_machine.specs.Executions.{Outcome, Working}
 use Rattle.jk_model_machine.specs.Machine.{DomainState, Inside, Machine, with_domain}
 use Rattle.jk_model_machine.specs.Places.{RunningSegment}

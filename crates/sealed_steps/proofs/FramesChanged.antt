@@ -7,7 +7,7 @@ use Rattle.jk_model.specs.declared.identifiers.DomainId.{DomainId}
 use Rattle.jk_model.specs.declared.identifiers.ThreadNo.{ThreadNo}
 use Rattle.jk_model.specs.declared.script.Quotas.{Quotas}
 use Rattle.jk_model_domains.specs.declared.states.ClassState.TheVariants as State
-use Rattle.jk_model_domains.specs.Frames.{FrameState, frames_chunks}
+use Rattle.jk_model_frames.specs.Frames.{FrameState, frames_chunks}
 use Rattle.jk_model_domains.specs.OwnStates.{state_of}
 use Rattle.jk_model_machine.specs.Machine.{DomainState, Inside, Machine, Segment, Thread, chunks_used, is_live_thread, with_domain}
 use Rattle.jk_model_machine.specs.Places.{RunningSegment, with_frames}

@@ -6,7 +6,7 @@ use Rattle.std.proofs.lemmas.List.Sums.{sum_by_push}
 use Rattle.std.proofs.lemmas.Option.{same_Some}
 use Rattle.jk_model.specs.declared.identifiers.ClassId.{ClassId}
 use Rattle.jk_model_classes.specs.declared.records.ClassRecord.{ClassRecord}
-use Rattle.jk_model_domains.specs.Frames.{FrameState, frames_chunks, head_chunks}
+use Rattle.jk_model_frames.specs.Frames.{FrameState, frames_chunks, head_chunks}
 use Rattle.jk_model_domains.specs.Objects.{NamedObject}
 use Rattle.jk_model_machine.specs.Sealed.{FitsAsCaller, FitsAsTop, FramesFit, initialises}
 

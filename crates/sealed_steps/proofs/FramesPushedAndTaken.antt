@@ -4,7 +4,7 @@ use Rattle.std.proofs.Common.{◌≡◌, inl, inr, ℕ, ◌+◌, ◌≤◌, ◌=
 use Rattle.std.specs.Prelude.{count_by}
 use Rattle.std.specs.List.{AllByRecursion}
 use Rattle.jk_model.specs.declared.identifiers.ClassId.{ClassId}
-use Rattle.jk_model_domains.specs.Frames.{FrameState, frames_chunks, head_chunks}
+use Rattle.jk_model_frames.specs.Frames.{FrameState, frames_chunks, head_chunks}
 use Rattle.jk_model_domains.specs.Objects.{NamedObject}
 use Rattle.jk_model_machine.specs.Machine.{Inside, Machine, free_chunks}
 use Rattle.jk_model_machine.specs.Places.{RunningFrame, RunningSegment}

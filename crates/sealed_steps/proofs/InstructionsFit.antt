@@ -31,7 +31,7 @@ use Rattle.jk_model_typing.specs.declared.frames.FrameType.{FrameType}
 use Rattle.jk_model_typing.specs.FrameTypes.{array_type, erased_class, string, value_of}
 use Rattle.jk_model_typing.specs.Scopes.{CodeScope, LeadsToLink, parameter_values, result_values}
 use Rattle.jk_model_typing.specs.Typing.{GoesOnAt}
-use Rattle.jk_model_domains.specs.Frames.{FrameState, head_chunks}
+use Rattle.jk_model_frames.specs.Frames.{FrameState, head_chunks}
 use Rattle.jk_model_domains.specs.NumberRows.{NumberRow, Replaces}
 use Rattle.jk_model_domains.specs.Objects.{NamedObject, Plain, Text, PRINT_STREAM, class_type, object_named}
 use Rattle.jk_model_domains.specs.OwnStates.{Literal}

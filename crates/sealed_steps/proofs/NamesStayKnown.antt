@@ -8,7 +8,7 @@ use Rattle.jk_model.specs.declared.steps.After.TheVariants as Next
 use Rattle.jk_model.specs.declared.values.Value.{Value}
 use Rattle.jk_model.specs.declared.values.Value.TheVariants as Held
 use Rattle.jk_model_typing.specs.Scopes.{CodeScope}
-use Rattle.jk_model_domains.specs.Frames.{FrameState}
+use Rattle.jk_model_frames.specs.Frames.{FrameState}
 use Rattle.jk_model_domains.specs.NumberRows.{Calculates, Exchanges, IsConversion, Moves, NumberRow, Pushes, Replaces, UsesLocal, divides_by_zero, exchanges, jumps, returns, returns_nothing, switches, uses_local, with_value}
 use Rattle.jk_model_domains.specs.Objects.{NamedObject}
 use Rattle.jk_model_machine.specs.Executions.{as_locals}

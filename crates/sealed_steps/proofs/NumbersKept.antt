@@ -3,7 +3,7 @@ use Rattle.std.proofs.Common.{ℕ, suc, ◌≤◌, inl, inr, List, sym, subst, a
 use Rattle.jk_model.specs.declared.identifiers.ClassId.{ClassId}
 use Rattle.jk_model.specs.declared.output.Line.{Line}
 use Rattle.jk_model.specs.declared.steps.Raise.{Raise}
-use Rattle.jk_model_domains.specs.Frames.{FrameState}
+use Rattle.jk_model_frames.specs.Frames.{FrameState}
 use Rattle.jk_model_machine.specs.Executions.{Outcome, Working}
 use Rattle.jk_model_machine.specs.Machine.{DomainState, Inside, IsFirstMachine, Machine}
 use Rattle.jk_model_machine.specs.Places.{RunningSegment}

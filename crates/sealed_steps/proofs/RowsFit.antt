@@ -21,7 +21,7 @@ use Rattle.jk_model_typing.specs.Groups.{Shape, Takes, group_of}
 use Rattle.jk_model_typing.specs.Rows.{AllMeet, Does, HasShape, Row, arguments}
 use Rattle.jk_model_typing.specs.Scopes.{CodeScope, LeadsToLink, parameter_values, result_values}
 use Rattle.jk_model_typing.specs.Typing.{GoesOnAt, leaves_line}
-use Rattle.jk_model_domains.specs.Frames.{FrameState}
+use Rattle.jk_model_frames.specs.Frames.{FrameState}
 use Rattle.jk_model_domains.specs.NumberRows.{Replaces}
 use Rattle.jk_model_domains.specs.Objects.{NamedObject}
 use Rattle.jk_model_domains.specs.ValueTypes.{EachValueFits, FrameHolds, ValueFits}

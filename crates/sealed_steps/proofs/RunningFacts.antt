@@ -7,7 +7,7 @@ use Rattle.std.proofs.lemmas.List.Elements.{Contains-push}
 use Rattle.std.proofs.lemmas.Option.{same_Some}
 use Rattle.jk_model.specs.declared.identifiers.ClassId.{ClassId}
 use Rattle.jk_model.specs.declared.identifiers.ThreadNo.{ThreadNo}
-use Rattle.jk_model_domains.specs.Frames.{FrameState}
+use Rattle.jk_model_frames.specs.Frames.{FrameState}
 use Rattle.jk_model_machine.specs.Machine.{DomainState, Inside, Machine, Segment}
 use Rattle.jk_model_machine.specs.Places.{RunningFrame, RunningSegment}
 use Rattle.jk_model_machine.specs.Sealed.{FitsAsTop, FramesFit, IsAtHome, IsSealed, IsSealedInside, NamesKnown, in_progress_by, initialises}

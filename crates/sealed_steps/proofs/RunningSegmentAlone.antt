@@ -3,7 +3,7 @@
 use Rattle.std.proofs.Common.{◌≡◌, ◌≢◌, ℕ, ◌==◌, List, [], ◌∷◌, false, sum_by, count_by, Some, slice_get, sym, ap, ◌∙◌, eq-eqb, ne_eqb, arith}
 use Rattle.jk_model.specs.declared.identifiers.ClassId.{ClassId}
 use Rattle.jk_model.specs.declared.identifiers.DomainId.{DomainId}
-use Rattle.jk_model_domains.specs.Frames.{segment_chunks}
+use Rattle.jk_model_frames.specs.Frames.{segment_chunks}
 use Rattle.jk_model_machine.specs.Machine.{Machine, Segment, Thread, chunks_of}
 use Rattle.jk_model_machine.specs.Places.{RunningSegment}
 use Rattle.jk_model_machine.specs.Sealed.{IsSealed, initialises, initialisers_of, segment_initialisers}

@@ -16,7 +16,7 @@ use Rattle.jk_model_classes.specs.Lookups.{IsFirstOn, IsMethodOf}
 use Rattle.jk_model_classes.specs.SystemRecords.{AreTypesFor}
 use Rattle.jk_model_classes.specs.Worlds.{IsNamed, NamedClass, class_named}
 use Rattle.jk_model_typing.specs.Scopes.{CodeScope, IsScopeOf, parameter_values}
-use Rattle.jk_model_domains.specs.Frames.{FrameState, head_chunks}
+use Rattle.jk_model_frames.specs.Frames.{FrameState, head_chunks}
 use Rattle.jk_model_domains.specs.Objects.{NamedObject}
 use Rattle.jk_model_domains.specs.ValueTypes.{EachValueFits}
 use Rattle.jk_model_machine.specs.Executions.{IsCalledFrame, call_head}

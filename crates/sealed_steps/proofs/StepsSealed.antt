@@ -9,7 +9,7 @@ use Rattle.jk_model.specs.declared.output.Line.{Line}
 use Rattle.jk_model.specs.declared.steps.Raise.TheVariants as Raised
 use Rattle.jk_model.specs.declared.values.Value.{Value}
 use Rattle.jk_model_domains.specs.declared.states.ClassState.TheVariants as State
-use Rattle.jk_model_domains.specs.Frames.{FrameState, head_chunks}
+use Rattle.jk_model_frames.specs.Frames.{FrameState, head_chunks}
 use Rattle.jk_model_domains.specs.OwnStates.{with_state}
 use Rattle.jk_model_machine.specs.Executions.{Outcome, Returns, Working}
 use Rattle.jk_model_machine.specs.Initialising.{RunsCode}

@@ -11,7 +11,7 @@ use Rattle.jk_model_classes.specs.Classes.{record_of}
 use Rattle.jk_model_classes.specs.Worlds.{IsNamed}
 use Rattle.jk_model_typing.specs.FrameTypes.{array_type}
 use Rattle.jk_model_typing.specs.Scopes.{LeadsToLink}
-use Rattle.jk_model_domains.specs.Frames.{FrameState}
+use Rattle.jk_model_frames.specs.Frames.{FrameState}
 use Rattle.jk_model_machine.specs.Initialising.{FrameNeeds, InstrNeeds, RunsCode}
 use Rattle.jk_model_machine.specs.Machine.{DomainState}
 use Rattle.jk_model_machine.specs.Sealed.{IsAtHome, IsKnownIn, KnowsClassOf}

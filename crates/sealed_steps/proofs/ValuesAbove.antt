@@ -14,7 +14,7 @@ use Rattle.jk_model_typing.specs.declared.frames.VType.{VType}
 use Rattle.jk_model_typing.specs.declared.frames.VType.TheVariants.{Unusable, Null, Ref}
 use Rattle.jk_model_typing.specs.FrameTypes.{EachFits, Fits, FrameFits, RefFits, array_type, value_of}
 use Rattle.jk_model_typing.specs.Scopes.{CodeScope}
-use Rattle.jk_model_domains.specs.Frames.{FrameState}
+use Rattle.jk_model_frames.specs.Frames.{FrameState}
 use Rattle.jk_model_domains.specs.Objects.{CAPABILITY, NamedObject, class_type, type_of}
 use Rattle.jk_model_domains.specs.ValueTypes.{EachValueFits, FrameHolds, HoldsDeclared, ValueFits}
 use Rattle.type_frames.proofs.OrderOfTypes.{Fits-cases, RefFits-trans}

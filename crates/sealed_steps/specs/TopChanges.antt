@@ -3,7 +3,7 @@ use Rattle.std.specs.Prelude.{◌≡◌, ◌≢◌, ℕ, ◌+◌, ◌≤◌, Lis
 use Rattle.std.specs.List.{AllByRecursion}
 use Rattle.jk_model.specs.declared.identifiers.ClassId.{ClassId}
 use Rattle.jk_model.specs.declared.identifiers.ThreadNo.{ThreadNo}
-use Rattle.jk_model_domains.specs.Frames.{FrameState, frames_chunks}
+use Rattle.jk_model_frames.specs.Frames.{FrameState, frames_chunks}
 use Rattle.jk_model_machine.specs.Machine.{DomainState, Inside, Machine, free_chunks}
 use Rattle.jk_model_machine.specs.Places.{RunningSegment}
 use Rattle.jk_model_machine.specs.Sealed.{FramesFit, IsAtHome, IsSealedInside, NamesKnown, in_progress_by, initialises}

@@ -7,7 +7,7 @@ ghost use Rattle.jk_model_machine.specs.Places.{RunningSegment};
 ghost use Rattle.jk_model_machine.specs.Sealed.{IsSealed};
 ghost use Rattle.jk_model_machine.specs.Starts.{Starts};
 ghost use Rattle.jk_model_machine.specs.Steps.{Steps};
-ghost use Rattle.jk_model_domains.specs.Frames.{FrameState};
+ghost use Rattle.jk_model_frames.specs.Frames.{FrameState};
 ghost use Rattle.jk_model_machine.specs.Machine.{DomainState, Inside};
 ghost use Rattle.jk_model_machine.specs.Places.{with_frames, without_running};
 ghost use Rattle.sealed_steps.specs.FirstNumbers.{CountsFromOne};

@@ -26,7 +26,7 @@ use Rattle.jk_model_typing.specs.Groups.{Shape, Takes, group_of}
 use Rattle.jk_model_typing.specs.Rows.{AllMeet, Does, HasShape, Row, arguments}
 use Rattle.jk_model_typing.specs.Scopes.{CodeScope, parameter_values, result_values}
 use Rattle.jk_model_typing.specs.Typing as Types
-use Rattle.jk_model_domains.specs.Frames.{FrameState}
+use Rattle.jk_model_frames.specs.Frames.{FrameState}
 use Rattle.jk_model_domains.specs.NumberRows.{IsOnTop, value_slots}
 use Rattle.jk_model_domains.specs.Objects.{CAPABILITY, NamedObject, class_type, type_of}
 use Rattle.jk_model_domains.specs.ValueTypes.{EachValueFits, FrameHolds, ValueFits}

@@ -23,7 +23,7 @@ use Rattle.jk_model.specs.SystemTable.{SystemClass, SystemMethod, parent_number,
 use Rattle.jk_model_typing.specs.FrameTypes.{STRING}
 use Rattle.jk_model_classes.specs.Worlds.{IsNamed, NamedClass}
 use Rattle.jk_model_typing.specs.Scopes.{CodeScope}
-use Rattle.jk_model_domains.specs.Frames.{FrameState, new_frame}
+use Rattle.jk_model_frames.specs.Frames.{FrameState, new_frame}
 use Rattle.jk_model_domains.specs.OwnStates.{IsLiteralOf, Literal, literal_named}
 use Rattle.jk_model_machine.specs.Executions.{Calls, CallsStatic, NamesMethod, Working}
 use Rattle.jk_model_machine.specs.Initialising.{IsInitialiserHead, RunsCode}

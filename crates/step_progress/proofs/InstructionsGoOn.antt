@@ -25,7 +25,7 @@ use Rattle.jk_model_typing.specs.FrameTypes.{of_class, value_of}
 use Rattle.jk_model_typing.specs.Scopes.{CodeScope, LeadsToLink, is_init, is_static, own_receiver, parameter_values}
 use Rattle.jk_model_typing.specs.Typing as Types
 use Rattle.jk_model_typing.specs.Typing.{IsStart, IsTyping}
-use Rattle.jk_model_domains.specs.Frames.{FrameState, head_chunks}
+use Rattle.jk_model_frames.specs.Frames.{FrameState, head_chunks}
 use Rattle.jk_model_domains.specs.NumberRows.{IsOnTop, NumberRow, Replaces, exchanges, uses_local, jumps, switches, divides_by_zero, returns, returns_nothing}
 use Rattle.jk_model_domains.specs.Objects.{PRINT_STREAM}
 use Rattle.jk_model_domains.specs.OwnStates.{literal_named}

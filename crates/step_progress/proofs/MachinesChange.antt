@@ -11,7 +11,7 @@ use Rattle.jk_model.specs.declared.steps.After.{After}
 use Rattle.jk_model.specs.declared.steps.Raise.{Raise}
 use Rattle.jk_model_classes.specs.declared.records.ClassRecord.{ClassRecord}
 use Rattle.jk_model_typing.specs.Scopes.{CodeScope}
-use Rattle.jk_model_domains.specs.Frames.{FrameState, new_frame}
+use Rattle.jk_model_frames.specs.Frames.{FrameState, new_frame}
 use Rattle.jk_model_domains.specs.NumberRows.{NumberRow, UsesLocal, divides_by_zero, exchanges, jumps, switches, uses_local}
 use Rattle.jk_model_domains.specs.NumberRows as Rows
 use Rattle.jk_model_domains.specs.OwnStates.{OwnState}

@@ -7,7 +7,7 @@ use Rattle.jk_model.specs.declared.instructions.Instr.{Instr}
 use Rattle.jk_model_classes.specs.declared.records.ClassRecord.{ClassRecord}
 use Rattle.jk_model_classes.specs.declared.records.Link.TheVariants as To
 use Rattle.jk_model_typing.specs.Scopes.{CodeScope, LeadsToLink}
-use Rattle.jk_model_domains.specs.Frames.{FrameState}
+use Rattle.jk_model_frames.specs.Frames.{FrameState}
 use Rattle.jk_model_domains.specs.NumberRows.{IsOfNumbers, number_opcodes}
 use Rattle.jk_model_machine.specs.Initialising.{FrameNeeds, InstrNeeds, RunsCode}
 use Rattle.step_progress.specs.BuiltCodes.{IsBuiltInstr}

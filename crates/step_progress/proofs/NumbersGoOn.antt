@@ -27,7 +27,7 @@ use Rattle.jk_model_typing.specs.Groups.{Group, Shape, Always, LoadsLocal, Store
 use Rattle.jk_model_typing.specs.Rows.{Does, HasShape, Row}
 use Rattle.jk_model_typing.specs.Scopes.{CodeScope}
 use Rattle.jk_model_typing.specs.Typing.{GoesOnAt}
-use Rattle.jk_model_domains.specs.Frames.{FrameState}
+use Rattle.jk_model_frames.specs.Frames.{FrameState}
 use Rattle.jk_model_domains.specs.NumberRows.{ARITHMETIC_EXCEPTION, Calculates, Decides, DividesByZero, Exchanges, HasRow, IsConversion, IsOfNumbers, IsOnTop, Moves, NumberRow, Pushes, Replaces, compared, comparisons, copies, distance, divides_by_zero, drops, exchanges, int_divisions, int_operations, is_load, is_null, is_return_of_value, is_same_reference, is_store_of_top, jumps, long_divisions, long_operations, long_shifts, number_opcodes, returns, returns_nothing, shift_zeros, shift_zeros_long, switch_target, switches, uses_local, values_slots, with_value}
 use Rattle.jk_model_domains.specs.Objects.{NamedObject}
 use Rattle.jk_model_domains.specs.ValueTypes.{EachValueFits, FrameHolds, ValueFits}

@@ -23,7 +23,7 @@ use Rattle.jk_model_classes.specs.SystemRecords.{AreSystemRecords}
 use Rattle.jk_model_typing.specs.FrameTypes.{STRING}
 use Rattle.jk_model_domains.specs.declared.states.ClassState.{ClassState}
 use Rattle.jk_model_domains.specs.declared.states.ClassState.TheVariants as State
-use Rattle.jk_model_domains.specs.Frames.{FrameState, head_chunks}
+use Rattle.jk_model_frames.specs.Frames.{FrameState, head_chunks}
 use Rattle.jk_model_domains.specs.Objects.{PRINT_STREAM}
 use Rattle.jk_model_domains.specs.OwnStates.{ClassPart, OwnState, part_of, state_of}
 use Rattle.jk_model_machine.specs.Executions.{Calls, GoesOn, Outcome, Raises, Returns, Says, Working}

@@ -15,7 +15,7 @@ use Rattle.jk_model_classes.specs.Members.{CLINIT, INIT}
 use Rattle.jk_model_classes.specs.Worlds.{IsNamed}
 use Rattle.jk_model_typing.specs.FrameTypes.{STRING}
 use Rattle.jk_model_typing.specs.Scopes.{CodeScope, IsScopeOf, LeadsToLink}
-use Rattle.jk_model_domains.specs.Frames.{FrameState}
+use Rattle.jk_model_frames.specs.Frames.{FrameState}
 use Rattle.jk_model_domains.specs.NumberRows.{IsOfNumbers}
 use Rattle.jk_model_domains.specs.Objects.{PRINT_STREAM}
 use Rattle.jk_model_domains.specs.OwnStates.{IsLiteralOf, literal_named}

@@ -1,6 +1,6 @@
 -- The last argument is taken first, and put into the locals last.
 use Rattle.std.proofs.Common.{◌<◌, ◌+◌, ℕ, set, subst, arith}
-use Rattle.jk_model_domains.specs.Frames.{FrameState}
+use Rattle.jk_model_frames.specs.Frames.{FrameState}
 use Rattle.frame_store.specs.FrameContents.{SetsTop, TopFrame}
 use Rattle.jk_kernel.specs.Calling.{with_stack}
 use Rattle.jk_kernel.proofs.ArgumentsMoved.{all_fit, begins_with, has_local, locals_more, may_begin, on_now, one_less, taken_now, the_last}

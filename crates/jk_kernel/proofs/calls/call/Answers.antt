@@ -1,6 +1,6 @@
 -- The code of the method is the one in whose scope the call is judged.
 use Rattle.std.proofs.Common.{◌≡◌, ◌≤◌, length, refl, sym, ap, subst, ◌∙◌, arith}
-use Rattle.jk_model_domains.specs.Frames.{head_chunks}
+use Rattle.jk_model_frames.specs.Frames.{head_chunks}
 use Rattle.jk_model_typing.specs.Scopes.{CodeScope}
 use Rattle.jk_model_machine.specs.Executions.{call_head}
 use Rattle.frame_store.specs.FrameContents.{free_chunks}

@@ -1,6 +1,6 @@
 -- One frame is off.
 use Rattle.std.proofs.Common.{◌≡◌, ◌<◌, ◌-◌, ℕ, List, length, ap, arith}
-use Rattle.jk_model_domains.specs.Frames.{FrameState}
+use Rattle.jk_model_frames.specs.Frames.{FrameState}
 use Rattle.frame_store.specs.declared.domain_frames.DomainFrames.{DomainFrames}
 use Rattle.frame_store.specs.ChainMoves.{place}
 use Rattle.frame_store.specs.DomainMoves.{depth_of, frames_of, lower_of, value_at}

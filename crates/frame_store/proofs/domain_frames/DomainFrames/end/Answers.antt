@@ -1,6 +1,6 @@
 -- The emptied segment goes.
 use Rattle.std.proofs.Common.{◌≡◌, ◌∙◌, List, length, sym, ap}
-use Rattle.jk_model_domains.specs.Frames.{FrameState}
+use Rattle.jk_model_frames.specs.Frames.{FrameState}
 use Rattle.frame_store.specs.ChainMoves.{place}
 use Rattle.frame_store.specs.DomainMoves.{depth_of, value_at}
 use Rattle.frame_store.specs.Builds.{length-build}

@@ -1,7 +1,7 @@
 -- The head alone is written.
 use Rattle.std.proofs.Common.{◌≡◌, ◌<◌, ◌≤◌, ◌^◌, ◌++◌, ◌∷◌, [], ℕ, set, refl, sym, ap, subst}
 use Rattle.std.proofs.lemmas.List.{get_or_read}
-use Rattle.jk_model_domains.specs.Frames.{head_chunks}
+use Rattle.jk_model_frames.specs.Frames.{head_chunks}
 use Rattle.frame_store.specs.declared.frame_blocks.FrameRecord.{FrameRecord}
 use Rattle.frame_store.specs.FrameBlocks.{no_record, lowest_in}
 use Rattle.frame_store.specs.DomainMoves.{depth_of, lower_of, value_at}

@@ -1,6 +1,6 @@
 -- The number and the blocks of the frame become free.
 use Rattle.std.proofs.Common.{◌-◌, ◌∙◌, ℕ, refl, sym, ap, subst}
-use Rattle.jk_model_domains.specs.Frames.{head_chunks}
+use Rattle.jk_model_frames.specs.Frames.{head_chunks}
 use Rattle.frame_store.specs.FrameBlocks.{record_at, IsDomain}
 use Rattle.frame_store.proofs.FrameIsOff.{blocks_are, off_keeps, off_top, off_others}
 use Rattle.frame_store.proofs.domain_frames.DomainFrames.pop.Goals as goal

@@ -1,7 +1,7 @@
 -- The entry is written above the others.
 use Rattle.std.proofs.Common.{◌≡◌, ◌≢◌, ◌<◌, ◌+◌, ◌*◌, ◌^◌, ◌∙◌, ◌++◌, ◌∷◌, [], ℕ, set, refl, sym, ap, subst, arith}
 use Rattle.std.proofs.lemmas.List.{get_or_read, length-set}
-use Rattle.jk_model_domains.specs.Frames.{head_chunks}
+use Rattle.jk_model_frames.specs.Frames.{head_chunks}
 use Rattle.frame_store.specs.declared.frame_blocks.FrameRecord.{FrameRecord}
 use Rattle.frame_store.specs.ChainMoves.{count}
 use Rattle.frame_store.specs.FrameBlocks.{no_record, record_at, index_of, value_of, frame_of, lowest_in}

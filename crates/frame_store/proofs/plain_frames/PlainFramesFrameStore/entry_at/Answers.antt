@@ -1,6 +1,6 @@
 -- The frame is found in its domain.
 use Rattle.std.proofs.Common.{◌∙◌, slice_get, sym, ap}
-use Rattle.jk_model_domains.specs.Frames.{FrameState}
+use Rattle.jk_model_frames.specs.Frames.{FrameState}
 use Rattle.frame_store.specs.DomainMoves.{value_at}
 use Rattle.frame_store.proofs.StoreChanges.{standing_at, found_slot}
 use Rattle.frame_store.proofs.StoreReads.{frame_low, get_past, frame_is, index_below}

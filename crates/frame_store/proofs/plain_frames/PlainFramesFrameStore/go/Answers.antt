@@ -1,5 +1,5 @@
 -- The head of the top frame is written in the domain at the cursor.
-use Rattle.jk_model_domains.specs.Frames.{FrameState}
+use Rattle.jk_model_frames.specs.Frames.{FrameState}
 use Rattle.frame_store.proofs.CursorWrites.{some_domain, frame_at, set_stays, sets}
 use Rattle.frame_store.proofs.plain_frames.PlainFramesFrameStore.go.Goals as goal
 

@@ -1,6 +1,6 @@
 -- The top frame is read where the cursor has it.
 use Rattle.std.proofs.Common.{◌<◌, ◌-◌, ◌∙◌, length, slice_get, ap, subst}
-use Rattle.jk_model_domains.specs.Frames.{FrameState}
+use Rattle.jk_model_frames.specs.Frames.{FrameState}
 use Rattle.frame_store.proofs.CursorPoints.{has_domain, found_here, frame_here, value_here}
 use Rattle.frame_store.proofs.plain_frames.PlainFramesFrameStore.peek.Goals as goal
 

@@ -1,6 +1,6 @@
 -- The top frame goes in its domain.
 use Rattle.std.proofs.Common.{ℕ, ◌<◌, List, length, subst, sym, ap, ◌∙◌}
-use Rattle.jk_model_domains.specs.Frames.{FrameState}
+use Rattle.jk_model_frames.specs.Frames.{FrameState}
 use Rattle.frame_store.specs.FrameContents.{FrameContent, Pops}
 use Rattle.frame_store.specs.StoreContents.{content_of, IsFound}
 use Rattle.frame_store.proofs.StoreChanges.{found_slot, found_top, store_kept}

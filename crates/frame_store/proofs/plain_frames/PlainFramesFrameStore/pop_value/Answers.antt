@@ -1,6 +1,6 @@
 -- An entry is taken off in the domain at the cursor.
 use Rattle.std.proofs.Common.{◌<◌, length, subst}
-use Rattle.jk_model_domains.specs.Frames.{FrameState}
+use Rattle.jk_model_frames.specs.Frames.{FrameState}
 use Rattle.frame_store.proofs.CursorWrites.{some_domain, frame_at, lowest_at, value_was, taken_stays, takes}
 use Rattle.frame_store.proofs.plain_frames.PlainFramesFrameStore.pop_value.Goals as goal
 

@@ -1,7 +1,7 @@
 -- A frame is pushed in the domain.
 use Rattle.std.proofs.Common.{◌≡◌, ℕ, ◌+◌, ◌-◌, ◌<◌, ◌≤◌, ◌++◌, ◌∷◌, ◌∙◌, [], Some, nat_eq, option_map, arith, subst, sym, ap}
 use Rattle.std.specs.Option.{option_map_or}
-use Rattle.jk_model_domains.specs.Frames.{new_frame, head_chunks}
+use Rattle.jk_model_frames.specs.Frames.{new_frame, head_chunks}
 use Rattle.frame_store.specs.declared.domain_frames.DomainFrames.{DomainFrames}
 use Rattle.indexmap.specs.IndexMap.{IndexMap, get, with_value_at}
 use Rattle.jk_model.specs.declared.identifiers.DomainId.{DomainId}

@@ -1,6 +1,6 @@
 -- An entry is pushed in the domain at the cursor.
 use Rattle.std.proofs.Common.{◌<◌, ◌++◌, ◌∷◌, [], length, subst}
-use Rattle.jk_model_domains.specs.Frames.{FrameState}
+use Rattle.jk_model_frames.specs.Frames.{FrameState}
 use Rattle.frame_store.proofs.CursorWrites.{some_domain, frame_at, lowest_at, value_was, set_stays, sets}
 use Rattle.frame_store.proofs.plain_frames.PlainFramesFrameStore.push_value.Goals as goal
 

@@ -1,6 +1,6 @@
 -- A local of the top frame is written in the domain at the cursor.
 use Rattle.std.proofs.Common.{◌<◌, length, set, subst}
-use Rattle.jk_model_domains.specs.Frames.{FrameState}
+use Rattle.jk_model_frames.specs.Frames.{FrameState}
 use Rattle.frame_store.proofs.CursorWrites.{some_domain, frame_at, lowest_at, value_was, set_stays, sets}
 use Rattle.frame_store.proofs.plain_frames.PlainFramesFrameStore.set_local.Goals as goal
 
