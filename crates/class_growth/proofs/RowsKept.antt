@@ -20,7 +20,7 @@ use Rattle.jk_model_typing.specs.Groups.{Shape, Takes, Loads, Stores, Constructs
 use Rattle.jk_model_typing.specs.Rows.{IsGuarded, IsReceiver, Meets, AllMeet, IsOwnOrParent, ConstructsObject, ConstructsThis, replaced, is_made_at, is_fresh_this, Does, Row}
 use Rattle.jk_model_typing.specs.Scopes.{CodeScope}
 use Rattle.class_growth.specs.ScopesOver.{with_more}
-use Rattle.class_growth.proofs.MoreClasses.{record-still, flags-still, flags-before, package-still, subclass-before}
+use Rattle.class_growth.proofs.MoreClasses.{record-still, flags-before, package-still, subclass-before}
 use Rattle.class_growth.proofs.TypesKept.{of_class-kept, fits-still}
 use Rattle.class_growth.proofs.ScopesKept.{IsClosedScope}
 use Rattle.class_growth.proofs.ShapesKept.{HasDemand, HasShapes, group_of-names_none, shape-still}
@@ -69,12 +69,13 @@ module _ (s : CodeScope) (more : List ClassRecord) (ordered : AreOrdered s.class
   -- ---- Constructors.
 
   constructs_object-still : (c : ClassId) (m : MemberId) (receiver : VType) (before : FrameType) (below : List VType) (after : FrameType)
-      → HasClass s.classes c → ConstructsObject s c m receiver before below after → ConstructsObject (with_more s more) c m receiver before below after
-  constructs_object-still c m receiver before below after there (place, fresh, made, (flags, are, may), e) = (
+      → HasClass s.classes c → HasClass s.classes m.class → ConstructsObject s c m receiver before below after
+      → ConstructsObject (with_more s more) c m receiver before below after
+  constructs_object-still c m receiver before below after there declared (place, fresh, made, may, e) = (
     place,
     fresh,
     made,
-    (flags, flags-still s.classes more (Method m) flags are, λ protected. package-still s.classes more s.self m.class (may protected)),
+    λ guard. may (guarded-before (Method m) declared guard),
     e
         ∙ ap
         (λ new. record before { locals = replaced (is_made_at place) new before.locals; stack = replaced (is_made_at place) new below })
@@ -105,10 +106,16 @@ module _ (s : CodeScope) (more : List ClassRecord) (ordered : AreOrdered s.class
   does-still place (Loads demand n) before after there (v, at, meets, e) = (v, at, meets-still demand v there meets, e)
   does-still place (Stores demand n) before after there (below, v, stack, meets, within, e) =
       (below, v, stack, meets-still demand v there meets, within, e)
-  does-still place (Constructs c m demands) before after there (below, receiver, taken, stack, meet, inl object) =
-      (below, receiver, taken, stack, all_meet-still demands taken there.1 meet, inl (constructs_object-still c m receiver before below after there.0 object))
+  does-still place (Constructs c m demands) before after there (below, receiver, taken, stack, meet, inl object) = (
+    below,
+    receiver,
+    taken,
+    stack,
+    all_meet-still demands taken there.2 meet,
+    inl (constructs_object-still c m receiver before below after there.0 there.1 object),
+  )
   does-still place (Constructs c m demands) before after there (below, receiver, taken, stack, meet, inr this) =
-      (below, receiver, taken, stack, all_meet-still demands taken there.1 meet, inr (constructs_this-still c receiver before below after this))
+      (below, receiver, taken, stack, all_meet-still demands taken there.2 meet, inr (constructs_this-still c receiver before below after this))
   does-still place shape before after there h = h
 
   pub row-still : (place : ℕ) (i : Instr) (before after : FrameType) → Row s place i before after → Row (with_more s more) place i before after

@@ -42,7 +42,7 @@ abbrev pub HasShapes : List ClassRecord → Shape → Type 0
 HasShapes classes (Takes demands gives) = AllByRecursion (HasDemand classes) demands
 HasShapes classes (Loads demand n) = HasDemand classes demand
 HasShapes classes (Stores demand n) = HasDemand classes demand
-HasShapes classes (Constructs c m demands) = HasClass classes c × AllByRecursion (HasDemand classes) demands
+HasShapes classes (Constructs c m demands) = HasClass classes c × HasClass classes m.class × AllByRecursion (HasDemand classes) demands
 HasShapes classes _ = ⊤
 
 -- ---- Those of the table of instructions speak of none.
@@ -212,7 +212,8 @@ module _ (s : CodeScope) (more : List ClassRecord) where
         uses_method-still c m method uses,
         inl (named, e ∙ ap (Constructs c m) (sym (arguments-kept c m method uses))),
       ),
-      subst (HasShapes s.classes) (sym e) ((method_there c m method uses).0, fitting_all s.classes (parameter_values s method)),
+      (let there = method_there c m method uses in
+          subst (HasShapes s.classes) (sym e) (there.0, there.1, fitting_all s.classes (parameter_values s method))),
     )
     shape-still CallsSpecial shape none (c, m, method, uses, inr (named, below, e)) =
         let named_class = of_class-kept s.classes more c (method_there c m method uses).0 in
