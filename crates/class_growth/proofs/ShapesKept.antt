@@ -138,7 +138,7 @@ module _ (s : CodeScope) (more : List ClassRecord) where
     answers-still : (v : VType) → Answers s v → Answers (with_more s more) v
     answers-still v (t, is, e) = (t, is, e ∙ sym (value_of-kept s.classes more t (closed.method.result t is)))
 
-    type_there : (t : TypeRef) → LeadsToLink s i (Link.Class t) → HasType s.classes t
+    pub type_there : (t : TypeRef) → LeadsToLink s i (Link.Class t) → HasType s.classes t
     type_there t leads = closed.links leads.0 (Link.Class t) leads.2
 
     module _ (c : ClassId) (m : MemberId) where
@@ -148,19 +148,19 @@ module _ (s : CodeScope) (more : List ClassRecord) where
       uses_field-still : (field : FieldRecord) → UsesField s i c m field → UsesField (with_more s more) i c m field
       uses_field-still field (leads, is) = (leads, field-still s.classes more m field is)
 
-      field_value-kept : (field : FieldRecord) → UsesField s i c m field → value_of (s.classes ++ more) field.kind ≡ value_of s.classes field.kind
+      pub field_value-kept : (field : FieldRecord) → UsesField s i c m field → value_of (s.classes ++ more) field.kind ≡ value_of s.classes field.kind
       field_value-kept field (leads, is) = value_of-kept s.classes more field.kind (field-closed s.classes closed.classes m field is)
 
-      method_there : (method : MethodRecord) → UsesMethod s i c m method → HasClass s.classes c × HasClass s.classes m.class
+      pub method_there : (method : MethodRecord) → UsesMethod s i c m method → HasClass s.classes c × HasClass s.classes m.class
       method_there method (leads, is) = closed.links leads.0 (Link.Method c m) leads.2
 
       uses_method-still : (method : MethodRecord) → UsesMethod s i c m method → UsesMethod (with_more s more) i c m method
       uses_method-still method (leads, is) = (leads, method-still s.classes more m method is)
 
-      arguments-kept : (method : MethodRecord) → UsesMethod s i c m method → arguments (with_more s more) method ≡ arguments s method
+      pub arguments-kept : (method : MethodRecord) → UsesMethod s i c m method → arguments (with_more s more) method ≡ arguments s method
       arguments-kept method (leads, is) = ap (map Fitting) (parameters-kept method (method-closed s.classes closed.classes m method is))
 
-      method_results-kept : (method : MethodRecord) → UsesMethod s i c m method → result_values (with_more s more) method ≡ result_values s method
+      pub method_results-kept : (method : MethodRecord) → UsesMethod s i c m method → result_values (with_more s more) method ≡ result_values s method
       method_results-kept method (leads, is) = results-kept method (method-closed s.classes closed.classes m method is)
 
     -- ---- Shapes.

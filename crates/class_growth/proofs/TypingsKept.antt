@@ -31,7 +31,7 @@ module _ (s : CodeScope) (more : List ClassRecord) where
   caught_by None there = refl
   caught_by (Some c) there = of_class-kept s.classes more c (there c refl)
 
-  caught_value-kept : (h : Caught) → HasCaught s.classes h → caught_value (with_more s more) h ≡ caught_value s h
+  pub caught_value-kept : (h : Caught) → HasCaught s.classes h → caught_value (with_more s more) h ≡ caught_value s h
   caught_value-kept h there = caught_by h.class there
 
   fits_handler-still : (frames : List (Option FrameType)) (h : Caught) (locals : List VType) (fresh : Bool) → HasCaught s.classes h
@@ -41,7 +41,7 @@ module _ (s : CodeScope) (more : List ClassRecord) where
       subst (λ v. FitsAt (with_more s more) frames h.handler (record { locals = locals; stack = v ∷ []; fresh = fresh }))
       (sym (caught_value-kept h there)) (fits_at-still frames h.handler (handler_frame s h locals fresh) fits)
 
-  own_receiver-kept : HasClass s.classes s.self → own_receiver (with_more s more) ≡ own_receiver s
+  pub own_receiver-kept : HasClass s.classes s.self → own_receiver (with_more s more) ≡ own_receiver s
   own_receiver-kept there =
       ap (λ v. if is_static s.method then [] else (if is_init s.method then FreshThis ∷ [] else v ∷ [])) (of_class-kept s.classes more s.self there)
 

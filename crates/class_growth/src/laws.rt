@@ -104,7 +104,7 @@ pub fn rows_stay()
     ensures { RowsStay }
 {}
 
-/// A typing of a method is one still. Whether it is still the least isn't said.
+/// A typing of a method is one still. That the least one stays the least is a law of `erased_typings`.
 pub fn typings_stay()
     ensures starts { StartsStay }
     ensures fits { FitsStay }
