@@ -12,19 +12,19 @@ use Rattle.jk_model.specs.SystemTable.{SystemClass, system_classes}
 use Rattle.jk_model.proofs.EachItem.{all_weaker}
 use Rattle.jk_model_classes.specs.declared.records.BaseRef.{BaseRef}
 use Rattle.jk_model_classes.specs.declared.records.BaseRef.TheVariants as Base
-use Rattle.jk_model_classes.specs.declared.records.Caught.{Caught}
 use Rattle.jk_model_classes.specs.declared.records.ClassRecord.{ClassRecord}
 use Rattle.jk_model_classes.specs.declared.records.TypeRef.{TypeRef}
-use Rattle.jk_model_classes.specs.Classes.{record_of, parents_of, superclasses, AreOrdered, IsInterface, IsSubclass, OBJECT, is_interface_record}
+use Rattle.jk_model_classes.specs.Classes.{record_of, superclasses, AreOrdered, IsInterface, OBJECT, is_interface_record}
 use Rattle.jk_model_classes.specs.ClassFlags.{has, INTERFACE}
 use Rattle.jk_model_classes.specs.SystemRecords.{AreSystemRecords}
 use Rattle.jk_model_typing.specs.declared.frames.FrameType.{FrameType}
 use Rattle.jk_model_typing.specs.declared.frames.VType.{VType}
 use Rattle.jk_model_typing.specs.declared.frames.VType.TheVariants.{Ref}
 use Rattle.jk_model_typing.specs.FrameTypes.{erased_base, of_class, of_type, value_of, base_value, dims_value, array_type, throwable, STRING, THROWABLE}
-use Rattle.jk_model_typing.specs.Scopes.{CodeScope, result_values}
-use Rattle.jk_model_typing.specs.Typing.{FrameAt, IsLeastTyping, caught_value}
+use Rattle.jk_model_typing.specs.Scopes.{CodeScope}
+use Rattle.jk_model_typing.specs.Typing.{FrameAt, IsLeastTyping}
 use Rattle.class_growth.proofs.ItemsOfLists.{item-at}
+use Rattle.class_table.proofs.ItemsByPlace.{slice_get-from_take}
 use Rattle.class_table.proofs.StandingAbove.{parent-lower, superclasses-cases}
 use Rattle.erased_typings.specs.ErasedFrames.{HaveClassParents, IsErasedBase, IsErasedType, IsErasedFrame}
 use Rattle.erased_typings.proofs.MarkedTypes.{is_marked, IsPlain, IsPlainFrame, AreMarks}
@@ -36,12 +36,6 @@ is_interface classes c = is_interface_record (record_of classes c)
 
 -- ---- The records of system classes in front of others.
 
-take_at : {X : Type 0} (k : ℕ) (xs : List X) (n : ℕ) (x : X) → slice_get (take k xs) n ≡ Some x → slice_get xs n ≡ Some x
-take_at zero xs n x e = absurd cc
-take_at (suc k) [] n x e = absurd cc
-take_at (suc k) (y ∷ xs) zero x e = e
-take_at (suc k) (y ∷ xs) (suc n) x e = take_at k xs n x e
-
 module _ (classes : List ClassRecord) (system : AreSystemRecords (take (length system_classes) classes)) where
   -- the flags of a system class are those of its entry
   system_flags : (n : ℕ) (entry : SystemClass) → slice_get system_classes n ≡ Some entry
@@ -49,7 +43,7 @@ module _ (classes : List ClassRecord) (system : AreSystemRecords (take (length s
   system_flags n entry at =
       let low : n < length (take (length system_classes) classes) = rw (system.as_many) (slice_get_within system_classes n entry at) in
       let found = item-at (take (length system_classes) classes) n low in
-      (found.0, take_at (length system_classes) classes n found.0 found.1, (system.each n entry found.0 at found.1).flags)
+      (found.0, slice_get-from_take classes (length system_classes) n found.0 found.1, (system.each n entry found.0 at found.1).flags)
 
   plain_by : (n : ℕ) (o : Option SystemClass) → slice_get system_classes n ≡ o
       → option_map_or (λ (entry : SystemClass). has entry.flags INTERFACE) o true ≡ false → is_interface classes (record { 0 = n }) ≡ false

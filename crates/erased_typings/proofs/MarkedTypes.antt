@@ -1,6 +1,6 @@
 -- Types without references to marked classes: such a reference is lowered to null, which fits it. What fits such a reference is
 -- null or such a reference itself, where whatever is below a marked class is marked.
-use Rattle.std.proofs.Common.{◌≡◌, ℕ, ◌+◌, ◌<◌, ◌⊎◌, inl, inr, Bool, true, false, List, [], ◌∷◌, map, Option, Some, None, refl, sym, ap, ◌∙◌, subst, if◌then◌else◌}
+use Rattle.std.proofs.Common.{◌≡◌, ℕ, ◌+◌, inl, inr, Bool, true, false, List, [], ◌∷◌, map, Option, Some, None, refl, sym, ap, ◌∙◌, subst, if◌then◌else◌}
 use Rattle.std.specs.Prelude.{⊤, option_map, slice_get}
 use Rattle.std.specs.List.{AllByRecursion}
 use Rattle.std.proofs.lemmas.Bool.{false≢true}
@@ -16,7 +16,7 @@ use Rattle.jk_model_classes.specs.Classes.{IsSubclass, OBJECT}
 use Rattle.jk_model_typing.specs.declared.frames.FrameType.{FrameType}
 use Rattle.jk_model_typing.specs.declared.frames.VType.{VType}
 use Rattle.jk_model_typing.specs.declared.frames.VType.TheVariants.{Unusable, Long, Null, Ref}
-use Rattle.jk_model_typing.specs.FrameTypes.{IsClassBelow, RefFits, Fits, EachFits, FrameFits, IsUsable, IsFrameOf, slots}
+use Rattle.jk_model_typing.specs.FrameTypes.{IsClassBelow, RefFits, Fits, EachFits, FrameFits, IsUsable, IsFrameOf}
 use Rattle.type_frames.proofs.OrderOfTypes.{Fits-refl, Fits-below_ref}
 use Rattle.type_frames.proofs.OrderOfFrames.{EachFits-slots}
 

@@ -1,6 +1,6 @@
 -- The frames of a typing, lowered one by one, are a typing still, where instructions push no marked reference and neither does a
 -- handler or the start. So each least typing has plain frames.
-use Rattle.std.proofs.Common.{◌≡◌, ℕ, zero, suc, pos, ℤ, ◌-◌, Bool, true, false, IsTrue, List, [], ◌∷◌, ◌++◌, length, map, flat_map, replicate, Option, Some, None, Contains, refl, sym, ap, ◌∙◌, subst, if◌then◌else◌}
+use Rattle.std.proofs.Common.{◌≡◌, ℕ, zero, suc, ◌-◌, Bool, true, false, List, [], ◌∷◌, length, map, flat_map, replicate, Option, Some, None, Contains, refl, sym, ap, ◌∙◌, subst, if◌then◌else◌}
 use Rattle.std.specs.Prelude.{option_map, slice_get}
 use Rattle.std.specs.List.{AllByRecursion}
 use Rattle.std.proofs.lemmas.List.{length-map}
@@ -18,7 +18,7 @@ use Rattle.jk_model_typing.specs.declared.frames.VType.TheVariants.{Unusable, Lo
 use Rattle.jk_model_typing.specs.FrameTypes.{EachFits, FrameFits, IsFrameOf, of_class}
 use Rattle.jk_model_typing.specs.Rows.{Row}
 use Rattle.jk_model_typing.specs.Scopes.{CodeScope, own_receiver, parameter_values, is_static, is_init}
-use Rattle.jk_model_typing.specs.Typing.{Covers, FrameAt, FitsAt, GoesOnAt, GoesWell, IsLeastTyping, IsStart, IsTyping, as_locals, caught_value, handler_frame, is_store}
+use Rattle.jk_model_typing.specs.Typing.{FrameAt, FitsAt, GoesWell, IsStart, IsTyping, as_locals, caught_value, handler_frame}
 use Rattle.type_frames.proofs.OrderOfFrames.{EachFits-trans, FrameFits-trans}
 use Rattle.type_rows.proofs.RowsAreMonotone.{row-monotone}
 use Rattle.erased_typings.proofs.MarkedTypes.{lowered, lowered_frame, IsPlain, IsPlainFrame, AreMarks, all-plain, each-below, frame-below, frame-sized, frame-above, each-plain_by_fit}
@@ -48,7 +48,7 @@ module _ (mark : ClassId → Bool) (frames : List (Option FrameType)) (place : �
   from_by (Some (Some g)) f e =
       (g, refl, same_Some (lowered_frame mark g) f (same_Some (Some (lowered_frame mark g)) (Some f) e))
 
-  frame-from_lowered : (f : FrameType) → FrameAt (lowered_frames mark frames) place f
+  pub frame-from_lowered : (f : FrameType) → FrameAt (lowered_frames mark frames) place f
       → (g : FrameType) × FrameAt frames place g × (lowered_frame mark g ≡ f)
   frame-from_lowered f at =
       from_by (slice_get frames place) f
@@ -77,7 +77,7 @@ module _ (mark : ClassId → Bool) where
 
 module _ (s : CodeScope) (mark : ClassId → Bool) (marks : AreMarks s.classes mark) (ordered : AreOrdered s.classes)
     (pushes : PushesPlain s mark) (begins : BeginsPlain s mark) where
-  start-plain : (f : FrameType) → IsStart s f → IsPlainFrame mark f
+  pub start-plain : (f : FrameType) → IsStart s f → IsPlainFrame mark f
   start-plain f start =
       let receiver : AllByRecursion (IsPlain mark) (own_receiver s) =
       receiver_by mark (is_static s.method) (is_init s.method) (of_class s.classes s.self) pushes.own in
