@@ -25,7 +25,7 @@ use Rattle.jk_model_machine.specs.Places.{RunningSegment}
 use Rattle.jk_model_machine.specs.Sealed.{FitsAsCaller, FitsAtCall}
 use Rattle.jk_model_machine.specs.Steps.{IsThrown}
 use Rattle.frame_store.specs.FrameContents.{FrameContent, TopFrame}
-use Rattle.number_ops.specs.FrameLaws.{FitsResult, IsTyped}
+use Rattle.number_laws.specs.FrameLaws.{FitsResult, IsTyped}
 use Rattle.number_ops.specs.NumberSteps.{DoesNumbers, IsReady}
 use Rattle.sealed_steps.proofs.CallersResume.{AnswersWell, resumes}
 use Rattle.sealed_steps.proofs.FramesInARow.{CallersFit, all-pop, all-push, callers-pop}

@@ -18,7 +18,7 @@ use crate::stepping::{Runs, follow};
 use domain_resolver::World;
 use frame_store::FrameStore;
 use jk_model::{FrameHead, MemberId};
-use number_ops::laws::returned_values_fit;
+use number_laws::laws::returned_values_fit;
 
 /// Does the instruction at which the top frame stands.
 pub(crate) fn execute<F: FrameStore>(

@@ -19,7 +19,7 @@ use Rattle.jk_model_domains.specs.ValueTypes.{FrameHolds}
 use Rattle.jk_model_machine.specs.Initialising.{RunsCode}
 use Rattle.jk_model_machine.specs.Sealed.{FitsHere}
 use Rattle.frame_store.specs.FrameContents.{FrameContent, SetsTop, TopFrame}
-use Rattle.number_ops.specs.FrameLaws.{IsTyped}
+use Rattle.number_laws.specs.FrameLaws.{IsTyped}
 use Rattle.number_ops.specs.NumberSteps.{DoesNumbers, IsReady}
 use Rattle.sealed_steps.proofs.NamesStayKnown.{number-head}
 use Rattle.sealed_steps.proofs.OneMeaning.{same_pos}

@@ -17,7 +17,7 @@ use domain_resolver::World;
 use frame_store::{FrameStore, PlainFrames};
 use jk_model::{After, FrameHead, Instr, List, MemberId, Value};
 use jk_model_typing::Typing;
-use number_ops::laws::rows_keep_types;
+use number_laws::laws::rows_keep_types;
 use number_ops::step;
 use std::alloc::Global;
 use std::process::Abort;

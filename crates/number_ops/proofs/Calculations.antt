@@ -7,9 +7,9 @@ use Rattle.jk_model.specs.declared.values.Value.{Value}
 use Rattle.jk_model.specs.declared.values.Value.TheVariants.{Int, Long}
 use Rattle.jk_model_domains.specs.NumberRows.{Calculates, DividesByZero, HasRow, IsConversion, compared, int_divisions, int_operations, long_divisions, long_operations, long_shifts}
 use Rattle.frame_store.specs.FrameContents.{FrameContent}
-use Rattle.number_ops.specs.Operands.{int_division_opcodes, is_among, long_division_opcodes}
+use Rattle.number_laws.specs.NumberOpcodes.{int_division_opcodes, is_among, long_division_opcodes}
 use Rattle.number_ops.specs.TopChanges.{OnTopWithRoom, Turns}
-use Rattle.number_ops.proofs.OpcodesAmong.{each_among}
+use Rattle.number_laws.proofs.EachOpcode.{each_among}
 use Rattle.number_ops.proofs.EntriesOnTop.{taken_with_room_is}
 
 -- an operation of a table's row

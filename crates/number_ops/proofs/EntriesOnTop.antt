@@ -6,12 +6,9 @@ use Rattle.jk_model.specs.declared.values.Value.{Value}
 use Rattle.jk_model_frames.specs.Frames.{FrameState}
 use Rattle.frame_store.specs.FrameContents.{FrameContent, TopFrame}
 use Rattle.number_ops.specs.TopChanges.{OnTop, OnTopWithRoom, Turns}
-use Rattle.number_ops.proofs.SameEnds.{one_split}
+use Rattle.number_laws.proofs.SameEnds.{one_split}
+use Rattle.number_laws.proofs.FrameParts.{with_stack}
 use Rattle.number_ops.proofs.TopFrames.{joined, met_between, same_top, stays, top_after}
-
--- a frame with this stack
-abbrev pub with_stack : FrameState → List Value → FrameState
-with_stack f stack = record f { stack = stack }
 
 -- ---- What is on top.
 

@@ -28,7 +28,7 @@ use Rattle.frame_store.specs.FrameContents.{FrameContent, TopFrame}
 use Rattle.number_ops.specs.NumberSteps.{IsReady}
 use Rattle.number_ops.specs.Operands.{Finds, FindsShape, FindsValue}
 use Rattle.number_ops.specs.TopChanges.{OnTopWithRoom}
-use Rattle.number_ops.proofs.ValuesFit.{are_met, end_fits, fits-length, fits-slots, int_fits, long_slots, usable-append, value_at, value_slots-fit}
+use Rattle.number_laws.proofs.ValuesFit.{are_met, end_fits, fits-length, fits-slots, int_fits, long_slots, usable-append, value_at, value_slots-fit}
 
 -- ---- A long that is stored has a local after it.
 

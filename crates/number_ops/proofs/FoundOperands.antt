@@ -7,7 +7,8 @@ use Rattle.jk_model_typing.specs.declared.frames.Demand.{Demand}
 use Rattle.jk_model_typing.specs.declared.frames.VType.{VType}
 use Rattle.jk_model_typing.specs.Groups.{Takes, int, long}
 use Rattle.frame_store.specs.FrameContents.{FrameContent}
-use Rattle.number_ops.specs.Operands.{FindsShape, IsMet}
+use Rattle.number_ops.specs.Operands.{FindsShape}
+use Rattle.number_laws.specs.KnownValues.{IsMet}
 use Rattle.number_ops.specs.TopChanges.{OnTop, OnTopWithRoom}
 
 module _ (c : FrameContent) (s : SegmentNo) where

@@ -8,10 +8,6 @@ mod FoundOperands
 mod LocalsUsed
 mod OpcodesAmong
 mod PartsOfOpcodes
-mod ResultsFit
-mod SameEnds
 mod SlotsTaken
 mod StepsDone
 mod TopFrames
-mod TypesKept
-mod ValuesFit

@@ -1,5 +1,5 @@
 -- What loads, stores and iinc make of the top frame.
-use Rattle.std.proofs.Common.{◌≡◌, ℕ, ℤ, pos, ◌+◌, ◌<◌, ◌≤◌, List, [], ◌∷◌, ◌++◌, length, set, Some, slice_get, IsTrue, refl, sym, ap, subst, ◌∙◌, inl, inr, add-one, arith}
+use Rattle.std.proofs.Common.{◌≡◌, ℕ, ℤ, pos, ◌+◌, ◌<◌, ◌≤◌, List, [], ◌∷◌, ◌++◌, length, set, Some, slice_get, IsTrue, sym, ap, subst, ◌∙◌, inl, inr, add-one, arith}
 use Rattle.std.specs.Int.{int_wrapping_add, w32}
 use Rattle.std.proofs.Math.ListN.{length-set}
 use Rattle.std.proofs.lemmas.List.{append-nil}
@@ -7,16 +7,13 @@ use Rattle.std.proofs.lemmas.Option.{same_Some, slice_get_within}
 use Rattle.jk_model.specs.declared.identifiers.SegmentNo.{SegmentNo}
 use Rattle.jk_model.specs.declared.instructions.Instr.{Instr}
 use Rattle.jk_model.specs.declared.values.Value.{Value}
-use Rattle.jk_model.specs.declared.values.Value.TheVariants.{Int, Long, Null, Obj, Cap, Unset}
+use Rattle.jk_model.specs.declared.values.Value.TheVariants.{Int, Long, Unset}
 use Rattle.jk_model_frames.specs.Frames.{FrameState}
 use Rattle.jk_model_domains.specs.NumberRows.{is_load, is_store_of_top, with_value}
+use Rattle.number_laws.proofs.FrameParts.{same_index, short_value, with_stack}
 use Rattle.frame_store.specs.FrameContents.{FrameContent, HasLocal, SetsTop, TopFrame}
 use Rattle.number_ops.specs.TopChanges.{Becomes, HasAtMostLocals, HasInLocal, HasLocals, Turns, Uses}
-use Rattle.number_ops.proofs.EntriesOnTop.{with_stack}
 use Rattle.number_ops.proofs.TopFrames.{joined, same_top, top_after}
-
-pub same_index : (a : ℤ) (n k : ℕ) → a ≡ pos n → a ≡ pos k → n ≡ k
-same_index a n k e f = cc
 
 pub within : (c : FrameContent) (s : SegmentNo) (n m : ℕ) (v : Value) → HasInLocal c s n v → HasAtMostLocals c s m → n < m
 within c s n m v h most =
@@ -86,14 +83,6 @@ pub within_many : (c : FrameContent) (s : SegmentNo) (n m : ℕ) → HasLocals c
 within_many c s n m h most =
     let high : length h.frame.locals ≤ m = most h.frame h.top in
     omega (arith, h.many, high)
-
-pub short_value : (ls : List Value) (k : ℕ) (v : Value) → ((n : ℤ) → v ≡ Long n → ⊥) → with_value ls k v ≡ set ls k v
-short_value ls k (Long n) short = absurd (short n refl)
-short_value ls k (Int n) short = refl
-short_value ls k Null short = refl
-short_value ls k (Obj a) short = refl
-short_value ls k (Cap c) short = refl
-short_value ls k Unset short = refl
 
 -- a store after an entry was taken
 stored : (c d e : FrameContent) (s : SegmentNo) (i : Instr) (k : ℕ) (w : Value) (now : List Value → List Value) → (turns : Turns c d s (w ∷ []) [])

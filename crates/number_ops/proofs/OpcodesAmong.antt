@@ -1,14 +1,15 @@
 -- What holds of each opcode of a list holds of one that is among them.
-use Rattle.std.proofs.Common.{◌≡◌, ℕ, ℤ, pos, ◌+◌, ◌⊎◌, ◌==◌, Bool, ◌||◌, List, [], ◌∷◌, IsTrue, refl, sym, subst, inl, inr, arith}
+use Rattle.std.proofs.Common.{◌≡◌, ℕ, ℤ, pos, ◌+◌, List, [], ◌∷◌, IsTrue, refl, subst}
 use Rattle.std.specs.List.{AllByRecursion}
-use Rattle.std.proofs.lemmas.Grind.{common_steps}
 use Rattle.jk_model.specs.declared.identifiers.SegmentNo.{SegmentNo}
 use Rattle.jk_model.specs.declared.instructions.Instr.{Instr}
 use Rattle.jk_model_typing.specs.Groups.{Group, group_of}
 use Rattle.frame_store.specs.FrameContents.{FrameContent}
 use Rattle.jk_model.specs.declared.values.Value.TheVariants as Held
 use Rattle.jk_model_typing.specs.declared.frames.VType.TheVariants.{Int, Long, Null}
-use Rattle.number_ops.specs.Operands.{Finds, constant_opcodes, int_conversion_opcodes, int_jump_opcodes, is_among, load_opcodes, long_conversion_opcodes, store_opcodes, switch_opcodes, value_return_opcodes, zero_jump_opcodes}
+use Rattle.number_ops.specs.Operands.{Finds}
+use Rattle.number_laws.specs.NumberOpcodes.{constant_opcodes, int_conversion_opcodes, int_jump_opcodes, is_among, load_opcodes, long_conversion_opcodes, store_opcodes, switch_opcodes, value_return_opcodes, zero_jump_opcodes}
+use Rattle.number_laws.proofs.EachOpcode.{each_among}
 use Rattle.number_ops.specs.TopChanges.{HasInLocal, HasLocals, OnTop, OnTopWithRoom}
 use Rattle.number_ops.proofs.FoundOperands.{found_int, found_long, found_none}
 use Rattle.number_ops.specs.Parts.{arithmetic_opcodes, is_part, jump_opcodes}
@@ -19,17 +20,6 @@ use Rattle.number_ops.specs.declared.parts.Part.{Part}
 use Rattle.jk_model.specs.declared.values.Value.{Value}
 use Rattle.jk_model_classes.specs.MemberCode.{is_jump, is_switch}
 use Rattle.jk_model_domains.specs.NumberRows.{is_load, is_return_of_value, is_store_of_top, value_slots}
-
-either : (k op : ℕ) (b : Bool) → IsTrue (op == k || b) → (op ≡ k) ⊎ IsTrue b
-either k op b h = grind (arith, common_steps)
-
-pub each_among : (P : ℕ → Type 0) (ks : List ℕ) (op : ℕ) → AllByRecursion P ks → IsTrue (is_among ks op) → P op
-each_among P [] op all h = absurd cc
-each_among P (k ∷ ks) op all h =
-    elim (either k op (is_among ks op) h) [
-      | inl same ↦ subst P (sym same) all.0
-      | inr more ↦ each_among P ks op all.1 more
-    ]
 
 -- instructions whose rows of typing are alike find alike operands
 pub finds_as : (ks : List ℕ) (c : FrameContent) (s : SegmentNo) (i : Instr) (g : Group) → AllByRecursion (λ op. group_of op ≡ g) ks

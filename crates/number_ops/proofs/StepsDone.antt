@@ -1,16 +1,13 @@
 -- What the parts of a step do to the store is what the row of the instruction says.
-use Rattle.std.proofs.Common.{◌≡◌, ◌⊎◌, inl, inr, ℕ, ◌+◌, ◌<◌, ◌≤◌, ℤ, pos, Bool, true, false, List, [], ◌∷◌, length, Some, None, IsTrue, refl, sym, ap, subst, arith, not, ◌&&◌, ◌||◌, ◌==◌, slice_get, nat_le}
-use Rattle.std.specs.Prelude.{cond, find, Option, suc, zero, ◌^◌}
-use Rattle.std.specs.Option.{option_map_or}
-use Rattle.std.specs.Ordering.{int_eq}
+use Rattle.std.proofs.Common.{◌≡◌, inl, inr, ℕ, ◌+◌, ◌<◌, ◌≤◌, ℤ, pos, Bool, true, false, List, [], ◌∷◌, length, Some, None, IsTrue, refl, sym, ap, subst, arith, not, ◌&&◌, ◌==◌, slice_get, nat_le}
+use Rattle.std.specs.Prelude.{suc, zero, ◌^◌}
 use Rattle.std.proofs.lemmas.Grind.{common_steps}
 use Rattle.std.proofs.lemmas.List.{append-nil}
 use Rattle.std.proofs.lemmas.Option.{same_Some, slice_get_within}
-use Rattle.jk_model.specs.declared.instructions.SwitchCase.{SwitchCase}
-use Rattle.jk_model_classes.specs.Items.{HasItem}
 use Rattle.jk_model_domains.specs.NumberRows.{IsOnTop, UsesLocal}
 use Rattle.number_ops.specs.Parts.{is_in}
-use Rattle.number_ops.proofs.EntriesOnTop.{with_stack}
+use Rattle.number_laws.proofs.FrameParts.{with_stack}
+use Rattle.number_laws.proofs.JumpsGoOn.{either_way, first_way}
 use Rattle.jk_model.specs.declared.identifiers.SegmentNo.{SegmentNo}
 use Rattle.jk_model.specs.declared.instructions.Instr.{Instr}
 use Rattle.jk_model.specs.declared.steps.After.{After}
@@ -20,7 +17,7 @@ use Rattle.jk_model.specs.declared.values.Value.{Value}
 use Rattle.jk_model.specs.declared.values.Value.TheVariants.{Int}
 use Rattle.jk_model_classes.specs.declared.records.ClassRecord.{ClassRecord}
 use Rattle.jk_model_classes.specs.declared.records.Link.TheVariants as To
-use Rattle.jk_model_classes.specs.MemberCode.{is_jump, is_switch}
+use Rattle.jk_model_classes.specs.MemberCode.{is_switch}
 use Rattle.jk_model_typing.specs.Groups.{Group, Shape, NoGroup, group_of, has_group}
 use Rattle.jk_model_typing.specs.Rows.{HasShape}
 use Rattle.jk_model_typing.specs.Scopes.{CodeScope, LeadsToLink}
@@ -32,18 +29,10 @@ use Rattle.number_ops.specs.NumberSteps.{DoesNumbers, IsReady}
 use Rattle.number_ops.specs.Operands.{Calculated, Decided, Moved, Refused}
 use Rattle.jk_model.specs.declared.frames.FrameHead.{FrameHead}
 use Rattle.number_ops.specs.TopChanges.{Becomes, HasAtMostLocals, Turns, Uses}
-use Rattle.number_ops.proofs.ValuesFit.{fits-length}
+use Rattle.number_laws.proofs.ValuesFit.{fits-length}
 use Rattle.number_ops.proofs.TopFrames.{same_top, stays}
 
 -- ---- Tests.
-
-first_way : (a b : Bool) → IsTrue a → IsTrue (a || b)
-first_way true b h = refl
-first_way false b h = absurd cc
-
-either_way : (a b : Bool) → IsTrue b → IsTrue (a || b)
-either_way true b h = refl
-either_way false b h = h
 
 within : (x : ℕ × ℕ) (op : ℕ) → x.0 ≤ op → op ≤ x.1 → IsTrue (nat_le x.0 op && nat_le op x.1)
 within x op low high = grind (arith, common_steps)
@@ -144,35 +133,6 @@ module _ (c : FrameContent) (classes : List ClassRecord) (s : SegmentNo) (i : In
   -- where a jump or a switch leads
   pub leads : (target : ℤ) → GoesOnAt r.frame.head.at i target → (n : ℕ) × (target ≡ pos n) × (n < 2 ^ 32)
   leads target h = let there = r.goes_on target h in (there.0, there.1, omega (arith, there.2, r.short))
-
--- a switch goes on at one of its targets
-one_case : (x : SwitchCase) (xs : List SwitchCase) (found : Option SwitchCase) (a : ℤ) (b : Bool)
-    → (option_map_or (λ (c : SwitchCase). c.target) found a ≡ a)
-    ⊎ HasItem (λ (c : SwitchCase). option_map_or (λ (c : SwitchCase). c.target) found a ≡ c.target) xs
-    → (option_map_or (λ (c : SwitchCase). c.target) (cond b (Some x) found) a ≡ a)
-    ⊎ HasItem (λ (c : SwitchCase). option_map_or (λ (c : SwitchCase). c.target) (cond b (Some x) found) a ≡ c.target) (x ∷ xs)
-one_case x xs found a true h = inr (0, x, refl, refl)
-one_case x xs found a false h = elim h [
-  | inl same ↦ inl same
-  | inr item ↦ inr (suc item.0, item.1, item.2, item.3)
-]
-
-case_of_switch : (cs : List SwitchCase) (key a : ℤ)
-    → (option_map_or (λ (c : SwitchCase). c.target) (find (λ (c : SwitchCase). int_eq c.key key) cs) a ≡ a)
-    ⊎ HasItem (λ (c : SwitchCase). option_map_or (λ (c : SwitchCase). c.target) (find (λ (c : SwitchCase). int_eq c.key key) cs) a ≡ c.target) cs
-case_of_switch [] key a = inl refl
-case_of_switch (x ∷ xs) key a =
-    one_case x xs (find (λ (c : SwitchCase). int_eq c.key key) xs) a (int_eq x.key key) (case_of_switch xs key a)
-
-pub switch_goes_on : (place : ℕ) (i : Instr) (key : ℤ) → IsTrue (is_switch i.op) → GoesOnAt place i (switch_target i key)
-switch_goes_on place i key op =
-    elim (case_of_switch i.cases key i.a) [
-      | inl same ↦ inr (inl (either_way (is_jump i.op) (is_switch i.op) op, same))
-      | inr item ↦ inr (inr item)
-    ]
-
-pub jump_goes_on : (place : ℕ) (i : Instr) → IsTrue (is_jump i.op) → GoesOnAt place i i.a
-jump_goes_on place i op = inr (inl (first_way (is_jump i.op) (is_switch i.op) op, refl))
 
 -- ---- What isn't of numbers.
 

@@ -4,7 +4,7 @@ use Rattle.std.proofs.lemmas.Option.{same_Some}
 use Rattle.jk_model.specs.declared.identifiers.SegmentNo.{SegmentNo}
 use Rattle.jk_model_frames.specs.Frames.{FrameState}
 use Rattle.frame_store.specs.FrameContents.{Changes, FrameContent, KeepsDomains, SetsTop, StoredSegment, TopFrame}
-use Rattle.number_ops.proofs.SameEnds.{one_top}
+use Rattle.number_laws.proofs.SameEnds.{one_top}
 use Rattle.number_ops.specs.TopChanges.{Becomes}
 
 pub same_top : (c : FrameContent) (s : SegmentNo) (f g : FrameState) → TopFrame c s f → TopFrame c s g → f ≡ g

@@ -1,13 +1,10 @@
 -- What an instruction on numbers finds in the top frame, by what the typing of instructions asks of it; and which instructions
 -- do what to the operand stack.
-use Rattle.std.specs.Prelude.{◌≡◌, ℕ, ◌+◌, ◌⊎◌, ⊤, ◌==◌, ◌||◌, Bool, false, ℤ, pos, List, [], ◌∷◌, ◌++◌, length, map, Option, Some}
+use Rattle.std.specs.Prelude.{◌≡◌, ℕ, ◌+◌, ◌⊎◌, ⊤, Bool, ℤ, pos, List, [], ◌∷◌, ◌++◌, length, map, Option, Some}
 use Rattle.jk_model.specs.declared.identifiers.SegmentNo.{SegmentNo}
 use Rattle.jk_model.specs.declared.instructions.Instr.{Instr}
 use Rattle.jk_model.specs.declared.values.Value.{Value}
 use Rattle.jk_model.specs.declared.values.Value.TheVariants as Held
-use Rattle.jk_model_typing.specs.declared.frames.Demand.{Demand}
-use Rattle.jk_model_typing.specs.declared.frames.Demand.TheVariants.{Fitting}
-use Rattle.jk_model_typing.specs.declared.frames.VType.{VType}
 use Rattle.jk_model_typing.specs.declared.frames.VType.TheVariants.{Int, Long}
 use Rattle.jk_model.specs.declared.instructions.SwitchCase.{SwitchCase}
 use Rattle.jk_model.specs.declared.identifiers.MemberId.{MemberId}
@@ -17,23 +14,8 @@ use Rattle.jk_model_typing.specs.Scopes.{CodeScope, IsScopeOf, LeadsToLink}
 use Rattle.jk_model_typing.specs.Groups.{Group, Shape, Always, LoadsLocal, StoresLocal, IncrementsLocal, LoadsConstant, LoadsLong, ReturnsInt, ReturnsLong, ReturnsReference, Takes, Drops, Copies, Swaps}
 use Rattle.jk_model_domains.specs.NumberRows.{Calculates, DividesByZero, Decides, Moves, values_slots, value_slots}
 use Rattle.frame_store.specs.FrameContents.{FrameContent}
+use Rattle.number_laws.specs.KnownValues.{AreMet}
 use Rattle.number_ops.specs.TopChanges.{HasInLocal, HasLocals, OnTop, OnTopWithRoom, Turns}
-
--- what is known of a value whose type fits this one
-abbrev pub IsOf : VType → Value → Type 0
-IsOf Int v = (n : ℤ) × (v ≡ Held.Int n)
-IsOf Long v = (n : ℤ) × (v ≡ Held.Long n)
-IsOf _ v = ⊤
-
-abbrev pub IsMet : Demand → Value → Type 0
-IsMet (Fitting t) v = IsOf t v
-IsMet _ v = ⊤
-
--- as many, each of which is known to meet the demand at its place
-abbrev pub AreMet : List Demand → List Value → Type 0
-AreMet [] [] = ⊤
-AreMet (d ∷ ds) (v ∷ vs) = IsMet d v × AreMet ds vs
-AreMet _ _ = ⊥
 
 -- what a shape that works on the stack finds there
 abbrev pub FindsShape : FrameContent → SegmentNo → Shape → Type 0
@@ -81,72 +63,6 @@ Refused old new s op = (taken : List Value) × DividesByZero op taken × OnTop o
 -- a jump took its operands, and holds or not
 abbrev pub Decided : FrameContent → FrameContent → SegmentNo → ℕ → Bool → Type 0
 Decided old new s op holds = (taken : List Value) × Decides op taken holds × Turns old new s taken []
-
--- ---- Opcodes.
-
-abbrev pub is_among : List ℕ → ℕ → Bool
-is_among [] op = false
-is_among (k ∷ ks) op = op == k || is_among ks op
-
--- aconst_null, the constants of int and long, ldc, ldc2_w
-abbrev pub constant_opcodes : List ℕ
-constant_opcodes = 0x01 ∷ 0x09 ∷ 0x11 ∷ 0x13 ∷ 0x14 ∷ []
-
--- iadd, isub, imul, ishl, ishr, iushr, iand, ior, ixor
-abbrev pub int_opcodes : List ℕ
-int_opcodes = 0x60 ∷ 0x64 ∷ 0x68 ∷ 0x78 ∷ 0x7a ∷ 0x7c ∷ 0x7e ∷ 0x80 ∷ 0x82 ∷ []
-
--- idiv, irem
-abbrev pub int_division_opcodes : List ℕ
-int_division_opcodes = 0x6c ∷ 0x70 ∷ []
-
--- ladd, lsub, lmul, land, lor, lxor
-abbrev pub long_opcodes : List ℕ
-long_opcodes = 0x61 ∷ 0x65 ∷ 0x69 ∷ 0x7f ∷ 0x81 ∷ 0x83 ∷ []
-
--- ldiv, lrem
-abbrev pub long_division_opcodes : List ℕ
-long_division_opcodes = 0x6d ∷ 0x71 ∷ []
-
--- lshl, lshr, lushr
-abbrev pub long_shift_opcodes : List ℕ
-long_shift_opcodes = 0x79 ∷ 0x7b ∷ 0x7d ∷ []
-
--- ineg, i2l, i2b, i2c, i2s
-abbrev pub int_conversion_opcodes : List ℕ
-int_conversion_opcodes = 0x74 ∷ 0x85 ∷ 0x91 ∷ 0x92 ∷ 0x93 ∷ []
-
--- lneg, l2i
-abbrev pub long_conversion_opcodes : List ℕ
-long_conversion_opcodes = 0x75 ∷ 0x88 ∷ []
-
--- pop, pop2, the forms of dup, swap
-abbrev pub moving_opcodes : List ℕ
-moving_opcodes = 0x57 ∷ 0x58 ∷ 0x59 ∷ 0x5a ∷ 0x5b ∷ 0x5c ∷ 0x5d ∷ 0x5e ∷ 0x5f ∷ []
-
--- iload, lload, aload
-abbrev pub load_opcodes : List ℕ
-load_opcodes = 0x15 ∷ 0x16 ∷ 0x19 ∷ []
-
--- istore, lstore, astore
-abbrev pub store_opcodes : List ℕ
-store_opcodes = 0x36 ∷ 0x37 ∷ 0x3a ∷ []
-
--- ifeq, ifne, iflt, ifge, ifgt, ifle
-abbrev pub zero_jump_opcodes : List ℕ
-zero_jump_opcodes = 0x99 ∷ 0x9a ∷ 0x9b ∷ 0x9c ∷ 0x9d ∷ 0x9e ∷ []
-
--- the same of two ints
-abbrev pub int_jump_opcodes : List ℕ
-int_jump_opcodes = 0x9f ∷ 0xa0 ∷ 0xa1 ∷ 0xa2 ∷ 0xa3 ∷ 0xa4 ∷ []
-
--- tableswitch, lookupswitch
-abbrev pub switch_opcodes : List ℕ
-switch_opcodes = 0xaa ∷ 0xab ∷ []
-
--- ireturn, lreturn, areturn
-abbrev pub value_return_opcodes : List ℕ
-value_return_opcodes = 0xac ∷ 0xad ∷ 0xb0 ∷ []
 
 -- ---- Constants.
 

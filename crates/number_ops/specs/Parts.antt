@@ -2,7 +2,7 @@
 use Rattle.std.specs.Prelude.{ℕ, Bool, not, ◌&&◌, ◌||◌, nat_le, ◌==◌, List, [], ◌∷◌, if◌then◌else◌}
 use Rattle.jk_model_typing.specs.Groups.{has_group}
 use Rattle.jk_model_domains.specs.NumberRows.{number_opcodes}
-use Rattle.number_ops.specs.Operands.{constant_opcodes, int_conversion_opcodes, int_division_opcodes, int_opcodes, is_among, load_opcodes, long_conversion_opcodes, long_division_opcodes, long_opcodes, long_shift_opcodes, moving_opcodes, store_opcodes, value_return_opcodes, switch_opcodes, zero_jump_opcodes, int_jump_opcodes}
+use Rattle.number_laws.specs.NumberOpcodes.{constant_opcodes, int_conversion_opcodes, int_division_opcodes, int_opcodes, is_among, load_opcodes, long_conversion_opcodes, long_division_opcodes, long_opcodes, long_shift_opcodes, moving_opcodes, store_opcodes, value_return_opcodes, switch_opcodes, zero_jump_opcodes, int_jump_opcodes}
 use Rattle.number_ops.specs.declared.parts.Arithmetic.{Arithmetic}
 use Rattle.number_ops.specs.declared.parts.Arithmetic.TheVariants as A
 use Rattle.number_ops.specs.declared.parts.Jump.{Jump}

@@ -4,7 +4,8 @@ ghost use Rattle.std.specs.Prelude.{◌≡◌, ◌≢◌, ℤ, ℕ, ◌<◌, ◌
 ghost use Rattle.jk_model_typing.specs.Groups.{group_of};
 ghost use Rattle.jk_model.specs.declared.values.Value.TheVariants.{Int, Long};
 ghost use Rattle.jk_model_domains.specs.NumberRows.{HasRow, IsConversion, compared, distance, int_divisions, int_operations, long_divisions, long_operations, long_shifts};
-ghost use Rattle.number_ops.specs.Operands.{Calculated, Finds, Refused, int_conversion_opcodes, int_division_opcodes, int_opcodes, is_among, long_conversion_opcodes, long_division_opcodes, long_opcodes, long_shift_opcodes};
+ghost use Rattle.number_ops.specs.Operands.{Calculated, Finds, Refused};
+ghost use Rattle.number_laws.specs.NumberOpcodes.{int_conversion_opcodes, int_division_opcodes, int_opcodes, is_among, long_conversion_opcodes, long_division_opcodes, long_opcodes, long_shift_opcodes};
 ghost use Rattle.number_ops.specs.Parts.{arithmetic_opcodes};
 ghost use Rattle.number_ops.specs.TopChanges.{OnTop, OnTopWithRoom, Turns};
 

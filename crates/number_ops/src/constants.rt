@@ -4,7 +4,8 @@ ghost use Rattle.std.specs.Prelude.{◌≡◌, ◌∷◌, [], ℕ, IsTrue, Match
 ghost use Rattle.jk_model.specs.declared.identifiers.MemberId.{MemberId as AMember};
 ghost use Rattle.jk_model_domains.specs.NumberRows.{Pushes};
 ghost use Rattle.jk_model_typing.specs.Scopes.{CodeScope, IsScopeOf};
-ghost use Rattle.number_ops.specs.Operands.{HasConstant, HasNumber, IsLinked, constant_opcodes, is_among};
+ghost use Rattle.number_ops.specs.Operands.{HasConstant, HasNumber, IsLinked};
+ghost use Rattle.number_laws.specs.NumberOpcodes.{constant_opcodes, is_among};
 ghost use Rattle.type_rows.specs.CodeViews.{scope_of};
 ghost use Rattle.type_rows.specs.Operands.{HasNoLink, IsLink};
 

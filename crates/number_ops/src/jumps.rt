@@ -6,7 +6,8 @@ ghost use Rattle.jk_model.specs.declared.values.Value.TheVariants.{Int};
 ghost use Rattle.jk_model_domains.specs.NumberRows.{HasRow, comparisons, is_same_reference};
 ghost use Rattle.frame_store.specs.FrameContents.{HasTop};
 ghost use Rattle.jk_model_typing.specs.Groups.{group_of};
-ghost use Rattle.number_ops.specs.Operands.{Decided, Finds, is_among};
+ghost use Rattle.number_ops.specs.Operands.{Decided, Finds};
+ghost use Rattle.number_laws.specs.NumberOpcodes.{is_among};
 ghost use Rattle.number_ops.specs.Parts.{jump_opcodes};
 ghost use Rattle.number_ops.specs.TopChanges.{OnTop, Turns};
 

@@ -6,7 +6,6 @@ mod arithmetic;
 mod constants;
 mod entries;
 mod jumps;
-pub mod laws;
 mod locals;
 mod moves;
 mod parts;

@@ -6,7 +6,8 @@ ghost use Rattle.jk_model.specs.declared.values.Value.{Value as AValue};
 ghost use Rattle.jk_model_domains.specs.NumberRows.{value_slots, values_slots};
 ghost use Rattle.jk_model_typing.specs.Groups.{Copies, group_of};
 ghost use Rattle.number_ops.specs.Entries.{entries_of};
-ghost use Rattle.number_ops.specs.Operands.{Finds, FindsShape, Moved, is_among, moving_opcodes};
+ghost use Rattle.number_ops.specs.Operands.{Finds, FindsShape, Moved};
+ghost use Rattle.number_laws.specs.NumberOpcodes.{is_among, moving_opcodes};
 ghost use Rattle.number_ops.specs.TopChanges.{OnTop, OnTopWithRoom, Turns};
 
 use crate::entries::{pop, push};

@@ -25,7 +25,7 @@ use Rattle.jk_model_machine.specs.Executions.{NamesMethod}
 use Rattle.jk_model_machine.specs.Initialising.{RunsCode}
 use Rattle.jk_model_machine.specs.Sealed.{FitsAsTop, FitsAtCall, FitsHere}
 use Rattle.jk_model_machine.specs.Steps.{resumed}
-use Rattle.number_ops.specs.FrameLaws.{FitsResult}
+use Rattle.number_laws.specs.FrameLaws.{FitsResult}
 use Rattle.sealed_steps.proofs.OneMeaning.{same_pos}
 use Rattle.sealed_steps.proofs.OneScope.{one-method}
 use Rattle.sealed_steps.proofs.RowsFit.{as_many, demands, method-one}

@@ -47,7 +47,7 @@ use Rattle.jk_model_machine.specs.SoundClasses.{AreSoundClasses, IsClosedTable}
 use Rattle.sealed_steps.proofs.BegunFrames.{IsBegun, begun-fits}
 use Rattle.sealed_steps.proofs.FramesInARow.{all-append}
 use Rattle.sealed_steps.proofs.NamesStayKnown.{AreKnown, head-kept, locals-known, number-head, number-known, replaced-known, returned-known, taken-known, unset-known}
-use Rattle.number_ops.specs.FrameLaws.{FitsResult, IsTyped}
+use Rattle.number_laws.specs.FrameLaws.{FitsResult, IsTyped}
 use Rattle.sealed_steps.proofs.NumberLaws.{NumberLaws}
 use Rattle.sealed_steps.proofs.OneMeaning.{one_field, scope, scope_of}
 use Rattle.sealed_steps.proofs.RowsFit.{AtCall, calls_static-kept, gets_static-kept, loads_text-kept, println-kept, puts_static-kept}

@@ -11,7 +11,7 @@ use Rattle.jk_model_frames.specs.Frames.{FrameState}
 use Rattle.jk_model_domains.specs.NumberRows.{NumberRow}
 use Rattle.jk_model_domains.specs.Objects.{NamedObject}
 use Rattle.jk_model_domains.specs.ValueTypes.{FrameHolds}
-use Rattle.number_ops.specs.FrameLaws.{FitsResult, IsTyped}
+use Rattle.number_laws.specs.FrameLaws.{FitsResult, IsTyped}
 
 pub record NumberLaws : Type 0 where
   pub rows_kept : (s : CodeScope) (heap : List NamedObject) (place : ℕ) (i : Instr) (f g : FrameState) (before after : FrameType) (next : ℕ)

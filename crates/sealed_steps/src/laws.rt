@@ -14,7 +14,7 @@ ghost use Rattle.sealed_steps.specs.FirstNumbers.{CountsFromOne};
 ghost use Rattle.jk_model_machine.specs.SoundClasses.{AreSoundClasses};
 ghost use Rattle.sealed_steps.specs.TopChanges.{ChangesFrames, ChangesInside, LeavesNothing};
 
-use number_ops::laws::{returned_values_fit, rows_keep_types};
+use number_laws::laws::{returned_values_fit, rows_keep_types};
 
 /// A machine without domains is sealed.
 pub fn first_machine_is_sealed()

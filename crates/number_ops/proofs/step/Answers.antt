@@ -6,12 +6,14 @@ use Rattle.jk_model.specs.declared.steps.After.TheVariants as Next
 use Rattle.jk_model_domains.specs.NumberRows.{switch_target}
 use Rattle.jk_model_typing.specs.Groups.{int, takes}
 use Rattle.number_ops.specs.NumberSteps.{DoesNumbers}
-use Rattle.number_ops.specs.Operands.{Decided, switch_opcodes}
+use Rattle.number_ops.specs.Operands.{Decided}
+use Rattle.number_laws.specs.NumberOpcodes.{switch_opcodes}
 use Rattle.number_ops.specs.declared.parts.Part.TheVariants as P
 use Rattle.number_ops.proofs.FindsOperands.{finds}
 use Rattle.number_ops.proofs.FoundOperands.{found_int, roomless}
 use Rattle.number_ops.proofs.OpcodesAmong.{finds_as, finds_at, finds_load, finds_room, finds_store, finds_value, is_jump_among, is_load_among, is_only, is_return_among, is_store_among, is_switch_among, of_part}
-use Rattle.number_ops.proofs.StepsDone.{calculated, did_nothing, divided, jump_goes_on, jumped, ldc_int, ldc_long, leads, most_locals, moved, next_fits, no_other, pushed, returned, returned_nothing, switch_goes_on, switched, used}
+use Rattle.number_ops.proofs.StepsDone.{calculated, did_nothing, divided, jumped, ldc_int, ldc_long, leads, most_locals, moved, next_fits, no_other, pushed, returned, returned_nothing, switched, used}
+use Rattle.number_laws.proofs.JumpsGoOn.{jump_goes_on, switch_goes_on}
 use Rattle.number_ops.proofs.step.Goals.{in-Nothing, in-Constant, in-Load, in-Store, in-Move, in-Calculate+else-not-calculate, in-Increment, in-Decide+else-decides}
 use Rattle.number_ops.proofs.step.Goals as goal
 

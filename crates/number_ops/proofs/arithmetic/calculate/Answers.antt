@@ -3,9 +3,11 @@ use Rattle.std.proofs.Common.{◌≡◌, [], ◌∷◌, refl, sym, subst}
 use Rattle.jk_model_typing.specs.declared.frames.VType.TheVariants.{Int, Long}
 use Rattle.jk_model_typing.specs.Groups.{int, long, takes}
 use Rattle.number_ops.specs.declared.parts.Arithmetic.TheVariants as A
-use Rattle.number_ops.specs.Operands.{Calculated, int_division_opcodes, int_opcodes, long_division_opcodes, long_opcodes, long_shift_opcodes}
+use Rattle.number_ops.specs.Operands.{Calculated}
+use Rattle.number_laws.specs.NumberOpcodes.{int_division_opcodes, int_opcodes, long_division_opcodes, long_opcodes, long_shift_opcodes}
 use Rattle.number_ops.proofs.FoundOperands.{found_ints, found_long_and_int, found_longs}
-use Rattle.number_ops.proofs.OpcodesAmong.{each_among, finds_as, finds_converted_int, finds_converted_long, of_arithmetic}
+use Rattle.number_laws.proofs.EachOpcode.{each_among}
+use Rattle.number_ops.proofs.OpcodesAmong.{finds_as, finds_converted_int, finds_converted_long, of_arithmetic}
 use Rattle.number_ops.proofs.arithmetic.calculate.Goals as goal
 
 pub calculate_ints-requires-clause-op : goal.calculate_ints-requires-clause-op

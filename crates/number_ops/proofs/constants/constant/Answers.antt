@@ -13,7 +13,7 @@ use Rattle.jk_model_domains.specs.NumberRows.{Pushes}
 use Rattle.jk_model_typing.specs.Scopes.{CodeScope, IsScopeOf, LeadsToLink}
 use Rattle.type_rows.proofs.RowsInOneScope.{one-scope}
 use Rattle.number_ops.specs.Operands.{HasConstant, IsLinked}
-use Rattle.number_ops.proofs.LocalsUsed.{same_index}
+use Rattle.number_laws.proofs.FrameParts.{same_index}
 use Rattle.number_ops.proofs.constants.constant.Goals as goal
 
 one_link : (scope : CodeScope) (i : Instr) (a b : Link) → LeadsToLink scope i a → LeadsToLink scope i b → a ≡ b

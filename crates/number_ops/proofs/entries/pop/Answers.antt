@@ -1,7 +1,7 @@
 -- The entry that the store takes is the top one.
 use Rattle.std.proofs.Common.{sym, ap}
 use Rattle.std.proofs.lemmas.List.{append-nil}
-use Rattle.number_ops.proofs.EntriesOnTop.{with_stack}
+use Rattle.number_laws.proofs.FrameParts.{with_stack}
 use Rattle.number_ops.proofs.entries.pop.Goals as goal
 
 pub returns : goal.returns

@@ -2,7 +2,7 @@
 use Rattle.std.proofs.Common.{◌∷◌, ◌++◌, [], List, ap, ◌∙◌}
 use Rattle.std.proofs.lemmas.List.{append-nil}
 use Rattle.jk_model.specs.declared.values.Value.{Value}
-use Rattle.number_ops.proofs.EntriesOnTop.{with_stack}
+use Rattle.number_laws.proofs.FrameParts.{with_stack}
 use Rattle.number_ops.proofs.entries.push.Goals as goal
 
 pub returns : goal.returns

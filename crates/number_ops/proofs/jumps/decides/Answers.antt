@@ -3,10 +3,11 @@ use Rattle.std.proofs.Common.{◌≡◌, ◌≤◌, ◌<◌, ℕ, [], ◌∷◌,
 use Rattle.jk_model_typing.specs.declared.frames.Demand.TheVariants.{AnyReference}
 use Rattle.jk_model_typing.specs.Groups.{int, takes}
 use Rattle.number_ops.specs.declared.parts.Jump.TheVariants as J
-use Rattle.number_ops.specs.Operands.{int_jump_opcodes, zero_jump_opcodes}
+use Rattle.number_laws.specs.NumberOpcodes.{int_jump_opcodes, zero_jump_opcodes}
 use Rattle.number_ops.proofs.EntriesOnTop.{nothing_turned}
 use Rattle.number_ops.proofs.FoundOperands.{found_int, found_ints, found_value, found_values, roomless}
-use Rattle.number_ops.proofs.OpcodesAmong.{each_among, finds_as, of_jump}
+use Rattle.number_laws.proofs.EachOpcode.{each_among}
+use Rattle.number_ops.proofs.OpcodesAmong.{finds_as, of_jump}
 use Rattle.number_ops.proofs.jumps.decides.Goals as goal
 
 pub compare_with_zero-requires-clause-first : goal.compare_with_zero-requires-clause-first

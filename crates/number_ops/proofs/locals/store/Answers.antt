@@ -1,8 +1,10 @@
 -- The local is there, and the one after it where the value is a long.
 use Rattle.std.proofs.Common.{◌+◌, ◌<◌, ap, ◌∙◌, arith}
 use Rattle.jk_model_domains.specs.NumberRows.{value_slots}
-use Rattle.number_ops.proofs.LocalsUsed.{local_of_many, many_after, many_set, same_index, stored_long, stored_short, within_many}
-use Rattle.number_ops.proofs.SlotsTaken.{at_least_one, popped_is}
+use Rattle.number_ops.proofs.LocalsUsed.{local_of_many, many_after, many_set, stored_long, stored_short, within_many}
+use Rattle.number_laws.proofs.FrameParts.{same_index}
+use Rattle.number_laws.proofs.SlotsOfValues.{at_least_one}
+use Rattle.number_ops.proofs.SlotsTaken.{popped_is}
 use Rattle.number_ops.proofs.locals.store.Goals as goal
 
 pub pop-v-requires : goal.pop-v-requires

@@ -5,9 +5,11 @@ use Rattle.jk_model.specs.declared.values.Value.{Value}
 use Rattle.jk_model_domains.specs.NumberRows.{HasRow, copies, values_slots}
 use Rattle.frame_store.specs.FrameContents.{FrameContent}
 use Rattle.number_ops.specs.Entries.{entries_of}
-use Rattle.number_ops.specs.Operands.{Moved, moving_opcodes}
+use Rattle.number_ops.specs.Operands.{Moved}
+use Rattle.number_laws.specs.NumberOpcodes.{moving_opcodes}
 use Rattle.number_ops.specs.TopChanges.{Turns}
-use Rattle.number_ops.proofs.OpcodesAmong.{each_among, finds_at}
+use Rattle.number_laws.proofs.EachOpcode.{each_among}
+use Rattle.number_ops.proofs.OpcodesAmong.{finds_at}
 use Rattle.number_ops.proofs.moves.move_entries.Goals as goal
 
 copied : (c d : FrameContent) (s : SegmentNo) (op below top : ℕ) → HasRow copies op (below, top)

@@ -3,7 +3,8 @@ use Rattle.std.proofs.Common.{◌≡◌, sym, ap, subst, ◌∙◌, arith}
 use Rattle.jk_model_domains.specs.NumberRows.{value_slots}
 use Rattle.number_ops.specs.TopChanges.{OnTop}
 use Rattle.number_ops.proofs.EntriesOnTop.{nothing_turned}
-use Rattle.number_ops.proofs.SlotsTaken.{one_slot, popped_is}
+use Rattle.number_laws.proofs.SlotsOfValues.{one_slot}
+use Rattle.number_ops.proofs.SlotsTaken.{popped_is}
 use Rattle.number_ops.proofs.moves.take_slots.Goals as goal
 
 pub pop-requires : goal.pop-requires

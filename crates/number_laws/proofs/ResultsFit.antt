@@ -21,11 +21,11 @@ use Rattle.jk_model_domains.specs.NumberRows.{NumberRow, Replaces, divides_by_ze
 use Rattle.jk_model_domains.specs.Objects.{CAPABILITY, NamedObject, class_type, type_of}
 use Rattle.jk_model_domains.specs.ValueTypes.{EachValueFits, ValueFits}
 use Rattle.type_frames.proofs.OrderOfTypes.{RefFits-trans}
-use Rattle.number_ops.specs.FrameLaws.{FitsResult, IsTyped}
-use Rattle.number_ops.specs.Operands.{value_return_opcodes}
-use Rattle.number_ops.proofs.OpcodesAmong.{each_among}
-use Rattle.number_ops.proofs.SameEnds.{one_split}
-use Rattle.number_ops.proofs.ValuesFit.{end_fits, fits-length, fits_int, fits_long}
+use Rattle.number_laws.specs.FrameLaws.{FitsResult, IsTyped}
+use Rattle.number_laws.specs.NumberOpcodes.{value_return_opcodes}
+use Rattle.number_laws.proofs.EachOpcode.{each_among}
+use Rattle.number_laws.proofs.SameEnds.{one_split}
+use Rattle.number_laws.proofs.ValuesFit.{end_fits, fits-length, fits_int, fits_long}
 
 three_ways : (a b c : Bool) → IsTrue (a || b || c) → IsTrue (a || (b || (c || false)))
 three_ways true b c h = refl

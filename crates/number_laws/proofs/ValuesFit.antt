@@ -15,7 +15,7 @@ use Rattle.jk_model_typing.specs.Scopes.{CodeScope}
 use Rattle.jk_model_domains.specs.NumberRows.{value_slots, values_slots}
 use Rattle.jk_model_domains.specs.Objects.{NamedObject}
 use Rattle.jk_model_domains.specs.ValueTypes.{EachValueFits, ValueFits}
-use Rattle.number_ops.specs.Operands.{AreMet, IsMet, IsOf}
+use Rattle.number_laws.specs.KnownValues.{AreMet, IsMet, IsOf}
 
 pub usable-append : (ts us : List VType) → AllByRecursion IsUsable (ts ++ us) → AllByRecursion IsUsable ts × AllByRecursion IsUsable us
 usable-append [] us h = (tt, h)

@@ -27,15 +27,15 @@ use Rattle.jk_model_frames.specs.Frames.{FrameState}
 use Rattle.jk_model_domains.specs.NumberRows.{Calculates, Decides, Exchanges, HasRow, IsConversion, Moves, NumberRow, Pushes, Replaces, UsesLocal, comparisons, copies, drops, exchanges, int_divisions, int_operations, is_load, is_store_of_top, jumps, divides_by_zero, long_divisions, long_operations, long_shifts, place_after, returns, returns_nothing, switches, switch_target, uses_local, value_slots, values_slots, with_value}
 use Rattle.jk_model_domains.specs.Objects.{NamedObject}
 use Rattle.jk_model_domains.specs.ValueTypes.{EachValueFits, FrameHolds, ValueFits}
-use Rattle.number_ops.specs.FrameLaws.{IsTyped}
-use Rattle.number_ops.specs.Operands.{load_opcodes, store_opcodes, switch_opcodes}
-use Rattle.number_ops.proofs.EntriesOnTop.{with_stack}
-use Rattle.number_ops.proofs.LocalsUsed.{same_index, short_value}
-use Rattle.number_ops.proofs.OpcodesAmong.{each_among}
-use Rattle.number_ops.proofs.SameEnds.{one_split}
-use Rattle.number_ops.proofs.SlotsTaken.{same_length}
-use Rattle.number_ops.proofs.StepsDone.{jump_goes_on, switch_goes_on}
-use Rattle.number_ops.proofs.ValuesFit.{end_fits, fits-append, fits-length, fits-slots, long_fits, usable-append, value_at, value_slots-fit}
+use Rattle.number_laws.specs.FrameLaws.{IsTyped}
+use Rattle.number_laws.specs.NumberOpcodes.{load_opcodes, store_opcodes, switch_opcodes}
+use Rattle.number_laws.proofs.FrameParts.{with_stack}
+use Rattle.number_laws.proofs.FrameParts.{same_index, short_value}
+use Rattle.number_laws.proofs.EachOpcode.{each_among}
+use Rattle.number_laws.proofs.SameEnds.{one_split}
+use Rattle.number_laws.proofs.SlotsOfValues.{same_length}
+use Rattle.number_laws.proofs.JumpsGoOn.{jump_goes_on, switch_goes_on}
+use Rattle.number_laws.proofs.ValuesFit.{end_fits, fits-append, fits-length, fits-slots, long_fits, usable-append, value_at, value_slots-fit}
 
 -- ---- Tables and tests.
 

@@ -12,7 +12,7 @@ ghost use Rattle.jk_model_frames.specs.Frames.{FrameState};
 ghost use Rattle.jk_model_domains.specs.NumberRows.{NumberRow};
 ghost use Rattle.jk_model_domains.specs.Objects.{NamedObject};
 ghost use Rattle.jk_model_domains.specs.ValueTypes.{FrameHolds};
-ghost use Rattle.number_ops.specs.FrameLaws.{FitsResult, IsTyped};
+ghost use Rattle.number_laws.specs.FrameLaws.{FitsResult, IsTyped};
 
 /// Where a frame goes on after an instruction on numbers, it holds values of the types that typing leaves, and it goes on
 /// where the instruction may.

@@ -1,0 +1,9 @@
+-- What rows of instructions on numbers keep of the types of frames and results.
+pub mod EachOpcode
+pub mod FrameParts
+pub mod JumpsGoOn
+pub mod ResultsFit
+pub mod SameEnds
+pub mod SlotsOfValues
+pub mod TypesKept
+pub mod ValuesFit
