@@ -1,0 +1,7 @@
+-- Lemmas on std's words that several crates cite.
+pub mod EndsOfLists
+pub mod FirstByTest
+pub mod ItemByItem
+pub mod ItemsByPlace
+pub mod ItemsOfLists
+pub mod TestsAndOrders
