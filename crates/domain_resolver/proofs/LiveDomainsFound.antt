@@ -2,11 +2,11 @@
 use Rattle.std.proofs.Common.{◌≡◌, ℕ, ◌-◌, ◌<◌, ◌^◌, ◌⊎◌, inl, inr, Bool, true, false, true≢false, List, [], ◌∷◌, ◌++◌, length, refl, sym, ◌∙◌, ap, arith, Option, Some, None, slice_get, slice_set, length-append, if◌then◌else◌}
 use Rattle.std.specs.Str.{bytes_eq}
 use Rattle.std.proofs.lemmas.List.{length-set}
-use Rattle.std.proofs.lemmas.Option.{same_Some}
+use Rattle.std.proofs.lemmas.Option.{same_Some, slice_get_within}
 use Rattle.std.proofs.lemmas.Slice.Eq.{bytes_eq-Decides}
 use Rattle.jk_model.specs.declared.identifiers.DomainId.{DomainId}
 use Rattle.jk_model_classes.specs.Worlds.{DomainRecord, WorldRecord, IsLiveNamed}
-use Rattle.domain_resolver.specs.LiveDomains.{LivesAt, IsIndexed, LosesName}
+use Rattle.domain_resolver.specs.LiveDomains.{LivesAt, IsIndexed, IsLiveLast, LosesName}
 use Rattle.domain_resolver.proofs.PlacesInLists.{slice_get-seam, stays, old_or_last, slice_get-set, other_place}
 
 same_domain : (a b : DomainId) → a.0 ≡ b.0 → a ≡ b
@@ -86,6 +86,48 @@ found_added found found' ds d h number live few free puts = record {
     finds_by name place l true t (inr (end, same)) = puts name ∙ rw t (ap Some (sym end))
     finds_by name place l false t (inr (end, same)) =
         let yes = (bytes_eq-Decides d.name name).1 (ap (λ (r : DomainRecord). r.name) (sym same) ∙ l.named) in absurd (true≢false (sym yes ∙ t))
+
+-- ---- The last domain is taken back.
+
+pub last_is_live : (ds : List DomainRecord) (d : DomainRecord) → IsLiveLast (ds ++ d ∷ []) → d.live ≡ true
+last_is_live ds d (e, at, live) =
+    let end : length (ds ++ d ∷ []) - 1 ≡ length ds = omega (arith, length-append ds (d ∷ [])) in
+    let same : e ≡ d = same_Some e d (sym at ∙ ap (slice_get (ds ++ d ∷ [])) end ∙ slice_get-seam ds d []) in
+    ap (λ (r : DomainRecord). r.live) (sym same) ∙ live
+
+pub found_taken_back : (found found' : List ℕ → Option ℕ) (ds : List DomainRecord) (d : DomainRecord) → IsIndexed found (ds ++ d ∷ []) → d.live ≡ true
+    → ((q : List ℕ) → found' q ≡ (if bytes_eq d.name q then None else found q)) → IsIndexed found' ds
+found_taken_back found found' ds d h live takes = record {
+  numbered = λ i e at. h.numbered i e (stays ds (d ∷ []) i e at);
+  few = omega (arith, length-append ds (d ∷ []), h.few);
+  lives = λ name place e. lives_by name place (bytes_eq d.name name) refl (sym (takes name) ∙ e);
+  finds = λ name place l. takes name ∙ finds_by name place l (bytes_eq d.name name) refl;
+}
+  where
+    lives_by : (name : List ℕ) (place : ℕ) (b : Bool) → bytes_eq d.name name ≡ b → (if bytes_eq d.name name then None else found name) ≡ Some place
+        → LivesAt ds name place
+    lives_by name place true t e = let none : None ≡ Some place = rw t at e in cc
+    lives_by name place false t e =
+        let l = h.lives name place (rw t at e) in
+        by_place l (old_or_last ds d place l.domain l.there)
+      where
+        by_place : (l : LivesAt (ds ++ d ∷ []) name place)
+            → ((place < length ds) × (slice_get ds place ≡ Some l.domain)) ⊎ ((place ≡ length ds) × (l.domain ≡ d)) → LivesAt ds name place
+        by_place l (inl (low, there)) = record { domain = l.domain; there = there; lives = l.lives; named = l.named }
+        by_place l (inr (end, same)) =
+            let yes = (bytes_eq-Decides d.name name).1 (ap (λ (r : DomainRecord). r.name) (sym same) ∙ l.named) in
+            absurd (true≢false (sym yes ∙ t))
+
+    finds_by : (name : List ℕ) (place : ℕ) → LivesAt ds name place → (b : Bool) → bytes_eq d.name name ≡ b
+        → (if bytes_eq d.name name then None else found name) ≡ Some place
+    finds_by name place l false t = rw t (h.finds name place (lives_longer ds d name place l))
+    finds_by name place l true t =
+        let low : place < length ds = slice_get_within ds place l.domain l.there in
+        let named : d.name ≡ name = (bytes_eq-Decides d.name name).0 t in
+        let last = h.finds name (length ds) (record { domain = d; there = slice_get-seam ds d []; lives = live; named = named }) in
+        let here = h.finds name place (lives_longer ds d name place l) in
+        let same : place ≡ length ds = same_Some place (length ds) (sym here ∙ last) in
+        absurd (omega (arith, low, same))
 
 -- ---- A domain ends.
 

@@ -21,6 +21,10 @@ pub record IsIndexed (found : List ℕ → Option ℕ) (domains : List DomainRec
   pub lives : (name : List ℕ) (place : ℕ) → found name ≡ Some place → LivesAt domains name place
   pub finds : (name : List ℕ) (place : ℕ) → LivesAt domains name place → found name ≡ Some place
 
+-- there is a last domain, and it lives
+abbrev pub IsLiveLast : List DomainRecord → Type 0
+IsLiveLast domains = (d : DomainRecord) × (slice_get domains (length domains - 1) ≡ Some d) × (d.live ≡ true)
+
 -- the domain at a place lives no more, and all else is as before
 abbrev pub SetsEnded : List DomainRecord → ℕ → List DomainRecord → Type 0
 SetsEnded old place new = (r : DomainRecord) × (slice_get old place ≡ Some r) × (new ≡ slice_set old place (record r { live = false }))

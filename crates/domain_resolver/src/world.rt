@@ -6,7 +6,7 @@ ghost use Rattle.jk_model.specs.declared.identifiers.DomainId.{DomainId as ADoma
 ghost use Rattle.jk_model_classes.specs.Classes.{HasClass, GetsLinks, StandsAbove, AreOrdered};
 ghost use Rattle.jk_model_classes.specs.SystemRecords.{AreSystemRecords};
 ghost use Rattle.jk_model_classes.specs.Worlds.{DomainRecord, domain_of, IsLiveNamed};
-ghost use Rattle.domain_resolver.specs.LiveDomains.{EndsDomain, IsNumbered, LosesName, SetsEnded};
+ghost use Rattle.domain_resolver.specs.LiveDomains.{EndsDomain, IsLiveLast, IsNumbered, LosesName, SetsEnded};
 ghost use Rattle.domain_resolver.specs.LiveNames.{place_of};
 
 use crate::domain_names::DomainNames;
@@ -152,6 +152,17 @@ impl World {
         let domain = DomainNames::new(id, name, table, offers);
         self.domains.push_reserved(domain);
         Ok(id)
+    }
+
+    /// Takes back the domain that was added last, which is live: all is as before it was added, and its name is free. The classes
+    /// whose home it is are to be cut too. It takes no memory.
+    pub fn take_back_domain(&mut self)
+        requires { IsLiveLast self.old.domains }
+        ensures { self.new ≡ record self.old { domains = take (length self.old.domains - 1) self.old.domains } }
+    {
+        if let Some(domain) = self.domains.pop() {
+            take_out(&mut self.live, domain.name().as_slice());
+        }
     }
 
     /// Ends a domain: no name finds it any more. Its names and offers stay. It takes no memory.
