@@ -1,11 +1,12 @@
 //! Texts of `resolver.txt` with what they say or the bad line, names, offers, imports, and a world.
 
-ghost use Rattle.std.specs.Prelude.{◌≡◌, Some};
+ghost use Rattle.std.specs.Prelude.{◌≡◌, IsTrue, Some};
 ghost use Rattle.jk_model.specs.declared.identifiers.ClassId.{ClassId as AClassId};
 ghost use Rattle.jk_model_classes.specs.declared.records.ClassRecord.{ClassRecord as ARecord};
 ghost use Rattle.jk_model_classes.specs.Classes.{record_of};
 ghost use Rattle.jk_model_classes.specs.SystemRecords.{AreSystemRecords};
 ghost use Rattle.jk_model_classes.specs.Worlds.{NamesClasses};
+ghost use Rattle.domain_resolver.specs.LiveDomains.{IsLiveLast};
 
 use super::*;
 use class_table::ClassTable;
@@ -226,6 +227,26 @@ fn end(rt: &impl Abort, world: &mut World, d: DomainId) {
     world.end_domain(d);
 }
 
+/// Whether there is a last domain, which is live.
+fn last_is_live(world: &World) -> bool
+    ensures { IsTrue result → IsLiveLast world.now.domains }
+{
+    let count = world.domain_count();
+    if count == 0 {
+        return false;
+    }
+    match world.domain(DomainId((count - 1) as u32)) {
+        Some(domain) => domain.is_live(),
+        None => false,
+    }
+}
+
+/// Takes back the last domain, which is live.
+fn take_back(rt: &impl Abort, world: &mut World) {
+    assert!(rt; last_is_live(world));
+    world.take_back_domain();
+}
+
 #[test]
 fn three_domains(rt: HostRuntime) -> Result<(), Fail> {
     let mut world = World::new(rt.alloc())?;
@@ -248,5 +269,9 @@ fn three_domains(rt: HostRuntime) -> Result<(), Fail> {
     assert_eq!(rt; world.live_named(b"b"), Some(again));
     assert_eq!(rt; world.domain_count(), 4);
     assert!(rt; world.domain(DomainId(4)).is_none());
+    take_back(&rt, &mut world);
+    assert_eq!(rt; world.domain_count(), 3);
+    assert_eq!(rt; world.live_named(b"b"), None);
+    assert_eq!(rt; world.live_named(b"c"), Some(DomainId(2)));
     Ok(())
 }
