@@ -1,7 +1,7 @@
 -- What is known of walks over classes, of records of methods, and of packages.
 pub mod FirstOnWalk
 pub mod OneRecord
-mod OnePackage
+pub mod OnePackage
 mod RunnersOfAClass
 pub mod WalksOfMethods
 pub mod WalksUpwards
