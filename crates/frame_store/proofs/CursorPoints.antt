@@ -162,6 +162,10 @@ module _ (x y : DomainFrames) (i used : ℕ) (frames : List FrameState) (b : Bec
 pub some_pushed : (fs : List FrameState) (f : FrameState) → 0 < length (fs ++ f ∷ [])
 some_pushed fs f = omega (arith, length_push fs f)
 
+pub some_of_two : (fs : List FrameState) (f g : FrameState) → 0 < length (fs ++ f ∷ g ∷ [])
+some_of_two [] f g = omega arith
+some_of_two (h ∷ fs) f g = omega arith
+
 module _ {S : Type 0} (m : IndexMap ℕ DomainFrames S) (t : SegmentTable) (owed : ℕ) (s : SegmentNo) (x y : DomainFrames) (slot : ℕ)
     (h : IsStore m t owed) (f : IsFound m t s.0 x slot) (at : ℕ) (stands : StandsAt m f.domain at)
     (wrote : WritesThrough nat_eq (nat_eq f.domain) m y (with_value_at m at y)) where

@@ -1,3 +1,4 @@
+pub mod ArgumentsInLocals
 pub mod BlocksAreGiven
 mod WrittenAt
 pub mod CursorPoints
@@ -5,10 +6,12 @@ pub mod CursorWrites
 pub mod DomainCloses
 pub mod DomainIsEntered
 pub mod DomainIsKept
+pub mod EntriesDropped
 pub mod EntriesOfANumber
 pub mod EntryIsPut
 pub mod EntryIsTaken
 pub mod FrameIsAdded
+pub mod FramesCalled
 pub mod FrameIsOff
 pub mod FrameValues
 pub mod FreeChains

@@ -161,7 +161,7 @@ module _ {S : Type 0} (m n : IndexMap ℕ DomainFrames S) (t : SegmentTable) (ow
 pub same_some : {A : Type 0} (a b : A) → Some a ≡ Some b → a ≡ b
 same_some a b e = cc
 
-last_same : {A : Type 0} (xs ys : List A) (a b : A) → xs ++ a ∷ [] ≡ ys ++ b ∷ [] → (xs ≡ ys) × (a ≡ b)
+pub last_same : {A : Type 0} (xs ys : List A) (a b : A) → xs ++ a ∷ [] ≡ ys ++ b ∷ [] → (xs ≡ ys) × (a ≡ b)
 last_same [] [] a b e = (refl, cc)
 last_same [] (y ∷ []) a b e = absurd (cc)
 last_same [] (y ∷ z ∷ ys) a b e = absurd (cc)

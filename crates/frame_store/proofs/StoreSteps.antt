@@ -5,17 +5,17 @@ use Rattle.std.specs.HashMap.{WritesThrough}
 use Rattle.std.proofs.lemmas.Bool.{cases_eq}
 use Rattle.jk_model.specs.declared.frames.FrameHead.{FrameHead}
 use Rattle.jk_model.specs.declared.identifiers.SegmentNo.{SegmentNo}
-use Rattle.jk_model_frames.specs.Frames.{FrameState, new_frame, head_chunks}
+use Rattle.jk_model_frames.specs.Frames.{FrameState, called_frame, new_frame, head_chunks}
 use Rattle.indexmap.specs.IndexMap.{IndexMap, get}
 use Rattle.frame_store.specs.declared.domain_frames.DomainFrames.{DomainFrames}
 use Rattle.frame_store.specs.declared.segment_table.Place.{Place}
 use Rattle.frame_store.specs.declared.segment_table.SegmentTable.{SegmentTable}
-use Rattle.frame_store.specs.FrameContents.{StoredSegment, Changes, IsSame, SetsTop, Pops, Pushes}
+use Rattle.frame_store.specs.FrameContents.{StoredSegment, Calls, Changes, IsSame, SetsTop, Pops, Pushes}
 use Rattle.frame_store.specs.TableMoves as table
-use Rattle.frame_store.specs.DomainMoves.{frames_of, top_of, lower_of, HasTop, Becomes}
-use Rattle.frame_store.specs.StoreContents.{content_of, stored, IsStore}
+use Rattle.frame_store.specs.DomainMoves.{frames_of, top_of, lower_of, HasTop, Becomes, CallsOn}
+use Rattle.frame_store.specs.StoreContents.{content_of, stored, IsFound, IsStore}
 use Rattle.frame_store.proofs.TopIsWritten.{frames_more}
-use Rattle.frame_store.proofs.StoreChanges.{segment_in, get_here, get_other, store_changes, used_is, segment_is}
+use Rattle.frame_store.proofs.StoreChanges.{segment_in, found_top_is, get_here, get_other, same_some, store_changes, used_is, segment_is}
 
 module _ {S : Type 0} (m n : IndexMap ℕ DomainFrames S) (t : SegmentTable) (owed : ℕ) (s : SegmentNo) (p : Place) (x y : DomainFrames) (h : IsStore m t owed)
     (at : table.place_in t s.0 ≡ Some p) (is : get nat_eq m p.domain ≡ Some x) (wrote : WritesThrough nat_eq (nat_eq p.domain) m y n) where
@@ -65,6 +65,22 @@ module _ {S : Type 0} (m n : IndexMap ℕ DomainFrames S) (t : SegmentTable) (ow
       let c = store_changes m n t owed s p x y h at is wrote fs (x.used + head_chunks head) b in
       let P : ℕ → Type 0 = λ u. ChangesTo fs (u + head_chunks head) in
       (segment_here, segment_is m n t owed s p x y h at is wrote, subst P (sym use_is) c)
+
+  pub steps_call : (head : FrameHead) (count : ℕ) → CallsOn x y p.slot head count → Calls (content_of m t) (content_of n t) s head count
+  steps_call head count calls f top below given stack many =
+      let found : IsFound m t s.0 x p.slot = record { domain = p.domain; at = at; is = is } in
+      let same = found_top_is m t owed s h x p.slot found f top in
+      let segment = same_some segment_here top.segment (sym (segment_is m n t owed s p x y h at is wrote) ∙ top.is_there) in
+      let frames : List FrameState → FrameState → List FrameState = λ lower (g : FrameState). lower ++ record g { stack = below } ∷ called_frame head given ∷ [] in
+      let c = store_changes m n t owed s p x y h at is wrote (frames (lower_of x p.slot) (top_of x p.slot)) (x.used + head_chunks head)
+      (calls below given (ap (λ (g : FrameState). g.stack) (sym same.1) ∙ stack) many) in
+      let P : ℕ → Type 0 = λ u. ChangesTo (frames (lower_of x p.slot) (top_of x p.slot)) (u + head_chunks head) in
+      let Q : StoredSegment → List FrameState → FrameState → Type 0 = λ k lower g.
+      Changes (content_of m t) (content_of n t) s k.domain (Some (record k { frames = frames lower g })) ((content_of m t).used k.domain + head_chunks head) in
+      let one : Q segment_here (lower_of x p.slot) (top_of x p.slot) = subst P (sym use_is) c in
+      let two : Q segment_here top.lower (top_of x p.slot) = subst (λ l. Q segment_here l (top_of x p.slot)) (sym same.0) one in
+      let three : Q segment_here top.lower f = subst (λ g. Q segment_here top.lower g) (sym same.1) two in
+      subst (λ k. Q k top.lower f) segment three
 
   -- nothing is written
   get_all : y ≡ x → (q : ℕ) → get nat_eq n q ≡ get nat_eq m q

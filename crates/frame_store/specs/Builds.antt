@@ -1,7 +1,7 @@
 -- Lists of what a function has at the numbers below one.
-use Rattle.std.proofs.Common.{◌≡◌, ◌≢◌, ℕ, zero, suc, ◌+◌, ◌<◌, ◌≤◌, List, [], ◌∷◌, ◌++◌, length, set, replicate, Some, slice_get, refl, sym, ap, arith, inl, inr, ◌∙◌}
+use Rattle.std.proofs.Common.{◌≡◌, ◌≢◌, ℕ, zero, suc, ◌+◌, ◌<◌, ◌≤◌, List, [], ◌∷◌, ◌++◌, length, set, replicate, Some, slice_get, refl, sym, ap, append_assoc, arith, inl, inr, ◌∙◌}
 use Rattle.std.proofs.lemmas.Bool.{cases_eq}
-use Rattle.std.proofs.lemmas.List.{length_push}
+use Rattle.std.proofs.lemmas.List.{append-nil, length_push}
 use Rattle.jk_model_frames.specs.Frames.{FrameState, head_chunks, frames_chunks}
 use Rattle.std.proofs.lemmas.List.Sums.{sum_by_push}
 use Rattle.frame_store.specs.Chains.{sum_below}
@@ -78,6 +78,15 @@ build-replicate f (suc n) v h =
 pub build-more : {X : Type 0} (f : ℕ → X) (n m : ℕ) → m ≡ n + 1 → build f m ≡ build f n ++ f n ∷ []
 build-more f n zero e = absurd (omega arith)
 build-more f n (suc m) e = let at : m ≡ n = omega arith in ap (λ k. build f k ++ f k ∷ []) at
+
+pub build-split : {X : Type 0} (f : ℕ → X) (n m total : ℕ) → total ≡ n + m → build f total ≡ build f n ++ build (λ k. f (n + k)) m
+build-split f n zero total e = let same : total ≡ n = omega (arith, e) in ap (build f) same ∙ sym (append-nil (build f n))
+build-split f n (suc m) zero e = absurd (omega (arith, e))
+build-split f n (suc m) (suc total) e =
+    let less : total ≡ n + m = omega (arith, e) in
+    let rest = build-split f n m total less in
+    ap (λ xs. xs ++ f total ∷ []) rest ∙ append_assoc (build f n) (build (λ k. f (n + k)) m) (f total ∷ [])
+    ∙ ap (λ k. build f n ++ (build (λ j. f (n + j)) m ++ f k ∷ [])) less
 
 pub chunks-build : (f : ℕ → FrameState) (n : ℕ) → frames_chunks (build f n) ≡ sum_below (λ k. head_chunks (f k).head) n
 chunks-build f zero = refl

@@ -1,8 +1,8 @@
 -- What the calls of a domain's frames do.
-use Rattle.std.specs.Prelude.{◌≡◌, ◌≢◌, ℕ, ◌+◌, ◌-◌, ◌<◌, List, [], ◌∷◌, ◌++◌}
+use Rattle.std.specs.Prelude.{◌≡◌, ◌≢◌, ℕ, ◌+◌, ◌-◌, ◌^◌, ◌<◌, ◌≤◌, List, [], ◌∷◌, ◌++◌, length}
 use Rattle.jk_model.specs.declared.frames.FrameHead.{FrameHead}
 use Rattle.jk_model.specs.declared.values.Value.{Value}
-use Rattle.jk_model_frames.specs.Frames.{FrameState, new_frame, head_chunks, segment_chunks}
+use Rattle.jk_model_frames.specs.Frames.{FrameState, called_frame, head_chunks, locals_of, new_frame, segment_chunks}
 use Rattle.frame_store.specs.declared.domain_frames.DomainFrames.{DomainFrames}
 use Rattle.frame_store.specs.ChainMoves.{count, place}
 use Rattle.frame_store.specs.SlotMoves.{IsLive, TakesSlot, GivesSlot}
@@ -89,6 +89,38 @@ pub record Ends (old new : DomainFrames) (i : ℕ) : Type 0 where
   pub gives : GivesSlot old.slots new.slots i
   pub others : (j : ℕ) → j < old.chunks → j ≢ i → frames_of new j ≡ frames_of old j
   pub uses : new.used ≡ old.used - segment_chunks (frames_of old i)
+
+-- The top frame of the segment in this slot has so many arguments for a frame with this head.
+abbrev pub HasGiven : DomainFrames → ℕ → FrameHead → ℕ → Type 0
+HasGiven d i head count =
+    (below : List Value) × (given : List Value) × ((top_of d i).stack ≡ below ++ given) × (length given ≡ count)
+    × (length (locals_of given) ≤ head.max_locals)
+
+-- The top frame calls another one with these arguments.
+abbrev pub CallsOn : DomainFrames → DomainFrames → ℕ → FrameHead → ℕ → Type 0
+CallsOn old new i head count =
+    (below given : List Value) → (top_of old i).stack ≡ below ++ given → length given ≡ count
+    → Becomes old new i (lower_of old i ++ record (top_of old i) { stack = below } ∷ called_frame head given ∷ []) (old.used + head_chunks head)
+
+-- A new frame is on top of one that has so many arguments for it.
+pub record MayGive (d : DomainFrames) (caller frame count : ℕ) : Type 0 where
+  pub slot : ℕ
+  pub has_top : HasTop d slot
+  pub deep : 2 ≤ depth_of d slot
+  pub is_top : frame ≡ top_number d slot
+  pub is_caller : caller ≡ place d.frames slot (depth_of d slot - 2)
+  pub head : FrameHead
+  pub is_new : value_at d frame ≡ new_frame head
+  pub below : List Value
+  pub given : List Value
+  pub stack : (value_at d caller).stack ≡ below ++ given
+  pub as_many : length given ≡ count
+  pub room : length (locals_of given) ≤ head.max_locals
+  pub small : head.max_locals < 2 ^ 16
+
+-- The new frame has its arguments.
+abbrev pub GivesTo : DomainFrames → DomainFrames → ℕ → FrameHead → List Value → Type 0
+GivesTo old new i head given = Becomes old new i (lower_of old i ++ called_frame head given ∷ []) old.used
 
 -- An entry is taken off the operand stack of the top frame.
 abbrev pub TakesTopEntry : DomainFrames → DomainFrames → ℕ → Value → Type 0

@@ -7,7 +7,7 @@ use Rattle.jk_model.specs.declared.frames.FrameHead.{FrameHead}
 use Rattle.jk_model.specs.declared.identifiers.DomainId.{DomainId}
 use Rattle.jk_model.specs.declared.identifiers.SegmentNo.{SegmentNo}
 use Rattle.jk_model.specs.declared.values.Value.{Value}
-use Rattle.jk_model_frames.specs.Frames.{FrameState, new_frame, head_chunks, segment_chunks}
+use Rattle.jk_model_frames.specs.Frames.{FrameState, called_frame, head_chunks, locals_of, new_frame, segment_chunks}
 use Rattle.jk_model_frames.specs.Pools.{Pool, IsPlaceFor, IsPlaced}
 
 -- a segment's domain, and its frames, the lowest first
@@ -79,6 +79,12 @@ abbrev pub HasRoomFor : FrameContent → SegmentNo → FrameHead → Type 0
 HasRoomFor c s head =
     (g : StoredSegment) × (c.segment s ≡ Some g) × (head_chunks head ≤ free_chunks c g.domain)
 
+-- the operand stack of the top frame has so many arguments on top, and they fit the locals of a frame with this head
+abbrev pub HasArguments : FrameContent → SegmentNo → FrameHead → ℕ → Type 0
+HasArguments c s head count =
+    (f : FrameState) × TopFrame c s f × (below : List Value) × (given : List Value) × (f.stack ≡ below ++ given)
+    × (length given ≡ count) × (length (locals_of given) ≤ head.max_locals)
+
 -- ---- Changes.
 
 -- The pool and the domains are as before.
@@ -112,6 +118,15 @@ abbrev pub Pushes : FrameContent → FrameContent → SegmentNo → FrameHead �
 Pushes old new s head =
     (g : StoredSegment) × (old.segment s ≡ Some g)
     × Changes old new s g.domain (Some (record g { frames = g.frames ++ new_frame head ∷ [] })) (old.used g.domain + head_chunks head)
+
+-- The top frame calls: so many arguments, the topmost entries of its operand stack, become the first locals of another frame
+-- on top of it.
+abbrev pub Calls : FrameContent → FrameContent → SegmentNo → FrameHead → ℕ → Type 0
+Calls old new s head count =
+    (f : FrameState) (top : TopFrame old s f) (below given : List Value) → f.stack ≡ below ++ given → length given ≡ count
+    → Changes old new s top.segment.domain
+    (Some (record top.segment { frames = top.lower ++ record f { stack = below } ∷ called_frame head given ∷ [] }))
+    (old.used top.segment.domain + head_chunks head)
 
 -- The top frame goes.
 abbrev pub Pops : FrameContent → FrameContent → SegmentNo → Type 0

@@ -1,6 +1,7 @@
 //! The frames of one domain. All its memory is taken when it is made.
 
 ghost use Rattle.std.specs.Prelude.{◌≡◌, ◌+◌, ◌*◌, ◌<◌, ◌≤◌, ◌^◌, length, IfOk};
+ghost use Rattle.jk_model_frames.specs.Frames.{as_locals};
 ghost use Rattle.frame_store.specs.FrameBlocks.{IsDomain};
 
 use crate::chains::Chains;
@@ -25,9 +26,11 @@ pub(crate) struct DomainFrames {
 }
 
 impl DomainFrames {
-    ghost use Rattle.std.specs.Prelude.{◌≡◌, ℕ, ◌+◌, ◌-◌, ◌*◌, ◌^◌, ◌<◌, ◌≤◌, ◌++◌, ◌∷◌, [], Some, length, slice_get, slice_set, IfOk, OnOk, OnErr};
-    ghost use Rattle.jk_model_frames.specs.Frames.{FrameState as AFrame, new_frame, head_chunks, frames_chunks};
-    ghost use Rattle.frame_store.specs.DomainMoves.{depth_of, frames_of, top_of, top_number, lower_of, lowest_block, value_at, IsSlot, HasTop, IsTopOf, IsFrameNumber, IsFresh, Opens, Becomes, Begins, Ends, TakesTopEntry};
+    ghost use Rattle.std.specs.Prelude.{◌≡◌, ℕ, ◌+◌, ◌-◌, ◌*◌, ◌^◌, ◌<◌, ◌≤◌, ◌++◌, ◌∷◌, [], List, Some, length, slice_get, slice_set, IfOk, OnOk, OnErr};
+    ghost use Rattle.jk_model.specs.declared.values.Value.{Value as AValue};
+    ghost use Rattle.jk_model_frames.specs.Frames.{FrameState as AFrame, called_frame, new_frame, head_chunks, frames_chunks};
+    ghost use Rattle.frame_store.specs.ChainMoves.{MovesTop, place};
+    ghost use Rattle.frame_store.specs.DomainMoves.{MayGive, GivesTo, HasGiven, CallsOn, depth_of, frames_of, top_of, top_number, lower_of, lowest_block, value_at, IsSlot, HasTop, IsTopOf, IsFrameNumber, IsFresh, Opens, Becomes, Begins, Ends, TakesTopEntry};
 
     /// A domain without segments, which may use so many chunks.
     pub(crate) fn new(alloc: Global, chunks: u32) -> Result<DomainFrames, OutOfMemory>
@@ -70,7 +73,7 @@ impl DomainFrames {
             return Err(NoChunks);
         }
         let slot = self.open(number);
-        self.add(slot, head, blocks);
+        let _frame = self.add(slot, head, blocks);
         Ok(slot)
     }
 
@@ -96,7 +99,33 @@ impl DomainFrames {
         if blocks > self.chunks - self.used {
             return Err(NoChunks);
         }
-        self.add(slot, head, blocks);
+        let _frame = self.add(slot, head, blocks);
+        Ok(())
+    }
+
+    /// Puts a frame on top of a segment, and moves so many arguments from the frame below into its first locals.
+    pub(crate) fn call(
+        &mut self,
+        slot: u32,
+        head: FrameHead,
+        arguments: u16,
+    ) -> Result<(), NoChunks>
+        requires slot { IsSlot self.old slot }
+        requires top { HasTop self.old slot }
+        requires given { HasGiven self.old slot head arguments }
+        ensures ok { OnOk result (CallsOn self.old self.new slot head arguments) }
+        ensures err { OnErr result (self.new ≡ self.old) }
+        ensures room { OnOk result (head_chunks head ≤ self.old.chunks - self.old.used) }
+        ensures no_room { OnErr result (self.old.chunks - self.old.used < head_chunks head) }
+    {
+        let blocks = head_chunks(&head);
+        if blocks > self.chunks - self.used {
+            return Err(NoChunks);
+        }
+        let caller = self.frames.top(slot);
+        let frame = self.add(slot, head, blocks);
+        self.give(caller, frame, arguments);
+        self.shorten(caller, arguments);
         Ok(())
     }
 
@@ -254,6 +283,34 @@ impl DomainFrames {
         self.values[index]
     }
 
+    /// Copies the topmost entries of a frame's operand stack, so many, into the first locals of the frame above.
+    fn give(&mut self, caller: u32, frame: u32, count: u16)
+        requires { MayGive self.old caller frame count }
+        ensures frames { self.new.frames ≡ self.old.frames }
+        ensures gives { (may : MayGive self.old caller frame count) → GivesTo self.old self.new may.slot may.head may.given }
+    {
+        let low = self.lowest(caller);
+        let lowest = self.lowest(frame);
+        let first = self.height(caller) - count;
+        let mut at = 0;
+        for k in 0..count {
+            let v = self.entry(caller, low, first + k);
+            self.set_local(frame, lowest, at, v);
+            at += slots(v);
+        }
+    }
+
+    /// Takes so many entries off the operand stack of a frame.
+    fn shorten(&mut self, frame: u32, count: u16)
+        requires frame { IsFrameNumber self.old frame }
+        requires enough { count ≤ length (value_at self.old frame).stack }
+        ensures { (slot n : ℕ) (below given : List AValue) → slot < self.old.chunks → n < depth_of self.old slot → frame ≡ place self.old.frames slot n
+            → (value_at self.old frame).stack ≡ below ++ given → length given ≡ count
+            → Becomes self.old self.new slot (slice_set (frames_of self.old slot) n (record (value_at self.old frame) { stack = below })) self.old.used }
+    {
+        self.records[frame as usize].height -= count;
+    }
+
     /// Takes a slot for a segment, which has no frames yet.
     fn open(&mut self, number: u64) -> u32
         requires { self.old.used < self.old.chunks }
@@ -264,13 +321,14 @@ impl DomainFrames {
         slot
     }
 
-    /// Puts a frame on top of a segment, where the chunks that it costs are free.
-    fn add(&mut self, slot: u32, head: FrameHead, blocks: u32)
+    /// Puts a frame on top of a segment, where the chunks that it costs are free. The answer is its number.
+    fn add(&mut self, slot: u32, head: FrameHead, blocks: u32) -> u32
         requires slot { IsSlot self.old slot }
         requires cost { blocks ≡ head_chunks head }
         requires room { self.old.used + blocks ≤ self.old.chunks }
         requires small { head.max_stack < 2 ^ 16 }
-        ensures { Becomes self.old self.new slot (frames_of self.old slot ++ new_frame head ∷ []) (self.old.used + blocks) }
+        ensures becomes { Becomes self.old self.new slot (frames_of self.old slot ++ new_frame head ∷ []) (self.old.used + blocks) }
+        ensures moves { MovesTop self.old.frames self.new.frames self.old.chunks slot result }
     {
         let frame = self.frames.move_top(self.chunks, slot);
         self.records[frame as usize] = FrameRecord { head, height: 0 };
@@ -282,6 +340,7 @@ impl DomainFrames {
             blocks,
         );
         self.used += blocks;
+        frame
     }
 
     /// Takes all frames off a segment.
@@ -292,6 +351,16 @@ impl DomainFrames {
         while self.frames.count(slot) > 0 {
             self.pop(slot);
         }
+    }
+}
+
+/// How many locals a value takes.
+fn slots(v: Value) -> u16
+    ensures { result ≡ length (as_locals v) }
+{
+    match v {
+        Value::Long(_) => 2,
+        _ => 1,
     }
 }
 

@@ -22,6 +22,7 @@ pub(crate) fn head_chunks(head: &FrameHead) -> u32
     ensures cost { result ≡ head_chunks head.now }
     ensures least { 1 ≤ result }
     ensures small { head.now.max_stack < 2 ^ 16 }
+    ensures few_locals { head.now.max_locals < 2 ^ 16 }
 {
     (4 + u32::from(head.max_locals) + u32::from(head.max_stack) + 19) / 20
 }

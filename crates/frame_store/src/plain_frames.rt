@@ -305,6 +305,18 @@ impl FrameStore for PlainFrames {
         Ok(())
     }
 
+    fn call(&mut self, s: SegmentNo, head: FrameHead, arguments: u16) -> Result<(), NoChunks> {
+        self.cursor.set = false;
+        let p = self.place(s);
+        let place = self.index_of(p.domain);
+        match self.domains.get_index_mut(place) {
+            Some(x) => x.call(p.slot, head, arguments)?,
+            None => unreachable!(),
+        }
+        self.aim(s, place, p.slot);
+        Ok(())
+    }
+
     fn pop(&mut self, s: SegmentNo) {
         self.cursor.set = false;
         let p = self.place(s);

@@ -4,7 +4,7 @@ ghost use Rattle.std.specs.Prelude.{◌≡◌, ◌≢◌, ◌+◌, ◌-◌, ◌*
 ghost use Rattle.jk_model.specs.declared.stores.AdmitError.TheVariants as Why;
 ghost use Rattle.jk_model_frames.specs.Frames.{FrameState as AFrame, head_chunks};
 ghost use Rattle.jk_model_frames.specs.Pools.{HasNoPlace};
-ghost use Rattle.frame_store.specs.FrameContents.{FrameContent, IsAdmitted, IsThere, HasTop, TopFrame, FrameAt, HasLocal, HasEntry, HasFreeEntry, HasFrame, HasLocalAt, HasRoomFor, TakesEntry, IsSame, Begins, Pushes, Pops, Ends, SetsTop, Admits, Closes, HasFewDomains, IsContent, free_chunks, pool_of};
+ghost use Rattle.frame_store.specs.FrameContents.{FrameContent, IsAdmitted, IsThere, HasTop, TopFrame, FrameAt, HasLocal, HasEntry, HasFreeEntry, HasFrame, HasLocalAt, HasRoomFor, HasArguments, Calls, TakesEntry, IsSame, Begins, Pushes, Pops, Ends, SetsTop, Admits, Closes, HasFewDomains, IsContent, free_chunks, pool_of};
 
 use jk_model::{AdmitError, ClassId, DomainId, FrameHead, NoChunks, SegmentNo, Value};
 
@@ -50,6 +50,16 @@ pub trait FrameStore {
     fn push(&mut self, s: SegmentNo, head: FrameHead) -> Result<(), NoChunks>
         requires { IsThere (content self.old) s }
         ensures ok { OnOk result (Pushes (content self.old) (content self.new) s head) }
+        ensures err { OnErr result (IsSame (content self.old) (content self.new)) }
+        ensures room { OnOk result (HasRoomFor (content self.old) s head) }
+        ensures no_room { OnErr result (HasRoomFor (content self.old) s head → ⊥) };
+
+    /// Puts another frame on top of a segment, and moves so many arguments off the operand stack of the frame below into its
+    /// first locals, in order, a long into the first of its two. It fails exactly where its chunks exceed what is free, and then
+    /// all is as before.
+    fn call(&mut self, s: SegmentNo, head: FrameHead, arguments: u16) -> Result<(), NoChunks>
+        requires { HasArguments (content self.old) s head arguments }
+        ensures ok { OnOk result (Calls (content self.old) (content self.new) s head arguments) }
         ensures err { OnErr result (IsSame (content self.old) (content self.new)) }
         ensures room { OnOk result (HasRoomFor (content self.old) s head) }
         ensures no_room { OnErr result (HasRoomFor (content self.old) s head → ⊥) };

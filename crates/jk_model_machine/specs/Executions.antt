@@ -25,6 +25,7 @@ use Rattle.jk_model_classes.specs.declared.records.TypeRef.{TypeRef}
 use Rattle.jk_model_classes.specs.Lookups.{FieldIs, MethodIs}
 use Rattle.jk_model_typing.specs.FrameTypes.{STRING, array_type}
 use Rattle.jk_model_typing.specs.Scopes.{CodeScope, LeadsToLink}
+pub use Rattle.jk_model_frames.specs.Frames.{as_locals}
 use Rattle.jk_model_frames.specs.Frames.{FrameState, head_chunks}
 use Rattle.jk_model_domains.specs.NumberRows.{IsOnTop, NumberRow, Replaces}
 use Rattle.jk_model_domains.specs.Objects.{NamedObject, Text, PRINT_STREAM, class_type, object_named}
@@ -127,11 +128,6 @@ pub record PutsStatic (s : CodeScope) (i : Instr) (w new : Working) (outcome : O
 -- the method that the instruction names
 abbrev pub NamesMethod : CodeScope → Instr → MemberId → MethodRecord → Type 0
 NamesMethod s i m method = (c : ClassId) × LeadsToLink s i (To.Method c m) × MethodIs s.classes m method
-
--- a value in the locals: the local after a long is unset
-abbrev pub as_locals : Value → List Value
-as_locals (Held.Long n) = Held.Long n ∷ Held.Unset ∷ []
-as_locals v = v ∷ []
 
 abbrev pub call_head : MemberId → LinkedCode → FrameHead
 call_head m code = record {

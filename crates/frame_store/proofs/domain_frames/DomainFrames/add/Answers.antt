@@ -17,8 +17,8 @@ invariant_of-self c =
           c.requires.slot c.requires.cost c.requires.room c.requires.small c.move_top-frame.ensures.moves takes;
     }
 
-pub returns : goal.returns
-returns c =
+pub returns-clause-becomes : goal.returns-clause-becomes
+returns-clause-becomes c =
     let d = c.args.self.now in
     let takes = c.take_blocks.ensures in
     record {
