@@ -16,4 +16,3 @@ pub use items::{
     Statement, SwitchLine,
 };
 pub use lines::read_lines;
-

@@ -4,9 +4,10 @@ use Rattle.std.specs.Prelude.{◌<ℤ◌}
 use Rattle.jk_model.specs.declared.class_file.PoolEntry.{PoolEntry}
 use Rattle.jk_model.specs.declared.instructions.Instr.{Instr}
 use Rattle.jk_model.specs.declared.descriptors.FieldType.{FieldType}
+use Rattle.jk_model.specs.declared.opcodes.TheConstants.{NEW, ANEWARRAY, MULTIANEWARRAY}
 use Rattle.jk_model_classes.specs.ClassNames.{BeginsArray}
 use Rattle.jk_model_classes.specs.Members.{ClassAt}
-use Rattle.jk_model_classes.specs.MemberCode.{NEW, ANEWARRAY, MULTIANEWARRAY, HasDimensions, MakesBadArray}
+use Rattle.jk_model_classes.specs.MemberCode.{HasDimensions, MakesBadArray}
 use Rattle.descriptors.proofs.NoTextBeginsAnother.{one_field}
 use Rattle.class_rules.specs.declared.texts.FieldShape.{FieldShape}
 use Rattle.class_rules.specs.declared.texts.TextFacts.{TextFacts}

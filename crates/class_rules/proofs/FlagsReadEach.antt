@@ -3,7 +3,7 @@ use Rattle.std.proofs.Common.{◌≡◌, ℕ, ◌⊎◌, inl, inr, ◌↔◌, Bo
 use Rattle.jk_model.specs.declared.class_file.ClassFile.{ClassFile}
 use Rattle.jk_model.specs.declared.class_file.PoolEntry.{PoolEntry}
 use Rattle.jk_model.specs.declared.class_file.MemberInfo.{MemberInfo}
-use Rattle.jk_model_classes.specs.ClassFlags.{SYNCHRONIZED, NATIVE, has}
+use Rattle.jk_model.specs.Flags.{SYNCHRONIZED, NATIVE, has}
 use Rattle.jk_model_classes.specs.Items.{Spot, Member, Entry}
 use Rattle.jk_model_classes.specs.MemberCode.{UsesMonitor, IsNative}
 use Rattle.class_rules.specs.Attributes.{CountFlags}

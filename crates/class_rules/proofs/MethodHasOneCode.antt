@@ -11,7 +11,7 @@ use Rattle.jk_model.specs.declared.class_file.Code.{Code as CodeBody}
 use Rattle.jk_model.specs.declared.descriptors.MethodType.{MethodType}
 use Rattle.jk_model.specs.ClassFile.{CodeLayout}
 use Rattle.jk_model.specs.Descriptors.{IsMethodText, method_slots, receiver_slots}
-use Rattle.jk_model_classes.specs.ClassFlags.{STATIC, NATIVE, ABSTRACT, has}
+use Rattle.jk_model.specs.Flags.{STATIC, NATIVE, ABSTRACT, has}
 use Rattle.jk_model_classes.specs.Items.{HasItemBefore, HasTwoItems}
 use Rattle.descriptors.proofs.NoTextBeginsAnother.{one_method}
 use Rattle.class_rules.specs.declared.codes.CodeJudgment.{CodeJudgment}

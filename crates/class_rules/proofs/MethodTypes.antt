@@ -6,7 +6,7 @@ use Rattle.jk_model.specs.declared.class_file.MemberInfo.{MemberInfo}
 use Rattle.jk_model.specs.declared.class_file.PoolEntry.{PoolEntry}
 use Rattle.jk_model.specs.declared.descriptors.MethodType.{MethodType}
 use Rattle.jk_model.specs.Descriptors.{IsMethodText, method_slots}
-use Rattle.jk_model_classes.specs.ClassFlags.{STATIC, has}
+use Rattle.jk_model.specs.Flags.{STATIC, has}
 use Rattle.jk_model_classes.specs.MemberDescriptors.{MAX_SLOTS, HasMethodType}
 use Rattle.jk_model_classes.specs.Members.{TextAt, IsInit, IsClinit}
 use Rattle.class_rules.specs.declared.texts.TextFacts.{TextFacts}

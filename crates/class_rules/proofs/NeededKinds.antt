@@ -5,7 +5,8 @@ use Rattle.std.proofs.lemmas.Bool.{and_parts, or_cases, leb-true, eqb-true, ne_e
 use Rattle.std.proofs.lemmas.Option.{same_Some, none-some}
 use Rattle.jk_model.specs.declared.class_file.PoolEntry.{PoolEntry}
 use Rattle.jk_model.specs.declared.instructions.Instr.{Instr}
-use Rattle.jk_model_classes.specs.MemberCode.{UsesEntry, LDC, LDC2, INVOKEINTERFACE, is_field_access, is_call, is_of_class, HasBadEntry}
+use Rattle.jk_model.specs.declared.opcodes.TheConstants.{LDC_W, LDC2_W, GETSTATIC, PUTFIELD, INVOKEVIRTUAL, INVOKESTATIC, INVOKEINTERFACE, NEW, ANEWARRAY, CHECKCAST, INSTANCEOF, MULTIANEWARRAY}
+use Rattle.jk_model_classes.specs.MemberCode.{UsesEntry, is_field_access, is_call, is_of_class, HasBadEntry}
 use Rattle.class_rules.specs.declared.codes.operands.EntryKind.{EntryKind}
 use Rattle.class_rules.specs.declared.codes.operands.EntryKind.TheVariants as kinds
 use Rattle.class_rules.specs.Codes.{IsOfKind, needed_kind}
@@ -26,10 +27,10 @@ pub lacks_needed : (pool : List PoolEntry) (instr : Instr) (kind : EntryKind) �
     → HasBadEntry pool instr
 unfolding needed_kind
 lacks_needed pool instr kind e h =
-    elim (first_or_rest (instr.op == LDC) kinds.Constant _ kind e) [
-      | inl (t, same) ↦ inl (eqb-true instr.op LDC t, lacks pool instr kinds.Constant kind same h)
-      | inr e2 ↦ elim (first_or_rest (instr.op == LDC2) kinds.Long _ kind e2) [
-        | inl (t, same) ↦ inr (inl (eqb-true instr.op LDC2 t, lacks pool instr kinds.Long kind same h))
+    elim (first_or_rest (instr.op == LDC_W) kinds.Constant _ kind e) [
+      | inl (t, same) ↦ inl (eqb-true instr.op LDC_W t, lacks pool instr kinds.Constant kind same h)
+      | inr e2 ↦ elim (first_or_rest (instr.op == LDC2_W) kinds.Long _ kind e2) [
+        | inl (t, same) ↦ inr (inl (eqb-true instr.op LDC2_W t, lacks pool instr kinds.Long kind same h))
         | inr e3 ↦ elim (first_or_rest (is_field_access instr.op) kinds.Field _ kind e3) [
           | inl (t, same) ↦ inr (inr (inl (t, lacks pool instr kinds.Field kind same h)))
           | inr e4 ↦ elim (first_or_rest (is_call instr.op) kinds.Method _ kind e4) [
@@ -54,34 +55,34 @@ kind_at op n kind e same = subst (λ (m : ℕ). needed_kind m ≡ Some kind) (sy
 needs_field : (op : ℕ) → IsTrue (is_field_access op) → needed_kind op ≡ Some kinds.Field
 unfolding needed_kind
 needs_field op t =
-    let range = and_parts (nat_le 0xb2 op) (nat_le op 0xb5) t in
-    let low : 0xb2 ≤ op = leb-true 0xb2 op range.0 in
-    let one : (op == 0x13) ≡ false = ne_eqb op 0x13 (λ e. omega arith) in
-    let two : (op == 0x14) ≡ false = ne_eqb op 0x14 (λ e. omega arith) in
+    let range = and_parts (nat_le GETSTATIC op) (nat_le op PUTFIELD) t in
+    let low : GETSTATIC ≤ op = leb-true GETSTATIC op range.0 in
+    let one : (op == LDC_W) ≡ false = ne_eqb op LDC_W (λ e. omega arith) in
+    let two : (op == LDC2_W) ≡ false = ne_eqb op LDC2_W (λ e. omega arith) in
     rw (one, two, t) refl
 
 needs_method : (op : ℕ) → IsTrue (is_call op) → needed_kind op ≡ Some kinds.Method
 unfolding needed_kind
 needs_method op t =
-    let range = and_parts (nat_le 0xb6 op) (nat_le op 0xb8) t in
-    let low : 0xb6 ≤ op = leb-true 0xb6 op range.0 in
-    let one : (op == 0x13) ≡ false = ne_eqb op 0x13 (λ e. omega arith) in
-    let two : (op == 0x14) ≡ false = ne_eqb op 0x14 (λ e. omega arith) in
-    let three : is_field_access op ≡ false = and_right (nat_le 0xb2 op) (nat_le op 0xb5) (lt-leb op 0xb5 (omega arith)) in
+    let range = and_parts (nat_le INVOKEVIRTUAL op) (nat_le op INVOKESTATIC) t in
+    let low : INVOKEVIRTUAL ≤ op = leb-true INVOKEVIRTUAL op range.0 in
+    let one : (op == LDC_W) ≡ false = ne_eqb op LDC_W (λ e. omega arith) in
+    let two : (op == LDC2_W) ≡ false = ne_eqb op LDC2_W (λ e. omega arith) in
+    let three : is_field_access op ≡ false = and_right (nat_le GETSTATIC op) (nat_le op PUTFIELD) (lt-leb op PUTFIELD (omega arith)) in
     rw (one, two, three, t) refl
 
 needs_class : (op : ℕ) → IsTrue (is_of_class op) → needed_kind op ≡ Some kinds.Class
 unfolding needed_kind
 needs_class op t =
-    elim (or_cases (op == 0xbb || op == 0xbd || op == 0xc0 || op == 0xc1) (op == 0xc5) t) [
-      | inr last ↦ kind_at op 0xc5 kinds.Class refl (eqb-true op 0xc5 last)
-      | inl t2 ↦ elim (or_cases (op == 0xbb || op == 0xbd || op == 0xc0) (op == 0xc1) t2) [
-        | inr last ↦ kind_at op 0xc1 kinds.Class refl (eqb-true op 0xc1 last)
-        | inl t3 ↦ elim (or_cases (op == 0xbb || op == 0xbd) (op == 0xc0) t3) [
-          | inr last ↦ kind_at op 0xc0 kinds.Class refl (eqb-true op 0xc0 last)
-          | inl t4 ↦ elim (or_cases (op == 0xbb) (op == 0xbd) t4) [
-            | inr last ↦ kind_at op 0xbd kinds.Class refl (eqb-true op 0xbd last)
-            | inl first ↦ kind_at op 0xbb kinds.Class refl (eqb-true op 0xbb first)
+    elim (or_cases (op == NEW || op == ANEWARRAY || op == CHECKCAST || op == INSTANCEOF) (op == MULTIANEWARRAY) t) [
+      | inr last ↦ kind_at op MULTIANEWARRAY kinds.Class refl (eqb-true op MULTIANEWARRAY last)
+      | inl t2 ↦ elim (or_cases (op == NEW || op == ANEWARRAY || op == CHECKCAST) (op == INSTANCEOF) t2) [
+        | inr last ↦ kind_at op INSTANCEOF kinds.Class refl (eqb-true op INSTANCEOF last)
+        | inl t3 ↦ elim (or_cases (op == NEW || op == ANEWARRAY) (op == CHECKCAST) t3) [
+          | inr last ↦ kind_at op CHECKCAST kinds.Class refl (eqb-true op CHECKCAST last)
+          | inl t4 ↦ elim (or_cases (op == NEW) (op == ANEWARRAY) t4) [
+            | inr last ↦ kind_at op ANEWARRAY kinds.Class refl (eqb-true op ANEWARRAY last)
+            | inl first ↦ kind_at op NEW kinds.Class refl (eqb-true op NEW first)
           ]
         ]
       ]
@@ -90,8 +91,8 @@ needs_class op t =
 pub needed_lacks : (pool : List PoolEntry) (instr : Instr) → HasBadEntry pool instr
     → (kind : EntryKind) × (needed_kind instr.op ≡ Some kind) × Lacks pool instr kind
 unfolding needed_kind
-needed_lacks pool instr (inl (e, h)) = (kinds.Constant, kind_at instr.op LDC kinds.Constant refl e, h)
-needed_lacks pool instr (inr (inl (e, h))) = (kinds.Long, kind_at instr.op LDC2 kinds.Long refl e, h)
+needed_lacks pool instr (inl (e, h)) = (kinds.Constant, kind_at instr.op LDC_W kinds.Constant refl e, h)
+needed_lacks pool instr (inr (inl (e, h))) = (kinds.Long, kind_at instr.op LDC2_W kinds.Long refl e, h)
 needed_lacks pool instr (inr (inr (inl (t, h)))) = (kinds.Field, needs_field instr.op t, h)
 needed_lacks pool instr (inr (inr (inr (inl (t, h))))) = (kinds.Method, needs_method instr.op t, h)
 needed_lacks pool instr (inr (inr (inr (inr (inl (e, h)))))) = (kinds.InterfaceMethod, kind_at instr.op INVOKEINTERFACE kinds.InterfaceMethod refl e, h)

@@ -7,7 +7,7 @@ use Rattle.jk_model.specs.declared.class_file.PoolEntry.TheVariants.{Integer, Lo
 use Rattle.jk_model.specs.declared.class_file.MemberInfo.{MemberInfo}
 use Rattle.jk_model.specs.declared.class_file.Attribute.{Attribute}
 use Rattle.jk_model.specs.ClassFile.{NamesEntry, IsUtf8Entry, IsClassEntry}
-use Rattle.jk_model_classes.specs.ClassFlags.{STATIC, NATIVE, ABSTRACT, has}
+use Rattle.jk_model.specs.Flags.{STATIC, NATIVE, ABSTRACT, has}
 use Rattle.jk_model_classes.specs.Items.{HasItem, HasTwoItems}
 use Rattle.jk_model_classes.specs.Members.{TextAt, CLINIT, IsCalled}
 use Rattle.jk_model_classes.specs.MemberAttributes.{HasUnnamed, HasBadConstant, IsConstantValue, IsConstant, MissesCode, IsBadCode, IsExceptions, AreThrown, HasBadExceptions}

@@ -6,9 +6,10 @@ use Rattle.jk_model.specs.declared.class_file.Handler.{Handler}
 use Rattle.jk_model.specs.declared.instructions.Instr.{Instr}
 use Rattle.jk_model.specs.ClassFile.{IsClassEntry}
 use Rattle.jk_model.specs.Instructions.{Decodes, Fault, FloatOpcode, Subroutine, Monitor, HasFault, IsCutAt}
+use Rattle.jk_model.specs.declared.opcodes.TheConstants.{LDC_W, LDC2_W, INVOKESPECIAL, INVOKEINTERFACE, NEW, ANEWARRAY, MULTIANEWARRAY}
 use Rattle.jk_model_classes.specs.Items.{HasItem}
 use Rattle.jk_model_classes.specs.Members.{MemberKind, ReferenceAt, INIT}
-use Rattle.jk_model_classes.specs.MemberCode.{HasInstr, Shows, UsesEntry, LDC, LDC2, IsFloatEntry, IsDoubleEntry, LoadsFloat, IsUndecodable, BeginsAt, is_jump, is_switch, LeadsTo, IsGoodHandler, IsConstantEntry, IsLongEntry, IsFieldEntry, IsMethodEntry, IsInterfaceMethodEntry, is_field_access, is_call, is_of_class, INVOKESPECIAL, INVOKEINTERFACE, NEW, ANEWARRAY, MULTIANEWARRAY, HasBadLocal, MakesBadArray, CallsInit, IsBadInstr}
+use Rattle.jk_model_classes.specs.MemberCode.{HasInstr, Shows, UsesEntry, IsFloatEntry, IsDoubleEntry, LoadsFloat, IsUndecodable, BeginsAt, is_jump, is_switch, LeadsTo, IsGoodHandler, IsConstantEntry, IsLongEntry, IsFieldEntry, IsMethodEntry, IsInterfaceMethodEntry, is_field_access, is_call, is_of_class, HasBadLocal, MakesBadArray, CallsInit, IsBadInstr}
 use Rattle.jk_opcodes.specs.declared.errors.CodeError.{CodeError}
 use Rattle.jk_opcodes.specs.declared.errors.CodeError.TheVariants as errors
 use Rattle.jk_opcodes.specs.Errors.{error_of}
@@ -26,7 +27,7 @@ UsesFloatIn pool code = Shows FloatOpcode code ⊎ HasInstr (LoadsFloat pool) co
 
 -- C14
 abbrev pub LoadsClassBy : List PoolEntry → Instr → Type 0
-LoadsClassBy pool instr = (instr.op ≡ LDC) × UsesEntry IsClassEntry pool instr
+LoadsClassBy pool instr = (instr.op ≡ LDC_W) × UsesEntry IsClassEntry pool instr
 
 -- C15: a handler of a code that decodes is bad
 abbrev pub HasBadHandler : List PoolEntry → Code → Type 0
@@ -124,8 +125,8 @@ IsOfKind kinds.InterfaceMethod e = IsInterfaceMethodEntry e
 
 unfoldable pub needed_kind : ℕ → Option EntryKind
 needed_kind op =
-    if op == LDC then Some kinds.Constant else
-    if op == LDC2 then Some kinds.Long else
+    if op == LDC_W then Some kinds.Constant else
+    if op == LDC2_W then Some kinds.Long else
     if is_field_access op then Some kinds.Field else
     if is_call op then Some kinds.Method else
     if op == INVOKEINTERFACE then Some kinds.InterfaceMethod else

@@ -2,7 +2,7 @@
 use Rattle.std.specs.Prelude.{ℕ, IsTrue, List}
 use Rattle.jk_model.specs.declared.class_file.PoolEntry.{PoolEntry}
 use Rattle.jk_model.specs.declared.class_file.MemberInfo.{MemberInfo}
-use Rattle.jk_model_classes.specs.ClassFlags.{has}
+use Rattle.jk_model.specs.Flags.{has}
 use Rattle.class_rules.specs.Attributes.{CountFlags}
 
 -- a flag that counts of the method is set

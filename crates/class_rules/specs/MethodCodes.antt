@@ -8,7 +8,7 @@ use Rattle.jk_model.specs.declared.class_file.Code.{Code}
 use Rattle.jk_model.specs.declared.descriptors.MethodType.{MethodType}
 use Rattle.jk_model.specs.ClassFile.{CodeLayout}
 use Rattle.jk_model.specs.Descriptors.{IsMethodText, method_slots, receiver_slots}
-use Rattle.jk_model_classes.specs.ClassFlags.{STATIC, has}
+use Rattle.jk_model.specs.Flags.{STATIC, has}
 use Rattle.jk_model_classes.specs.ClassNames.{HasText}
 use Rattle.jk_model_classes.specs.Items.{HasItem}
 use Rattle.jk_model_classes.specs.MemberAttributes.{IsCodeAttribute}

@@ -3,7 +3,6 @@
 ghost use Rattle.std.specs.Prelude.{◌≡◌, ℕ, ◌↔◌, ◌<◌, ◌⊎◌, ◌^◌, IsTrue, IfOk, IfSome, MatchOption, Some, length};
 ghost use Rattle.jk_model.specs.declared.class_file.Code.{Code};
 ghost use Rattle.jk_model.specs.ClassFile.{u2, IsU2, IsClassEntry, CodeLayout, NamesEntry};
-ghost use Rattle.jk_model_classes.specs.ClassFlags.{has};
 ghost use Rattle.jk_model_classes.specs.Items.{HasItem, HasTwoItems};
 ghost use Rattle.jk_model_classes.specs.MemberAttributes.{HasUnnamed, IsConstant, HasBadConstant, IsBadCode, AreThrown};
 ghost use Rattle.class_rules.specs.Attributes.{IsUnnamed, IsCalledBy, IsOfConstantKind, IsBadConstant, HasWrongConstant, HasBadFieldAttributes, CountFlags, needs_code, LacksCode, HasUselessCode, IsCodeMissed, AreClasses, AreAllClasses, AreBadExceptions, HasWrongExceptions, HasWrongCode, HasBadMethodAttributes, AreShort};
@@ -15,21 +14,8 @@ use crate::known_pool::KnownPool;
 use crate::texts::{FieldShape, Kind, TextFacts, Word};
 use byte_fields::{ReadError, U2, counted_of, u2_of};
 use class_reader::{CodeRefusal, read_code};
-use jk_model::{Attribute, ClassFile, Code, MemberInfo, OutOfMemory, PoolEntry};
+use jk_model::{AccessFlags, Attribute, ClassFile, Code, MemberInfo, OutOfMemory, PoolEntry, has};
 use std::alloc::Global;
-
-pub(crate) const STATIC: u16 = 0x0008;
-
-const NATIVE: u16 = 0x0100;
-
-const ABSTRACT: u16 = 0x0400;
-
-/// Whether a flag is set.
-pub(crate) fn has(flags: u16, flag: u16) -> bool
-    ensures { result ≡ has flags flag }
-{
-    flags & flag == flag
-}
 
 /// Whether the name of an attribute is no text.
 fn is_unnamed(pool: &[PoolEntry], a: &Attribute) -> bool
@@ -189,7 +175,8 @@ fn has_bad_constant(pool: &KnownPool, field: &MemberInfo) -> bool
     requires { IsKnown pool.now }
     ensures { IsTrue result ↔ HasBadConstant pool.now.entries.now field.now }
 {
-    has(field.flags, STATIC) && has_wrong_constant(pool, field, field.attributes.as_slice())
+    has(field.flags, AccessFlags::STATIC)
+        && has_wrong_constant(pool, field, field.attributes.as_slice())
 }
 
 /// Whether a field breaks C9.
@@ -206,7 +193,7 @@ pub(crate) fn method_flags(pool: &KnownPool, method: &MemberInfo) -> u16
     ensures { CountFlags pool.now.entries.now method.now result }
 {
     if pool.is_word(method.name, Word::Clinit) {
-        STATIC
+        AccessFlags::STATIC.0
     } else {
         method.flags
     }
@@ -216,7 +203,7 @@ pub(crate) fn method_flags(pool: &KnownPool, method: &MemberInfo) -> u16
 pub(crate) fn needs_code(flags: u16) -> bool
     ensures { result ≡ needs_code flags }
 {
-    !has(flags, ABSTRACT) && !has(flags, NATIVE)
+    !has(flags, AccessFlags::ABSTRACT) && !has(flags, AccessFlags::NATIVE)
 }
 
 /// Whether there isn't exactly one Code.
@@ -232,7 +219,7 @@ fn has_useless_code(pool: &KnownPool, flags: u16, attributes: &[Attribute]) -> b
     requires { IsKnown pool.now }
     ensures { IsTrue result ↔ HasUselessCode pool.now.entries.now flags attributes.now }
 {
-    has(flags, ABSTRACT) && some_called(pool, Word::Code, attributes)
+    has(flags, AccessFlags::ABSTRACT) && some_called(pool, Word::Code, attributes)
 }
 
 /// Whether a method with these flags and attributes lacks its one Code, or has one where it is abstract.

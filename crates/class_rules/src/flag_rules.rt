@@ -10,30 +10,26 @@ ghost use Rattle.class_rules.specs.KnownPools.{IsKnown};
 ghost use Rattle.class_rules.specs.Texts.{AreFacts};
 ghost use Rattle.class_rules.specs.Walks.{IsLeastItem};
 
-use crate::attributes::{has, method_flags};
+use crate::attributes::method_flags;
 use crate::code_rules::{CodeRule, first_code};
 use crate::codes::CodeJudgment;
 use crate::known_pool::KnownPool;
 use crate::members::{FirstPlaces, earlier};
 use crate::texts::TextFacts;
-use jk_model::{ClassFile, MemberInfo};
-
-const SYNCHRONIZED: u16 = 0x0020;
-
-const NATIVE: u16 = 0x0100;
+use jk_model::{AccessFlags, ClassFile, MemberInfo, has};
 
 /// Whether a flag that counts of a method is set.
-fn is_flagged(pool: &KnownPool, flag: u16, method: &MemberInfo) -> bool
+fn is_flagged(pool: &KnownPool, flag: AccessFlags, method: &MemberInfo) -> bool
     requires { IsKnown pool.now }
-    ensures { IsTrue result ↔ HasFlagged pool.now.entries.now flag method.now }
+    ensures { IsTrue result ↔ HasFlagged pool.now.entries.now flag.0 method.now }
 {
     has(method_flags(pool, method), flag)
 }
 
 /// The place of the first method that has a flag.
-fn first_flagged(pool: &KnownPool, flag: u16, methods: &[MemberInfo]) -> Option<usize>
+fn first_flagged(pool: &KnownPool, flag: AccessFlags, methods: &[MemberInfo]) -> Option<usize>
     requires { IsKnown pool.now }
-    ensures least { IsLeastItem (HasFlagged pool.now.entries.now flag) methods.now result }
+    ensures least { IsLeastItem (HasFlagged pool.now.entries.now flag.0) methods.now result }
     ensures within { IfSome result (λ i. i < length methods.now) }
 {
     for (i, method) in methods.iter().enumerate() {
@@ -55,7 +51,7 @@ pub(crate) fn native_method(c: &ClassFile, facts: &[Option<TextFacts>]) -> Optio
     let places = FirstPlaces {
         class: false,
         field: None,
-        method: first_flagged(&pool, NATIVE, c.methods.as_slice()),
+        method: first_flagged(&pool, AccessFlags::NATIVE, c.methods.as_slice()),
         entry: None,
     };
     places.number(c.fields.len())
@@ -75,7 +71,7 @@ pub(crate) fn bad_monitor(
 {
     let pool = KnownPool::of(c, facts);
     let by_code = first_code(CodeRule::Monitors, judged);
-    let by_flag = first_flagged(&pool, SYNCHRONIZED, c.methods.as_slice());
+    let by_flag = first_flagged(&pool, AccessFlags::SYNCHRONIZED, c.methods.as_slice());
     let places = FirstPlaces {
         class: false,
         field: None,

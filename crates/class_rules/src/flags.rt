@@ -1,15 +1,16 @@
 //! The rule C6: which flags of a class and of its members may not stand together.
 
-ghost use Rattle.std.specs.Prelude.{⊤, ◌≡◌, ◌<◌, ◌^◌, ◌↔◌, ◌==◌, ◌∷◌, [], IsTrue, length, codes, bit_and};
-ghost use Rattle.jk_model_classes.specs.ClassFlags.{is_final_and_open, has_two_marks, is_constant, is_bad_field, is_abstract_and_more, is_bad_method, is_bad_init, has, HasBadMethodFlags, HasBadFlags};
+ghost use Rattle.std.specs.Prelude.{◌≡◌, ◌<◌, ◌^◌, ◌↔◌, IsTrue, length};
+ghost use Rattle.jk_model.specs.Flags.{has};
+ghost use Rattle.jk_model_classes.specs.ClassFlags.{is_final_and_open, has_two_marks, is_constant, is_bad_field, is_abstract_and_more, is_bad_method, is_bad_init, HasBadMethodFlags, HasBadFlags};
 ghost use Rattle.class_rules.specs.Answers.{IsLeastSpot};
 ghost use Rattle.class_rules.specs.Texts.{AreFacts};
 
 use crate::known_pool::KnownPool;
 use crate::members::{FirstPlaces, first_at};
 use crate::texts::{TextFacts, Word};
-use bitflags::{Flag, Flags, bitflag_items};
-use jk_model::{ClassFile, MemberInfo};
+use bitflags::Flags;
+use jk_model::{AccessFlags, ClassFile, MemberInfo};
 
 /// The number of the least spot whose flags may not stand together.
 pub(crate) fn bad_flags(c: &ClassFile, facts: &[Option<TextFacts>]) -> Option<u32>
@@ -18,12 +19,12 @@ pub(crate) fn bad_flags(c: &ClassFile, facts: &[Option<TextFacts>]) -> Option<u3
     requires methods { length c.now.methods < 2 ^ 16 }
     ensures { IsLeastSpot (HasBadFlags c.now) result }
 {
-    let class = Access(c.flags);
+    let class = AccessFlags(c.flags);
     let places = FirstPlaces {
-        class: class.is_final_and_open(),
+        class: is_final_and_open(class),
         field: first_at(
             c.fields.as_slice(),
-            |field| is_bad_field(class, Access(field.flags)),
+            |field| is_bad_field(class, AccessFlags(field.flags)),
         ),
         method: first_at(
             c.methods.as_slice(),
@@ -40,8 +41,8 @@ fn has_bad_method_flags(c: &ClassFile, facts: &[Option<TextFacts>], method: &Mem
     ensures { IsTrue result ↔ HasBadMethodFlags c.now method.now }
 {
     let pool = KnownPool::of(c, facts);
-    let class = Access(c.flags);
-    let flags = Access(method.flags);
+    let class = AccessFlags(c.flags);
+    let flags = AccessFlags(method.flags);
     if pool.is_word(method.name, Word::Clinit) {
         return false;
     }
@@ -49,125 +50,72 @@ fn has_bad_method_flags(c: &ClassFile, facts: &[Option<TextFacts>], method: &Mem
         || pool.is_word(method.name, Word::Init) && is_bad_init(class, flags)
 }
 
-/// The flags of a class or of a member. A bit that has no name here is ignored.
-#[derive(Clone, Copy, PartialEq, Eq, Debug)]
-pub(crate) struct Access(u16);
-
-bitflag_items! {
-    impl Access: u16 {
-        const PUBLIC = 0x0001;
-        const PRIVATE = 0x0002;
-        const PROTECTED = 0x0004;
-        const STATIC = 0x0008;
-        const FINAL = 0x0010;
-        const SYNCHRONIZED = 0x0020;
-        const VOLATILE = 0x0040;
-        const NATIVE = 0x0100;
-        const INTERFACE = 0x0200;
-        const ABSTRACT = 0x0400;
-        const STRICT = 0x0800;
-    }
+/// Final, and also an interface or abstract.
+fn is_final_and_open(flags: AccessFlags) -> bool
+    ensures { result ≡ is_final_and_open flags.0 }
+{
+    flags.contains(AccessFlags::FINAL)
+        && (flags.contains(AccessFlags::INTERFACE) || flags.contains(AccessFlags::ABSTRACT))
 }
 
-impl Flags for Access {
-    type Bits = u16;
-
-    ghost exact = { ⊤ };
-
-    ghost table = { (codes "PUBLIC", 1) ∷ (codes "PRIVATE", 2) ∷ (codes "PROTECTED", 4) ∷ (codes "STATIC", 8)
-        ∷ (codes "FINAL", 16) ∷ (codes "SYNCHRONIZED", 32) ∷ (codes "VOLATILE", 64) ∷ (codes "NATIVE", 256)
-        ∷ (codes "INTERFACE", 512) ∷ (codes "ABSTRACT", 1024) ∷ (codes "STRICT", 2048) ∷ [] };
-
-    ghost set_of = { λ p. p.0 };
-
-    fn flags<'a>() -> &'a [Flag<Access>] {
-        Access::FLAGS
-    }
-
-    fn bits(&self) -> u16 {
-        self.0
-    }
-
-    fn from_bits_retain(bits: u16) -> Access {
-        Access(bits)
-    }
+/// Two of public, private and protected.
+fn has_two_marks(flags: AccessFlags) -> bool
+    ensures { result ≡ has_two_marks flags.0 }
+{
+    flags.contains(AccessFlags::PUBLIC) && flags.contains(AccessFlags::PRIVATE)
+        || flags.contains(AccessFlags::PUBLIC) && flags.contains(AccessFlags::PROTECTED)
+        || flags.contains(AccessFlags::PRIVATE) && flags.contains(AccessFlags::PROTECTED)
 }
 
-impl Access {
-    /// The flags that these bits are.
-    pub(crate) fn of(bits: u16) -> Access
-        ensures { result.0 ≡ bits }
-    {
-        Access(bits)
-    }
+/// Public, static and final, as the field of an interface is.
+fn is_constant(flags: AccessFlags) -> bool
+    ensures { result ≡ is_constant flags.0 }
+{
+    flags.contains(AccessFlags::PUBLIC)
+        && flags.contains(AccessFlags::STATIC)
+        && flags.contains(AccessFlags::FINAL)
+}
 
-    /// Final, and also an interface or abstract.
-    fn is_final_and_open(self) -> bool
-        ensures { result ≡ is_final_and_open self.0 }
-    {
-        self.contains(Access::FINAL)
-            && (self.contains(Access::INTERFACE) || self.contains(Access::ABSTRACT))
-    }
-
-    /// Two of public, private and protected.
-    fn has_two_marks(self) -> bool
-        ensures { result ≡ has_two_marks self.0 }
-    {
-        self.contains(Access::PUBLIC) && self.contains(Access::PRIVATE)
-            || self.contains(Access::PUBLIC) && self.contains(Access::PROTECTED)
-            || self.contains(Access::PRIVATE) && self.contains(Access::PROTECTED)
-    }
-
-    /// Public, static and final, as the field of an interface is.
-    fn is_constant(self) -> bool
-        ensures { result ≡ is_constant self.0 }
-    {
-        self.contains(Access::PUBLIC)
-            && self.contains(Access::STATIC)
-            && self.contains(Access::FINAL)
-    }
-
-    /// Abstract, and also what an abstract method may not be.
-    fn is_abstract_and_more(self) -> bool
-        ensures { result ≡ is_abstract_and_more self.0 }
-    {
-        self.contains(Access::ABSTRACT)
-            && (self.contains(Access::PRIVATE)
-                || self.contains(Access::STATIC)
-                || self.contains(Access::FINAL)
-                || self.contains(Access::NATIVE)
-                || self.contains(Access::SYNCHRONIZED)
-                || self.contains(Access::STRICT))
-    }
+/// Abstract, and also what an abstract method may not be.
+fn is_abstract_and_more(flags: AccessFlags) -> bool
+    ensures { result ≡ is_abstract_and_more flags.0 }
+{
+    flags.contains(AccessFlags::ABSTRACT)
+        && (flags.contains(AccessFlags::PRIVATE)
+            || flags.contains(AccessFlags::STATIC)
+            || flags.contains(AccessFlags::FINAL)
+            || flags.contains(AccessFlags::NATIVE)
+            || flags.contains(AccessFlags::SYNCHRONIZED)
+            || flags.contains(AccessFlags::STRICT))
 }
 
 /// Whether a field may not have these flags, in a class of those.
-fn is_bad_field(class: Access, flags: Access) -> bool
+fn is_bad_field(class: AccessFlags, flags: AccessFlags) -> bool
     ensures { result ≡ is_bad_field class.0 flags.0 }
 {
-    flags.has_two_marks()
-        || flags.contains(Access::FINAL) && flags.contains(Access::VOLATILE)
-        || class.contains(Access::INTERFACE) && !flags.is_constant()
+    has_two_marks(flags)
+        || flags.contains(AccessFlags::FINAL) && flags.contains(AccessFlags::VOLATILE)
+        || class.contains(AccessFlags::INTERFACE) && !is_constant(flags)
 }
 
 /// Whether a method may not have these flags, in a class of those.
-fn is_bad_method(class: Access, flags: Access) -> bool
+fn is_bad_method(class: AccessFlags, flags: AccessFlags) -> bool
     ensures { result ≡ is_bad_method class.0 flags.0 }
 {
-    flags.has_two_marks()
-        || flags.is_abstract_and_more()
-        || class.contains(Access::INTERFACE)
-            && !(flags.contains(Access::PUBLIC) && flags.contains(Access::ABSTRACT))
+    has_two_marks(flags)
+        || is_abstract_and_more(flags)
+        || class.contains(AccessFlags::INTERFACE)
+            && !(flags.contains(AccessFlags::PUBLIC) && flags.contains(AccessFlags::ABSTRACT))
 }
 
 /// Whether an `<init>` may not have these flags, in a class of those.
-fn is_bad_init(class: Access, flags: Access) -> bool
+fn is_bad_init(class: AccessFlags, flags: AccessFlags) -> bool
     ensures { result ≡ is_bad_init class.0 flags.0 }
 {
-    class.contains(Access::INTERFACE)
-        || flags.contains(Access::STATIC)
-        || flags.contains(Access::FINAL)
-        || flags.contains(Access::ABSTRACT)
-        || flags.contains(Access::NATIVE)
-        || flags.contains(Access::SYNCHRONIZED)
+    class.contains(AccessFlags::INTERFACE)
+        || flags.contains(AccessFlags::STATIC)
+        || flags.contains(AccessFlags::FINAL)
+        || flags.contains(AccessFlags::ABSTRACT)
+        || flags.contains(AccessFlags::NATIVE)
+        || flags.contains(AccessFlags::SYNCHRONIZED)
 }

@@ -22,4 +22,3 @@ mod texts;
 
 pub use fault::first_fault;
 pub use jk_model_classes::ClassFault;
-

@@ -13,12 +13,10 @@ ghost use Rattle.class_rules.specs.MethodDescriptors.{FitsMethod, MayTake};
 ghost use Rattle.class_rules.specs.Texts.{AreFacts, AreFactsOf, method_shape, word_text};
 ghost use Rattle.class_rules.specs.declared.texts.Word.TheVariants.{NothingToNothing};
 
-use crate::flags::Access;
 use crate::known_pool::{KnownPool, Reference, ReferenceKind};
 use crate::members::{FirstPlaces, first_at};
 use crate::texts::{MethodShape, TextFacts, Word};
-use bitflags::Flags;
-use jk_model::{ClassFile, MemberInfo, PoolEntry};
+use jk_model::{AccessFlags, ClassFile, MemberInfo, PoolEntry, has};
 
 /// The number of the least spot whose descriptor is none, or may not be.
 pub(crate) fn bad_descriptors(c: &ClassFile, facts: &[Option<TextFacts>]) -> Option<u32>
@@ -57,7 +55,7 @@ fn lacks_method_type(c: &ClassFile, facts: &[Option<TextFacts>], method: &Member
     if pool.is_word(method.name, Word::Clinit) {
         return !descriptor.fits_clinit(is_init);
     }
-    let is_static = Access::of(method.flags).contains(Access::STATIC);
+    let is_static = has(method.flags, AccessFlags::STATIC);
     !descriptor.fits_method(!is_static, is_init)
 }
 

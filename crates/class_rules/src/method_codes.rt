@@ -9,11 +9,11 @@ ghost use Rattle.class_rules.specs.MethodCodes.{HasCodeBody, TakesMore, HasMoreS
 ghost use Rattle.class_rules.specs.Texts.{AreFacts};
 ghost use Rattle.class_rules.specs.declared.texts.Word.TheVariants as words;
 
-use crate::attributes::{STATIC, code_of, has, is_called, method_flags, needs_code};
+use crate::attributes::{code_of, is_called, method_flags, needs_code};
 use crate::codes::{CodeJudgment, judge_code};
 use crate::known_pool::KnownPool;
 use crate::texts::{MethodShape, TextFacts, Word};
-use jk_model::{Attribute, ClassFile, Code, MemberInfo, OutOfMemory};
+use jk_model::{AccessFlags, Attribute, ClassFile, Code, MemberInfo, OutOfMemory, has};
 use std::alloc::Global;
 
 /// What the one Code among these attributes says, where it is laid out as one.
@@ -61,7 +61,7 @@ fn arguments_of(pool: &KnownPool, flags: u16, method: &MemberInfo) -> u32
     ensures { (max : ℕ) → max < 2 ^ 16 → (max < result) ↔ TakesMore pool.now.entries.now flags method.now max }
 {
     match pool.text(method.descriptor) {
-        Some(descriptor) => slots_of(descriptor.method, has(flags, STATIC)),
+        Some(descriptor) => slots_of(descriptor.method, has(flags, AccessFlags::STATIC)),
         None => 0,
     }
 }

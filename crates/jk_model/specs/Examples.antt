@@ -10,6 +10,7 @@ use Rattle.jk_model.specs.declared.instructions.Instr.{Instr}
 use Rattle.jk_model.specs.declared.output.Line.{Line}
 use Rattle.jk_model.specs.declared.output.Line.TheVariants.{Said}
 use Rattle.jk_model.specs.declared.script.Event.{Event}
+use Rattle.jk_model.specs.declared.opcodes.TheConstants.{NOP, ILOAD, IFNE, TABLESWITCH, RETURN}
 use Rattle.jk_model.specs.declared.script.Event.TheVariants.{Domain, Start, Turn, Round, Kill}
 use Rattle.jk_model.specs.Instructions.{plain, switch}
 use Rattle.jk_model.specs.Script.{default_quotas}
@@ -60,7 +61,7 @@ abbrev pub loop_bytes : List ℕ
 loop_bytes = 0x1b ∷ 0x9a ∷ 0xff ∷ 0xff ∷ 0xb1 ∷ []
 
 abbrev pub loop_instrs : List Instr
-loop_instrs = plain 0 0x15 (pos 1) (pos 0) ∷ plain 1 0x9a (pos 0) (pos 0) ∷ plain 4 0xb1 (pos 0) (pos 0) ∷ []
+loop_instrs = plain 0 ILOAD (pos 1) (pos 0) ∷ plain 1 IFNE (pos 0) (pos 0) ∷ plain 4 RETURN (pos 0) (pos 0) ∷ []
 
 -- ---- A nop, and after it a tableswitch with the keys 0 and 1, whose operands begin at place 4.
 
@@ -72,8 +73,8 @@ switch_bytes =
 
 abbrev pub switch_instrs : List Instr
 switch_instrs =
-    plain 0 0x00 (pos 0) (pos 0)
-    ∷ switch 1 0xaa 0x10 (record { key = pos 0; target = pos 11 } ∷ record { key = pos 1; target = negsuc 0 } ∷ [])
+    plain 0 NOP (pos 0) (pos 0)
+    ∷ switch 1 TABLESWITCH 0x10 (record { key = pos 0; target = pos 11 } ∷ record { key = pos 1; target = negsuc 0 } ∷ [])
     ∷ []
 
 -- ---- A line with a line feed and a backslash in what was printed.

@@ -7,6 +7,7 @@ use Rattle.std.specs.List.{AllByRecursion}
 use Rattle.std.specs.Int.{w8, w16, w32, cast_signed, from_be_bytes}
 use Rattle.jk_model.specs.declared.instructions.Instr.{Instr}
 use Rattle.jk_model.specs.declared.instructions.SwitchCase.{SwitchCase}
+use Rattle.jk_model.specs.declared.opcodes.TheConstants.{NOP, ACONST_NULL, ICONST_M1, ICONST_0, ICONST_5, LCONST_0, LCONST_1, FCONST_0, DCONST_1, BIPUSH, SIPUSH, LDC, LDC_W, LDC2_W, ILOAD, LLOAD, FLOAD, DLOAD, ALOAD, ILOAD_0, ILOAD_3, LLOAD_0, LLOAD_3, FLOAD_0, DLOAD_3, ALOAD_0, ALOAD_3, IALOAD, LALOAD, FALOAD, DALOAD, AALOAD, SALOAD, ISTORE, LSTORE, FSTORE, DSTORE, ASTORE, ISTORE_0, ISTORE_3, LSTORE_0, LSTORE_3, FSTORE_0, DSTORE_3, ASTORE_0, ASTORE_3, IASTORE, LASTORE, FASTORE, DASTORE, AASTORE, SASTORE, POP, SWAP, IADD, LADD, FADD, DADD, ISUB, LSUB, FSUB, DSUB, IMUL, LMUL, FMUL, DMUL, IDIV, LDIV, FDIV, DDIV, IREM, LREM, FREM, DREM, INEG, LNEG, FNEG, DNEG, ISHL, LXOR, IINC, I2L, I2F, I2D, L2I, L2F, D2F, I2B, I2S, LCMP, FCMPL, DCMPG, IFEQ, IFLE, IF_ICMPEQ, IF_ICMPLE, IF_ACMPEQ, IF_ACMPNE, GOTO, JSR, RET, TABLESWITCH, LOOKUPSWITCH, IRETURN, LRETURN, FRETURN, DRETURN, ARETURN, RETURN, GETSTATIC, PUTFIELD, INVOKEVIRTUAL, INVOKESTATIC, INVOKEINTERFACE, NEW, NEWARRAY, ANEWARRAY, ARRAYLENGTH, ATHROW, CHECKCAST, INSTANCEOF, MONITORENTER, MONITOREXIT, WIDE, MULTIANEWARRAY, IFNULL, IFNONNULL, GOTO_W, JSR_W}
 use Rattle.jk_model.specs.ClassFile.{u4, IsU4}
 
 -- ---- Opcodes: what one means, and which operands follow it.
@@ -63,106 +64,81 @@ format_among other rows op = unwrap_or (option_map (λ r. r.format) (find (λ r.
 
 abbrev pub rows : List (Row Format)
 rows =
-    -- nop, aconst_null
-    row 0x00 0x01 AsIs
-    -- iconst_m1 to iconst_5; lconst_0, lconst_1; fconst_0 to dconst_1
-    ∷ row 0x02 0x08 (Short 0x11 3)
-    ∷ row 0x09 0x0a (Short 0x09 9)
-    ∷ row 0x0b 0x0f FloatFormat
-    -- bipush; sipush; ldc; ldc_w, ldc2_w
-    ∷ row 0x10 0x10 ByteConstant
-    ∷ row 0x11 0x11 ShortConstant
-    ∷ row 0x12 0x12 BytePoolIndex
-    ∷ row 0x13 0x14 PoolIndex
-    -- iload, lload; fload, dload; aload
-    ∷ row 0x15 0x16 LocalIndex
-    ∷ row 0x17 0x18 FloatFormat
-    ∷ row 0x19 0x19 LocalIndex
-    -- iload_0 to iload_3; lload_0 to lload_3; fload_0 to dload_3; aload_0 to aload_3
-    ∷ row 0x1a 0x1d (Short 0x15 0x1a)
-    ∷ row 0x1e 0x21 (Short 0x16 0x1e)
-    ∷ row 0x22 0x29 FloatFormat
-    ∷ row 0x2a 0x2d (Short 0x19 0x2a)
-    -- iaload, laload; faload, daload; aaload, baload, caload, saload
-    ∷ row 0x2e 0x2f AsIs
-    ∷ row 0x30 0x31 FloatFormat
-    ∷ row 0x32 0x35 AsIs
-    -- istore, lstore; fstore, dstore; astore
-    ∷ row 0x36 0x37 LocalIndex
-    ∷ row 0x38 0x39 FloatFormat
-    ∷ row 0x3a 0x3a LocalIndex
-    -- istore_0 to istore_3; lstore_0 to lstore_3; fstore_0 to dstore_3; astore_0 to astore_3
-    ∷ row 0x3b 0x3e (Short 0x36 0x3b)
-    ∷ row 0x3f 0x42 (Short 0x37 0x3f)
-    ∷ row 0x43 0x4a FloatFormat
-    ∷ row 0x4b 0x4e (Short 0x3a 0x4b)
-    -- iastore, lastore; fastore, dastore; aastore, bastore, castore, sastore
-    ∷ row 0x4f 0x50 AsIs
-    ∷ row 0x51 0x52 FloatFormat
-    ∷ row 0x53 0x56 AsIs
-    -- pop, pop2, dup, dup_x1, dup_x2, dup2, dup2_x1, dup2_x2, swap
-    ∷ row 0x57 0x5f AsIs
+    row NOP ACONST_NULL AsIs
+    ∷ row ICONST_M1 ICONST_5 (Short SIPUSH ICONST_0)
+    ∷ row LCONST_0 LCONST_1 (Short LCONST_0 LCONST_0)
+    ∷ row FCONST_0 DCONST_1 FloatFormat
+    ∷ row BIPUSH BIPUSH ByteConstant
+    ∷ row SIPUSH SIPUSH ShortConstant
+    ∷ row LDC LDC BytePoolIndex
+    ∷ row LDC_W LDC2_W PoolIndex
+    ∷ row ILOAD LLOAD LocalIndex
+    ∷ row FLOAD DLOAD FloatFormat
+    ∷ row ALOAD ALOAD LocalIndex
+    ∷ row ILOAD_0 ILOAD_3 (Short ILOAD ILOAD_0)
+    ∷ row LLOAD_0 LLOAD_3 (Short LLOAD LLOAD_0)
+    ∷ row FLOAD_0 DLOAD_3 FloatFormat
+    ∷ row ALOAD_0 ALOAD_3 (Short ALOAD ALOAD_0)
+    ∷ row IALOAD LALOAD AsIs
+    ∷ row FALOAD DALOAD FloatFormat
+    ∷ row AALOAD SALOAD AsIs
+    ∷ row ISTORE LSTORE LocalIndex
+    ∷ row FSTORE DSTORE FloatFormat
+    ∷ row ASTORE ASTORE LocalIndex
+    ∷ row ISTORE_0 ISTORE_3 (Short ISTORE ISTORE_0)
+    ∷ row LSTORE_0 LSTORE_3 (Short LSTORE LSTORE_0)
+    ∷ row FSTORE_0 DSTORE_3 FloatFormat
+    ∷ row ASTORE_0 ASTORE_3 (Short ASTORE ASTORE_0)
+    ∷ row IASTORE LASTORE AsIs
+    ∷ row FASTORE DASTORE FloatFormat
+    ∷ row AASTORE SASTORE AsIs
+    ∷ row POP SWAP AsIs
     -- add, sub, mul, div, rem, neg: each of int, long, float, double in this order
-    ∷ row 0x60 0x61 AsIs
-    ∷ row 0x62 0x63 FloatFormat
-    ∷ row 0x64 0x65 AsIs
-    ∷ row 0x66 0x67 FloatFormat
-    ∷ row 0x68 0x69 AsIs
-    ∷ row 0x6a 0x6b FloatFormat
-    ∷ row 0x6c 0x6d AsIs
-    ∷ row 0x6e 0x6f FloatFormat
-    ∷ row 0x70 0x71 AsIs
-    ∷ row 0x72 0x73 FloatFormat
-    ∷ row 0x74 0x75 AsIs
-    ∷ row 0x76 0x77 FloatFormat
-    -- ishl, lshl, ishr, lshr, iushr, lushr, iand, land, ior, lor, ixor, lxor
-    ∷ row 0x78 0x83 AsIs
-    -- iinc
-    ∷ row 0x84 0x84 Increment
-    -- i2l; i2f, i2d; l2i; l2f to d2f; i2b, i2c, i2s
-    ∷ row 0x85 0x85 AsIs
-    ∷ row 0x86 0x87 FloatFormat
-    ∷ row 0x88 0x88 AsIs
-    ∷ row 0x89 0x90 FloatFormat
-    ∷ row 0x91 0x93 AsIs
-    -- lcmp; fcmpl to dcmpg
-    ∷ row 0x94 0x94 AsIs
-    ∷ row 0x95 0x98 FloatFormat
-    -- ifeq, ifne, iflt, ifge, ifgt, ifle; if_icmp in the same order; if_acmpeq, if_acmpne; goto
-    ∷ row 0x99 0x9e Jump
-    ∷ row 0x9f 0xa4 Jump
-    ∷ row 0xa5 0xa6 Jump
-    ∷ row 0xa7 0xa7 Jump
-    -- jsr, ret
-    ∷ row 0xa8 0xa9 SubroutineFormat
-    ∷ row 0xaa 0xaa TableSwitch
-    ∷ row 0xab 0xab LookupSwitch
-    -- ireturn, lreturn; freturn, dreturn; areturn, return
-    ∷ row 0xac 0xad AsIs
-    ∷ row 0xae 0xaf FloatFormat
-    ∷ row 0xb0 0xb1 AsIs
-    -- getstatic, putstatic, getfield, putfield; invokevirtual, invokespecial, invokestatic
-    ∷ row 0xb2 0xb5 PoolIndex
-    ∷ row 0xb6 0xb8 PoolIndex
-    ∷ row 0xb9 0xb9 InterfaceCall
-    -- new; newarray; anewarray
-    ∷ row 0xbb 0xbb PoolIndex
-    ∷ row 0xbc 0xbc ArrayOfKind
-    ∷ row 0xbd 0xbd PoolIndex
-    -- arraylength, athrow
-    ∷ row 0xbe 0xbf AsIs
-    -- checkcast, instanceof
-    ∷ row 0xc0 0xc1 PoolIndex
-    -- monitorenter, monitorexit
-    ∷ row 0xc2 0xc3 MonitorFormat
-    ∷ row 0xc4 0xc4 Wide
-    ∷ row 0xc5 0xc5 ManyDimensions
-    -- ifnull, ifnonnull
-    ∷ row 0xc6 0xc7 Jump
-    -- goto_w
-    ∷ row 0xc8 0xc8 FarJump
-    -- jsr_w
-    ∷ row 0xc9 0xc9 SubroutineFormat
+    ∷ row IADD LADD AsIs
+    ∷ row FADD DADD FloatFormat
+    ∷ row ISUB LSUB AsIs
+    ∷ row FSUB DSUB FloatFormat
+    ∷ row IMUL LMUL AsIs
+    ∷ row FMUL DMUL FloatFormat
+    ∷ row IDIV LDIV AsIs
+    ∷ row FDIV DDIV FloatFormat
+    ∷ row IREM LREM AsIs
+    ∷ row FREM DREM FloatFormat
+    ∷ row INEG LNEG AsIs
+    ∷ row FNEG DNEG FloatFormat
+    ∷ row ISHL LXOR AsIs
+    ∷ row IINC IINC Increment
+    ∷ row I2L I2L AsIs
+    ∷ row I2F I2D FloatFormat
+    ∷ row L2I L2I AsIs
+    ∷ row L2F D2F FloatFormat
+    ∷ row I2B I2S AsIs
+    ∷ row LCMP LCMP AsIs
+    ∷ row FCMPL DCMPG FloatFormat
+    ∷ row IFEQ IFLE Jump
+    ∷ row IF_ICMPEQ IF_ICMPLE Jump
+    ∷ row IF_ACMPEQ IF_ACMPNE Jump
+    ∷ row GOTO GOTO Jump
+    ∷ row JSR RET SubroutineFormat
+    ∷ row TABLESWITCH TABLESWITCH TableSwitch
+    ∷ row LOOKUPSWITCH LOOKUPSWITCH LookupSwitch
+    ∷ row IRETURN LRETURN AsIs
+    ∷ row FRETURN DRETURN FloatFormat
+    ∷ row ARETURN RETURN AsIs
+    ∷ row GETSTATIC PUTFIELD PoolIndex
+    ∷ row INVOKEVIRTUAL INVOKESTATIC PoolIndex
+    ∷ row INVOKEINTERFACE INVOKEINTERFACE InterfaceCall
+    ∷ row NEW NEW PoolIndex
+    ∷ row NEWARRAY NEWARRAY ArrayOfKind
+    ∷ row ANEWARRAY ANEWARRAY PoolIndex
+    ∷ row ARRAYLENGTH ATHROW AsIs
+    ∷ row CHECKCAST INSTANCEOF PoolIndex
+    ∷ row MONITORENTER MONITOREXIT MonitorFormat
+    ∷ row WIDE WIDE Wide
+    ∷ row MULTIANEWARRAY MULTIANEWARRAY ManyDimensions
+    ∷ row IFNULL IFNONNULL Jump
+    ∷ row GOTO_W GOTO_W FarJump
+    ∷ row JSR_W JSR_W SubroutineFormat
     ∷ []
 
 abbrev pub format_of : ℕ → Format
@@ -182,14 +158,14 @@ pub data WideFormat : Type 0 where
 
 abbrev pub wide_rows : List (Row WideFormat)
 wide_rows =
-    row 0x15 0x16 WideLocal
-    ∷ row 0x17 0x18 WideFloat
-    ∷ row 0x19 0x19 WideLocal
-    ∷ row 0x36 0x37 WideLocal
-    ∷ row 0x38 0x39 WideFloat
-    ∷ row 0x3a 0x3a WideLocal
-    ∷ row 0x84 0x84 WideIncrement
-    ∷ row 0xa9 0xa9 WideSubroutine
+    row ILOAD LLOAD WideLocal
+    ∷ row FLOAD DLOAD WideFloat
+    ∷ row ALOAD ALOAD WideLocal
+    ∷ row ISTORE LSTORE WideLocal
+    ∷ row FSTORE DSTORE WideFloat
+    ∷ row ASTORE ASTORE WideLocal
+    ∷ row IINC IINC WideIncrement
+    ∷ row RET RET WideSubroutine
     ∷ []
 
 abbrev pub wide_format_of : ℕ → WideFormat
@@ -292,15 +268,15 @@ WideMeans _ at op _ i = ⊥
 abbrev pub Means : Format → ℕ → ℕ → List ℕ → Instr → Type 0
 Means AsIs at op [] i = i ≡ plain at op (pos 0) (pos 0)
 Means (Short long first) at op [] i = i ≡ plain at long (pos op -ℤ pos first) (pos 0)
-Means ByteConstant at op (n ∷ []) i = i ≡ plain at 0x11 (cast_signed w8 n) (pos 0)
-Means ShortConstant at op (m ∷ n ∷ []) i = i ≡ plain at 0x11 (signed_short m n) (pos 0)
+Means ByteConstant at op (n ∷ []) i = i ≡ plain at SIPUSH (cast_signed w8 n) (pos 0)
+Means ShortConstant at op (m ∷ n ∷ []) i = i ≡ plain at SIPUSH (signed_short m n) (pos 0)
 Means LocalIndex at op (n ∷ []) i = i ≡ plain at op (pos n) (pos 0)
-Means BytePoolIndex at op (n ∷ []) i = i ≡ plain at 0x13 (pos n) (pos 0)
+Means BytePoolIndex at op (n ∷ []) i = i ≡ plain at LDC_W (pos n) (pos 0)
 Means PoolIndex at op (m ∷ n ∷ []) i = i ≡ plain at op (pos (short m n)) (pos 0)
 Means Increment at op (m ∷ n ∷ []) i = i ≡ plain at op (pos m) (cast_signed w8 n)
 Means Jump at op (m ∷ n ∷ []) i = i ≡ plain at op (target at (signed_short m n)) (pos 0)
 Means FarJump at op (k ∷ l ∷ m ∷ n ∷ []) i =
-    i ≡ plain at 0xa7 (target at (signed_int (from_be_bytes w32 (k ∷ l ∷ m ∷ n ∷ [])))) (pos 0)
+    i ≡ plain at GOTO (target at (signed_int (from_be_bytes w32 (k ∷ l ∷ m ∷ n ∷ [])))) (pos 0)
 Means InterfaceCall at op (m ∷ n ∷ count ∷ last ∷ []) i =
     (count ≢ 0) × (last ≡ 0) × (i ≡ plain at op (pos (short m n)) (pos 0))
 Means ArrayOfKind at op (kind ∷ []) i = IsKind kind × (i ≡ plain at op (pos kind) (pos 0))

@@ -4,6 +4,7 @@ pub mod ConstantPool
 pub mod Descriptors
 pub mod Examples
 pub mod Extents
+pub mod Flags
 pub mod Instructions
 pub mod Output
 pub mod Outside

@@ -1,6 +1,7 @@
 -- The system classes: their order, members and flags. All are public; what else is said of a class or member
 -- stands beside it.
 use Rattle.std.specs.Prelude.{ℕ, ◌+◌, Bool, true, false, List, [], ◌∷◌, ◌++◌, length, map, take, sum_by, Option, Some, None, position, option_and_then, bytes_eq, codes}
+use Rattle.jk_model.specs.Flags.{PUBLIC, STATIC, FINAL, INTERFACE, ABSTRACT}
 
 pub record SystemField : Type 0 where
   pub name : List ℕ
@@ -26,25 +27,25 @@ pub record SystemClass : Type 0 where
   pub fields : List SystemField
   pub methods : List SystemMethod
 
--- ---- Flags: 0001 public, 0008 static, 0010 final, 0200 interface, 0400 abstract. Public is a part of each.
+-- ---- Flags. Public is a part of each.
 
 abbrev pub public : ℕ
-public = 0x0001
+public = PUBLIC
 
 abbrev pub static : ℕ
-static = 0x0009
+static = PUBLIC + STATIC
 
 abbrev pub final : ℕ
-final = 0x0011
+final = PUBLIC + FINAL
 
 abbrev pub static_final : ℕ
-static_final = 0x0019
+static_final = PUBLIC + STATIC + FINAL
 
 abbrev pub interface : ℕ
-interface = 0x0201
+interface = PUBLIC + INTERFACE
 
 abbrev pub abstract : ℕ
-abstract = 0x0401
+abstract = PUBLIC + ABSTRACT
 
 -- ---- Words for the table. A method is written as its flags, its name and its descriptor.
 

@@ -3,6 +3,7 @@
 //! capabilities, scripts, output and the world outside. It says nothing of a machine.
 #![tactic(auto)]
 
+mod access;
 mod args;
 mod capabilities;
 mod class_file;
@@ -15,6 +16,7 @@ mod instructions;
 pub mod laws;
 mod lists;
 mod memory;
+pub mod opcodes;
 mod output;
 mod script;
 mod steps;
@@ -23,6 +25,7 @@ mod stores;
 mod tests;
 mod values;
 
+pub use access::{AccessFlags, has};
 pub use args::Args;
 pub use capabilities::CapStatus;
 pub use class_file::{Attribute, ClassFile, Code, Handler, MemberInfo, PoolEntry};

@@ -3,6 +3,7 @@ use Rattle.std.proofs.Common.{◌≡◌, ℕ, ◌⊎◌, inl, inr, true, false, 
 use Rattle.std.proofs.lemmas.Bool.{false≢true, cases_Bool, eq-eqb, ne_eqb}
 use Rattle.std.proofs.lemmas.Bool.Decides.{nat_tests, eqb_tells}
 use Rattle.jk_model.specs.declared.instructions.Instr.{Instr}
+use Rattle.jk_model.specs.declared.opcodes.TheConstants.{LDC_W}
 use Rattle.jk_model.specs.Instructions as def
 use Rattle.jk_model.specs.Instructions.{Format, Means, Refuses, plain, IsKind, IsFloatKind, WideFormat, WideMeans, WideRefuses, wide_format_of}
 use Rattle.jk_opcodes.specs.declared.errors.Stop.{Stop}
@@ -68,13 +69,13 @@ local_index_again at op [] rest i h = absurd h
 local_index_again at op (n ∷ []) rest i h = rw h refl
 local_index_again at op (n ∷ other ∷ more) rest i h = absurd h
 
-pub byte_pool_index_sound : (at op : ℕ) (after : List ℕ) → Sound Format.BytePoolIndex at op after (byte_index_at at 0x13 after)
+pub byte_pool_index_sound : (at op : ℕ) (after : List ℕ) → Sound Format.BytePoolIndex at op after (byte_index_at at LDC_W after)
 unfolding byte_index_at
 byte_pool_index_sound at op [] = tt
 byte_pool_index_sound at op (n ∷ rest) = (n ∷ [], refl, refl)
 
 pub byte_pool_index_again : (at op : ℕ) (front rest : List ℕ) (i : Instr) → Means Format.BytePoolIndex at op front i
-    → byte_index_at at 0x13 (front ++ rest) ≡ Ok (i, rest)
+    → byte_index_at at LDC_W (front ++ rest) ≡ Ok (i, rest)
 unfolding byte_index_at
 byte_pool_index_again at op [] rest i h = absurd h
 byte_pool_index_again at op (n ∷ []) rest i h = rw h refl

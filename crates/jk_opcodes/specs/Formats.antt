@@ -1,5 +1,6 @@
 -- The format of an opcode, by tests.
 use Rattle.std.specs.Prelude.{ℕ, List, [], ◌∷◌, Bool, ◌&&◌, ◌||◌, nat_le, ◌==◌, if◌then◌else◌}
+use Rattle.jk_model.specs.declared.opcodes.TheConstants.{NOP, ACONST_NULL, ICONST_M1, ICONST_0, ICONST_5, LCONST_0, LCONST_1, FCONST_0, DCONST_1, BIPUSH, SIPUSH, LDC, LDC2_W, ILOAD, LLOAD, FLOAD, DLOAD, ALOAD, ILOAD_0, ILOAD_3, LLOAD_0, LLOAD_3, ALOAD_0, ALOAD_3, IALOAD, LALOAD, AALOAD, SALOAD, ISTORE, LSTORE, FSTORE, DSTORE, ASTORE, ISTORE_0, ISTORE_3, LSTORE_0, LSTORE_3, ASTORE_0, ASTORE_3, IASTORE, LASTORE, AASTORE, SASTORE, POP, FADD, DADD, FSUB, DSUB, FMUL, DMUL, FDIV, DDIV, FREM, DREM, FNEG, DNEG, IINC, I2F, I2D, L2F, D2F, FCMPL, DCMPG, IFEQ, GOTO, JSR, RET, TABLESWITCH, LOOKUPSWITCH, IRETURN, LRETURN, FRETURN, DRETURN, ARETURN, RETURN, GETSTATIC, INVOKESTATIC, INVOKEINTERFACE, NEW, NEWARRAY, ANEWARRAY, ARRAYLENGTH, ATHROW, CHECKCAST, INSTANCEOF, MONITORENTER, MONITOREXIT, WIDE, MULTIANEWARRAY, IFNULL, IFNONNULL, GOTO_W, JSR_W}
 use Rattle.jk_model.specs.Instructions as def
 use Rattle.jk_opcodes.specs.declared.formats.Format.{Format}
 use Rattle.jk_opcodes.specs.declared.formats.Format.TheVariants as formats
@@ -41,61 +42,61 @@ between first last op = nat_le first op && nat_le op last
 
 unfoldable pub constant_format : ℕ → def.Format
 constant_format op =
-    if between 0x00 0x01 op then def.Format.AsIs else
-    if between 0x02 0x08 op then def.Format.Short 0x11 0x03 else
-    if between 0x09 0x0a op then def.Format.Short 0x09 0x09 else
-    if between 0x0b 0x0f op then def.Format.FloatFormat else
-    if op == 0x10 then def.Format.ByteConstant else
-    if op == 0x11 then def.Format.ShortConstant else
-    if op == 0x12 then def.Format.BytePoolIndex else def.Format.PoolIndex
+    if between NOP ACONST_NULL op then def.Format.AsIs else
+    if between ICONST_M1 ICONST_5 op then def.Format.Short SIPUSH ICONST_0 else
+    if between LCONST_0 LCONST_1 op then def.Format.Short LCONST_0 LCONST_0 else
+    if between FCONST_0 DCONST_1 op then def.Format.FloatFormat else
+    if op == BIPUSH then def.Format.ByteConstant else
+    if op == SIPUSH then def.Format.ShortConstant else
+    if op == LDC then def.Format.BytePoolIndex else def.Format.PoolIndex
 
 unfoldable pub local_format : ℕ → def.Format
 local_format op =
-    if (op == 0x15) || (op == 0x16) || (op == 0x19) || (op == 0x36) || (op == 0x37) || (op == 0x3a) then def.Format.LocalIndex else
-    if between 0x1a 0x1d op then def.Format.Short 0x15 0x1a else
-    if between 0x1e 0x21 op then def.Format.Short 0x16 0x1e else
-    if between 0x2a 0x2d op then def.Format.Short 0x19 0x2a else
-    if between 0x3b 0x3e op then def.Format.Short 0x36 0x3b else
-    if between 0x3f 0x42 op then def.Format.Short 0x37 0x3f else
-    if between 0x4b 0x4e op then def.Format.Short 0x3a 0x4b else
-    if (op == 0x2e) || (op == 0x2f) || between 0x32 0x35 op || (op == 0x4f) || (op == 0x50) || between 0x53 0x56 op then def.Format.AsIs else
+    if (op == ILOAD) || (op == LLOAD) || (op == ALOAD) || (op == ISTORE) || (op == LSTORE) || (op == ASTORE) then def.Format.LocalIndex else
+    if between ILOAD_0 ILOAD_3 op then def.Format.Short ILOAD ILOAD_0 else
+    if between LLOAD_0 LLOAD_3 op then def.Format.Short LLOAD LLOAD_0 else
+    if between ALOAD_0 ALOAD_3 op then def.Format.Short ALOAD ALOAD_0 else
+    if between ISTORE_0 ISTORE_3 op then def.Format.Short ISTORE ISTORE_0 else
+    if between LSTORE_0 LSTORE_3 op then def.Format.Short LSTORE LSTORE_0 else
+    if between ASTORE_0 ASTORE_3 op then def.Format.Short ASTORE ASTORE_0 else
+    if (op == IALOAD) || (op == LALOAD) || between AALOAD SALOAD op || (op == IASTORE) || (op == LASTORE) || between AASTORE SASTORE op then def.Format.AsIs else
     def.Format.FloatFormat
 
 unfoldable pub number_format : ℕ → def.Format
 number_format op =
-    if op == 0x84 then def.Format.Increment else
-    if between 0x62 0x63 op || between 0x66 0x67 op || between 0x6a 0x6b op || between 0x6e 0x6f op then def.Format.FloatFormat else
-    if between 0x72 0x73 op || between 0x76 0x77 op || between 0x86 0x87 op then def.Format.FloatFormat else
-    if between 0x89 0x90 op || between 0x95 0x98 op then def.Format.FloatFormat else def.Format.AsIs
+    if op == IINC then def.Format.Increment else
+    if between FADD DADD op || between FSUB DSUB op || between FMUL DMUL op || between FDIV DDIV op then def.Format.FloatFormat else
+    if between FREM DREM op || between FNEG DNEG op || between I2F I2D op then def.Format.FloatFormat else
+    if between L2F D2F op || between FCMPL DCMPG op then def.Format.FloatFormat else def.Format.AsIs
 
 unfoldable pub other_format : ℕ → def.Format
 other_format op =
-    if between 0x99 0xa7 op || between 0xc6 0xc7 op then def.Format.Jump else
-    if between 0xa8 0xa9 op || (op == 0xc9) then def.Format.SubroutineFormat else
-    if op == 0xaa then def.Format.TableSwitch else
-    if op == 0xab then def.Format.LookupSwitch else
-    if between 0xae 0xaf op then def.Format.FloatFormat else
-    if between 0xac 0xad op || between 0xb0 0xb1 op || between 0xbe 0xbf op then def.Format.AsIs else
-    if between 0xb2 0xb8 op || (op == 0xbb) || (op == 0xbd) || between 0xc0 0xc1 op then def.Format.PoolIndex else
-    if op == 0xb9 then def.Format.InterfaceCall else
-    if op == 0xbc then def.Format.ArrayOfKind else
-    if between 0xc2 0xc3 op then def.Format.MonitorFormat else
-    if op == 0xc4 then def.Format.Wide else
-    if op == 0xc5 then def.Format.ManyDimensions else
-    if op == 0xc8 then def.Format.FarJump else def.Format.NoOpcode
+    if between IFEQ GOTO op || between IFNULL IFNONNULL op then def.Format.Jump else
+    if between JSR RET op || (op == JSR_W) then def.Format.SubroutineFormat else
+    if op == TABLESWITCH then def.Format.TableSwitch else
+    if op == LOOKUPSWITCH then def.Format.LookupSwitch else
+    if between FRETURN DRETURN op then def.Format.FloatFormat else
+    if between IRETURN LRETURN op || between ARETURN RETURN op || between ARRAYLENGTH ATHROW op then def.Format.AsIs else
+    if between GETSTATIC INVOKESTATIC op || (op == NEW) || (op == ANEWARRAY) || between CHECKCAST INSTANCEOF op then def.Format.PoolIndex else
+    if op == INVOKEINTERFACE then def.Format.InterfaceCall else
+    if op == NEWARRAY then def.Format.ArrayOfKind else
+    if between MONITORENTER MONITOREXIT op then def.Format.MonitorFormat else
+    if op == WIDE then def.Format.Wide else
+    if op == MULTIANEWARRAY then def.Format.ManyDimensions else
+    if op == GOTO_W then def.Format.FarJump else def.Format.NoOpcode
 
 unfoldable pub format_at : ℕ → def.Format
 format_at op =
-    if between 0x00 0x14 op then constant_format op else
-    if between 0x15 0x56 op then local_format op else
-    if between 0x57 0x98 op then number_format op else other_format op
+    if between NOP LDC2_W op then constant_format op else
+    if between ILOAD SASTORE op then local_format op else
+    if between POP DCMPG op then number_format op else other_format op
 
 unfoldable pub wide_format_at : ℕ → def.WideFormat
 wide_format_at op =
-    if (op == 0x15) || (op == 0x16) || (op == 0x19) || (op == 0x36) || (op == 0x37) || (op == 0x3a) then def.WideFormat.WideLocal else
-    if (op == 0x17) || (op == 0x18) || (op == 0x38) || (op == 0x39) then def.WideFormat.WideFloat else
-    if op == 0x84 then def.WideFormat.WideIncrement else
-    if op == 0xa9 then def.WideFormat.WideSubroutine else def.WideFormat.NotWide
+    if (op == ILOAD) || (op == LLOAD) || (op == ALOAD) || (op == ISTORE) || (op == LSTORE) || (op == ASTORE) then def.WideFormat.WideLocal else
+    if (op == FLOAD) || (op == DLOAD) || (op == FSTORE) || (op == DSTORE) then def.WideFormat.WideFloat else
+    if op == IINC then def.WideFormat.WideIncrement else
+    if op == RET then def.WideFormat.WideSubroutine else def.WideFormat.NotWide
 
 -- ---- Switches, whose cases take memory.
 

@@ -3,6 +3,7 @@ use Rattle.std.specs.Prelude.{ℕ, pos, ◌==◌, Bool, ◌&&◌, ◌||◌, List
 use Rattle.std.specs.Int.{w8, w16, cast_signed}
 use Rattle.byte_fields.specs.Reading.{byte_at, number_at}
 use Rattle.jk_model.specs.declared.instructions.Instr.{Instr}
+use Rattle.jk_model.specs.declared.opcodes.TheConstants.{SIPUSH, GOTO}
 use Rattle.jk_model.specs.Instructions.{WideFormat, plain, target}
 use Rattle.jk_opcodes.specs.declared.errors.Stop.{Stop}
 use Rattle.jk_opcodes.specs.declared.errors.Stop.TheVariants.{BadOperand, FloatOpcode, Subroutine}
@@ -20,10 +21,10 @@ abbrev pub u2_at : List ℕ → Result (ℕ × List ℕ) Stop
 u2_at after = needed (number_at w16 after)
 
 unfoldable pub byte_constant_at : ℕ → List ℕ → Read
-byte_constant_at at after = u1_at after >>= λ n. Ok (plain at 0x11 (cast_signed w8 n.0) (pos 0), n.1)
+byte_constant_at at after = u1_at after >>= λ n. Ok (plain at SIPUSH (cast_signed w8 n.0) (pos 0), n.1)
 
 unfoldable pub short_constant_at : ℕ → List ℕ → Read
-short_constant_at at after = u2_at after >>= λ n. Ok (plain at 0x11 (cast_signed w16 n.0) (pos 0), n.1)
+short_constant_at at after = u2_at after >>= λ n. Ok (plain at SIPUSH (cast_signed w16 n.0) (pos 0), n.1)
 
 unfoldable pub byte_index_at : ℕ → ℕ → List ℕ → Read
 byte_index_at at op after = u1_at after >>= λ n. Ok (plain at op (pos n.0) (pos 0), n.1)
@@ -39,7 +40,7 @@ unfoldable pub jump_at : ℕ → ℕ → List ℕ → Read
 jump_at at op after = u2_at after >>= λ n. Ok (plain at op (target at (cast_signed w16 n.0)) (pos 0), n.1)
 
 unfoldable pub far_jump_at : ℕ → List ℕ → Read
-far_jump_at at after = int_at after >>= λ n. Ok (plain at 0xa7 (target at n.0) (pos 0), n.1)
+far_jump_at at after = int_at after >>= λ n. Ok (plain at GOTO (target at n.0) (pos 0), n.1)
 
 unfoldable pub interface_call_at : ℕ → ℕ → List ℕ → Read
 interface_call_at at op after =

@@ -1,5 +1,6 @@
 -- One instruction, read from the front of bytes.
 use Rattle.std.specs.Prelude.{ℕ, pos, ◌-ℤ◌, List, [], ◌∷◌, Ok, Err}
+use Rattle.jk_model.specs.declared.opcodes.TheConstants.{LDC_W}
 use Rattle.jk_model.specs.Instructions.{Format, plain}
 use Rattle.jk_opcodes.specs.declared.errors.Stop.TheVariants as stops
 use Rattle.jk_opcodes.specs.Formats.{format_at}
@@ -13,7 +14,7 @@ step_of (Format.Short long first) at op after = Ok (plain at long (pos op -ℤ p
 step_of Format.ByteConstant at op after = byte_constant_at at after
 step_of Format.ShortConstant at op after = short_constant_at at after
 step_of Format.LocalIndex at op after = byte_index_at at op after
-step_of Format.BytePoolIndex at op after = byte_index_at at 0x13 after
+step_of Format.BytePoolIndex at op after = byte_index_at at LDC_W after
 step_of Format.PoolIndex at op after = short_index_at at op after
 step_of Format.Increment at op after = increment_at at op after
 step_of Format.Jump at op after = jump_at at op after

@@ -16,6 +16,7 @@ use crate::plain::{
     many_dimensions, plain, short_constant, short_index, wide,
 };
 use crate::switches::{lookup_switch, table_switch};
+use jk_model::opcodes::LDC_W;
 use jk_model::{Instr, List};
 use std::alloc::Global;
 
@@ -40,7 +41,7 @@ fn step_of(
         Format::ByteConstant => Ok(byte_constant(alloc, at, after)?),
         Format::ShortConstant => Ok(short_constant(alloc, at, after)?),
         Format::LocalIndex => Ok(byte_index(alloc, at, op, after)?),
-        Format::BytePoolIndex => Ok(byte_index(alloc, at, 0x13, after)?),
+        Format::BytePoolIndex => Ok(byte_index(alloc, at, LDC_W, after)?),
         Format::PoolIndex => Ok(short_index(alloc, at, op, after)?),
         Format::Increment => Ok(increment(alloc, at, op, after)?),
         Format::Jump => Ok(jump(alloc, at, op, after)?),

@@ -3,6 +3,18 @@
 ghost use Rattle.std.specs.Prelude.{◌≡◌, ◌≤◌, ◌<◌};
 ghost use Rattle.jk_opcodes.specs.Formats.{format_view, wide_view, constant_format, local_format, number_format, other_format, format_at, wide_format_at};
 
+use jk_model::opcodes::{
+    AALOAD, AASTORE, ACONST_NULL, ALOAD, ALOAD_0, ALOAD_3, ANEWARRAY, ARETURN, ARRAYLENGTH, ASTORE,
+    ASTORE_0, ASTORE_3, ATHROW, BIPUSH, CHECKCAST, D2F, DADD, DCMPG, DCONST_1, DDIV, DLOAD, DMUL,
+    DNEG, DREM, DRETURN, DSTORE, DSUB, FADD, FCMPL, FCONST_0, FDIV, FLOAD, FMUL, FNEG, FREM,
+    FRETURN, FSTORE, FSUB, GETSTATIC, GOTO, GOTO_W, I2D, I2F, IALOAD, IASTORE, ICONST_0, ICONST_5,
+    ICONST_M1, IFEQ, IFNONNULL, IFNULL, IINC, ILOAD, ILOAD_0, ILOAD_3, INSTANCEOF, INVOKEINTERFACE,
+    INVOKESTATIC, IRETURN, ISTORE, ISTORE_0, ISTORE_3, JSR, JSR_W, L2F, LALOAD, LASTORE, LCONST_0,
+    LCONST_1, LDC, LDC2_W, LLOAD, LLOAD_0, LLOAD_3, LOOKUPSWITCH, LRETURN, LSTORE, LSTORE_0,
+    LSTORE_3, MONITORENTER, MONITOREXIT, MULTIANEWARRAY, NEW, NEWARRAY, NOP, POP, RET, RETURN,
+    SALOAD, SASTORE, SIPUSH, TABLESWITCH, WIDE,
+};
+
 /// The format of an instruction, as its opcode tells it: what it means, and which operands it has.
 #[derive(Clone, Copy, Debug)]
 pub enum Format {
@@ -46,13 +58,13 @@ fn constant_format(op: u8) -> Format
     ensures { format_view result ≡ constant_format op }
 {
     match op {
-        0x00..=0x01 => Format::AsIs,
-        0x02..=0x08 => Format::Short(0x11, 0x03),
-        0x09..=0x0a => Format::Short(0x09, 0x09),
-        0x0b..=0x0f => Format::Float,
-        0x10 => Format::ByteConstant,
-        0x11 => Format::ShortConstant,
-        0x12 => Format::BytePoolIndex,
+        NOP..=ACONST_NULL => Format::AsIs,
+        ICONST_M1..=ICONST_5 => Format::Short(SIPUSH, ICONST_0),
+        LCONST_0..=LCONST_1 => Format::Short(LCONST_0, LCONST_0),
+        FCONST_0..=DCONST_1 => Format::Float,
+        BIPUSH => Format::ByteConstant,
+        SIPUSH => Format::ShortConstant,
+        LDC => Format::BytePoolIndex,
         _ => Format::PoolIndex,
     }
 }
@@ -63,14 +75,14 @@ fn local_format(op: u8) -> Format
     ensures { format_view result ≡ local_format op }
 {
     match op {
-        0x15 | 0x16 | 0x19 | 0x36 | 0x37 | 0x3a => Format::LocalIndex,
-        0x1a..=0x1d => Format::Short(0x15, 0x1a),
-        0x1e..=0x21 => Format::Short(0x16, 0x1e),
-        0x2a..=0x2d => Format::Short(0x19, 0x2a),
-        0x3b..=0x3e => Format::Short(0x36, 0x3b),
-        0x3f..=0x42 => Format::Short(0x37, 0x3f),
-        0x4b..=0x4e => Format::Short(0x3a, 0x4b),
-        0x2e | 0x2f | 0x32..=0x35 | 0x4f | 0x50 | 0x53..=0x56 => Format::AsIs,
+        ILOAD | LLOAD | ALOAD | ISTORE | LSTORE | ASTORE => Format::LocalIndex,
+        ILOAD_0..=ILOAD_3 => Format::Short(ILOAD, ILOAD_0),
+        LLOAD_0..=LLOAD_3 => Format::Short(LLOAD, LLOAD_0),
+        ALOAD_0..=ALOAD_3 => Format::Short(ALOAD, ALOAD_0),
+        ISTORE_0..=ISTORE_3 => Format::Short(ISTORE, ISTORE_0),
+        LSTORE_0..=LSTORE_3 => Format::Short(LSTORE, LSTORE_0),
+        ASTORE_0..=ASTORE_3 => Format::Short(ASTORE, ASTORE_0),
+        IALOAD | LALOAD | AALOAD..=SALOAD | IASTORE | LASTORE | AASTORE..=SASTORE => Format::AsIs,
         _ => Format::Float,
     }
 }
@@ -81,10 +93,10 @@ fn number_format(op: u8) -> Format
     ensures { format_view result ≡ number_format op }
 {
     match op {
-        0x84 => Format::Increment,
-        0x62..=0x63 | 0x66..=0x67 | 0x6a..=0x6b | 0x6e..=0x6f => Format::Float,
-        0x72..=0x73 | 0x76..=0x77 | 0x86..=0x87 => Format::Float,
-        0x89..=0x90 | 0x95..=0x98 => Format::Float,
+        IINC => Format::Increment,
+        FADD..=DADD | FSUB..=DSUB | FMUL..=DMUL | FDIV..=DDIV => Format::Float,
+        FREM..=DREM | FNEG..=DNEG | I2F..=I2D => Format::Float,
+        L2F..=D2F | FCMPL..=DCMPG => Format::Float,
         _ => Format::AsIs,
     }
 }
@@ -95,19 +107,19 @@ fn other_format(op: u8) -> Format
     ensures { format_view result ≡ other_format op }
 {
     match op {
-        0x99..=0xa7 | 0xc6..=0xc7 => Format::Jump,
-        0xa8..=0xa9 | 0xc9 => Format::Subroutine,
-        0xaa => Format::TableSwitch,
-        0xab => Format::LookupSwitch,
-        0xae..=0xaf => Format::Float,
-        0xac..=0xad | 0xb0..=0xb1 | 0xbe..=0xbf => Format::AsIs,
-        0xb2..=0xb8 | 0xbb | 0xbd | 0xc0..=0xc1 => Format::PoolIndex,
-        0xb9 => Format::InterfaceCall,
-        0xbc => Format::ArrayOfKind,
-        0xc2..=0xc3 => Format::Monitor,
-        0xc4 => Format::Wide,
-        0xc5 => Format::ManyDimensions,
-        0xc8 => Format::FarJump,
+        IFEQ..=GOTO | IFNULL..=IFNONNULL => Format::Jump,
+        JSR..=RET | JSR_W => Format::Subroutine,
+        TABLESWITCH => Format::TableSwitch,
+        LOOKUPSWITCH => Format::LookupSwitch,
+        FRETURN..=DRETURN => Format::Float,
+        IRETURN..=LRETURN | ARETURN..=RETURN | ARRAYLENGTH..=ATHROW => Format::AsIs,
+        GETSTATIC..=INVOKESTATIC | NEW | ANEWARRAY | CHECKCAST..=INSTANCEOF => Format::PoolIndex,
+        INVOKEINTERFACE => Format::InterfaceCall,
+        NEWARRAY => Format::ArrayOfKind,
+        MONITORENTER..=MONITOREXIT => Format::Monitor,
+        WIDE => Format::Wide,
+        MULTIANEWARRAY => Format::ManyDimensions,
+        GOTO_W => Format::FarJump,
         _ => Format::NoOpcode,
     }
 }
@@ -118,9 +130,9 @@ pub fn format_of(op: u8) -> Format
     ensures { format_view result ≡ format_at op }
 {
     match op {
-        0x00..=0x14 => constant_format(op),
-        0x15..=0x56 => local_format(op),
-        0x57..=0x98 => number_format(op),
+        NOP..=LDC2_W => constant_format(op),
+        ILOAD..=SASTORE => local_format(op),
+        POP..=DCMPG => number_format(op),
         _ => other_format(op),
     }
 }
@@ -131,10 +143,10 @@ pub fn wide_format_of(op: u8) -> WideFormat
     ensures { wide_view result ≡ wide_format_at op }
 {
     match op {
-        0x15 | 0x16 | 0x19 | 0x36 | 0x37 | 0x3a => WideFormat::Local,
-        0x17 | 0x18 | 0x38 | 0x39 => WideFormat::Float,
-        0x84 => WideFormat::Increment,
-        0xa9 => WideFormat::Subroutine,
+        ILOAD | LLOAD | ALOAD | ISTORE | LSTORE | ASTORE => WideFormat::Local,
+        FLOAD | DLOAD | FSTORE | DSTORE => WideFormat::Float,
+        IINC => WideFormat::Increment,
+        RET => WideFormat::Subroutine,
         _ => WideFormat::NotWide,
     }
 }

@@ -11,4 +11,3 @@ mod switches;
 
 pub use code::decode;
 pub use errors::CodeError;
-

@@ -10,6 +10,7 @@ use crate::errors::Stop;
 use crate::formats::{WideFormat, wide_format_of};
 use crate::operands::int_of;
 use byte_fields::{u1_of, u2_of};
+use jk_model::opcodes::{GOTO, SIPUSH};
 use jk_model::{Instr, List};
 use std::alloc::Global;
 
@@ -46,7 +47,7 @@ pub fn byte_constant(alloc: Global, at: u32, after: &[u8]) -> Result<(Instr, &[u
 {
     let (constant, rest) = u1_of(after)?;
     let constant = i32::from(constant.cast_signed());
-    Ok((plain(alloc, at, 0x11, constant, 0), rest))
+    Ok((plain(alloc, at, SIPUSH, constant, 0), rest))
 }
 
 /// `sipush`, with a constant of two bytes.
@@ -56,7 +57,7 @@ pub fn short_constant(alloc: Global, at: u32, after: &[u8]) -> Result<(Instr, &[
 {
     let (constant, rest) = u2_of(after)?;
     let constant = i32::from(constant.cast_signed());
-    Ok((plain(alloc, at, 0x11, constant, 0), rest))
+    Ok((plain(alloc, at, SIPUSH, constant, 0), rest))
 }
 
 /// This opcode, with a local or pool index of one byte.
@@ -106,7 +107,7 @@ pub fn far_jump(alloc: Global, at: u32, after: &[u8]) -> Result<(Instr, &[u8]), 
     ensures { Gives (λ x. (x.0, x.1.now)) result (far_jump_at at after.now) }
 {
     let (offset, rest) = int_of(after)?;
-    Ok((plain(alloc, at, 0xa7, target(at, offset), 0), rest))
+    Ok((plain(alloc, at, GOTO, target(at, offset), 0), rest))
 }
 
 /// `invokeinterface`: a pool index of two bytes, a count above 0, and a byte 0.

@@ -5,6 +5,7 @@ use Rattle.std.specs.Int.{w32, cast_unsigned}
 use Rattle.std.proofs.Math.ListN.{length-replicate}
 use Rattle.std.proofs.lemmas.List.{take_more, flat_map_more}
 use Rattle.jk_model.specs.declared.class_file.PoolEntry.{PoolEntry}
+use Rattle.jk_model.specs.declared.opcodes.TheConstants.{LOOKUPSWITCH}
 use Rattle.jk_model.specs.ClassFile.{u4}
 use Rattle.jk_model.specs.Instructions.{gap}
 use Rattle.jk_model.proofs.EachItem.{all_push}
@@ -28,10 +29,10 @@ in_turn : (old op zeros first count table a b c d e : List ℕ) → a ≡ old ++
 in_turn old op zeros first count table a b c d e ha hb hc hd he = rw (he, hd, hc, hb, ha) (simp append_assoc)
 
 pub switch_in_turn : (codes : List CodeLine) (at n : ℕ) (default : List ℕ) (cases : List SwitchLine) (old a b c d e : List ℕ) → n ≡ at
-    → a ≡ old ++ 0xab ∷ [] → b ≡ a ++ replicate (gap n) 0 → c ≡ b ++ offset_bytes codes n default → d ≡ c ++ u4 (length cases)
+    → a ≡ old ++ LOOKUPSWITCH ∷ [] → b ≡ a ++ replicate (gap n) 0 → c ≡ b ++ offset_bytes codes n default → d ≡ c ++ u4 (length cases)
     → e ≡ d ++ flat_map (case_bytes codes n) cases → e ≡ old ++ switch_bytes codes at default cases
 switch_in_turn codes at n default cases old a b c d e same ha hb hc hd he =
-    rw (← same) (in_turn old (0xab ∷ []) (replicate (gap n) 0) (offset_bytes codes n default) (u4 (length cases)) (flat_map (case_bytes codes n) cases)
+    rw (← same) (in_turn old (LOOKUPSWITCH ∷ []) (replicate (gap n) 0) (offset_bytes codes n default) (u4 (length cases)) (flat_map (case_bytes codes n) cases)
     a b c d e ha hb hc hd he)
 
 -- the case that a loop is at
@@ -103,7 +104,7 @@ switch_size codes at default cases =
     let zeros : List ℕ = replicate (gap at) 0 in
     let zeros_size : length zeros ≡ gap at = length-replicate (gap at) 0 in
     let table_size = cases_size codes at cases in
-    let whole = size_of_four (0xab ∷ zeros) (offset_bytes codes at default) (u4 (length cases)) (flat_map (case_bytes codes at) cases) in
+    let whole = size_of_four (LOOKUPSWITCH ∷ zeros) (offset_bytes codes at default) (u4 (length cases)) (flat_map (case_bytes codes at) cases) in
     omega (arith, zeros_size, table_size, whole)
 
 -- ---- All of it.

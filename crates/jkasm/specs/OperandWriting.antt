@@ -3,6 +3,7 @@ use Rattle.std.specs.Prelude.{◌≡◌, ℕ, ◌∷◌, ◌++◌, ℤ, pos, ◌
 use Rattle.std.specs.Int.{w16, w32, cast_unsigned}
 use Rattle.std.specs.List.{AllByRecursion}
 use Rattle.jk_model.specs.declared.class_file.PoolEntry.{PoolEntry}
+use Rattle.jk_model.specs.declared.opcodes.TheConstants.{LOOKUPSWITCH}
 use Rattle.jk_model.specs.ClassFile.{u2, u4}
 use Rattle.jk_model.specs.Instructions.{gap}
 use Rattle.asm_reader.specs.declared.items.CodeLine.{CodeLine}
@@ -44,7 +45,7 @@ case_bytes codes at c = u4 (cast_unsigned w32 c.key) ++ offset_bytes codes at c.
 -- lookupswitch, whose opcode stands at this place
 abbrev pub switch_bytes : List CodeLine → ℕ → List ℕ → List SwitchLine → List ℕ
 switch_bytes codes at default cases =
-    0xab ∷ replicate (gap at) 0 ++ offset_bytes codes at default ++ u4 (length cases) ++ flat_map (case_bytes codes at) cases
+    LOOKUPSWITCH ∷ replicate (gap at) 0 ++ offset_bytes codes at default ++ u4 (length cases) ++ flat_map (case_bytes codes at) cases
 
 -- the labels of these cases stand in a code of these lines
 abbrev pub DoStand : List CodeLine → List SwitchLine → Type 0

@@ -20,24 +20,10 @@ use crate::labels::{Labels, statement_size};
 use crate::pool::{PoolBuilder, PoolError};
 use asm_reader::{Constant, MemberKind, Statement, SwitchLine};
 use class_writer::{append_u2, append_u4};
+use jk_model::opcodes::{
+    IINC, LDC_W, LDC2_W, LOOKUPSWITCH, MULTIANEWARRAY, NEWARRAY, SIPUSH, WIDE,
+};
 use jk_model::{Bytes, OutOfMemory};
-
-// opcodes
-const SIPUSH: u8 = 0x11;
-
-const LDC_W: u8 = 0x13;
-
-const LDC2_W: u8 = 0x14;
-
-const IINC: u8 = 0x84;
-
-const LOOKUPSWITCH: u8 = 0xab;
-
-const NEWARRAY: u8 = 0xbc;
-
-const WIDE: u8 = 0xc4;
-
-const MULTIANEWARRAY: u8 = 0xc5;
 
 /// The most bytes that a code may have.
 const LONGEST: u64 = 65_535;
@@ -92,7 +78,7 @@ fn append_short(code: &mut Bytes, op: u8, n: u16) -> Result<(), OutOfMemory>
 
 /// An instruction on a local.
 fn append_local(code: &mut Bytes, op: u8, local: u16) -> Result<(), OutOfMemory>
-    ensures { OnOk result (code.new ≡ code.old ++ (if is_byte local then op ∷ local ∷ [] else 0xc4 ∷ op ∷ u2 local)) }
+    ensures { OnOk result (code.new ≡ code.old ++ (if is_byte local then op ∷ local ∷ [] else WIDE ∷ op ∷ u2 local)) }
 {
     if local < 256 {
         return code.extend_from_slice(&[op, local as u8]);
@@ -104,8 +90,8 @@ fn append_local(code: &mut Bytes, op: u8, local: u16) -> Result<(), OutOfMemory>
 /// `iinc`
 fn append_increment(code: &mut Bytes, local: u16, step: i16) -> Result<(), OutOfMemory>
     ensures { OnOk result (code.new ≡ code.old ++ (if is_byte local && is_byte_step step
-        then 0x84 ∷ local ∷ cast_unsigned w8 step ∷ []
-        else 0xc4 ∷ 0x84 ∷ u2 local ++ u2 (cast_unsigned w16 step))) }
+        then IINC ∷ local ∷ cast_unsigned w8 step ∷ []
+        else WIDE ∷ IINC ∷ u2 local ++ u2 (cast_unsigned w16 step))) }
 {
     if local < 256 && -128 <= step && step <= 127 {
         return code.extend_from_slice(&[IINC, local as u8, (step as i8).cast_unsigned()]);
@@ -168,7 +154,7 @@ fn append_new_arrays(
     dims: u8,
 ) -> Result<(), LineStop>
     requires { IsPoolText class.now }
-    ensures written { OnOk result (HasIndex pool.new code.old code.new 0xc5 (Class class.now) (dims ∷ [])) }
+    ensures written { OnOk result (HasIndex pool.new code.old code.new MULTIANEWARRAY (Class class.now) (dims ∷ [])) }
     ensures takes { OnOk result (Takes pool.old pool.new (for_class class.now)) }
     ensures full { result ≡ Err LineStop.AtFault → HasNoRoom pool.old (for_class class.now) }
 {

@@ -9,4 +9,3 @@ mod table;
 
 pub use entry::{SystemClass, SystemField, SystemMethod};
 pub use find::{class_named, count, system_class};
-

@@ -5,19 +5,20 @@ ghost use Rattle.std.specs.Prelude.{◌≡◌, length};
 ghost use Rattle.system_table.specs.Entry.{AreEntries};
 
 use crate::entry::{SystemClass, SystemField, SystemMethod};
+use jk_model::AccessFlags;
 
 // Flags. Public is a part of each.
-const PUBLIC: u16 = 0x0001;
+const PUBLIC: u16 = AccessFlags::PUBLIC.0;
 
-const STATIC: u16 = 0x0009;
+const STATIC: u16 = PUBLIC | AccessFlags::STATIC.0;
 
-const FINAL: u16 = 0x0011;
+const FINAL: u16 = PUBLIC | AccessFlags::FINAL.0;
 
-const STATIC_FINAL: u16 = 0x0019;
+const STATIC_FINAL: u16 = STATIC | AccessFlags::FINAL.0;
 
-const INTERFACE: u16 = 0x0201;
+const INTERFACE: u16 = PUBLIC | AccessFlags::INTERFACE.0;
 
-const ABSTRACT: u16 = 0x0401;
+const ABSTRACT: u16 = PUBLIC | AccessFlags::ABSTRACT.0;
 
 // The numbers of the parents.
 const OBJECT: u16 = 0;

@@ -7,20 +7,12 @@ ghost use Rattle.class_rules.specs.KnownPools.{IsKnown};
 
 use crate::known_pool::KnownPool;
 use crate::texts::{FieldShape, TextFacts, Word};
+use jk_model::opcodes::{
+    ALOAD, ANEWARRAY, ASTORE, CHECKCAST, GETSTATIC, IINC, ILOAD, INSTANCEOF, INVOKEINTERFACE,
+    INVOKESTATIC, INVOKEVIRTUAL, ISTORE, LDC_W, LDC2_W, LLOAD, LSTORE, MULTIANEWARRAY, NEW,
+    PUTFIELD,
+};
 use jk_model::{Instr, PoolEntry};
-
-/// `ldc` and `ldc_w`.
-const LDC: u8 = 0x13;
-
-const LDC2: u8 = 0x14;
-
-const INVOKEINTERFACE: u8 = 0xb9;
-
-const NEW: u8 = 0xbb;
-
-const ANEWARRAY: u8 = 0xbd;
-
-const MULTIANEWARRAY: u8 = 0xc5;
 
 /// What kind of entry an instruction names.
 #[derive(Clone, Copy, Debug)]
@@ -81,15 +73,15 @@ fn uses_entry(pool: &[PoolEntry], instr: &Instr, kind: EntryKind) -> bool
 pub(crate) fn loads_float(pool: &[PoolEntry], instr: &Instr) -> bool
     ensures { IsTrue result ↔ LoadsFloat pool.now instr.now }
 {
-    (instr.op == LDC && uses_entry(pool, instr, EntryKind::Float))
-        || (instr.op == LDC2 && uses_entry(pool, instr, EntryKind::Double))
+    (instr.op == LDC_W && uses_entry(pool, instr, EntryKind::Float))
+        || (instr.op == LDC2_W && uses_entry(pool, instr, EntryKind::Double))
 }
 
 /// Whether an instruction loads a class as a constant.
 pub(crate) fn loads_class(pool: &[PoolEntry], instr: &Instr) -> bool
     ensures { IsTrue result ↔ LoadsClassBy pool.now instr.now }
 {
-    instr.op == LDC && uses_entry(pool, instr, EntryKind::Class)
+    instr.op == LDC_W && uses_entry(pool, instr, EntryKind::Class)
 }
 
 /// The kind of entry that an instruction of this opcode needs.
@@ -98,12 +90,12 @@ fn needed_kind(op: u8) -> Option<EntryKind>
     ensures { result ≡ needed_kind op }
 {
     match op {
-        LDC => Some(EntryKind::Constant),
-        LDC2 => Some(EntryKind::Long),
-        0xb2..=0xb5 => Some(EntryKind::Field),
-        0xb6..=0xb8 => Some(EntryKind::Method),
+        LDC_W => Some(EntryKind::Constant),
+        LDC2_W => Some(EntryKind::Long),
+        GETSTATIC..=PUTFIELD => Some(EntryKind::Field),
+        INVOKEVIRTUAL..=INVOKESTATIC => Some(EntryKind::Method),
         INVOKEINTERFACE => Some(EntryKind::InterfaceMethod),
-        NEW | ANEWARRAY | 0xc0 | 0xc1 | MULTIANEWARRAY => Some(EntryKind::Class),
+        NEW | ANEWARRAY | CHECKCAST | INSTANCEOF | MULTIANEWARRAY => Some(EntryKind::Class),
         _ => None,
     }
 }
@@ -122,14 +114,14 @@ pub(crate) fn has_bad_entry(pool: &[PoolEntry], instr: &Instr) -> bool
 fn is_of_local(op: u8) -> bool
     ensures { result ≡ is_of_local op }
 {
-    matches!(op, 0x15 | 0x19 | 0x36 | 0x3a | 0x84)
+    matches!(op, ILOAD | ALOAD | ISTORE | ASTORE | IINC)
 }
 
 /// `lload` and `lstore`.
 fn is_of_long_local(op: u8) -> bool
     ensures { result ≡ is_of_long_local op }
 {
-    matches!(op, 0x16 | 0x37)
+    matches!(op, LLOAD | LSTORE)
 }
 
 /// Whether the local of an instruction, or the second half of a long's, isn't there.
@@ -197,7 +189,10 @@ fn refers_to_init(pool: &KnownPool, i: usize) -> bool
 fn may_not_name_init(op: u8) -> bool
     ensures { IsTrue result ↔ MayNotNameInit op }
 {
-    matches!(op, 0xb2..=0xb6 | 0xb8 | 0xb9)
+    matches!(
+        op,
+        GETSTATIC..=INVOKEVIRTUAL | INVOKESTATIC | INVOKEINTERFACE
+    )
 }
 
 /// Whether an instruction other than `invokespecial` names `<init>`.

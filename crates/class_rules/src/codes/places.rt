@@ -6,6 +6,7 @@ ghost use Rattle.jk_model_classes.specs.Items.{HasItem};
 ghost use Rattle.jk_model_classes.specs.MemberCode.{is_jump, is_switch};
 ghost use Rattle.class_rules.specs.Codes.{HasPlace, ArePlacesOf, IsBadBranch, LeadsOut, BeginWithin};
 
+use jk_model::opcodes::{GOTO, IFEQ, IFNONNULL, IFNULL, LOOKUPSWITCH, TABLESWITCH};
 use jk_model::{Instr, OutOfMemory, SwitchCase};
 use std::alloc::Global;
 
@@ -46,7 +47,10 @@ fn is_place(places: &[bool], place: i32) -> bool
 fn is_branch(op: u8) -> bool
     ensures { result ≡ (is_jump op || is_switch op) }
 {
-    matches!(op, 0x99..=0xa7 | 0xaa | 0xab | 0xc6 | 0xc7)
+    matches!(
+        op,
+        IFEQ..=GOTO | TABLESWITCH | LOOKUPSWITCH | IFNULL | IFNONNULL
+    )
 }
 
 /// Whether a case of a switch leads to where an instruction begins.

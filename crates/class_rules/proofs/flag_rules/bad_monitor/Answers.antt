@@ -1,6 +1,6 @@
 -- The earlier of the least method by its code and the least by its flags is the least spot.
 use Rattle.std.proofs.Common.{false, None, sym, subst, ℕ, Option}
-use Rattle.jk_model_classes.specs.ClassFlags.{SYNCHRONIZED}
+use Rattle.jk_model.specs.Flags.{SYNCHRONIZED}
 use Rattle.jk_model_classes.specs.MemberCode.{UsesMonitor}
 use Rattle.class_rules.specs.CodeRules.{HasWrongMethodCode}
 use Rattle.class_rules.specs.FlagRules.{HasFlagged}

@@ -1,6 +1,6 @@
 -- The least native method is the least spot.
 use Rattle.std.proofs.Common.{false, None}
-use Rattle.jk_model_classes.specs.ClassFlags.{NATIVE}
+use Rattle.jk_model.specs.Flags.{NATIVE}
 use Rattle.jk_model_classes.specs.MemberCode.{IsNative}
 use Rattle.class_rules.specs.FlagRules.{HasFlagged}
 use Rattle.class_rules.specs.declared.members.FirstPlaces.{FirstPlaces}

@@ -1,7 +1,6 @@
 -- A method's name and flags say which descriptor it may have.
-use Rattle.std.proofs.Common.{◌≡◌, refl, subst, List, Some, None, rules}
+use Rattle.std.proofs.Common.{refl, subst, List, Some, None}
 use Rattle.jk_model.specs.declared.class_file.PoolEntry.{PoolEntry}
-use Rattle.jk_model_classes.specs.ClassFlags.{STATIC, has}
 use Rattle.jk_model_classes.specs.Members.{TextAt, INIT, CLINIT}
 use Rattle.class_rules.specs.KnownPools.{IsTextKnown}
 use Rattle.class_rules.proofs.KnownTexts.{of_entries, refuted}
@@ -32,6 +31,5 @@ returns c =
     subst (λ (p : List PoolEntry). IsTextKnown p c.args.method.now.descriptor (Some c.in-Some.descriptor)) same c.in-Some.ensures in
     let init = of_entries (λ p. TextAt p c.args.method.now.name INIT) _ pool c.is_word-is_init.result same c.is_word-is_init.ensures in
     let clinit = of_entries (λ p. TextAt p c.args.method.now.name CLINIT) _ pool c.is_word.result same c.is_word.ensures in
-    let static : c.contains-is_static.result ≡ has c.args.method.now.flags STATIC = search rules in
-    plain_type c.args.c.now c.args.method.now c.in-Some.descriptor c.is_word-is_init.result c.contains-is_static.result c.fits_method.result known init
-    static (refuted c.is_word.result clinit c.if-is_word.false) c.fits_method.ensures
+    plain_type c.args.c.now c.args.method.now c.in-Some.descriptor c.is_word-is_init.result c.has-is_static.result c.fits_method.result known init
+    c.has-is_static.ensures (refuted c.is_word.result clinit c.if-is_word.false) c.fits_method.ensures
