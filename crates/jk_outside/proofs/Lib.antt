@@ -3,10 +3,12 @@ pub mod Below
 pub mod BufferFills
 pub mod CutIsWholeAndRest
 pub mod EachEntry
+pub mod EachHasItsName
 pub mod EmptyStruct
 pub mod FolderWalkSteps
 pub mod LineTexts
 pub mod ListedAreThere
+pub mod LogsGrow
 pub mod NamesAreNames
 pub mod NamesAreUtf8
 pub mod NamesDiffer
@@ -16,3 +18,4 @@ pub mod PathsAreKept
 pub mod SentInOrder
 pub mod Splits
 pub mod TakenInOrder
+pub mod WhatIsRead

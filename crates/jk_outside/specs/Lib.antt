@@ -10,6 +10,7 @@ pub mod MemorySinks
 pub mod MemoryTrees
 pub mod Reading
 pub mod Streams
+pub mod Systems
 pub use Rattle.jk_model.specs.Outside
 pub use Rattle.jk_model.specs.Output
 pub use Rattle.jk_model.specs.Text

@@ -1,50 +1,54 @@
-//! Files of the system.
+//! Files of a system, as something that lists folders and reads files.
 
-ghost use Rattle.std.specs.Prelude.{◌≡◌, ◌≢◌, ◌<◌, ◌≤◌, ◌-◌, ◌^◌, [], length, min, IfOk, None, Err};
+ghost use Rattle.std.specs.Prelude.{◌≡◌, ◌≢◌, ◌<◌, ◌≤◌, ◌⊎◌, ◌∷◌, ◌++◌, ◌-◌, ◌^◌, [], length, min, not, false, true, List, IfOk, IsSome, Err};
 ghost use Rattle.std.specs.List.{AllByRecursion};
 ghost use Rattle.std.specs.Str.{IsUtf8};
-ghost use Rattle.jk_model.specs.Outside.{AreNamed, AreThere, FoldersAreThere, FolderIs, FileIs, FolderIsAbsent, FileIsAbsent, FolderIsLong, FileIsLong, HasNoFolder, HasNoFile, HasLongFolder, HasLongFile, HasRisen, HasRisenBy, NeverFalls};
-ghost use Rattle.jk_outside.specs.Counts.{min_fits};
-ghost use Rattle.jk_outside.specs.DiskStates.{count_after};
+ghost use Rattle.jk_model.specs.Outside.{ListOf, BytesOf, AreNamed, AreThere, FoldersAreThere, FolderIs, FileIs, FolderIsAbsent, FileIsAbsent, FolderIsLong, FileIsLong, HasNoFolder, HasNoFile, HasLongFolder, HasLongFile, HasRisen, HasRisenBy, NeverFalls};
+ghost use Rattle.jk_model.specs.declared.entries.Entry.{Entry};
+ghost use Rattle.jk_outside.specs.Counts.{min_fits, HasTaken};
+ghost use Rattle.jk_outside.specs.DiskStates.{count_after, untold};
+ghost use Rattle.jk_outside.specs.EntryNames.{ArePlain};
+ghost use Rattle.jk_outside.specs.Systems.{AsksBelow, AsksFor, FileAtIs, FolderAtIs, HasNoFolderAt, HasNothing, HasToRead, LogsFault, LogsOnly};
 
 use crate::asked::{Asked, Call};
 use crate::files::{Files, FilesError};
-use crate::folder_walk::{looked_at, opened_folder};
-use crate::reading::opened_file;
+use crate::folder_walk::list_folder;
+use crate::reading::read_file;
+use crate::system::System;
 use jk_model::{Bytes, Entry, List};
 use std::alloc::Global;
-use std::fs::File;
 use std::marker::Model;
-use std::{fs, rt};
 
-/// Files of the system, below the current folder or the root. Their content is not told: a folder or a
-/// file that isn't there counts as a fault. A folder lists files and folders, hidden ones among them, and
-/// no pipes, sockets or devices. A symbolic link counts as what it leads to. What is read may be a pipe.
+/// Files of a system, below the current folder or the root. As files they tell no tree: a folder or a file that
+/// isn't there counts as a fault. A folder lists files and folders, hidden ones among them, and no pipes, sockets or
+/// devices. A symbolic link counts as what it leads to. What is read may be a pipe until the first folder is listed.
 #[derive(Drop)]
-pub struct DiskFiles<R: rt::Files + AllocGlobal + Clone + Drop> {
+pub struct DiskFiles<S: System + Drop> {
     alloc: Global,
-    system: R,
+    system: S,
+    listed: bool,
     faults: u64,
     taken: u64,
     asked: Asked,
 }
 
-impl<R: rt::Files + AllocGlobal + Clone + Drop> Model for DiskFiles<R> {
+impl<S: System + Drop> Model for DiskFiles<S> {
     ghost use Rattle.jk_outside.specs.DiskStates.{DiskState};
 
-    ghost Value = { DiskState };
+    ghost Value = { DiskState S };
 
-    ghost view = { λ s. record { faults = s.faults; taken = s.taken; asked = s.asked.asks } };
+    ghost view = { λ s. record { system = s.system; listed = s.listed; faults = s.faults; taken = s.taken; asked = s.asked.asks } };
 }
 
-impl<R: rt::Files + AllocGlobal + Clone + Drop> DiskFiles<R> {
-    /// The files of a runtime, of which nothing was taken yet.
-    pub fn new(alloc: Global, system: R) -> DiskFiles<R>
-        ensures { result ≡ record { faults = 0; taken = 0; asked = [] } }
+impl<S: System + Drop> DiskFiles<S> {
+    /// The files of a system, of which nothing was taken yet.
+    pub fn new(alloc: Global, system: S) -> DiskFiles<S>
+        ensures { result ≡ record { system = system; listed = false; faults = 0; taken = 0; asked = [] } }
     {
         DiskFiles {
             alloc,
             system,
+            listed: false,
             faults: 0,
             taken: 0,
             asked: Asked::nothing(),
@@ -66,8 +70,8 @@ impl<R: rt::Files + AllocGlobal + Clone + Drop> DiskFiles<R> {
     }
 }
 
-impl<R: rt::Files + AllocGlobal + Clone + Drop> Files for DiskFiles<R> {
-    ghost tree = { λ _. None };
+impl<S: System + Drop> Files for DiskFiles<S> {
+    ghost tree = { λ _. untold };
 
     ghost faults = { λ s. min s.faults (2 ^ 64 - 1) };
 
@@ -79,17 +83,108 @@ impl<R: rt::Files + AllocGlobal + Clone + Drop> Files for DiskFiles<R> {
 
     ghost taken_fits = { λ s. min_fits s.taken };
 
-    fn list(&mut self, folder: &str, limit: u32) -> Result<List<Entry>, FilesError> {
+    fn list(&mut self, folder: &str, limit: u32) -> Result<List<Entry>, FilesError>
+        ensures found { IfOk result (λ entries. FolderIs untold folder.now entries) }
+        ensures within { IfOk result (λ entries. length entries ≤ limit) }
+        ensures names { IfOk result (λ entries. AllByRecursion (λ entry. IsUtf8 entry.name) entries) }
+        ensures named { IfOk result (λ entries. AreNamed untold entries) }
+        ensures plain { IfOk result (λ entries. ArePlain untold entries) }
+        ensures there { IfOk result (λ entries. AreThere untold folder.now entries) }
+        ensures folders { IfOk result (λ entries. FoldersAreThere untold folder.now entries) }
+        ensures counted { IfOk result
+            (λ entries. HasTaken untold (length entries) (min self.old.taken (2 ^ 64 - 1)) (min self.new.taken (2 ^ 64 - 1))) }
+
+        ensures failed { result ≡ Err FilesError.Failed
+            → HasRisen (min self.old.faults (2 ^ 64 - 1)) (min self.new.faults (2 ^ 64 - 1)) }
+        ensures absent { result ≡ Err FilesError.Absent
+            → FolderIsAbsent untold folder.now (min self.old.faults (2 ^ 64 - 1)) (min self.new.faults (2 ^ 64 - 1)) }
+        ensures too_long { result ≡ Err FilesError.TooLong
+            → FolderIsLong untold folder.now limit (min self.old.taken (2 ^ 64 - 1)) (min self.new.taken (2 ^ 64 - 1)) }
+        ensures long_named { result ≡ Err FilesError.TooLong
+            → (entries : List Entry) → FolderIs untold folder.now entries → AreNamed untold entries }
+
+        ensures missing { HasNoFolder untold folder.now
+            → (result ≡ Err FilesError.Absent) ⊎ (result ≡ Err FilesError.Failed) }
+        ensures over { HasLongFolder untold folder.now limit
+            → (result ≡ Err FilesError.TooLong) ⊎ (result ≡ Err FilesError.Failed) }
+
+        ensures calm { result ≢ Err FilesError.Failed
+            → (result ≡ Err FilesError.Absent → IsSome untold)
+            → min self.new.faults (2 ^ 64 - 1) ≡ min self.old.faults (2 ^ 64 - 1) }
+        ensures stays { untold ≡ untold }
+        ensures faults { NeverFalls (min self.old.faults (2 ^ 64 - 1)) (min self.new.faults (2 ^ 64 - 1)) }
+        ensures taken { NeverFalls (min self.old.taken (2 ^ 64 - 1)) (min self.new.taken (2 ^ 64 - 1)) }
+        ensures asked { self.new.asked ≡ self.old.asked ++ ListOf folder.now limit ∷ [] }
+
+        // Where the system tells what stands there, the answer is just that.
+        ensures told { IfOk result (λ entries. FolderAtIs (S.places self.old.system) folder.now (λ all. entries ≡ all)) }
+        ensures told_long { result ≡ Err FilesError.TooLong
+            → FolderAtIs (S.places self.old.system) folder.now (λ all. limit < length all) }
+        ensures told_absent { result ≡ Err FilesError.Absent → HasNoFolderAt (S.places self.old.system) folder.now }
+        // It fails where the system did, or where the count of what was taken is at its end.
+        ensures cause { result ≡ Err FilesError.Failed
+            → LogsFault (S.log self.old.system) (S.log self.new.system) ⊎ (self.new.taken ≡ 2 ^ 64 - 1) }
+        // No other folder is opened, and nothing is looked at but what stands in it.
+        ensures log { LogsOnly (λ step. AsksBelow folder.now step.asks) (S.log self.old.system) (S.log self.new.system) }
+        ensures listed { self.new.listed ≡ true }
+    {
         self.asked = self.asked.and(&Call::List(folder.as_bytes(), limit));
-        let listed = listed(self.alloc, &self.system, folder, limit, &mut self.taken);
+        self.listed = true;
+        let listed = list_folder(self.alloc, &mut self.system, folder, limit, &mut self.taken);
         self.faults = faults_with(&listed, self.faults);
         listed
     }
 
-    fn read(&mut self, path: &str, limit: u32) -> Result<Bytes, FilesError> {
+    fn read(&mut self, path: &str, limit: u32) -> Result<Bytes, FilesError>
+        ensures found { IfOk result (λ bytes. FileIs untold path.now bytes) }
+        ensures within { IfOk result (λ bytes. length bytes ≤ limit) }
+        ensures counted { IfOk result
+            (λ bytes. HasTaken untold (length bytes) (min self.old.taken (2 ^ 64 - 1)) (min self.new.taken (2 ^ 64 - 1))) }
+
+        ensures failed { result ≡ Err FilesError.Failed
+            → HasRisen (min self.old.faults (2 ^ 64 - 1)) (min self.new.faults (2 ^ 64 - 1)) }
+        ensures absent { result ≡ Err FilesError.Absent
+            → FileIsAbsent untold path.now (min self.old.faults (2 ^ 64 - 1)) (min self.new.faults (2 ^ 64 - 1)) }
+        ensures too_long { result ≡ Err FilesError.TooLong
+            → FileIsLong untold path.now limit (min self.old.taken (2 ^ 64 - 1)) (min self.new.taken (2 ^ 64 - 1)) }
+
+        ensures missing { HasNoFile untold path.now
+            → (result ≡ Err FilesError.Absent) ⊎ (result ≡ Err FilesError.Failed) }
+        ensures over { HasLongFile untold path.now limit
+            → (result ≡ Err FilesError.TooLong) ⊎ (result ≡ Err FilesError.Failed) }
+
+        ensures calm { result ≢ Err FilesError.Failed
+            → (result ≡ Err FilesError.Absent → IsSome untold)
+            → min self.new.faults (2 ^ 64 - 1) ≡ min self.old.faults (2 ^ 64 - 1) }
+        ensures stays { untold ≡ untold }
+        ensures faults { NeverFalls (min self.old.faults (2 ^ 64 - 1)) (min self.new.faults (2 ^ 64 - 1)) }
+        ensures taken { NeverFalls (min self.old.taken (2 ^ 64 - 1)) (min self.new.taken (2 ^ 64 - 1)) }
+        ensures asked { self.new.asked ≡ self.old.asked ++ BytesOf path.now limit ∷ [] }
+
+        // Where the system tells what stands there, the answer is just that. Pipes are read before a folder is listed.
+        ensures told { IfOk result
+            (λ bytes. FileAtIs (not self.old.listed) (S.places self.old.system) path.now (λ all. bytes ≡ all)) }
+        ensures told_long { result ≡ Err FilesError.TooLong
+            → FileAtIs (not self.old.listed) (S.places self.old.system) path.now (λ all. limit < length all) }
+        ensures told_absent { result ≡ Err FilesError.Absent → HasNothing (S.places self.old.system) path.now }
+        // What is there to be read fails only where the system did.
+        ensures cause { result ≡ Err FilesError.Failed
+            → HasToRead (not self.old.listed) (S.places self.old.system) path.now
+            → LogsFault (S.log self.old.system) (S.log self.new.system) }
+        // No other path is looked at or opened.
+        ensures log { LogsOnly (λ step. AsksFor path.now step.asks) (S.log self.old.system) (S.log self.new.system) }
+        ensures listed { self.new.listed ≡ self.old.listed }
+    {
         self.asked = self.asked.and(&Call::Read(path.as_bytes(), limit));
-        let opened = File::open(&self.system, path);
-        let bytes = opened_file(self.alloc, opened, limit, &mut self.taken);
+        let pipes = !self.listed;
+        let bytes = read_file(
+            self.alloc,
+            &mut self.system,
+            path,
+            pipes,
+            limit,
+            &mut self.taken,
+        );
         self.faults = faults_with(&bytes, self.faults);
         bytes
     }
@@ -106,22 +201,4 @@ fn faults_with<T>(answer: &Result<T, FilesError>, faults: u64) -> u64
         Err(FilesError::Failed | FilesError::Absent) => faults.saturating_add(1),
         _ => faults,
     }
-}
-
-/// Lists a folder of the system.
-fn listed<R: rt::Files + AllocGlobal + Clone + Drop>(
-    alloc: Global,
-    system: &R,
-    folder: &str,
-    limit: u32,
-    taken: &mut u64,
-) -> Result<List<Entry>, FilesError>
-    ensures names { IfOk result (λ entries. AllByRecursion (λ entry. IsUtf8 entry.name) entries) }
-    ensures within { IfOk result (λ entries. length entries ≤ limit) }
-    ensures too_long { result ≡ Err FilesError.TooLong → HasRisenBy limit taken.old taken.new }
-    ensures taken { taken.old ≤ taken.new }
-{
-    let opened = fs::read_dir(system, folder);
-    let opened = opened.map(|all| all.map(|entry| looked_at(alloc, system, entry)));
-    opened_folder(alloc, opened, limit, taken)
 }

@@ -2,7 +2,9 @@
 
 ghost use Rattle.std.specs.Prelude.{◌≡◌, ◌≢◌, ℕ, ◌<◌, ◌^◌, ◌≤◌, ◌⊎◌, ◌∷◌, ◌++◌, [], List, length, Option, IfOk, IsSome, Err, IsUtf8};
 ghost use Rattle.std.specs.List.{AllByRecursion};
+ghost use Rattle.jk_model.specs.declared.entries.Entry.{Entry};
 ghost use Rattle.jk_model.specs.Outside.{Tree, Ask, ListOf, BytesOf, AreNamed, AreThere, FoldersAreThere, FolderIs, FileIs, FolderIsAbsent, FileIsAbsent, FolderIsLong, FileIsLong, HasNoFolder, HasNoFile, HasLongFolder, HasLongFile, HasRisen, NeverFalls};
+ghost use Rattle.jk_outside.specs.Counts.{HasTaken};
 ghost use Rattle.jk_outside.specs.EntryNames.{ArePlain};
 
 use jk_model::{Bytes, Entry, List, OutOfMemory};
@@ -60,12 +62,16 @@ pub trait Files {
         ensures plain { IfOk result (λ entries. ArePlain (tree self.old) entries) }
         ensures there { IfOk result (λ entries. AreThere (tree self.old) folder.now entries) }
         ensures folders { IfOk result (λ entries. FoldersAreThere (tree self.old) folder.now entries) }
+        ensures counted { IfOk result (λ entries. HasTaken (tree self.old) (length entries) (taken self.old) (taken self.new)) }
 
         ensures failed { result ≡ Err FilesError.Failed → HasRisen (faults self.old) (faults self.new) }
         ensures absent { result ≡ Err FilesError.Absent
             → FolderIsAbsent (tree self.old) folder.now (faults self.old) (faults self.new) }
         ensures too_long { result ≡ Err FilesError.TooLong
             → FolderIsLong (tree self.old) folder.now limit (taken self.old) (taken self.new) }
+        // Where there are too many, each has its own name all the same.
+        ensures long_named { result ≡ Err FilesError.TooLong
+            → (entries : List Entry) → FolderIs (tree self.old) folder.now entries → AreNamed (tree self.old) entries }
 
         // Want of memory is no answer where the tree tells another.
         ensures missing { HasNoFolder (tree self.old) folder.now
@@ -85,6 +91,7 @@ pub trait Files {
     fn read(&mut self, path: &str, limit: u32) -> Result<Bytes, FilesError>
         ensures found { IfOk result (λ bytes. FileIs (tree self.old) path.now bytes) }
         ensures within { IfOk result (λ bytes. length bytes ≤ limit) }
+        ensures counted { IfOk result (λ bytes. HasTaken (tree self.old) (length bytes) (taken self.old) (taken self.new)) }
 
         ensures failed { result ≡ Err FilesError.Failed → HasRisen (faults self.old) (faults self.new) }
         ensures absent { result ≡ Err FilesError.Absent

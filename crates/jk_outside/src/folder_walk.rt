@@ -1,160 +1,144 @@
-//! A walk over the entries that a folder of the system yields, whatever yields them.
+//! A walk over the names that a folder of a system gives, whatever the system is.
 
-ghost use Rattle.std.specs.Prelude.{◌≡◌, ◌≢◌, ◌<◌, ◌≤◌, ◌∷◌, ◌++◌, [], List, Result, length, IfOk, IfErr, IsOk, OnOk, Err, true};
-ghost use Rattle.std.specs.Fs.{file_type, dir_entry_name};
-ghost use Rattle.std.specs.IoError.{error_kind};
-ghost use Rattle.std.specs.Iterator.{Drains, IsFinite, Yields};
-ghost use Rattle.std.specs.List.{AllByRecursion, filter_map};
+ghost use Rattle.std.specs.Prelude.{◌≡◌, ◌≢◌, ◌<◌, ◌≤◌, ◌⊎◌, ◌∷◌, ◌++◌, ◌^◌, ◌-◌, [], List, length, IfOk, OnOk, Err, true, string_bytes};
+ghost use Rattle.std.specs.List.{AllByRecursion};
 ghost use Rattle.std.specs.Option.{option_to_list};
-ghost use Rattle.std.specs.Result.{ForOk};
 ghost use Rattle.std.specs.Str.{IsUtf8};
-ghost use Rattle.std.specs.declared.io.Error.{Error};
-ghost use Rattle.jk_model.specs.Outside.{HasRisenBy};
-ghost use Rattle.jk_outside.specs.declared.found.Found.{Found};
-ghost use Rattle.jk_outside.specs.FolderWalks.{IsSortOf, listed, listed_as};
-ghost use Rattle.jk_outside.specs.Reading.{opening_fault};
+ghost use Rattle.jk_model.specs.Outside.{HasRisenBy, ◌/-◌};
+ghost use Rattle.jk_outside.specs.DiskStates.{count_after};
+ghost use Rattle.jk_outside.specs.FolderWalks.{AllAre, IsListedAs, ListsOn, listed_as};
+ghost use Rattle.jk_outside.specs.Systems.{AsksBelow, FolderAtIs, HasNoFolderAt, LogsFault, LogsOnly};
 
 use crate::files::FilesError;
-use crate::found::{Found, Sort};
+use crate::found::{Sort, sort_of};
 use crate::reading::{opening_fault, reading_fault};
-use jk_model::{Bytes, Entry, List};
+use crate::system::System;
+use jk_model::{Bytes, Entry, List, OutOfMemory};
 use std::alloc::Global;
-use std::fs::{DirEntry, Metadata};
-use std::io::ErrorKind;
-use std::{fs, io, rt};
 
-/// Looks at an entry that the system yields.
-pub(crate) fn looked_at<R: rt::Files + AllocGlobal + Clone + Drop>(
+/// The entries of a folder, up to one more than the limit.
+pub(crate) fn list_folder<S: System>(
     alloc: Global,
-    system: &R,
-    entry: io::Result<DirEntry<R, Global>>,
-) -> io::Result<Found>
-    ensures err { IfErr entry (λ e. result ≡ Err e) }
-    ensures name { IfOk entry (λ entry. IfOk result (λ found. found.name ≡ dir_entry_name entry)) }
-{
-    let entry = entry?;
-    found_as(alloc, entry.file_name(), fs::metadata(system, entry.path()))
-}
-
-/// An entry by its name, and by what the system says of it.
-pub(crate) fn found_as(alloc: Global, name: &str, looked: io::Result<Metadata>) -> io::Result<Found>
-    ensures err { IfErr looked (λ e. result ≡ Err e) }
-    ensures name { IfOk result (λ found. found.name ≡ name.now) }
-    ensures sort { IfOk looked (λ metadata. IfOk result (λ found. IsSortOf (file_type metadata) found.sort)) }
-    ensures memory { IfOk looked (λ _. IfErr result (λ e. error_kind e ≡ ErrorKind.OutOfMemory)) }
-{
-    let sort = sort_of(&looked?);
-    match Bytes::from_slice(alloc, name.as_bytes()) {
-        Ok(name) => Ok(Found { name, sort }),
-        Err(_) => Err(io::Error::from(ErrorKind::OutOfMemory)),
-    }
-}
-
-/// What an entry is.
-fn sort_of(metadata: &Metadata) -> Sort
-    ensures { IsSortOf (file_type metadata.now) result }
-{
-    if metadata.is_dir() {
-        Sort::Folder
-    } else if metadata.is_file() {
-        Sort::File
-    } else {
-        Sort::Other
-    }
-}
-
-/// The entries of a folder that was opened, or what the error means where it wasn't.
-pub(crate) fn opened_folder<I: Iterator<Item = io::Result<Found>> + Drop>(
-    alloc: Global,
-    opened: io::Result<I>,
+    system: &mut S,
+    folder: &str,
     limit: u32,
     taken: &mut u64,
 ) -> Result<List<Entry>, FilesError>
-    requires { ForOk opened (λ entries. I.can_next entries × IsFinite (I.remaining entries)) }
-    ensures unopened { IfErr opened (λ e. result ≡ Err (opening_fault (error_kind e))) }
-    ensures all { IfOk opened (λ from. IfOk result (λ entries. (yielded : List (Result Found Error))
-        × Drains I.next_gives from yielded × AllByRecursion IsOk yielded × (entries ≡ filter_map listed yielded))) }
-    ensures failed { IfOk opened (λ from. result ≡ Err FilesError.Failed → (yielded : List (Result Found Error)) × (e : _) × (rest : _)
-        × Yields I.next_gives from (yielded ++ Err e ∷ []) rest) }
-    ensures long { IfOk opened (λ from. result ≡ Err FilesError.TooLong → (yielded : List (Result Found Error)) × (rest : _)
-        × Yields I.next_gives from yielded rest × (limit < length (filter_map listed yielded))) }
-    ensures present { IfOk opened (λ _. result ≢ Err FilesError.Absent) }
+    ensures told { IfOk result (λ entries. FolderAtIs (S.places system.old) folder.now (λ all. entries ≡ all)) }
+    ensures long { result ≡ Err FilesError.TooLong → FolderAtIs (S.places system.old) folder.now (λ all. limit < length all) }
+    ensures absent { result ≡ Err FilesError.Absent → HasNoFolderAt (S.places system.old) folder.now }
+    ensures failed { result ≡ Err FilesError.Failed → LogsFault (S.log system.old) (S.log system.new) ⊎ (taken.new ≡ 2 ^ 64 - 1) }
+    ensures log { LogsOnly (λ step. AsksBelow folder.now step.asks) (S.log system.old) (S.log system.new) }
+    ensures stays { S.places system.new ≡ S.places system.old }
     ensures names { IfOk result (λ entries. AllByRecursion (λ entry. IsUtf8 entry.name) entries) }
     ensures within { IfOk result (λ entries. length entries ≤ limit) }
+    ensures counted { IfOk result (λ entries. count_after taken.old (length entries) ≤ taken.new) }
     ensures too_long { result ≡ Err FilesError.TooLong → HasRisenBy limit taken.old taken.new }
     ensures taken { taken.old ≤ taken.new }
 {
-    let entries = opened.map_err(|e| opening_fault(e.kind()))?;
-    listed_all(alloc, entries, limit, taken)
+    let mut names = system
+        .open_folder(folder)
+        .map_err(|e| opening_fault(e.kind()))?;
+    list_names(alloc, system, folder, &mut names, limit, taken)
 }
 
-/// Lists entries in the order in which they come, up to one more than the limit.
-fn listed_all<I: Iterator<Item = io::Result<Found>> + Drop>(
+/// Lists what an open folder gives, in the order in which it comes.
+fn list_names<S: System>(
     alloc: Global,
-    from: I,
+    system: &mut S,
+    folder: &str,
+    names: &mut S::Folder,
     limit: u32,
     taken: &mut u64,
 ) -> Result<List<Entry>, FilesError>
-    requires can { I.can_next from }
-    requires ends { IsFinite (I.remaining from) }
-    ensures all { IfOk result (λ entries. (yielded : List (Result Found Error))
-        × Drains I.next_gives from yielded × AllByRecursion IsOk yielded × (entries ≡ filter_map listed yielded)) }
-    ensures failed { result ≡ Err FilesError.Failed → (yielded : List (Result Found Error)) × (e : _) × (rest : _)
-        × Yields I.next_gives from (yielded ++ Err e ∷ []) rest }
-    ensures long { result ≡ Err FilesError.TooLong → (yielded : List (Result Found Error)) × (rest : _)
-        × Yields I.next_gives from yielded rest × (limit < length (filter_map listed yielded)) }
+    ensures all { IfOk result (λ entries. AllAre (S.places system.old) folder.now (S.names_left names.old) (λ all. entries ≡ all)) }
+    ensures long { result ≡ Err FilesError.TooLong
+        → AllAre (S.places system.old) folder.now (S.names_left names.old) (λ all. limit < length all) }
     ensures present { result ≢ Err FilesError.Absent }
+    ensures failed { result ≡ Err FilesError.Failed → LogsFault (S.log system.old) (S.log system.new) ⊎ (taken.new ≡ 2 ^ 64 - 1) }
+    ensures log { LogsOnly (λ step. AsksBelow folder.now step.asks) (S.log system.old) (S.log system.new) }
+    ensures stays { S.places system.new ≡ S.places system.old }
     ensures names { IfOk result (λ entries. AllByRecursion (λ entry. IsUtf8 entry.name) entries) }
     ensures within { IfOk result (λ entries. length entries ≤ limit) }
+    ensures counted { IfOk result (λ entries. count_after taken.old (length entries) ≤ taken.new) }
     ensures too_long { result ≡ Err FilesError.TooLong → HasRisenBy limit taken.old taken.new }
     ensures taken { taken.old ≤ taken.new }
 {
     // The proof wants to know that the count has 64 bits.
     let _before = *taken;
     let mut entries = List::new(alloc);
-    for item in from {
-        let found = match item {
-            Ok(found) => found,
-            Err(e) => return Err(reading_fault(e.kind())),
+    for _turn in 0..u64::MAX {
+        let next = system
+            .next_name(names)
+            .map_err(|e| reading_fault(e.kind()))?;
+        let Some(text) = next else {
+            return Ok(entries);
         };
+        let name = text.as_str();
+        let sort = sort_at(alloc, system, folder, name)?;
         *taken = taken.saturating_add(1);
-        add_found(&mut entries, found, limit)?;
+        add_entry(alloc, &mut entries, name, sort, limit)?;
     }
-    Ok(entries)
+    Err(FilesError::Failed)
+}
+
+/// What stands at a name in a folder.
+fn sort_at<S: System>(
+    alloc: Global,
+    system: &mut S,
+    folder: &str,
+    name: &str,
+) -> Result<Sort, FilesError>
+    ensures sort { IfOk result (λ sort. IsListedAs (S.places system.old) folder.now name.now sort) }
+    ensures present { result ≢ Err FilesError.Absent }
+    ensures short { result ≢ Err FilesError.TooLong }
+    ensures failed { result ≡ Err FilesError.Failed → LogsFault (S.log system.old) (S.log system.new) }
+    ensures log { LogsOnly (λ step. AsksBelow folder.now step.asks) (S.log system.old) (S.log system.new) }
+    ensures stays { S.places system.new ≡ S.places system.old }
+{
+    let path = path_in(alloc, folder, name)?;
+    let seen = system
+        .look_at(path.as_str())
+        .map_err(|e| reading_fault(e.kind()))?;
+    Ok(sort_of(&seen))
+}
+
+/// The path of a name in a folder.
+fn path_in(alloc: Global, folder: &str, name: &str) -> Result<String, OutOfMemory>
+    ensures { IfOk result (λ path. string_bytes path ≡ folder.now /- name.now) }
+{
+    let mut path = String::from_str(alloc, folder)?;
+    path.push('/')?;
+    path.push_str(name)?;
+    Ok(path)
 }
 
 /// Puts an entry at the end, if it is listed and the limit isn't reached.
-fn add_found(entries: &mut List<Entry>, found: Found, limit: u32) -> Result<(), FilesError>
+fn add_entry(
+    alloc: Global,
+    entries: &mut List<Entry>,
+    name: &str,
+    sort: Sort,
+    limit: u32,
+) -> Result<(), FilesError>
     requires { length entries.old ≤ limit }
-    ensures ok { OnOk result (entries.new ≡ entries.old ++ option_to_list (listed_as found.sort found)) }
+    ensures ok { OnOk result (entries.new ≡ entries.old ++ option_to_list (listed_as sort name.now)) }
     ensures within { OnOk result (length entries.new ≤ limit) }
     ensures long { result ≡ Err FilesError.TooLong
-        → limit < length (entries.old ++ option_to_list (listed_as found.sort found)) }
+        → limit < length (entries.old ++ option_to_list (listed_as sort name.now)) }
     ensures calm { result ≢ Err FilesError.Failed }
     ensures present { result ≢ Err FilesError.Absent }
     ensures names { AllByRecursion (λ entry. IsUtf8 entry.name) entries.old
         → OnOk result (AllByRecursion (λ entry. IsUtf8 entry.name) entries.new) }
 {
-    let Some(entry) = listed_entry(found) else {
-        return Ok(());
+    let folder = match sort {
+        Sort::Folder => true,
+        Sort::File => false,
+        Sort::Other => return Ok(()),
     };
     if entries.len() == limit as usize {
         return Err(FilesError::TooLong);
     }
-    Ok(entries.push(entry)?)
-}
-
-/// An entry as it is listed.
-fn listed_entry(found: Found) -> Option<Entry>
-    ensures { result ≡ listed_as found.sort found }
-{
-    let folder = match found.sort {
-        Sort::Folder => true,
-        Sort::File => false,
-        Sort::Other => return None,
-    };
-    Some(Entry {
-        name: found.name,
-        folder,
-    })
+    let name = Bytes::from_slice(alloc, name.as_bytes())?;
+    Ok(entries.push(Entry { name, folder })?)
 }

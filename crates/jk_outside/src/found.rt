@@ -1,9 +1,9 @@
-//! What a folder of the system yields.
+//! The sorts of what stands in a folder of a system.
 
-ghost use Rattle.std.specs.Prelude.{◌≡◌, true};
-ghost use Rattle.std.specs.Str.{is_utf8};
+ghost use Rattle.std.specs.Fs.{file_type};
+ghost use Rattle.jk_outside.specs.FolderWalks.{IsSortOf};
 
-use jk_model::Bytes;
+use std::fs::Metadata;
 
 /// What an entry is. A symbolic link counts as what it leads to.
 #[derive(Clone, Copy)]
@@ -14,11 +14,15 @@ pub(crate) enum Sort {
     Other,
 }
 
-/// An entry that a folder yields.
-#[derive(Drop)]
-pub(crate) struct Found {
-    /// Its name in UTF-8, without the folders above it.
-    pub(crate) name: Bytes,
-    pub(crate) sort: Sort,
-    ghost text: { is_utf8 name ≡ true },
+/// What the system says that it is.
+pub(crate) fn sort_of(metadata: &Metadata) -> Sort
+    ensures { IsSortOf (file_type metadata.now) result }
+{
+    if metadata.is_dir() {
+        Sort::Folder
+    } else if metadata.is_file() {
+        Sort::File
+    } else {
+        Sort::Other
+    }
 }

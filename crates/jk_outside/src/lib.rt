@@ -4,6 +4,7 @@
 #![tactic(auto)]
 
 mod asked;
+mod disk;
 mod disk_files;
 mod files;
 mod folder_walk;
@@ -21,7 +22,9 @@ mod reading;
 mod rule_names;
 mod sinks;
 mod stream_sink;
+mod system;
 
+pub use disk::Disk;
 pub use disk_files::DiskFiles;
 pub use files::{Files, FilesError};
 pub use jk_model::Entry;
@@ -34,6 +37,7 @@ pub use memory_sink::MemorySink;
 pub use parts::Part;
 pub use sinks::{Sink, SinkFailed};
 pub use stream_sink::StreamSink;
+pub use system::System;
 
 #[cfg(test)]
 mod files_tests;

@@ -6,7 +6,8 @@ ghost use Rattle.std.specs.List.{AllByRecursion, list_any};
 ghost use Rattle.std.specs.Str.{IsUtf8, is_utf8};
 ghost use Rattle.jk_model.specs.Outside.{ListOf, BytesOf, AreNamed, AreThere, FoldersAreThere, FolderIs, FileIs, FolderIsAbsent, FileIsAbsent, FolderIsLong, FileIsLong, HasNoFolder, HasNoFile, HasLongFolder, HasLongFile, HasRisen, NeverFalls};
 ghost use Rattle.jk_outside.specs.Asks.{ask_of};
-ghost use Rattle.jk_outside.specs.Counts.{next_number, is_named, min_fits};
+ghost use Rattle.jk_model.specs.declared.entries.Entry.{Entry};
+ghost use Rattle.jk_outside.specs.Counts.{next_number, is_named, min_fits, HasTaken};
 ghost use Rattle.jk_outside.specs.EntryNames.{ArePlain};
 ghost use Rattle.jk_outside.specs.MemoryTrees.{after_call, are_paths, all_apart, stand_apart, place_of, slash_of, tree_of, file_of, folder_of, has_folder, entries_of, is_below, after_folder, entry_of, has_name, puts_name, has_full_names, is_addable, is_full, with_byte, with_file};
 
@@ -142,6 +143,7 @@ impl Files for MemoryFiles {
         ensures plain { IfOk result (λ entries. ArePlain (Some (tree_of self.old.files)) entries) }
         ensures there { IfOk result (λ entries. AreThere (Some (tree_of self.old.files)) folder.now entries) }
         ensures folders { IfOk result (λ entries. FoldersAreThere (Some (tree_of self.old.files)) folder.now entries) }
+        ensures counted { IfOk result (λ entries. HasTaken (Some (tree_of self.old.files)) (length entries) 0 0) }
 
         ensures failed { result ≡ Err FilesError.Failed
             → HasRisen (min self.old.faults (2 ^ 64 - 1)) (min self.new.faults (2 ^ 64 - 1)) }
@@ -149,6 +151,9 @@ impl Files for MemoryFiles {
             → FolderIsAbsent (Some (tree_of self.old.files)) folder.now (min self.old.faults (2 ^ 64 - 1)) (min self.new.faults (2 ^ 64 - 1)) }
         ensures too_long { result ≡ Err FilesError.TooLong
             → FolderIsLong (Some (tree_of self.old.files)) folder.now limit 0 0 }
+        ensures long_named { result ≡ Err FilesError.TooLong
+            → (entries : List Entry) → FolderIs (Some (tree_of self.old.files)) folder.now entries
+            → AreNamed (Some (tree_of self.old.files)) entries }
 
         ensures missing { HasNoFolder (Some (tree_of self.old.files)) folder.now
             → (result ≡ Err FilesError.Absent) ⊎ (result ≡ Err FilesError.Failed) }
@@ -177,6 +182,7 @@ impl Files for MemoryFiles {
     fn read(&mut self, path: &str, limit: u32) -> Result<Bytes, FilesError>
         ensures found { IfOk result (λ bytes. FileIs (Some (tree_of self.old.files)) path.now bytes) }
         ensures within { IfOk result (λ bytes. length bytes ≤ limit) }
+        ensures counted { IfOk result (λ bytes. HasTaken (Some (tree_of self.old.files)) (length bytes) 0 0) }
 
         ensures failed { result ≡ Err FilesError.Failed
             → HasRisen (min self.old.faults (2 ^ 64 - 1)) (min self.new.faults (2 ^ 64 - 1)) }
@@ -230,6 +236,8 @@ fn list_of(
     ensures absent { IsErrOf result FilesError.Absent ↔ (folder_of files.now folder.now ≡ None) }
     ensures too_long { IsErrOf result FilesError.TooLong
         ↔ HasLongFolder (Some (tree_of files.now)) folder.now limit }
+    ensures long_named { result ≡ Err FilesError.TooLong → (entries : List Entry) → folder_of files.now folder.now ≡ Some entries
+        → AreNamed (Some (tree_of files.now)) entries }
     ensures failed { result ≢ Err FilesError.Failed }
 {
     if !has_folder(files, folder) {

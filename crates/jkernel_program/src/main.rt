@@ -18,7 +18,7 @@ mod status;
 mod stop;
 
 use ends::{End, report};
-use jk_outside::{DiskFiles, Sink, StreamSink};
+use jk_outside::{Disk, DiskFiles, Sink, StreamSink};
 pub use program::jkernel;
 pub use status::Status;
 use std::process::ExitCode;
@@ -52,7 +52,7 @@ fn not_read<E: Sink>(error: &io::Error, err: &mut E) -> Status
 }
 
 fn main(rt: HostRuntime) -> ExitCode {
-    let mut files = DiskFiles::new(rt.alloc(), rt);
+    let mut files = DiskFiles::new(rt.alloc(), Disk::new(rt.alloc(), rt));
     let mut out = StreamSink::new(rt.stdout());
     let mut err = StreamSink::new(rt.stderr());
     let status = match words(&rt) {

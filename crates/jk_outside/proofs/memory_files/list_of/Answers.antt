@@ -1,5 +1,6 @@
 use Rattle.jk_outside.proofs.NamesAreUtf8.{names_are_utf8}
 use Rattle.jk_outside.proofs.NamesAreNames.{names_are_names, names_are_plain}
+use Rattle.jk_outside.proofs.EachHasItsName.{are_named}
 use Rattle.jk_outside.proofs.NamesDiffer.{names_differ}
 use Rattle.jk_outside.proofs.ListedAreThere.{files_are_there, folders_are_there}
 use Rattle.jk_outside.proofs.memory_files.list_of.Goals as goal
@@ -19,3 +20,6 @@ returns-clause-there c = rw c.in_ok-entries_in.ensures (files_are_there c.args.f
 
 pub returns-clause-folders : goal.returns-clause-folders
 returns-clause-folders c = rw c.in_ok-entries_in.ensures (folders_are_there c.args.folder.now c.args.files.now)
+
+pub returns-then-count_of_entries-limit-clause-long_named : goal.returns-then-count_of_entries-limit-clause-long_named
+returns-then-count_of_entries-limit-clause-long_named c = λ long entries is. are_named c.args.files.now c.args.folder.now entries c.requires is
