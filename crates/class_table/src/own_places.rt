@@ -3,22 +3,20 @@
 ghost use Rattle.std.specs.Prelude.{◌≡◌, ◌+◌, ◌<◌, ◌≤◌, ◌++◌, ◌∷◌, [], List, length, not, if◌then◌else◌, IfOk, OnOk};
 ghost use Rattle.jk_model.specs.declared.identifiers.ClassId.{ClassId};
 ghost use Rattle.jk_model_classes.specs.declared.records.FieldRecord.{FieldRecord};
-ghost use Rattle.jk_model_classes.specs.ClassFlags.{has};
+ghost use Rattle.jk_model_classes.specs.ClassFlags.{STATIC, has};
 ghost use Rattle.jk_model_classes.specs.Layouts.{type_words};
 ghost use Rattle.class_table.specs.Entries.{AreOwnPlaces};
 
 use crate::entry::{OwnField, OwnPlaces};
-use jk_model::{List, OutOfMemory};
+use jk_model::{AccessFlags, List, OutOfMemory, has};
 use jk_model_classes::{BaseRef, FieldRecord};
 use std::alloc::Global;
-
-const STATIC: u16 = 0x0008;
 
 /// Whether each object of the class has such a field.
 pub(crate) fn is_instance_field(field: &FieldRecord) -> bool
     ensures { result ≡ not (has field.now.flags STATIC) }
 {
-    field.flags & STATIC != STATIC
+    !has(field.flags, AccessFlags::STATIC)
 }
 
 /// Whether the field takes two words.

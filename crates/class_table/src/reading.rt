@@ -12,10 +12,8 @@ use crate::entry::Entry;
 use crate::own_places::is_instance_field;
 use crate::upwards::entry_at;
 use crate::walks::interface_walk;
-use jk_model::{ClassId, MemberId};
+use jk_model::{AccessFlags, ClassId, MemberId, has};
 use member_index::{FieldKey, MethodKey};
-
-const INTERFACE: u16 = 0x0200;
 
 /// What an object costs beside its payload, in words.
 const HEADER_WORDS: u32 = 4;
@@ -36,7 +34,7 @@ fn is_interface(entries: &[Entry], i: ClassId) -> bool
     ensures { IsTrue result ↔ IsInterface (records entries.now) i }
 {
     match entry_at(entries, i) {
-        Some(entry) => entry.class.flags & INTERFACE == INTERFACE,
+        Some(entry) => has(entry.class.flags, AccessFlags::INTERFACE),
         None => false,
     }
 }

@@ -4,11 +4,11 @@ ghost use Rattle.std.specs.Prelude.{◌≡◌, ℕ, ◌↔◌, IsTrue, IfNone, I
 ghost use Rattle.jk_model_classes.specs.Lookups.{AllowsFrom, FlagsAre, MayAccess, MayAccessClass, class_of};
 ghost use Rattle.member_lookup.specs.Words.{IsPublicClass};
 
-use crate::flags::{PRIVATE, PROTECTED, PUBLIC, has, is_unmarked};
+use crate::flags::is_unmarked;
 use crate::packages::in_one_package;
 use crate::records::{field_record, method_record};
 use class_table::ClassTable;
-use jk_model::ClassId;
+use jk_model::{AccessFlags, ClassId, has};
 use jk_model_classes::Member;
 
 /// Whether a class may access another: that is public, or in the same runtime package.
@@ -34,7 +34,7 @@ fn is_public(t: &ClassTable, c: ClassId) -> bool
     ensures { IsTrue result ↔ IsPublicClass t.now c }
 {
     match t.class(c) {
-        Some(r) => has(r.flags, PUBLIC),
+        Some(r) => has(r.flags, AccessFlags::PUBLIC),
         None => false,
     }
 }
@@ -63,8 +63,9 @@ fn class_of(member: Member) -> ClassId
 fn allows_from(t: &ClassTable, from: ClassId, c: ClassId, flags: u16) -> bool
     ensures { IsTrue result ↔ AllowsFrom t.now from c flags }
 {
-    has(flags, PUBLIC)
-        || (has(flags, PROTECTED) && (t.is_subclass(from, c) || in_one_package(t, from, c)))
+    has(flags, AccessFlags::PUBLIC)
+        || (has(flags, AccessFlags::PROTECTED)
+            && (t.is_subclass(from, c) || in_one_package(t, from, c)))
         || (is_unmarked(flags) && in_one_package(t, from, c))
-        || (has(flags, PRIVATE) && from == c)
+        || (has(flags, AccessFlags::PRIVATE) && from == c)
 }

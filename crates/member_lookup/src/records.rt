@@ -7,9 +7,8 @@ ghost use Rattle.jk_model_classes.specs.Classes.{IsInterface, parents_of};
 ghost use Rattle.std.specs.Option.{option_to_list};
 ghost use Rattle.jk_model_classes.specs.Lookups.{FieldIs, MethodIs};
 
-use crate::flags::{INTERFACE, has};
 use class_table::ClassTable;
-use jk_model::{ClassId, MemberId};
+use jk_model::{AccessFlags, ClassId, MemberId, has};
 use jk_model_classes::{FieldRecord, MethodRecord};
 
 /// Whether there is such a class and it is an interface. It takes constant time.
@@ -17,7 +16,7 @@ pub fn is_interface(t: &ClassTable, c: ClassId) -> bool
     ensures { IsTrue result ↔ IsInterface t.now c }
 {
     match t.class(c) {
-        Some(r) => has(r.flags, INTERFACE),
+        Some(r) => has(r.flags, AccessFlags::INTERFACE),
         None => false,
     }
 }

@@ -6,11 +6,11 @@ ghost use Rattle.jk_model_classes.specs.Classes.{superclasses};
 ghost use Rattle.jk_model_classes.specs.Lookups.{FindsFrom, FindsOn, IsAbstract, IsMethodOf, IsOverriddenIn, MethodIs, RunsFor, Selects};
 ghost use Rattle.member_lookup.specs.Words.{IsInstance};
 
-use crate::flags::{ABSTRACT, PROTECTED, PUBLIC, STATIC, has, is_unmarked};
+use crate::flags::is_unmarked;
 use crate::packages::in_one_package;
 use crate::records::{is_interface, method_record, parent_of};
 use class_table::{ClassTable, MethodKey};
-use jk_model::{ClassId, MemberId};
+use jk_model::{AccessFlags, ClassId, MemberId, has};
 use jk_model_classes::MethodRecord;
 
 /// Whether a method of class d with the same name and type overrides this one: it is public or protected, or without a
@@ -44,8 +44,8 @@ pub fn select(t: &ClassTable, receiver: ClassId, method: MemberId) -> Option<Mem
 fn is_overridden_in(t: &ClassTable, method: MemberId, flags: u16, d: ClassId) -> bool
     ensures { IsTrue result ↔ IsOverriddenIn t.now method flags d }
 {
-    has(flags, PUBLIC)
-        || has(flags, PROTECTED)
+    has(flags, AccessFlags::PUBLIC)
+        || has(flags, AccessFlags::PROTECTED)
         || (is_unmarked(flags) && in_one_package(t, d, method.class))
 }
 
@@ -104,7 +104,7 @@ fn is_instance(t: &ClassTable, m: MemberId) -> bool
     ensures { IsTrue result ↔ IsInstance t.now m }
 {
     match method_record(t, m) {
-        Some(method) => !has(method.flags, STATIC),
+        Some(method) => !has(method.flags, AccessFlags::STATIC),
         None => false,
     }
 }
@@ -114,7 +114,7 @@ fn is_abstract(t: &ClassTable, m: MemberId) -> bool
     ensures { IsTrue result ↔ IsAbstract t.now m }
 {
     match method_record(t, m) {
-        Some(method) => has(method.flags, ABSTRACT),
+        Some(method) => has(method.flags, AccessFlags::ABSTRACT),
         None => false,
     }
 }

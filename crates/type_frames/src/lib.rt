@@ -3,7 +3,6 @@
 #![tactic(auto)]
 
 mod classes;
-mod flags;
 mod frames;
 mod locals;
 mod refs;

@@ -4,10 +4,9 @@ ghost use Rattle.std.specs.Prelude.{◌≡◌, ◌≢◌, ◌<◌, ◌↔◌, Is
 ghost use Rattle.jk_model_typing.specs.FrameTypes.{Fits, IsJoin, erased_class, of_class, of_type, value_of};
 ghost use Rattle.type_frames.specs.Heights.{height};
 
-use crate::flags::{INTERFACE, has};
 use crate::refs::{OBJECT, join_refs, ref_fits};
 use class_table::ClassTable;
-use jk_model::ClassId;
+use jk_model::{AccessFlags, ClassId, has};
 use jk_model_classes::{BaseRef, TypeRef};
 use jk_model_typing::VType;
 
@@ -82,7 +81,7 @@ fn erased_class(t: &ClassTable, c: ClassId) -> ClassId
     ensures { result ≡ erased_class t.now c }
 {
     match t.class(c) {
-        Some(class) if has(class.flags, INTERFACE) => OBJECT,
+        Some(class) if has(class.flags, AccessFlags::INTERFACE) => OBJECT,
         _ => c,
     }
 }
