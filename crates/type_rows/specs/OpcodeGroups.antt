@@ -1,5 +1,6 @@
 -- The group of an opcode, by tests.
 use Rattle.std.specs.Prelude.{ℕ, [], ◌∷◌, Bool, ◌&&◌, ◌||◌, nat_le, ◌==◌, if◌then◌else◌}
+use Rattle.jk_model.specs.declared.opcodes.TheConstants.{NOP, ACONST_NULL, LCONST_0, SIPUSH, LDC_W, LDC2_W, ILOAD, LLOAD, ALOAD, ALOAD_3, IALOAD, LALOAD, AALOAD, BALOAD, CALOAD, SALOAD, ISTORE, LSTORE, ASTORE, ASTORE_3, IASTORE, LASTORE, AASTORE, BASTORE, CASTORE, SASTORE, POP, POP2, DUP, DUP_X1, DUP_X2, DUP2, DUP2_X1, DUP2_X2, SWAP, IADD, LADD, ISUB, LSUB, IMUL, LMUL, IDIV, LDIV, IREM, LREM, INEG, LNEG, ISHL, LSHL, ISHR, LSHR, IUSHR, LUSHR, IAND, LAND, IOR, LOR, IXOR, LXOR, IINC, I2L, L2I, I2B, I2S, LCMP, DCMPG, IFEQ, IFLE, IF_ICMPEQ, IF_ICMPLE, IF_ACMPEQ, IF_ACMPNE, GOTO, TABLESWITCH, LOOKUPSWITCH, IRETURN, LRETURN, ARETURN, RETURN, GETSTATIC, PUTSTATIC, GETFIELD, PUTFIELD, INVOKEVIRTUAL, INVOKESPECIAL, INVOKESTATIC, INVOKEINTERFACE, NEW, NEWARRAY, ANEWARRAY, ARRAYLENGTH, ATHROW, CHECKCAST, INSTANCEOF, MULTIANEWARRAY, IFNULL, IFNONNULL}
 use Rattle.jk_model_classes.specs.declared.records.BaseRef.TheVariants as Base
 use Rattle.jk_model_typing.specs.declared.frames.VType.TheVariants.{Int, Long, Null}
 use Rattle.jk_model_typing.specs.declared.frames.Demand.TheVariants.{Fitting, Reference, AnyReference, ReferenceArray, Array}
@@ -51,107 +52,107 @@ between first last op = nat_le first op && nat_le op last
 -- constants, and loads and stores of locals
 unfoldable pub local_group : ℕ → def.Group
 local_group op =
-    if op == 0x00 then takes [] [] else
-    if op == 0x01 then takes [] (Null ∷ []) else
-    if op == 0x09 then takes [] (Long ∷ []) else
-    if op == 0x11 then takes [] (Int ∷ []) else
-    if op == 0x13 then def.Group.LoadsConstant else
-    if op == 0x14 then def.Group.LoadsLong else
-    if op == 0x15 then def.Group.LoadsLocal int else
-    if op == 0x16 then def.Group.LoadsLocal long else
-    if op == 0x19 then def.Group.LoadsLocal AnyReference else
-    if op == 0x36 then def.Group.StoresLocal int else
-    if op == 0x37 then def.Group.StoresLocal long else
-    if op == 0x3a then def.Group.StoresLocal AnyReference else
-    if op == 0x84 then def.Group.IncrementsLocal else def.Group.NoGroup
+    if op == NOP then takes [] [] else
+    if op == ACONST_NULL then takes [] (Null ∷ []) else
+    if op == LCONST_0 then takes [] (Long ∷ []) else
+    if op == SIPUSH then takes [] (Int ∷ []) else
+    if op == LDC_W then def.Group.LoadsConstant else
+    if op == LDC2_W then def.Group.LoadsLong else
+    if op == ILOAD then def.Group.LoadsLocal int else
+    if op == LLOAD then def.Group.LoadsLocal long else
+    if op == ALOAD then def.Group.LoadsLocal AnyReference else
+    if op == ISTORE then def.Group.StoresLocal int else
+    if op == LSTORE then def.Group.StoresLocal long else
+    if op == ASTORE then def.Group.StoresLocal AnyReference else
+    if op == IINC then def.Group.IncrementsLocal else def.Group.NoGroup
 
 -- loads and stores of elements
 unfoldable pub element_group : ℕ → def.Group
 element_group op =
-    if op == 0x2e then loads (numbers Base.Int) Int else
-    if op == 0x2f then loads (numbers Base.Long) Long else
-    if op == 0x32 then def.Group.Always def.Shape.LoadsElement else
-    if op == 0x33 then loads bytes Int else
-    if op == 0x34 then loads (numbers Base.Char) Int else
-    if op == 0x35 then loads (numbers Base.Short) Int else
-    if op == 0x4f then stores (numbers Base.Int) int else
-    if op == 0x50 then stores (numbers Base.Long) long else
-    if op == 0x53 then stores ReferenceArray Reference else
-    if op == 0x54 then stores bytes int else
-    if op == 0x55 then stores (numbers Base.Char) int else
-    if op == 0x56 then stores (numbers Base.Short) int else def.Group.NoGroup
+    if op == IALOAD then loads (numbers Base.Int) Int else
+    if op == LALOAD then loads (numbers Base.Long) Long else
+    if op == AALOAD then def.Group.Always def.Shape.LoadsElement else
+    if op == BALOAD then loads bytes Int else
+    if op == CALOAD then loads (numbers Base.Char) Int else
+    if op == SALOAD then loads (numbers Base.Short) Int else
+    if op == IASTORE then stores (numbers Base.Int) int else
+    if op == LASTORE then stores (numbers Base.Long) long else
+    if op == AASTORE then stores ReferenceArray Reference else
+    if op == BASTORE then stores bytes int else
+    if op == CASTORE then stores (numbers Base.Char) int else
+    if op == SASTORE then stores (numbers Base.Short) int else def.Group.NoGroup
 
 -- the operand stack
 unfoldable pub stack_group : ℕ → def.Group
 stack_group op =
-    if op == 0x57 then def.Group.Always (def.Shape.Drops 1) else
-    if op == 0x58 then def.Group.Always (def.Shape.Drops 2) else
-    if op == 0x59 then def.Group.Always (def.Shape.Copies 0 1) else
-    if op == 0x5a then def.Group.Always (def.Shape.Copies 1 1) else
-    if op == 0x5b then def.Group.Always (def.Shape.Copies 2 1) else
-    if op == 0x5c then def.Group.Always (def.Shape.Copies 0 2) else
-    if op == 0x5d then def.Group.Always (def.Shape.Copies 1 2) else
-    if op == 0x5e then def.Group.Always (def.Shape.Copies 2 2) else
-    if op == 0x5f then def.Group.Always def.Shape.Swaps else def.Group.NoGroup
+    if op == POP then def.Group.Always (def.Shape.Drops 1) else
+    if op == POP2 then def.Group.Always (def.Shape.Drops 2) else
+    if op == DUP then def.Group.Always (def.Shape.Copies 0 1) else
+    if op == DUP_X1 then def.Group.Always (def.Shape.Copies 1 1) else
+    if op == DUP_X2 then def.Group.Always (def.Shape.Copies 2 1) else
+    if op == DUP2 then def.Group.Always (def.Shape.Copies 0 2) else
+    if op == DUP2_X1 then def.Group.Always (def.Shape.Copies 1 2) else
+    if op == DUP2_X2 then def.Group.Always (def.Shape.Copies 2 2) else
+    if op == SWAP then def.Group.Always def.Shape.Swaps else def.Group.NoGroup
 
 abbrev pub is_of_two_ints : ℕ → Bool
 is_of_two_ints op =
-    (op == 0x60) || (op == 0x64) || (op == 0x68) || (op == 0x6c) || (op == 0x70) || (op == 0x78) || (op == 0x7a) || (op == 0x7c)
-    || (op == 0x7e) || (op == 0x80) || (op == 0x82)
+    (op == IADD) || (op == ISUB) || (op == IMUL) || (op == IDIV) || (op == IREM) || (op == ISHL) || (op == ISHR) || (op == IUSHR)
+    || (op == IAND) || (op == IOR) || (op == IXOR)
 
 abbrev pub is_of_two_longs : ℕ → Bool
 is_of_two_longs op =
-    (op == 0x61) || (op == 0x65) || (op == 0x69) || (op == 0x6d) || (op == 0x71) || (op == 0x7f) || (op == 0x81) || (op == 0x83)
+    (op == LADD) || (op == LSUB) || (op == LMUL) || (op == LDIV) || (op == LREM) || (op == LAND) || (op == LOR) || (op == LXOR)
 
 -- arithmetic and conversions
 unfoldable pub number_group : ℕ → def.Group
 number_group op =
     if is_of_two_ints op then takes (int ∷ int ∷ []) (Int ∷ []) else
     if is_of_two_longs op then takes (long ∷ long ∷ []) (Long ∷ []) else
-    if (op == 0x79) || (op == 0x7b) || (op == 0x7d) then takes (long ∷ int ∷ []) (Long ∷ []) else
-    if (op == 0x74) || between 0x91 0x93 op then takes (int ∷ []) (Int ∷ []) else
-    if op == 0x75 then takes (long ∷ []) (Long ∷ []) else
-    if op == 0x85 then takes (int ∷ []) (Long ∷ []) else
-    if op == 0x88 then takes (long ∷ []) (Int ∷ []) else
-    if op == 0x94 then takes (long ∷ long ∷ []) (Int ∷ []) else def.Group.NoGroup
+    if (op == LSHL) || (op == LSHR) || (op == LUSHR) then takes (long ∷ int ∷ []) (Long ∷ []) else
+    if (op == INEG) || between I2B I2S op then takes (int ∷ []) (Int ∷ []) else
+    if op == LNEG then takes (long ∷ []) (Long ∷ []) else
+    if op == I2L then takes (int ∷ []) (Long ∷ []) else
+    if op == L2I then takes (long ∷ []) (Int ∷ []) else
+    if op == LCMP then takes (long ∷ long ∷ []) (Int ∷ []) else def.Group.NoGroup
 
 -- jumps and returns
 unfoldable pub jump_group : ℕ → def.Group
 jump_group op =
-    if between 0x99 0x9e op || between 0xaa 0xab op then takes (int ∷ []) [] else
-    if between 0x9f 0xa4 op then takes (int ∷ int ∷ []) [] else
-    if between 0xa5 0xa6 op then takes (AnyReference ∷ AnyReference ∷ []) [] else
-    if op == 0xa7 then takes [] [] else
-    if op == 0xac then def.Group.ReturnsInt else
-    if op == 0xad then def.Group.ReturnsLong else
-    if op == 0xb0 then def.Group.ReturnsReference else
-    if op == 0xb1 then def.Group.ReturnsNothing else
-    if op == 0xbf then takes (Fitting throwable ∷ []) [] else
-    if between 0xc6 0xc7 op then takes (AnyReference ∷ []) [] else def.Group.NoGroup
+    if between IFEQ IFLE op || between TABLESWITCH LOOKUPSWITCH op then takes (int ∷ []) [] else
+    if between IF_ICMPEQ IF_ICMPLE op then takes (int ∷ int ∷ []) [] else
+    if between IF_ACMPEQ IF_ACMPNE op then takes (AnyReference ∷ AnyReference ∷ []) [] else
+    if op == GOTO then takes [] [] else
+    if op == IRETURN then def.Group.ReturnsInt else
+    if op == LRETURN then def.Group.ReturnsLong else
+    if op == ARETURN then def.Group.ReturnsReference else
+    if op == RETURN then def.Group.ReturnsNothing else
+    if op == ATHROW then takes (Fitting throwable ∷ []) [] else
+    if between IFNULL IFNONNULL op then takes (AnyReference ∷ []) [] else def.Group.NoGroup
 
 -- fields, methods, objects and arrays
 unfoldable pub object_group : ℕ → def.Group
 object_group op =
-    if op == 0xb2 then def.Group.GetsStatic else
-    if op == 0xb3 then def.Group.PutsStatic else
-    if op == 0xb4 then def.Group.GetsField else
-    if op == 0xb5 then def.Group.PutsField else
-    if op == 0xb6 then def.Group.CallsVirtual else
-    if op == 0xb7 then def.Group.CallsSpecial else
-    if op == 0xb8 then def.Group.CallsStatic else
-    if op == 0xb9 then def.Group.CallsInterface else
-    if op == 0xbb then def.Group.MakesObject else
-    if op == 0xbc then def.Group.MakesNumbers else
-    if op == 0xbd then def.Group.MakesArray else
-    if op == 0xbe then takes (Array ∷ []) (Int ∷ []) else
-    if op == 0xc0 then def.Group.Casts else
-    if op == 0xc1 then def.Group.Tests else
-    if op == 0xc5 then def.Group.MakesArrays else def.Group.NoGroup
+    if op == GETSTATIC then def.Group.GetsStatic else
+    if op == PUTSTATIC then def.Group.PutsStatic else
+    if op == GETFIELD then def.Group.GetsField else
+    if op == PUTFIELD then def.Group.PutsField else
+    if op == INVOKEVIRTUAL then def.Group.CallsVirtual else
+    if op == INVOKESPECIAL then def.Group.CallsSpecial else
+    if op == INVOKESTATIC then def.Group.CallsStatic else
+    if op == INVOKEINTERFACE then def.Group.CallsInterface else
+    if op == NEW then def.Group.MakesObject else
+    if op == NEWARRAY then def.Group.MakesNumbers else
+    if op == ANEWARRAY then def.Group.MakesArray else
+    if op == ARRAYLENGTH then takes (Array ∷ []) (Int ∷ []) else
+    if op == CHECKCAST then def.Group.Casts else
+    if op == INSTANCEOF then def.Group.Tests else
+    if op == MULTIANEWARRAY then def.Group.MakesArrays else def.Group.NoGroup
 
 unfoldable pub group_at : ℕ → def.Group
 group_at op =
-    if between 0x57 0x5f op then stack_group op else
-    if (op == 0x84) || between 0x00 0x2d op || between 0x36 0x4e op then local_group op else
-    if between 0x2e 0x56 op then element_group op else
-    if between 0x60 0x98 op then number_group op else
-    if between 0x99 0xb1 op || (op == 0xbf) || between 0xc6 0xc7 op then jump_group op else object_group op
+    if between POP SWAP op then stack_group op else
+    if (op == IINC) || between NOP ALOAD_3 op || between ISTORE ASTORE_3 op then local_group op else
+    if between IALOAD SASTORE op then element_group op else
+    if between IADD DCMPG op then number_group op else
+    if between IFEQ RETURN op || (op == ATHROW) || between IFNULL IFNONNULL op then jump_group op else object_group op

@@ -1,22 +1,17 @@
 //! Whether an entry meets a demand.
 
 ghost use Rattle.std.specs.Prelude.{◌≡◌, ℕ, ◌↔◌, IsTrue, IfNone, IfSome};
-ghost use Rattle.jk_model_classes.specs.ClassFlags.{has};
 ghost use Rattle.jk_model_classes.specs.Lookups.{FlagsAre, class_of};
 ghost use Rattle.jk_model_typing.specs.Rows.{IsAnyReference, IsArray, IsGuarded, IsReceiver, IsReference, IsReferenceArray, Meets};
 ghost use Rattle.type_rows.specs.CodeViews.{scope_of};
 
 use crate::code_view::CodeView;
 use class_table::ClassTable;
-use jk_model::ClassId;
+use jk_model::{AccessFlags, ClassId, has};
 use jk_model_classes::{BaseRef, Member};
 use jk_model_typing::{Demand, VType};
 use member_lookup::{field_record, in_one_package, method_record};
 use type_frames::{fits, of_class};
-
-const PROTECTED: u16 = 0x0004;
-
-pub(crate) const STATIC: u16 = 0x0008;
 
 /// Whether an entry meets a demand.
 pub(crate) fn meets(view: &CodeView<'_>, demand: Demand, v: VType) -> bool
@@ -92,8 +87,8 @@ pub(crate) fn is_guarded(view: &CodeView<'_>, member: Member) -> bool
     let c = class_of(member);
     match flags_of(view.table, member) {
         Some(flags) => {
-            has(flags, PROTECTED)
-                && !has(flags, STATIC)
+            has(flags, AccessFlags::PROTECTED)
+                && !has(flags, AccessFlags::STATIC)
                 && view.table.is_subclass(view.class, c)
                 && !in_one_package(view.table, view.class, c)
         }
@@ -119,11 +114,4 @@ fn flags_of(t: &ClassTable, member: Member) -> Option<u16>
         Member::Field(m) => Some(field_record(t, m)?.flags),
         Member::Method(m) => Some(method_record(t, m)?.flags),
     }
-}
-
-/// Whether a flag is set.
-pub(crate) fn has(flags: u16, flag: u16) -> bool
-    ensures { result ≡ has flags flag }
-{
-    flags & flag == flag
 }

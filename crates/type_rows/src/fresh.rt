@@ -17,13 +17,11 @@ use crate::entries::push;
 use crate::operands::names_class;
 use crate::shapes::Demands;
 use crate::stacks::{is_stack_of, pop, take};
+use jk_model::opcodes::NEW;
 use jk_model::{ClassId, List, MemberId, OutOfMemory};
 use jk_model_classes::{Member, MethodRecord, TypeRef};
 use jk_model_typing::{FrameType, VType};
 use type_frames::of_class;
-
-/// The opcode of `new`.
-const NEW: u8 = 0xbb;
 
 /// The units of `<init>`.
 const INIT: [u16; 6] = [60, 105, 110, 105, 116, 62];

@@ -5,9 +5,110 @@ ghost use Rattle.jk_model_typing.specs.Groups.{group_of};
 ghost use Rattle.jk_model_typing.specs.Typing.{is_store, leaves_line};
 ghost use Rattle.type_rows.specs.OpcodeGroups.{element_group, group_at, group_view, jump_group, local_group, number_group, object_group, stack_group};
 
-use crate::shapes::{INT, LONG, THROWABLE};
-use jk_model_classes::{BaseRef, TypeRef};
-use jk_model_typing::{Demand, VType};
+use crate::shapes::INT;
+use crate::shapes::LONG;
+use crate::shapes::THROWABLE;
+use jk_model::opcodes::AALOAD;
+use jk_model::opcodes::AASTORE;
+use jk_model::opcodes::ACONST_NULL;
+use jk_model::opcodes::ALOAD;
+use jk_model::opcodes::ALOAD_3;
+use jk_model::opcodes::ANEWARRAY;
+use jk_model::opcodes::ARETURN;
+use jk_model::opcodes::ARRAYLENGTH;
+use jk_model::opcodes::ASTORE;
+use jk_model::opcodes::ASTORE_3;
+use jk_model::opcodes::ATHROW;
+use jk_model::opcodes::BALOAD;
+use jk_model::opcodes::BASTORE;
+use jk_model::opcodes::CALOAD;
+use jk_model::opcodes::CASTORE;
+use jk_model::opcodes::CHECKCAST;
+use jk_model::opcodes::DCMPG;
+use jk_model::opcodes::DUP;
+use jk_model::opcodes::DUP_X1;
+use jk_model::opcodes::DUP_X2;
+use jk_model::opcodes::DUP2;
+use jk_model::opcodes::DUP2_X1;
+use jk_model::opcodes::DUP2_X2;
+use jk_model::opcodes::GETFIELD;
+use jk_model::opcodes::GETSTATIC;
+use jk_model::opcodes::GOTO;
+use jk_model::opcodes::I2B;
+use jk_model::opcodes::I2L;
+use jk_model::opcodes::I2S;
+use jk_model::opcodes::IADD;
+use jk_model::opcodes::IALOAD;
+use jk_model::opcodes::IAND;
+use jk_model::opcodes::IASTORE;
+use jk_model::opcodes::IDIV;
+use jk_model::opcodes::IF_ACMPEQ;
+use jk_model::opcodes::IF_ACMPNE;
+use jk_model::opcodes::IF_ICMPEQ;
+use jk_model::opcodes::IF_ICMPLE;
+use jk_model::opcodes::IFEQ;
+use jk_model::opcodes::IFLE;
+use jk_model::opcodes::IFNONNULL;
+use jk_model::opcodes::IFNULL;
+use jk_model::opcodes::IINC;
+use jk_model::opcodes::ILOAD;
+use jk_model::opcodes::IMUL;
+use jk_model::opcodes::INEG;
+use jk_model::opcodes::INSTANCEOF;
+use jk_model::opcodes::INVOKEINTERFACE;
+use jk_model::opcodes::INVOKESPECIAL;
+use jk_model::opcodes::INVOKESTATIC;
+use jk_model::opcodes::INVOKEVIRTUAL;
+use jk_model::opcodes::IOR;
+use jk_model::opcodes::IREM;
+use jk_model::opcodes::IRETURN;
+use jk_model::opcodes::ISHL;
+use jk_model::opcodes::ISHR;
+use jk_model::opcodes::ISTORE;
+use jk_model::opcodes::ISUB;
+use jk_model::opcodes::IUSHR;
+use jk_model::opcodes::IXOR;
+use jk_model::opcodes::L2I;
+use jk_model::opcodes::LADD;
+use jk_model::opcodes::LALOAD;
+use jk_model::opcodes::LAND;
+use jk_model::opcodes::LASTORE;
+use jk_model::opcodes::LCMP;
+use jk_model::opcodes::LCONST_0;
+use jk_model::opcodes::LDC_W;
+use jk_model::opcodes::LDC2_W;
+use jk_model::opcodes::LDIV;
+use jk_model::opcodes::LLOAD;
+use jk_model::opcodes::LMUL;
+use jk_model::opcodes::LNEG;
+use jk_model::opcodes::LOOKUPSWITCH;
+use jk_model::opcodes::LOR;
+use jk_model::opcodes::LREM;
+use jk_model::opcodes::LRETURN;
+use jk_model::opcodes::LSHL;
+use jk_model::opcodes::LSHR;
+use jk_model::opcodes::LSTORE;
+use jk_model::opcodes::LSUB;
+use jk_model::opcodes::LUSHR;
+use jk_model::opcodes::LXOR;
+use jk_model::opcodes::MULTIANEWARRAY;
+use jk_model::opcodes::NEW;
+use jk_model::opcodes::NEWARRAY;
+use jk_model::opcodes::NOP;
+use jk_model::opcodes::POP;
+use jk_model::opcodes::POP2;
+use jk_model::opcodes::PUTFIELD;
+use jk_model::opcodes::PUTSTATIC;
+use jk_model::opcodes::RETURN;
+use jk_model::opcodes::SALOAD;
+use jk_model::opcodes::SASTORE;
+use jk_model::opcodes::SIPUSH;
+use jk_model::opcodes::SWAP;
+use jk_model::opcodes::TABLESWITCH;
+use jk_model_classes::BaseRef;
+use jk_model_classes::TypeRef;
+use jk_model_typing::Demand;
+use jk_model_typing::VType;
 
 /// Which operands what an instruction does rests on, and what it does where it rests on none.
 #[derive(Clone, Copy)]
@@ -93,14 +194,17 @@ const A_LONG: Option<VType> = Some(VType::Long);
 pub fn leaves_line(op: u8) -> bool
     ensures { result ≡ leaves_line op }
 {
-    matches!(op, 0xa7 | 0xaa | 0xab | 0xac..=0xb1 | 0xbf)
+    matches!(
+        op,
+        GOTO | TABLESWITCH | LOOKUPSWITCH | IRETURN..=RETURN | ATHROW
+    )
 }
 
 /// Whether an instruction with this opcode puts something into a local.
 pub fn is_store(op: u8) -> bool
     ensures { result ≡ is_store op }
 {
-    matches!(op, 0x36 | 0x37 | 0x3a | 0x84)
+    matches!(op, ISTORE | LSTORE | ASTORE | IINC)
 }
 
 /// The group of an instruction with this opcode.
@@ -116,11 +220,11 @@ fn group_at(op: u8) -> Group
     ensures { group_view result ≡ group_at op }
 {
     match op {
-        0x57..=0x5f => stack_group(op),
-        0x84 | 0x00..=0x2d | 0x36..=0x4e => local_group(op),
-        0x2e..=0x56 => element_group(op),
-        0x60..=0x98 => number_group(op),
-        0x99..=0xb1 | 0xbf | 0xc6..=0xc7 => jump_group(op),
+        POP..=SWAP => stack_group(op),
+        IINC | NOP..=ALOAD_3 | ISTORE..=ASTORE_3 => local_group(op),
+        IALOAD..=SASTORE => element_group(op),
+        IADD..=DCMPG => number_group(op),
+        IFEQ..=RETURN | ATHROW | IFNULL..=IFNONNULL => jump_group(op),
         _ => object_group(op),
     }
 }
@@ -131,19 +235,19 @@ fn local_group(op: u8) -> Group
     ensures { group_view result ≡ local_group op }
 {
     match op {
-        0x00 => Group::TakesNone(None),
-        0x01 => Group::TakesNone(Some(VType::Null)),
-        0x09 => Group::TakesNone(A_LONG),
-        0x11 => Group::TakesNone(AN_INT),
-        0x13 => Group::LoadsConstant,
-        0x14 => Group::LoadsLong,
-        0x15 => Group::LoadsLocal(INT),
-        0x16 => Group::LoadsLocal(LONG),
-        0x19 => Group::LoadsLocal(ANY),
-        0x36 => Group::StoresLocal(INT),
-        0x37 => Group::StoresLocal(LONG),
-        0x3a => Group::StoresLocal(ANY),
-        0x84 => Group::IncrementsLocal,
+        NOP => Group::TakesNone(None),
+        ACONST_NULL => Group::TakesNone(Some(VType::Null)),
+        LCONST_0 => Group::TakesNone(A_LONG),
+        SIPUSH => Group::TakesNone(AN_INT),
+        LDC_W => Group::LoadsConstant,
+        LDC2_W => Group::LoadsLong,
+        ILOAD => Group::LoadsLocal(INT),
+        LLOAD => Group::LoadsLocal(LONG),
+        ALOAD => Group::LoadsLocal(ANY),
+        ISTORE => Group::StoresLocal(INT),
+        LSTORE => Group::StoresLocal(LONG),
+        ASTORE => Group::StoresLocal(ANY),
+        IINC => Group::IncrementsLocal,
         _ => Group::NoGroup,
     }
 }
@@ -154,18 +258,18 @@ fn element_group(op: u8) -> Group
     ensures { group_view result ≡ element_group op }
 {
     match op {
-        0x2e => Group::TakesTwo(INTS, INT, AN_INT),
-        0x2f => Group::TakesTwo(LONGS, INT, A_LONG),
-        0x32 => Group::LoadsElement,
-        0x33 => Group::TakesTwo(BYTES, INT, AN_INT),
-        0x34 => Group::TakesTwo(CHARS, INT, AN_INT),
-        0x35 => Group::TakesTwo(SHORTS, INT, AN_INT),
-        0x4f => Group::TakesThree(INTS, INT, INT),
-        0x50 => Group::TakesThree(LONGS, INT, LONG),
-        0x53 => Group::TakesThree(Demand::ReferenceArray, INT, Demand::Reference),
-        0x54 => Group::TakesThree(BYTES, INT, INT),
-        0x55 => Group::TakesThree(CHARS, INT, INT),
-        0x56 => Group::TakesThree(SHORTS, INT, INT),
+        IALOAD => Group::TakesTwo(INTS, INT, AN_INT),
+        LALOAD => Group::TakesTwo(LONGS, INT, A_LONG),
+        AALOAD => Group::LoadsElement,
+        BALOAD => Group::TakesTwo(BYTES, INT, AN_INT),
+        CALOAD => Group::TakesTwo(CHARS, INT, AN_INT),
+        SALOAD => Group::TakesTwo(SHORTS, INT, AN_INT),
+        IASTORE => Group::TakesThree(INTS, INT, INT),
+        LASTORE => Group::TakesThree(LONGS, INT, LONG),
+        AASTORE => Group::TakesThree(Demand::ReferenceArray, INT, Demand::Reference),
+        BASTORE => Group::TakesThree(BYTES, INT, INT),
+        CASTORE => Group::TakesThree(CHARS, INT, INT),
+        SASTORE => Group::TakesThree(SHORTS, INT, INT),
         _ => Group::NoGroup,
     }
 }
@@ -176,15 +280,15 @@ fn stack_group(op: u8) -> Group
     ensures { group_view result ≡ stack_group op }
 {
     match op {
-        0x57 => Group::Drops(1),
-        0x58 => Group::Drops(2),
-        0x59 => Group::Copies(0, 1),
-        0x5a => Group::Copies(1, 1),
-        0x5b => Group::Copies(2, 1),
-        0x5c => Group::Copies(0, 2),
-        0x5d => Group::Copies(1, 2),
-        0x5e => Group::Copies(2, 2),
-        0x5f => Group::Swaps,
+        POP => Group::Drops(1),
+        POP2 => Group::Drops(2),
+        DUP => Group::Copies(0, 1),
+        DUP_X1 => Group::Copies(1, 1),
+        DUP_X2 => Group::Copies(2, 1),
+        DUP2 => Group::Copies(0, 2),
+        DUP2_X1 => Group::Copies(1, 2),
+        DUP2_X2 => Group::Copies(2, 2),
+        SWAP => Group::Swaps,
         _ => Group::NoGroup,
     }
 }
@@ -195,18 +299,18 @@ fn number_group(op: u8) -> Group
     ensures { group_view result ≡ number_group op }
 {
     match op {
-        0x60 | 0x64 | 0x68 | 0x6c | 0x70 | 0x78 | 0x7a | 0x7c | 0x7e | 0x80 | 0x82 => {
+        IADD | ISUB | IMUL | IDIV | IREM | ISHL | ISHR | IUSHR | IAND | IOR | IXOR => {
             Group::TakesTwo(INT, INT, AN_INT)
         }
-        0x61 | 0x65 | 0x69 | 0x6d | 0x71 | 0x7f | 0x81 | 0x83 => {
+        LADD | LSUB | LMUL | LDIV | LREM | LAND | LOR | LXOR => {
             Group::TakesTwo(LONG, LONG, A_LONG)
         }
-        0x79 | 0x7b | 0x7d => Group::TakesTwo(LONG, INT, A_LONG),
-        0x74 | 0x91..=0x93 => Group::TakesOne(INT, AN_INT),
-        0x75 => Group::TakesOne(LONG, A_LONG),
-        0x85 => Group::TakesOne(INT, A_LONG),
-        0x88 => Group::TakesOne(LONG, AN_INT),
-        0x94 => Group::TakesTwo(LONG, LONG, AN_INT),
+        LSHL | LSHR | LUSHR => Group::TakesTwo(LONG, INT, A_LONG),
+        INEG | I2B..=I2S => Group::TakesOne(INT, AN_INT),
+        LNEG => Group::TakesOne(LONG, A_LONG),
+        I2L => Group::TakesOne(INT, A_LONG),
+        L2I => Group::TakesOne(LONG, AN_INT),
+        LCMP => Group::TakesTwo(LONG, LONG, AN_INT),
         _ => Group::NoGroup,
     }
 }
@@ -217,16 +321,16 @@ fn jump_group(op: u8) -> Group
     ensures { group_view result ≡ jump_group op }
 {
     match op {
-        0x99..=0x9e | 0xaa..=0xab => Group::TakesOne(INT, None),
-        0x9f..=0xa4 => Group::TakesTwo(INT, INT, None),
-        0xa5..=0xa6 => Group::TakesTwo(ANY, ANY, None),
-        0xa7 => Group::TakesNone(None),
-        0xac => Group::ReturnsInt,
-        0xad => Group::ReturnsLong,
-        0xb0 => Group::ReturnsReference,
-        0xb1 => Group::ReturnsNothing,
-        0xbf => Group::TakesOne(Demand::Fitting(THROWABLE), None),
-        0xc6..=0xc7 => Group::TakesOne(ANY, None),
+        IFEQ..=IFLE | TABLESWITCH..=LOOKUPSWITCH => Group::TakesOne(INT, None),
+        IF_ICMPEQ..=IF_ICMPLE => Group::TakesTwo(INT, INT, None),
+        IF_ACMPEQ..=IF_ACMPNE => Group::TakesTwo(ANY, ANY, None),
+        GOTO => Group::TakesNone(None),
+        IRETURN => Group::ReturnsInt,
+        LRETURN => Group::ReturnsLong,
+        ARETURN => Group::ReturnsReference,
+        RETURN => Group::ReturnsNothing,
+        ATHROW => Group::TakesOne(Demand::Fitting(THROWABLE), None),
+        IFNULL..=IFNONNULL => Group::TakesOne(ANY, None),
         _ => Group::NoGroup,
     }
 }
@@ -237,21 +341,21 @@ fn object_group(op: u8) -> Group
     ensures { group_view result ≡ object_group op }
 {
     match op {
-        0xb2 => Group::GetsStatic,
-        0xb3 => Group::PutsStatic,
-        0xb4 => Group::GetsField,
-        0xb5 => Group::PutsField,
-        0xb6 => Group::CallsVirtual,
-        0xb7 => Group::CallsSpecial,
-        0xb8 => Group::CallsStatic,
-        0xb9 => Group::CallsInterface,
-        0xbb => Group::MakesObject,
-        0xbc => Group::MakesNumbers,
-        0xbd => Group::MakesArray,
-        0xbe => Group::TakesOne(Demand::Array, AN_INT),
-        0xc0 => Group::Casts,
-        0xc1 => Group::Tests,
-        0xc5 => Group::MakesArrays,
+        GETSTATIC => Group::GetsStatic,
+        PUTSTATIC => Group::PutsStatic,
+        GETFIELD => Group::GetsField,
+        PUTFIELD => Group::PutsField,
+        INVOKEVIRTUAL => Group::CallsVirtual,
+        INVOKESPECIAL => Group::CallsSpecial,
+        INVOKESTATIC => Group::CallsStatic,
+        INVOKEINTERFACE => Group::CallsInterface,
+        NEW => Group::MakesObject,
+        NEWARRAY => Group::MakesNumbers,
+        ANEWARRAY => Group::MakesArray,
+        ARRAYLENGTH => Group::TakesOne(Demand::Array, AN_INT),
+        CHECKCAST => Group::Casts,
+        INSTANCEOF => Group::Tests,
+        MULTIANEWARRAY => Group::MakesArrays,
         _ => Group::NoGroup,
     }
 }

@@ -10,11 +10,10 @@ ghost use Rattle.type_rows.specs.CodeViews.{scope_of};
 ghost use Rattle.type_rows.specs.Shapes.{given, given_values};
 
 use crate::code_view::CodeView;
-use crate::demands::{STATIC, has};
 use crate::fresh::is_init;
 use crate::instructions::params_of;
 use crate::shapes::THROWABLE;
-use jk_model::{List, OutOfMemory};
+use jk_model::{AccessFlags, List, OutOfMemory, has};
 use jk_model_classes::{Caught, TypeRef};
 use jk_model_typing::{FrameType, VType};
 use std::alloc::Global;
@@ -50,14 +49,14 @@ pub fn caught_value(view: &CodeView<'_>, h: &Caught) -> VType
 fn has_fresh_this(view: &CodeView<'_>) -> bool
     ensures { result ≡ (not (is_static (scope_of view.now).method) && is_init (scope_of view.now).method) }
 {
-    !has(view.method.flags, STATIC) && is_init(view.method)
+    !has(view.method.flags, AccessFlags::STATIC) && is_init(view.method)
 }
 
 /// The method's `this`; none where it is static.
 fn receiver_of(view: &CodeView<'_>) -> Option<VType>
     ensures { given result ≡ own_receiver (scope_of view.now) }
 {
-    if has(view.method.flags, STATIC) {
+    if has(view.method.flags, AccessFlags::STATIC) {
         None
     } else if is_init(view.method) {
         Some(VType::FreshThis)

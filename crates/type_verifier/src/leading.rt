@@ -9,13 +9,12 @@ ghost use Rattle.jk_model_classes.specs.MemberCode.{is_jump, is_switch};
 ghost use Rattle.type_verifier.specs.Leaders.{AreLeaders};
 ghost use Rattle.type_verifier.specs.Marks.{IsEntryMarked, IsInstrMarked, IsMarked, KeepsMarks};
 
+use jk_model::opcodes::{
+    GOTO, IFEQ, IFNONNULL, IFNULL, INVOKESPECIAL, LOOKUPSWITCH, NEW, TABLESWITCH,
+};
 use jk_model::{Instr, OutOfMemory, SwitchCase};
 use jk_model_classes::{Caught, LinkedCode};
 use std::alloc::Global;
-
-const NEW: u8 = 0xbb;
-
-const INVOKESPECIAL: u8 = 0xb7;
 
 /// Whether a place is a leader, for each place of a code: the first one, targets of jumps and cases, handlers, the first place
 /// that a catch entry covers and the first after those that it covers, and those after `new` and after a constructor's call.
@@ -72,7 +71,10 @@ fn mark_cases(leads: &mut [bool], cases: &[SwitchCase])
 pub(crate) fn is_branch(op: u8) -> bool
     ensures { result ≡ (is_jump op || is_switch op) }
 {
-    matches!(op, 0x99..=0xa7 | 0xaa | 0xab | 0xc6 | 0xc7)
+    matches!(
+        op,
+        IFEQ..=GOTO | TABLESWITCH | LOOKUPSWITCH | IFNULL | IFNONNULL
+    )
 }
 
 /// Marks where an instruction leads, and the place after it where locals change there that it doesn't name.

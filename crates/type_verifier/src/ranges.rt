@@ -5,6 +5,7 @@ ghost use Rattle.jk_model_typing.specs.Typing.{is_store};
 ghost use Rattle.type_verifier.specs.Ranges.{IsClipped, IsLeft, IsNoteAt, IsWithin, RangeAt};
 
 use jk_model::Instr;
+use jk_model::opcodes::{INVOKESPECIAL, NEW};
 use type_rows::is_store;
 
 /// The locals from `first` up to `end`; none where `end` isn't past `first`.
@@ -13,12 +14,6 @@ pub(crate) struct LocalRange {
     pub first: usize,
     pub end: usize,
 }
-
-/// `new`: it makes values of a class in all locals unusable.
-const NEW: u8 = 0xbb;
-
-/// `invokespecial`: a constructor's call changes all locals that have its object.
-const INVOKESPECIAL: u8 = 0xb7;
 
 /// No locals: a range that widens no other.
 pub(crate) fn no_locals() -> LocalRange
