@@ -7,7 +7,7 @@ use Rattle.frame_store.specs.Chains.{node_at, stack_at, count_of, place_of, sum_
 use Rattle.frame_store.proofs.NodeOfAKey.{IsNodeOf, place_of-le}
 use Rattle.frame_store.specs.SumsBelow.{sum_below-none}
 
-module _ (nodes : List Node) (stacks : List Stack) (size last : ℕ) (few : size < 2 ^ 31) (few_stacks : last < 2 ^ 32 - 1)
+module _ (nodes : List Node) (stacks : List Stack) (size last : ℕ) (few : size < 2 ^ 63) (few_stacks : last < 2 ^ 63)
     (free : AreFree nodes size last) (one : IsOneStack stacks size last) where
   stack_is : (b : ℕ) → b < size → (node_at nodes b).stack ≡ last
   stack_is b lt = ap (λ (x : Node). x.stack) (free.each b lt)

@@ -36,7 +36,7 @@ to_err (Err e) P h = h
 lt_le : (a b c : ℕ) → a ≤ b → b < c → a < c
 lt_le a b c h k = omega arith
 
-zero_lt : (a : ℕ) → a ≡ 0 → a < 2 ^ 31
+zero_lt : (a : ℕ) → a ≡ 0 → a < 2 ^ 63
 zero_lt a e = omega arith
 
 same_sum : (a b c d : ℕ) → a + b ≡ c + d → d ≡ b → c ≡ a
@@ -54,16 +54,16 @@ owes_less c l c2 l2 e f h = omega arith
 room_less : (a b c : ℕ) → a ≤ b → c + 1 ≡ b → a - 1 ≤ c
 room_less a b c h e = omega arith
 
-pub room_small : (t : SegmentTable) → table.room t < 2 ^ 31
+pub room_small : (t : SegmentTable) → table.room t < 2 ^ 63
 room_small t =
     elim (cases_lt t.buckets (stacks t.chains)) [
-      | inl lt ↦ lt_le (table.room t) _ (2 ^ 31) (count_le t.chains.nodes.items t.chains.stacks.items t.buckets t.chains.ok lt) t.chains.ok.few
+      | inl lt ↦ lt_le (table.room t) _ (2 ^ 63) (count_le t.chains.nodes.items t.chains.stacks.items t.buckets t.chains.ok lt) t.chains.ok.few
       | inr past ↦
           let e : table.room t ≡ 0 = ap (λ (k : Stack). k.count) (get_or_past t.chains.stacks.items t.buckets no_stack past) in
           zero_lt (table.room t) e
     ]
 
-pub owed_small : (owed room : ℕ) → owed ≤ room → room < 2 ^ 31 → owed + 1 < 2 ^ 64
+pub owed_small : (owed room : ℕ) → owed ≤ room → room < 2 ^ 63 → owed + 1 < 2 ^ 64
 owed_small owed room h k = omega arith
 
 live_by : (used chunks sum live k : ℕ) → used ≡ sum + live → 1 + k ≤ chunks - used → live < chunks

@@ -33,8 +33,8 @@ sum_below f (suc n) = sum_below f n + f n
 
 -- The nodes and the stacks fit each other.
 pub record IsChains (nodes : List Node) (stacks : List Stack) : Type 0 where
-  pub few : length nodes < 2 ^ 31
-  pub few_stacks : length stacks < 2 ^ 32
+  pub few : length nodes < 2 ^ 63
+  pub few_stacks : length stacks < 2 ^ 64
   -- the top node of a stack is on it, with the highest position
   pub top : (i : ℕ) → i < length stacks → 0 < count_of stacks i → let b = (stack_at stacks i).top in
       (b < length nodes) × ((node_at nodes b).stack ≡ i) × ((node_at nodes b).position + 1 ≡ count_of stacks i)

@@ -24,7 +24,7 @@ found_at nodes entries h s (suc n) =
 
 -- Each entry is in its bucket, and no number has two.
 pub record IsTable (nodes : List Node) (stacks : List Stack) (entries : List Entry) (buckets : ℕ) : Type 0 where
-  pub few : buckets < 2 ^ 31
+  pub few : buckets < 2 ^ 63
   pub as_many : length entries ≡ length nodes
   pub stacks_are : 0 < buckets → length stacks ≡ buckets + 1
   pub empty : buckets ≡ 0 → length stacks ≡ 0

@@ -13,17 +13,17 @@ use std::alloc::Global;
 /// further below. The lowest node has numbers of no meaning for the first, and its own for the second.
 #[derive(Clone, Copy)]
 pub(crate) struct Node {
-    pub(crate) stack: u32,
-    pub(crate) position: u32,
-    pub(crate) below: u32,
-    pub(crate) jump: u32,
+    pub(crate) stack: usize,
+    pub(crate) position: usize,
+    pub(crate) below: usize,
+    pub(crate) jump: usize,
 }
 
 /// A stack: how many nodes it has, and the number of the top one, where there is one.
 #[derive(Clone, Copy)]
 pub(crate) struct Stack {
-    pub(crate) count: u32,
-    pub(crate) top: u32,
+    pub(crate) count: usize,
+    pub(crate) top: usize,
 }
 
 /// So many nodes on so many stacks.
@@ -40,9 +40,8 @@ impl Chains {
     ghost use Rattle.frame_store.specs.ChainMoves.{count, place, nodes, stacks, stack_of, MovesTop};
 
     /// So many nodes, all on the last of the stacks, whose number is `last`.
-    pub(crate) fn new(alloc: Global, size: u32, last: u32) -> Result<Chains, OutOfMemory>
-        requires few { size < 2 ^ 31 }
-        requires few_stacks { last < 2 ^ 32 - 1 }
+    pub(crate) fn new(alloc: Global, size: usize, last: usize) -> Result<Chains, OutOfMemory>
+        requires few_stacks { last < 2 ^ 63 }
         ensures nodes { IfOk result (λ c. nodes c ≡ size) }
         ensures stacks { IfOk result (λ c. stacks c ≡ last + 1) }
         ensures last { IfOk result (λ c. count c last ≡ size) }
@@ -65,7 +64,7 @@ impl Chains {
     }
 
     /// The stack of a node.
-    pub(crate) fn stack_of(&self, node: usize) -> u32
+    pub(crate) fn stack_of(&self, node: usize) -> usize
         requires { node < nodes self.now }
         ensures { result ≡ stack_of self.now node }
     {
@@ -73,40 +72,40 @@ impl Chains {
     }
 
     /// How many nodes a stack has.
-    pub(crate) fn count(&self, stack: u32) -> u32
+    pub(crate) fn count(&self, stack: usize) -> usize
         requires { stack < stacks self.now }
         ensures { result ≡ count self.now stack }
     {
-        self.stacks[stack as usize].count
+        self.stacks[stack].count
     }
 
     /// The number of the top node of a stack.
-    pub(crate) fn top(&self, stack: u32) -> u32
+    pub(crate) fn top(&self, stack: usize) -> usize
         requires there { stack < stacks self.now }
         requires some { 0 < count self.now stack }
         ensures top { result ≡ place self.now stack (count self.now stack - 1) }
         ensures within { result < nodes self.now }
     {
-        self.stacks[stack as usize].top
+        self.stacks[stack].top
     }
 
     /// The number of the node at a position of a stack.
-    pub(crate) fn at(&self, stack: u32, position: u32) -> u32
+    pub(crate) fn at(&self, stack: usize, position: usize) -> usize
         requires there { stack < stacks self.now }
         requires some { position < count self.now stack }
         ensures at { result ≡ place self.now stack position }
         ensures within { result < nodes self.now }
     {
-        let mut number = self.stacks[stack as usize].top;
-        while self.nodes[number as usize].position > position {
-            let node = self.nodes[number as usize];
+        let mut number = self.stacks[stack].top;
+        while self.nodes[number].position > position {
+            let node = self.nodes[number];
             number = nearer(self.nodes.as_slice(), node, position);
         }
         number
     }
 
     /// Moves the top node of a stack to the top of another.
-    pub(crate) fn move_top(&mut self, from: u32, to: u32) -> u32
+    pub(crate) fn move_top(&mut self, from: usize, to: usize) -> usize
         requires from_there { from < stacks self.old }
         requires to_there { to < stacks self.old }
         requires apart { from ≢ to }
@@ -114,20 +113,20 @@ impl Chains {
         ensures moves { MovesTop self.old self.new from to result }
         ensures within { result < nodes self.old }
     {
-        let taken = self.stacks[from as usize];
-        let under = self.stacks[to as usize];
+        let taken = self.stacks[from];
+        let under = self.stacks[to];
         let moved = taken.top;
-        let below = self.nodes[moved as usize].below;
+        let below = self.nodes[moved].below;
         let jump = jump_above(self.nodes.as_slice(), under, moved);
-        self.stacks[from as usize] = Stack {
+        self.stacks[from] = Stack {
             count: taken.count - 1,
             top: below,
         };
-        self.stacks[to as usize] = Stack {
+        self.stacks[to] = Stack {
             count: under.count + 1,
             top: moved,
         };
-        self.nodes[moved as usize] = Node {
+        self.nodes[moved] = Node {
             stack: to,
             position: under.count,
             below: under.top,
@@ -138,12 +137,12 @@ impl Chains {
 }
 
 /// Of a node's two links, the further one that doesn't pass a position below it.
-fn nearer(nodes: &[Node], node: Node, position: u32) -> u32
+fn nearer(nodes: &[Node], node: Node, position: usize) -> usize
     requires { node.jump < length nodes.now }
     ensures jumps { position ≤ (node_at nodes.now node.jump).position → result ≡ node.jump }
     ensures steps { (node_at nodes.now node.jump).position < position → result ≡ node.below }
 {
-    if nodes[node.jump as usize].position >= position {
+    if nodes[node.jump].position >= position {
         node.jump
     } else {
         node.below
@@ -151,7 +150,7 @@ fn nearer(nodes: &[Node], node: Node, position: u32) -> u32
 }
 
 /// The second link of a node that is put on top of a stack. It makes two steps down of equal size one.
-fn jump_above(nodes: &[Node], under: Stack, moved: u32) -> u32
+fn jump_above(nodes: &[Node], under: Stack, moved: usize) -> usize
     requires top { 0 < under.count → under.top < length nodes.now }
     requires first { 0 < under.count → (node_at nodes.now under.top).jump < length nodes.now }
     requires second { 0 < under.count → (node_at nodes.now (node_at nodes.now under.top).jump).jump < length nodes.now }
@@ -160,9 +159,9 @@ fn jump_above(nodes: &[Node], under: Stack, moved: u32) -> u32
     if under.count == 0 {
         return moved;
     }
-    let near = nodes[under.top as usize];
-    let far = nodes[near.jump as usize];
-    let furthest = nodes[far.jump as usize].position;
+    let near = nodes[under.top];
+    let far = nodes[near.jump];
+    let furthest = nodes[far.jump].position;
     if near.position.abs_diff(far.position) == far.position.abs_diff(furthest) {
         far.jump
     } else {
@@ -171,10 +170,11 @@ fn jump_above(nodes: &[Node], under: Stack, moved: u32) -> u32
 }
 
 /// So many nodes on the stack of this number.
-fn free_nodes(alloc: Global, count: u32, stack: u32) -> Result<Vec<Node>, OutOfMemory>
-    ensures { IfOk result (λ v. AreFree v.items count stack) }
+fn free_nodes(alloc: Global, count: usize, stack: usize) -> Result<Vec<Node>, OutOfMemory>
+    ensures free { IfOk result (λ v. AreFree v.items count stack) }
+    ensures few { IfOk result (λ v. length v.items < 2 ^ 63) }
 {
-    let mut nodes = Vec::with_capacity(alloc, count as usize)?;
+    let mut nodes = Vec::with_capacity(alloc, count)?;
     for position in 0..count {
         let below = position.saturating_sub(1);
         nodes.push_reserved(Node {
@@ -188,11 +188,11 @@ fn free_nodes(alloc: Global, count: u32, stack: u32) -> Result<Vec<Node>, OutOfM
 }
 
 /// The stacks up to this one, which has so many nodes, in order of their numbers, while the others have none.
-fn one_stack(alloc: Global, count: u32, last: u32) -> Result<Vec<Stack>, OutOfMemory>
-    requires { last < 2 ^ 32 - 1 }
+fn one_stack(alloc: Global, count: usize, last: usize) -> Result<Vec<Stack>, OutOfMemory>
+    requires { last < 2 ^ 63 }
     ensures { IfOk result (λ v. IsOneStack v.items count last) }
 {
-    let mut stacks = Vec::with_capacity(alloc, last as usize + 1)?;
+    let mut stacks = Vec::with_capacity(alloc, last + 1)?;
     for _ in 0..last {
         stacks.push_reserved(Stack { count: 0, top: 0 });
     }

@@ -8,8 +8,8 @@ pub(crate) struct Cursor {
     pub(crate) set: bool,
     pub(crate) segment: u64,
     pub(crate) domain: usize,
-    pub(crate) frame: u32,
-    pub(crate) lowest: u32,
+    pub(crate) frame: usize,
+    pub(crate) lowest: usize,
 }
 
 /// A cursor that isn't set.

@@ -39,8 +39,9 @@ impl DomainFrames {
         ensures { IfOk result (λ d. IsFresh d chunks) }
     {
         let slots = SlotSet::new(alloc, chunks)?;
-        let frames = Chains::new(alloc, chunks, chunks)?;
-        let parts = Chains::new(alloc, chunks, chunks)?;
+        let size = chunks as usize;
+        let frames = Chains::new(alloc, size, size)?;
+        let parts = Chains::new(alloc, size, size)?;
         let records = no_records(alloc, chunks)?;
         let values = no_values(alloc, chunks)?;
         Ok(DomainFrames {
@@ -122,7 +123,7 @@ impl DomainFrames {
         if blocks > self.chunks - self.used {
             return Err(NoChunks);
         }
-        let caller = self.frames.top(slot);
+        let caller = self.frames.top(slot as usize);
         let frame = self.add(slot, head, blocks);
         self.give(caller, frame, arguments);
         self.shorten(caller, arguments);
@@ -134,10 +135,10 @@ impl DomainFrames {
         requires { HasTop self.old slot }
         ensures { Becomes self.old self.new slot (lower_of self.old slot) (self.old.used - head_chunks (top_of self.old slot).head) }
     {
-        let frame = self.frames.top(slot);
-        let blocks = self.parts.count(frame);
-        give_blocks(&mut self.parts, self.chunks, frame);
-        let _ = self.frames.move_top(slot, self.chunks);
+        let frame = self.frames.top(slot as usize);
+        let blocks = self.parts.count(frame) as u32;
+        give_blocks(&mut self.parts, self.chunks as usize, frame);
+        let _ = self.frames.move_top(slot as usize, self.chunks as usize);
         self.used -= blocks;
     }
 
@@ -146,46 +147,46 @@ impl DomainFrames {
         requires { IsSlot self.now slot }
         ensures { result ≡ length (frames_of self.now slot) }
     {
-        self.frames.count(slot)
+        self.frames.count(slot as usize) as u32
     }
 
     /// The number of the top frame of a segment.
-    pub(crate) fn top(&self, slot: u32) -> u32
+    pub(crate) fn top(&self, slot: u32) -> usize
         requires { HasTop self.now slot }
         ensures number { result ≡ top_number self.now slot }
         ensures is_frame { IsFrameNumber self.now result }
     {
-        self.frames.top(slot)
+        self.frames.top(slot as usize)
     }
 
     /// The number of a frame of a segment, by how many are below it.
-    pub(crate) fn frame(&self, slot: u32, depth: u32) -> u32
+    pub(crate) fn frame(&self, slot: u32, depth: u32) -> usize
         requires slot { slot < self.now.chunks }
         requires there { depth < depth_of self.now slot }
         ensures frame { slice_get (frames_of self.now slot) depth ≡ Some (value_at self.now result) }
         ensures is_frame { IsFrameNumber self.now result }
     {
-        self.frames.at(slot, depth)
+        self.frames.at(slot as usize, depth as usize)
     }
 
     /// The head of a frame.
-    pub(crate) fn head(&self, frame: u32) -> FrameHead
+    pub(crate) fn head(&self, frame: usize) -> FrameHead
         requires { IsFrameNumber self.now frame }
         ensures { result ≡ (value_at self.now frame).head }
     {
-        self.records[frame as usize].head
+        self.records[frame].head
     }
 
     /// How many entries the operand stack of a frame has.
-    pub(crate) fn height(&self, frame: u32) -> u16
+    pub(crate) fn height(&self, frame: usize) -> u16
         requires { IsFrameNumber self.now frame }
         ensures { result ≡ length (value_at self.now frame).stack }
     {
-        self.records[frame as usize].height
+        self.records[frame].height
     }
 
     /// The lowest block of a frame.
-    pub(crate) fn lowest(&self, frame: u32) -> u32
+    pub(crate) fn lowest(&self, frame: usize) -> usize
         requires { IsFrameNumber self.now frame }
         ensures { result ≡ lowest_block self.now frame }
     {
@@ -193,7 +194,7 @@ impl DomainFrames {
     }
 
     /// A local of a frame, whose lowest block this is.
-    pub(crate) fn local(&self, frame: u32, lowest: u32, i: u16) -> Value
+    pub(crate) fn local(&self, frame: usize, lowest: usize, i: u16) -> Value
         requires frame { IsFrameNumber self.now frame }
         requires lowest { lowest ≡ lowest_block self.now frame }
         requires there { i < length (value_at self.now frame).locals }
@@ -203,18 +204,18 @@ impl DomainFrames {
     }
 
     /// An entry of the operand stack of a frame, whose lowest block this is.
-    pub(crate) fn entry(&self, frame: u32, lowest: u32, i: u16) -> Value
+    pub(crate) fn entry(&self, frame: usize, lowest: usize, i: u16) -> Value
         requires frame { IsFrameNumber self.now frame }
         requires lowest { lowest ≡ lowest_block self.now frame }
         requires there { i < length (value_at self.now frame).stack }
         ensures { slice_get (value_at self.now frame).stack i ≡ Some result }
     {
-        let locals = self.records[frame as usize].head.max_locals;
+        let locals = self.records[frame].head.max_locals;
         self.values[value_index(&self.parts, frame, lowest, u32::from(locals) + u32::from(i))]
     }
 
     /// An entry of the operand stack of a frame, whose lowest block this is, by how many entries are above it.
-    pub(crate) fn entry_below(&self, frame: u32, lowest: u32, above: u16) -> Value
+    pub(crate) fn entry_below(&self, frame: usize, lowest: usize, above: u16) -> Value
         requires frame { IsFrameNumber self.now frame }
         requires lowest { lowest ≡ lowest_block self.now frame }
         requires there { above < length (value_at self.now frame).stack }
@@ -224,20 +225,20 @@ impl DomainFrames {
     }
 
     /// Sets where a top frame stands, and which class it needs.
-    pub(crate) fn go(&mut self, frame: u32, at: u32, need: Option<ClassId>)
+    pub(crate) fn go(&mut self, frame: usize, at: u32, need: Option<ClassId>)
         requires { IsFrameNumber self.old frame }
         ensures frames { self.new.frames ≡ self.old.frames }
         ensures parts { self.new.parts ≡ self.old.parts }
         ensures becomes { (slot : ℕ) → IsTopOf self.old slot frame → let f = top_of self.old slot in
             Becomes self.old self.new slot (lower_of self.old slot ++ record f { head = record f.head { at = at; need = need } } ∷ []) self.old.used }
     {
-        let set = &mut self.records[frame as usize];
+        let set = &mut self.records[frame];
         set.head.at = at;
         set.head.need = need;
     }
 
     /// Sets a local of a top frame, whose lowest block this is.
-    pub(crate) fn set_local(&mut self, frame: u32, lowest: u32, i: u16, v: Value)
+    pub(crate) fn set_local(&mut self, frame: usize, lowest: usize, i: u16, v: Value)
         requires frame { IsFrameNumber self.old frame }
         requires lowest { lowest ≡ lowest_block self.old frame }
         requires there { i < length (value_at self.old frame).locals }
@@ -251,7 +252,7 @@ impl DomainFrames {
     }
 
     /// Pushes an entry on the operand stack of a top frame, whose lowest block this is.
-    pub(crate) fn push_value(&mut self, frame: u32, lowest: u32, v: Value)
+    pub(crate) fn push_value(&mut self, frame: usize, lowest: usize, v: Value)
         requires frame { IsFrameNumber self.old frame }
         requires lowest { lowest ≡ lowest_block self.old frame }
         requires room { length (value_at self.old frame).stack < (value_at self.old frame).head.max_stack }
@@ -260,7 +261,7 @@ impl DomainFrames {
         ensures becomes { (slot : ℕ) → IsTopOf self.old slot frame → let f = top_of self.old slot in
             Becomes self.old self.new slot (lower_of self.old slot ++ record f { stack = f.stack ++ v ∷ [] } ∷ []) self.old.used }
     {
-        let record = &mut self.records[frame as usize];
+        let record = &mut self.records[frame];
         let value = u32::from(record.head.max_locals) + u32::from(record.height);
         record.height += 1;
         let index = value_index(&self.parts, frame, lowest, value);
@@ -268,7 +269,7 @@ impl DomainFrames {
     }
 
     /// Takes the top entry off the operand stack of a top frame, whose lowest block this is.
-    pub(crate) fn pop_value(&mut self, frame: u32, lowest: u32) -> Value
+    pub(crate) fn pop_value(&mut self, frame: usize, lowest: usize) -> Value
         requires frame { IsFrameNumber self.old frame }
         requires lowest { lowest ≡ lowest_block self.old frame }
         requires some { 0 < length (value_at self.old frame).stack }
@@ -276,7 +277,7 @@ impl DomainFrames {
         ensures parts { self.new.parts ≡ self.old.parts }
         ensures becomes { (slot : ℕ) → IsTopOf self.old slot frame → TakesTopEntry self.old self.new slot result }
     {
-        let record = &mut self.records[frame as usize];
+        let record = &mut self.records[frame];
         record.height -= 1;
         let value = u32::from(record.head.max_locals) + u32::from(record.height);
         let index = value_index(&self.parts, frame, lowest, value);
@@ -284,7 +285,7 @@ impl DomainFrames {
     }
 
     /// Copies the topmost entries of a frame's operand stack, so many, into the first locals of the frame above.
-    fn give(&mut self, caller: u32, frame: u32, count: u16)
+    fn give(&mut self, caller: usize, frame: usize, count: u16)
         requires { MayGive self.old caller frame count }
         ensures frames { self.new.frames ≡ self.old.frames }
         ensures gives { (may : MayGive self.old caller frame count) → GivesTo self.old self.new may.slot may.head may.given }
@@ -301,14 +302,14 @@ impl DomainFrames {
     }
 
     /// Takes so many entries off the operand stack of a frame.
-    fn shorten(&mut self, frame: u32, count: u16)
+    fn shorten(&mut self, frame: usize, count: u16)
         requires frame { IsFrameNumber self.old frame }
         requires enough { count ≤ length (value_at self.old frame).stack }
         ensures { (slot n : ℕ) (below given : List AValue) → slot < self.old.chunks → n < depth_of self.old slot → frame ≡ place self.old.frames slot n
             → (value_at self.old frame).stack ≡ below ++ given → length given ≡ count
             → Becomes self.old self.new slot (slice_set (frames_of self.old slot) n (record (value_at self.old frame) { stack = below })) self.old.used }
     {
-        self.records[frame as usize].height -= count;
+        self.records[frame].height -= count;
     }
 
     /// Takes a slot for a segment, which has no frames yet.
@@ -322,7 +323,7 @@ impl DomainFrames {
     }
 
     /// Puts a frame on top of a segment, where the chunks that it costs are free. The answer is its number.
-    fn add(&mut self, slot: u32, head: FrameHead, blocks: u32) -> u32
+    fn add(&mut self, slot: u32, head: FrameHead, blocks: u32) -> usize
         requires slot { IsSlot self.old slot }
         requires cost { blocks ≡ head_chunks head }
         requires room { self.old.used + blocks ≤ self.old.chunks }
@@ -330,12 +331,12 @@ impl DomainFrames {
         ensures becomes { Becomes self.old self.new slot (frames_of self.old slot ++ new_frame head ∷ []) (self.old.used + blocks) }
         ensures moves { MovesTop self.old.frames self.new.frames self.old.chunks slot result }
     {
-        let frame = self.frames.move_top(self.chunks, slot);
-        self.records[frame as usize] = FrameRecord { head, height: 0 };
+        let frame = self.frames.move_top(self.chunks as usize, slot as usize);
+        self.records[frame] = FrameRecord { head, height: 0 };
         take_blocks(
             &mut self.parts,
             &mut self.values,
-            self.chunks,
+            self.chunks as usize,
             frame,
             blocks,
         );
@@ -348,7 +349,7 @@ impl DomainFrames {
         requires { IsSlot self.old slot }
         ensures { Becomes self.old self.new slot [] (self.old.used - frames_chunks (frames_of self.old slot)) }
     {
-        while self.frames.count(slot) > 0 {
+        while self.frames.count(slot as usize) > 0 {
             self.pop(slot);
         }
     }

@@ -28,26 +28,27 @@ pub(crate) fn head_chunks(head: &FrameHead) -> u32
 }
 
 /// Where a value of a frame is, whose lowest block this is: most values are in it.
-pub(crate) fn value_index(parts: &Chains, frame: u32, lowest: u32, value: u32) -> usize
+pub(crate) fn value_index(parts: &Chains, frame: usize, lowest: usize, value: u32) -> usize
     requires there { frame < stacks parts.now }
     requires lowest { lowest ≡ place parts.now frame 0 }
     requires some { value < 20 * count parts.now frame }
+    requires few { nodes parts.now ≤ 262144 }
     ensures index { result ≡ index_of parts.now frame value }
     ensures within { result < 20 * nodes parts.now }
 {
     if value < 20 {
-        return 20 * lowest as usize + value as usize;
+        return 20 * lowest + value as usize;
     }
-    let block = parts.at(frame, value / 20);
-    20 * block as usize + (value % 20) as usize
+    let block = parts.at(frame, (value / 20) as usize);
+    20 * block + (value % 20) as usize
 }
 
 /// Gives a frame without blocks so many of the free ones, which are on the last stack, and unsets their values.
 pub(crate) fn take_blocks(
     parts: &mut Chains,
     values: &mut Vec<Value>,
-    last: u32,
-    frame: u32,
+    last: usize,
+    frame: usize,
     blocks: u32,
 )
     requires there { last < stacks parts.old }
@@ -64,7 +65,7 @@ pub(crate) fn take_blocks(
 }
 
 /// Gives back all blocks of a frame.
-pub(crate) fn give_blocks(parts: &mut Chains, last: u32, frame: u32)
+pub(crate) fn give_blocks(parts: &mut Chains, last: usize, frame: usize)
     requires there { last < stacks parts.old }
     requires frame { frame < last }
     ensures { GivesBlocks parts.old parts.new last frame }
@@ -75,11 +76,11 @@ pub(crate) fn give_blocks(parts: &mut Chains, last: u32, frame: u32)
 }
 
 /// Unsets the values of a block.
-fn clear(values: &mut Vec<Value>, block: u32)
+fn clear(values: &mut Vec<Value>, block: usize)
     requires { 20 * block + 20 ≤ length values.old.items }
     ensures { IsCleared values.old.items values.new.items block }
 {
     for k in 0..20 {
-        values[20 * block as usize + k] = Value::Unset;
+        values[20 * block + k] = Value::Unset;
     }
 }

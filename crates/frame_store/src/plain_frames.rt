@@ -100,10 +100,7 @@ impl PlainFrames {
     {
         self.cursor.set = false;
         let more = self.owed + u64::from(fresh.chunks);
-        if more >= 2_147_483_648 {
-            return Err(OutOfMemory);
-        }
-        self.places.reserve(self.alloc, more as u32)?;
+        self.places.reserve(self.alloc, more as usize)?;
         self.domains.insert(d, fresh)?;
         self.owed = more;
         Ok(())
@@ -210,7 +207,7 @@ impl PlainFrames {
 
     /// The place of a segment's domain in the map, and the number of the segment's top frame.
     #[inline(always)]
-    fn top(&self, s: SegmentNo) -> (usize, u32)
+    fn top(&self, s: SegmentNo) -> (usize, usize)
         requires { HasTop (content_of self.now.domains self.now.places) s }
         ensures { IsTopAt self.now.domains self.now.places s.0 result.0 result.1 }
     {
@@ -224,7 +221,7 @@ impl PlainFrames {
     /// As `top`, where the cursor is elsewhere.
     #[cold]
     #[inline(never)]
-    fn far_top(&self, s: SegmentNo) -> (usize, u32)
+    fn far_top(&self, s: SegmentNo) -> (usize, usize)
         requires { HasTop (content_of self.now.domains self.now.places) s }
         ensures { IsTopAt self.now.domains self.now.places s.0 result.0 result.1 }
     {

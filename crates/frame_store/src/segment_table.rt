@@ -29,7 +29,7 @@ pub(crate) struct Entry {
 pub(crate) struct SegmentTable {
     pub(crate) chains: Chains,
     pub(crate) entries: Vec<Entry>,
-    pub(crate) buckets: u32,
+    pub(crate) buckets: usize,
     ghost ok: { IsTable chains.nodes.items chains.stacks.items entries.items buckets },
 }
 
@@ -38,14 +38,14 @@ impl SegmentTable {
     ghost use Rattle.frame_store.specs.TableMoves.{find, place_in, room, size_of, IsSameTable, Inserts, Removes, Forgets, IsEmptyTable};
 
     /// A table with no entries, and with room for so many.
-    pub(crate) fn new(alloc: Global, size: u32) -> Result<SegmentTable, OutOfMemory>
+    pub(crate) fn new(alloc: Global, size: usize) -> Result<SegmentTable, OutOfMemory>
         requires some { 0 < size }
-        requires few { size < 2 ^ 31 }
         ensures empty { IfOk result (λ t. IsEmptyTable t) }
         ensures room { IfOk result (λ t. room t ≡ size) }
+        ensures few { OnOk result (size < 2 ^ 63) }
     {
-        let chains = Chains::new(alloc, size, size)?;
         let entries = no_entries(alloc, size)?;
+        let chains = Chains::new(alloc, size, size)?;
         Ok(SegmentTable {
             chains,
             entries,
@@ -73,13 +73,13 @@ impl SegmentTable {
             return None;
         }
         match self.entry_of(number) {
-            Some(entry) => Some(self.entries[entry as usize].place),
+            Some(entry) => Some(self.entries[entry].place),
             None => None,
         }
     }
 
     /// How many more entries the table has room for.
-    pub(crate) fn room(&self) -> u32
+    pub(crate) fn room(&self) -> usize
         ensures { result ≡ room self.now }
     {
         if self.buckets == 0 {
@@ -97,7 +97,7 @@ impl SegmentTable {
     {
         let bucket = self.bucket(number);
         let entry = self.chains.move_top(self.buckets, bucket);
-        self.entries[entry as usize] = Entry { number, place };
+        self.entries[entry] = Entry { number, place };
     }
 
     /// Takes out a segment.
@@ -108,7 +108,7 @@ impl SegmentTable {
         if let Some(entry) = self.entry_of(number) {
             let bucket = self.bucket(number);
             let top = self.chains.top(bucket);
-            self.entries[entry as usize] = self.entries[top as usize];
+            self.entries[entry] = self.entries[top];
             let _ = self.chains.move_top(bucket, self.buckets);
         }
     }
@@ -127,7 +127,7 @@ impl SegmentTable {
     }
 
     /// Makes room for so many more entries. After an error all is as before.
-    pub(crate) fn reserve(&mut self, alloc: Global, more: u32) -> Result<(), OutOfMemory>
+    pub(crate) fn reserve(&mut self, alloc: Global, more: usize) -> Result<(), OutOfMemory>
         ensures same { IsSameTable self.old self.new }
         ensures ok { OnOk result (more ≤ room self.new) }
         ensures err { OnErr result (room self.new ≡ room self.old) }
@@ -135,22 +135,21 @@ impl SegmentTable {
         if more <= self.room() {
             return Ok(());
         }
-        let size = self.grown(more).ok_or(OutOfMemory)?;
-        let table = SegmentTable::new(alloc, size)?;
+        let table = SegmentTable::new(alloc, self.grown(more))?;
         *self = self.moved_to(table);
         Ok(())
     }
 
     /// The bucket of a number.
-    fn bucket(&self, number: u64) -> u32
+    fn bucket(&self, number: u64) -> usize
         requires { 0 < self.now.buckets }
         ensures { result ≡ number % self.now.buckets }
     {
-        (number % u64::from(self.buckets)) as u32
+        number as usize % self.buckets
     }
 
     /// The entry of a segment.
-    fn entry_of(&self, number: u64) -> Option<u32>
+    fn entry_of(&self, number: u64) -> Option<usize>
         requires { 0 < self.now.buckets }
         ensures { result ≡ find self.now number }
     {
@@ -159,25 +158,21 @@ impl SegmentTable {
         while left > 0 {
             left -= 1;
             let entry = self.chains.at(bucket, left);
-            if self.entries[entry as usize].number == number {
+            if self.entries[entry].number == number {
                 return Some(entry);
             }
         }
         None
     }
 
-    /// The size of a table with at least twice the entries and room for so many more; none that has a place for every number.
-    fn grown(&self, more: u32) -> Option<u32>
+    /// The size of a table with at least twice the entries and room for so many more, as far as there are numbers.
+    fn grown(&self, more: usize) -> usize
         requires { 0 < more }
-        ensures { IfSome result (λ size. (size_of self.now + more ≤ size) × (0 < size) × (size < 2 ^ 31)) }
+        ensures some { 0 < result }
+        ensures enough { result < 2 ^ 63 → size_of self.now + more ≤ result }
     {
-        let had = self.entries.len() as u64;
-        let size = had + had.max(u64::from(more));
-        if size < 2_147_483_648 {
-            Some(size as u32)
-        } else {
-            None
-        }
+        let had = self.entries.len();
+        had.saturating_add(had.max(more))
     }
 
     /// The entries, moved to another table, which has none yet.
@@ -198,10 +193,11 @@ impl SegmentTable {
 }
 
 /// So many entries of no meaning.
-fn no_entries(alloc: Global, count: u32) -> Result<Vec<Entry>, OutOfMemory>
-    ensures { IfOk result (λ v. length v.items ≡ count) }
+fn no_entries(alloc: Global, count: usize) -> Result<Vec<Entry>, OutOfMemory>
+    ensures size { IfOk result (λ v. length v.items ≡ count) }
+    ensures few { OnOk result (count < 2 ^ 63) }
 {
-    let mut entries = Vec::with_capacity(alloc, count as usize)?;
+    let mut entries = Vec::with_capacity(alloc, count)?;
     for _ in 0..count {
         entries.push_reserved(Entry {
             number: 0,

@@ -15,7 +15,8 @@ pub trait FrameStore {
     ghost content: { Self → FrameContent };
 
     /// Gives a domain so many chunks for its segments, of which it has none yet. `NoExtent` comes exactly where the store
-    /// has a pool of pages and no free run of it is long enough. After an error all is as before.
+    /// has a pool of pages and no free run of it is long enough, and `OutOfMemory` only where memory was asked for and not
+    /// given: never because of numbers that are too narrow. After an error all is as before.
     fn admit(&mut self, d: DomainId, chunks: u32) -> Result<(), AdmitError>
         requires new { (content self.old).quota d ≡ None }
         requires few { HasFewDomains (content self.old) }

@@ -1,7 +1,10 @@
 -- All nodes are free at first.
+use Rattle.std.proofs.Common.{◌<◌, ◌^◌, arith}
 use Rattle.frame_store.proofs.FreeChains.{free_chains}
 use Rattle.frame_store.proofs.chains.Chains.new.Goals as goal
 
 pub invariant_of-result : goal.invariant_of-result
 invariant_of-result c =
-    record { ok = free_chains _ _ c.args.size c.args.last c.requires.few c.requires.few_stacks c.in_ok-nodes.ensures c.in_ok-stacks.ensures }
+    let free = c.in_ok-nodes.ensures.free in
+    let few : c.args.size < 2 ^ 63 = omega (arith, free.size, c.in_ok-nodes.ensures.few) in
+    record { ok = free_chains _ _ c.args.size c.args.last few c.requires.few_stacks free c.in_ok-stacks.ensures }

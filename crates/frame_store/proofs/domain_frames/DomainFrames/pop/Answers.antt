@@ -1,9 +1,18 @@
 -- The number and the blocks of the frame become free.
-use Rattle.std.proofs.Common.{◌-◌, ◌∙◌, ℕ, refl, sym, ap, subst}
+use Rattle.std.proofs.Common.{◌-◌, ◌∙◌, ℕ, refl, sym, ap, subst, arith}
 use Rattle.jk_model_frames.specs.Frames.{head_chunks}
 use Rattle.frame_store.specs.FrameBlocks.{record_at, IsDomain}
 use Rattle.frame_store.proofs.FrameIsOff.{blocks_are, off_keeps, off_top, off_others}
+use Rattle.frame_store.proofs.MovesKeepChains.{count_le}
+use Rattle.frame_store.proofs.TopIsWritten.{in_stacks, is_top_frame}
 use Rattle.frame_store.proofs.domain_frames.DomainFrames.pop.Goals as goal
+
+pub overflow_cast-blocks : goal.overflow_cast-blocks
+overflow_cast-blocks c =
+    let d = c.args.self.now in
+    let f = c.top-frame.result in
+    let few = count_le d.parts.nodes.items d.parts.stacks.items f d.parts.ok (in_stacks d f (is_top_frame d c.args.slot f c.requires c.top-frame.ensures.top)) in
+    record { fits = omega (arith, c.count-blocks.ensures, few, d.ok.parts_are, d.ok.most) }
 
 pub invariant_of-self : goal.invariant_of-self
 invariant_of-self c =
