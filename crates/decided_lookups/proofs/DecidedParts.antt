@@ -5,7 +5,7 @@ use Rattle.std.proofs.lemmas.Option.{none-some, same_Some}
 use Rattle.jk_model.specs.declared.identifiers.ClassId.{ClassId}
 use Rattle.jk_model.specs.declared.identifiers.DomainId.{DomainId}
 use Rattle.jk_model.specs.declared.identifiers.MemberId.{MemberId}
-use Rattle.class_table.proofs.ItemsOfLists.{Contains-cases, Contains-here, Contains-none, Contains-there}
+use Rattle.list_lemmas.proofs.ItemsOfLists.{Contains-cases, Contains-here, Contains-none, Contains-there}
 use Rattle.decided_lookups.specs.Decisions.{IsDecided}
 
 abbrev pub HasDecidedEquality : Type 0 → Type 0

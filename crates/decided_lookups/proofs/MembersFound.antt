@@ -14,7 +14,7 @@ use Rattle.jk_model_classes.specs.declared.records.TypeRef.{TypeRef}
 use Rattle.jk_model_classes.specs.Classes.{record_of, field_walk, method_walk, superclasses}
 use Rattle.jk_model_classes.specs.Items.{HasItemBefore}
 use Rattle.jk_model_classes.specs.Lookups.{Declares, FieldIs, FindsField, FindsMethod, FindsOn, IsFieldOf, IsFirstOf, IsMethodOf, IsUnlessAbstract, MethodIs, RunsFor, Selects}
-use Rattle.class_table.proofs.ItemsOfLists.{Contains-cases, Contains-none}
+use Rattle.list_lemmas.proofs.ItemsOfLists.{Contains-cases, Contains-none}
 use Rattle.decided_lookups.specs.Decisions.{IsDecided}
 use Rattle.decided_lookups.proofs.DecidedRecords.{abstract_decided, field_decided, method_decided, runs_decided}
 
