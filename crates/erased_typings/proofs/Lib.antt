@@ -6,3 +6,4 @@ pub mod MarkedTypings
 pub mod InterfacesErased
 pub mod RowsBefore
 pub mod LeastKept
+pub mod SystemParents

@@ -38,3 +38,7 @@ LeastTypingsAreErased =
     (classes : List ClassRecord) (m : MemberId) (frames : List (Option FrameType)) (place : ℕ) (f : FrameType)
     → AreOrdered classes → AreSystemRecords (take (length system_classes) classes) → HaveClassParents classes
     → IsLeastTyping classes m frames → FrameAt frames place f → IsErasedFrame classes f
+
+-- the system classes by themselves
+abbrev pub SystemParentsAreClasses : Type 0
+SystemParentsAreClasses = (classes : List ClassRecord) → AreSystemRecords classes → HaveClassParents classes
