@@ -14,6 +14,7 @@ ghost use Rattle.class_linker.specs.Scopes.{IsScope};
 ghost use Rattle.class_linker.specs.TextsSaid.{NamesClassBy};
 
 use crate::scope::Scope;
+use jk_model::opcodes::{GOTO, IFEQ, IFNONNULL, IFNULL, LOOKUPSWITCH, TABLESWITCH};
 use jk_model::{ClassId, Code, Handler, Instr, List, OutOfMemory, SwitchCase};
 use jk_model_classes::{Caught, LinkedCode};
 use jk_opcodes::{CodeError, decode};
@@ -69,7 +70,10 @@ fn target_at(instrs: &[Instr], target: i32) -> i32
 fn is_branch(op: u8) -> bool
     ensures { result ≡ (is_jump op || is_switch op) }
 {
-    matches!(op, 0x99..=0xa7 | 0xaa | 0xab | 0xc6 | 0xc7)
+    matches!(
+        op,
+        IFEQ..=GOTO | TABLESWITCH | LOOKUPSWITCH | IFNULL | IFNONNULL
+    )
 }
 
 /// The first operand of an instruction.

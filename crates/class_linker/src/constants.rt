@@ -5,7 +5,6 @@ ghost use Rattle.jk_model.specs.declared.class_file.Attribute.{Attribute};
 ghost use Rattle.jk_model.specs.declared.class_file.PoolEntry.{PoolEntry};
 ghost use Rattle.jk_model.specs.declared.class_file.PoolEntry.TheVariants.{Str};
 ghost use Rattle.jk_model.specs.ClassFile.{IsU2, u2};
-ghost use Rattle.jk_model_classes.specs.ClassFlags.{has};
 ghost use Rattle.jk_model_classes.specs.MemberAttributes.{HasBadConstant};
 ghost use Rattle.jk_model_folders.specs.LinkedClasses.{HasConstantEntry, IsConstantFrom, IsConstantOfField, kept_bits};
 ghost use Rattle.class_linker.specs.KnownConstants.{HasNoBadConstant, HasTextOf, IsConstantKind, IsEntryOf, NamesConstant};
@@ -13,17 +12,8 @@ ghost use Rattle.class_linker.specs.Scopes.{IsScope};
 
 use crate::scope::Scope;
 use byte_fields::u2_of;
-use jk_model::{Attribute, MemberInfo, OutOfMemory, PoolEntry};
+use jk_model::{AccessFlags, Attribute, MemberInfo, OutOfMemory, PoolEntry, has};
 use jk_model_classes::{BaseRef, Link, TypeRef};
-
-pub(crate) const STATIC: u16 = 0x0008;
-
-/// Whether a flag is set.
-pub(crate) fn has(flags: u16, flag: u16) -> bool
-    ensures { result ≡ has flags flag }
-{
-    flags & flag == flag
-}
 
 /// A number as a store into a field of this type leaves it.
 fn kept_bits(base: BaseRef, n: u32) -> i32
@@ -103,7 +93,7 @@ pub(crate) fn constant_of(
     requires good { HasBadConstant scope.now.file.now.pool field.now → ⊥ }
     ensures { IfOk result (IsConstantOfField scope.now.file.now.pool field.now kind) }
 {
-    if !has(field.flags, STATIC) {
+    if !has(field.flags, AccessFlags::STATIC) {
         return Ok(Link::Nothing);
     }
     match constant_entry(scope, field.attributes.as_slice()) {

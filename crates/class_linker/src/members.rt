@@ -3,7 +3,7 @@
 ghost use Rattle.std.specs.Prelude.{◌≡◌, IfOk};
 ghost use Rattle.jk_model.specs.declared.class_file.Attribute.{Attribute};
 ghost use Rattle.jk_model.specs.ClassFile.{CodeLayout};
-ghost use Rattle.jk_model_classes.specs.ClassFlags.{ABSTRACT, MethodFlags, has};
+ghost use Rattle.jk_model_classes.specs.ClassFlags.{MethodFlags};
 ghost use Rattle.jk_model_classes.specs.Items.{HasItem};
 ghost use Rattle.jk_model_classes.specs.LinkRules.{LinkScope};
 ghost use Rattle.jk_model_classes.specs.MemberAttributes.{IsCodeAttribute};
@@ -15,16 +15,14 @@ ghost use Rattle.class_linker.specs.LinkedFiles.{HasNames};
 ghost use Rattle.class_linker.specs.Scopes.{IsScope};
 
 use crate::code::linked_code;
-use crate::constants::{STATIC, constant_of, has};
+use crate::constants::constant_of;
 use crate::kinds::{field_type_at, method_kind_at, nothing_yet};
 use crate::scope::Scope;
 use crate::types::MethodKind;
 use class_reader::{CodeRefusal, read_code};
-use jk_model::{Attribute, Code, List, MemberInfo, OutOfMemory};
+use jk_model::{AccessFlags, Attribute, Code, List, MemberInfo, OutOfMemory, has};
 use jk_model_classes::{Body, FieldRecord, MethodRecord, TypeRef};
 use std::alloc::Global;
-
-const ABSTRACT: u16 = 0x0400;
 
 /// The record of a field, by the types that are known already.
 fn field_record(
@@ -105,7 +103,7 @@ fn method_flags(scope: &Scope, method: &MemberInfo) -> u16
     ensures { MethodFlags scope.now.file.now method.now result }
 {
     if scope.spells(method.name, "<clinit>") {
-        STATIC
+        AccessFlags::STATIC.0
     } else {
         method.flags
     }
@@ -118,7 +116,7 @@ fn method_body(scope: &Scope, method: &MemberInfo, flags: u16) -> Result<Body, O
     requires flags { MethodFlags scope.now.file.now method.now flags }
     ensures { IfOk result (λ body. (s : LinkScope) → HasNames scope.now.names.now s → IsBodyFor s scope.now.file.now method.now flags body) }
 {
-    if has(flags, ABSTRACT) {
+    if has(flags, AccessFlags::ABSTRACT) {
         return Ok(Body::Absent);
     }
     let code = method_code(scope, method.attributes.as_slice())?;

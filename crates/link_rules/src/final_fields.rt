@@ -7,10 +7,10 @@ ghost use Rattle.jk_model_classes.specs.LinkRules.{LinkScope, PutsFinal, is_put}
 ghost use Rattle.jk_model_folders.specs.LinkedClasses.{AreLinksFor};
 ghost use Rattle.link_rules.specs.FinalFields.{LeadsFinal};
 
-use crate::flags::{FINAL, has};
 use crate::wrong_members::named_link;
 use class_table::ClassTable;
-use jk_model::{ClassId, Instr, List};
+use jk_model::opcodes::{PUTFIELD, PUTSTATIC};
+use jk_model::{AccessFlags, ClassId, Instr, List, has};
 use jk_model_classes::Link;
 use member_lookup::field_record;
 
@@ -42,5 +42,5 @@ fn leads_final(t: &ClassTable, class: ClassId, op: u8, link: &Link) -> bool
 fn is_final_put(op: u8, flags: u16) -> bool
     ensures { IsTrue result ↔ (IsTrue (is_put op) × IsTrue (has flags FINAL)) }
 {
-    (op == 0xb3 || op == 0xb5) && has(flags, FINAL)
+    (op == PUTSTATIC || op == PUTFIELD) && has(flags, AccessFlags::FINAL)
 }

@@ -8,9 +8,8 @@ ghost use Rattle.jk_model_classes.specs.Lookups.{FindsFrom, FindsOn};
 ghost use Rattle.link_rules.specs.FinalMethods.{IsFinalFor, IsFinalIn, IsFirstPlace, scope_of};
 ghost use Rattle.link_rules.specs.LinkFaults.{IsLeastNumber};
 
-use crate::flags::{FINAL, has};
 use class_table::{ClassTable, MethodKey};
-use jk_model::{ClassId, MemberId};
+use jk_model::{AccessFlags, ClassId, MemberId, has};
 use jk_model_classes::{ClassRecord, MethodRecord};
 use member_lookup::{method_record, overrides};
 
@@ -110,7 +109,7 @@ fn is_final_in(t: &ClassTable, class: ClassId, m: MemberId) -> bool
 {
     match method_record(t, m) {
         Some(method) => {
-            if has(method.flags, FINAL) {
+            if has(method.flags, AccessFlags::FINAL) {
                 overrides(t, class, m)
             } else {
                 false

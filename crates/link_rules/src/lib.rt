@@ -5,7 +5,6 @@
 mod access;
 mod final_fields;
 mod final_methods;
-mod flags;
 mod made_classes;
 mod members;
 mod missing_members;

@@ -11,16 +11,14 @@ ghost use Rattle.class_texts.specs.PoolTexts.{AreTextsOf};
 ghost use Rattle.system_table.specs.declared.entry.SystemMethod.{SystemMethod as AMethod};
 ghost use Rattle.link_rules.specs.LinkedInstrs.{IsClassLink, IsNamedEntry, IsUnmakable, LeadsUnmakable, MakesUnmakable};
 
-use crate::flags::{ABSTRACT, INTERFACE, has};
 use crate::wrong_members::named_link;
 use class_table::ClassTable;
 use class_texts::ClassTexts;
-use jk_model::{ClassFile, ClassId, Instr, List, PoolEntry};
+use jk_model::opcodes::NEW;
+use jk_model::{AccessFlags, ClassFile, ClassId, Instr, List, PoolEntry, has};
 use jk_model_classes::{BaseRef, Link};
 use shared_values::Text;
 use system_table::{SystemMethod, class_named, laws, system_class};
-
-const NEW: u8 = 0xbb;
 
 /// Whether an instruction is `new` of a class that it may not make.
 pub(crate) fn makes_unmakable(
@@ -97,7 +95,9 @@ fn is_unmakable(t: &ClassTable, class: ClassId, name: &[u16]) -> bool
     ensures { IsTrue result ↔ IsUnmakable t.now class name.now }
 {
     match t.class(class) {
-        Some(r) => has(r.flags, INTERFACE) || has(r.flags, ABSTRACT) || has_no_constructor(name),
+        Some(r) => has(r.flags, AccessFlags::INTERFACE)
+            || has(r.flags, AccessFlags::ABSTRACT)
+            || has_no_constructor(name),
         None => false,
     }
 }

@@ -7,15 +7,14 @@ ghost use Rattle.jk_model_classes.specs.LinkRules.{FindsWrongField, FindsWrongMe
 ghost use Rattle.jk_model_folders.specs.LinkedClasses.{AreLinksFor};
 ghost use Rattle.link_rules.specs.WrongMembers.{IsWrongField, IsWrongMethod, LeadsWrong};
 
-use crate::flags::{ABSTRACT, STATIC, has};
 use class_table::ClassTable;
-use jk_model::{Instr, List};
+use jk_model::opcodes::{
+    GETFIELD, GETSTATIC, INVOKEINTERFACE, INVOKESPECIAL, INVOKESTATIC, INVOKEVIRTUAL, PUTFIELD,
+    PUTSTATIC,
+};
+use jk_model::{AccessFlags, Instr, List, has};
 use jk_model_classes::Link;
 use member_lookup::{field_record, method_record};
-
-const INVOKESPECIAL: u8 = 0xb7;
-
-const INVOKESTATIC: u8 = 0xb8;
 
 /// Whether an instruction finds a member of the wrong sort by the entry that it names.
 pub(crate) fn finds_wrong(t: &ClassTable, links: &List<Link>, instr: &Instr) -> bool
@@ -60,35 +59,36 @@ fn leads_wrong(t: &ClassTable, op: u8, link: &Link) -> bool
 fn is_wrong_field(op: u8, flags: u16) -> bool
     ensures { IsTrue result ↔ IsWrongField op flags }
 {
-    (is_static_access(op) && !has(flags, STATIC)) || (is_instance_access(op) && has(flags, STATIC))
+    (is_static_access(op) && !has(flags, AccessFlags::STATIC))
+        || (is_instance_access(op) && has(flags, AccessFlags::STATIC))
 }
 
 /// Whether an instruction needs a method of another sort.
 fn is_wrong_method(op: u8, flags: u16) -> bool
     ensures { IsTrue result ↔ IsWrongMethod op flags }
 {
-    (op == INVOKESTATIC && !has(flags, STATIC))
-        || (is_instance_call(op) && has(flags, STATIC))
-        || (op == INVOKESPECIAL && has(flags, ABSTRACT))
+    (op == INVOKESTATIC && !has(flags, AccessFlags::STATIC))
+        || (is_instance_call(op) && has(flags, AccessFlags::STATIC))
+        || (op == INVOKESPECIAL && has(flags, AccessFlags::ABSTRACT))
 }
 
 /// Whether it is getstatic or putstatic.
 fn is_static_access(op: u8) -> bool
     ensures { result ≡ is_static_access op }
 {
-    op == 0xb2 || op == 0xb3
+    op == GETSTATIC || op == PUTSTATIC
 }
 
 /// Whether it is getfield or putfield.
 fn is_instance_access(op: u8) -> bool
     ensures { result ≡ is_instance_access op }
 {
-    op == 0xb4 || op == 0xb5
+    op == GETFIELD || op == PUTFIELD
 }
 
 /// Whether it is invokevirtual, invokespecial or invokeinterface.
 fn is_instance_call(op: u8) -> bool
     ensures { result ≡ is_instance_call op }
 {
-    op == 0xb6 || op == 0xb7 || op == 0xb9
+    op == INVOKEVIRTUAL || op == INVOKESPECIAL || op == INVOKEINTERFACE
 }
