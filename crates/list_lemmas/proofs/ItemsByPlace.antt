@@ -1,7 +1,9 @@
 -- The item at a place of a list that grew, was cut, or had one item replaced.
 use Rattle.std.proofs.Common.{◌≡◌, ◌≢◌, ℕ, zero, suc, ◌+◌, ◌<◌, ◌≤◌, List, [], ◌∷◌, ◌++◌, length, map, take, drop, set, get_or, Option, Some, None, slice_get, Bor, refl, sym, ap, subst, ◌∙◌, inl, inr, ◌⊎◌, arith}
+use Rattle.std.specs.List.{range_with_len}
 use Rattle.std.specs.Option.{option_map}
 use Rattle.std.specs.Slice.{IsItemAt}
+use Rattle.std.proofs.lemmas.List.FromFn.{get_or-map-range_with_len}
 use Rattle.std.proofs.lemmas.Option.{same_Some, slice_get-map, slice_get_within, slice_get_read, slice_get_past}
 
 module _ {X : Type 0} where
@@ -169,3 +171,10 @@ comes_from f xs k y e = by_place f xs k y (slice_get xs k) refl (sym (slice_get-
 
 pub mapped_at : {X Y : Type 0} (f : X → Y) (xs : List X) (k : ℕ) (x : X) → slice_get xs k ≡ Some x → slice_get (map f xs) k ≡ Some (f x)
 mapped_at f xs k x e = slice_get-map f xs k ∙ ap (option_map f) e
+
+-- functions that agree on a whole range agree on each number in it
+pub agree_within : {X : Type 0} (f g : ℕ → X) (d : X) (n k : ℕ) → map f (range_with_len 0 n) ≡ map g (range_with_len 0 n) → k < n → f k ≡ g k
+agree_within {X = X} f g d n k same lt =
+    let left = get_or-map-range_with_len f 0 n k k d lt (omega arith) in
+    let right = get_or-map-range_with_len g 0 n k k d lt (omega arith) in
+    sym left ∙ ap (λ (xs : List X). get_or xs k d) same ∙ right

@@ -1,9 +1,11 @@
 -- What tests and orders of numbers say.
-use Rattle.std.proofs.Common.{◌≡◌, ◌≢◌, ℕ, zero, suc, ◌+◌, ◌<◌, ◌≤◌, ◌⊎◌, inl, inr, Bool, true, false, not, IsTrue, ◌&&◌, Option, Some, None, pos, refl, ap, arith}
+use Rattle.std.proofs.Common.{◌≡◌, ◌≢◌, ℕ, zero, suc, ◌+◌, ◌<◌, ◌≤◌, ◌⊎◌, inl, inr, Bool, true, false, not, IsTrue, ◌&&◌, Option, Some, None, pos, refl, sym, ap, ◌∙◌, arith}
 use Rattle.std.specs.Prelude.{option_map}
-use Rattle.std.specs.Ordering.{is_eq}
+use Rattle.std.specs.BTreeMap.{is_at}
+use Rattle.std.specs.Ordering.{is_eq, nat_cmp}
 use Rattle.std.specs.declared.cmp.Ordering.{Ordering}
 use Rattle.std.specs.declared.cmp.Ordering.TheVariants.{Less, Equal, Greater}
+use Rattle.std.proofs.lemmas.Cmp.{tied_itself, nat_cmp_total}
 
 pub not_true : (b : Bool) → not b ≡ true → b ≡ false
 not_true true e = absurd cc
@@ -22,6 +24,9 @@ pub equal_by : (o : Ordering) → is_eq o ≡ true → o ≡ Equal
 equal_by Less e = absurd cc
 equal_by Equal e = refl
 equal_by Greater e = absurd cc
+
+pub found_itself : (n m : ℕ) → n ≡ m → is_at (nat_cmp n) m ≡ true
+found_itself n m same = ap (λ (k : ℕ). is_eq (nat_cmp n k)) (sym same) ∙ ap is_eq (tied_itself nat_cmp_total n)
 
 pub same_pos : (m n : ℕ) → pos m ≡ pos n → m ≡ n
 same_pos m n e = cc

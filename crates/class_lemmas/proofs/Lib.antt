@@ -1,0 +1,8 @@
+-- Lemmas on the definitions of jk_model_classes that several crates cite.
+pub mod ArraysHaveNoNames
+pub mod ClassesBelow
+pub mod ClassesInDescriptors
+pub mod CodeOfMethods
+pub mod EntriesAreGood
+pub mod OneMember
+pub mod SomeItem

@@ -1,0 +1,8 @@
+-- Lemmas on the definitions of jk_model that several crates cite.
+pub mod ClassNamesDecided
+pub mod LinesInTurn
+pub mod PartsAreShort
+pub mod PlacesOfInstrs
+pub mod SameNumbers
+pub mod TextsAreLong
+pub mod WordsInTurn

@@ -1,0 +1,3 @@
+-- Lemmas on the definitions of jk_model_typing that several crates cite.
+pub mod OneScope
+pub mod TypesOfValues
