@@ -7,6 +7,7 @@ pub mod EachHasItsName
 pub mod EmptyStruct
 pub mod FolderWalkSteps
 pub mod LineTexts
+pub mod LinesInTurn
 pub mod ListedAreThere
 pub mod LogsGrow
 pub mod NamesAreNames

@@ -9,6 +9,7 @@ pub mod Lines
 pub mod MemorySinks
 pub mod MemoryTrees
 pub mod Reading
+pub mod SeveralLines
 pub mod Streams
 pub mod Systems
 pub use Rattle.jk_model.specs.Outside
