@@ -7,7 +7,7 @@ use Rattle.std.proofs.lemmas.List.Elements.{filter_more}
 use Rattle.std.proofs.lemmas.Option.{get_or_from_slice_get, slice_get-map, slice_get_read, slice_get_within}
 use Rattle.jk_model.specs.declared.entries.Entry.{Entry}
 use Rattle.jk_model.proofs.EachItem.{all_at}
-use Rattle.jk_model.specs.Outside.{FileIs, FolderIsAbsent, FolderIsLong, HasRisen, Tree}
+use Rattle.jk_model.specs.Outside.{AreNamed, FileIs, FolderIs, FolderIsAbsent, FolderIsLong, HasRisen, Tree}
 use Rattle.jk_model_folders.specs.FolderTrees.{MOST_ENTRIES, MOST_LEVELS}
 use Rattle.jk_model_folders.specs.declared.files.FolderFile.{FolderFile}
 use Rattle.folder_reader.specs.declared.found.Found.{Found}
@@ -51,9 +51,10 @@ are_many None root found n w many = tt
 are_many (Some t) root found n w many = too_many_entries t root found n w many
 
 pub is_wide : (tree : Option Tree) (root : List ℕ) (f : Found) (k k' : ℕ) → IsPlace tree root f → f.folder ≡ true
-    → FolderIsLong tree (whole_path root f.path) MOST_ENTRIES k k' → IsLarge tree root
-is_wide None root f k k' place folder long = tt
-is_wide (Some t) root f k k' place folder long = too_wide t root f k k' place folder long
+    → FolderIsLong tree (whole_path root f.path) MOST_ENTRIES k k'
+    → ((entries : List Entry) → FolderIs tree (whole_path root f.path) entries → AreNamed tree entries) → IsLarge tree root
+is_wide None root f k k' place folder long named = tt
+is_wide (Some t) root f k k' place folder long named = too_wide t root f k k' place folder long named
 
 -- the folder that is read is absent
 pub is_absent : (tree : Option Tree) (root : List ℕ) (f : Found) (n n' : ℕ) → IsPlace tree root f → f.level ≡ 0

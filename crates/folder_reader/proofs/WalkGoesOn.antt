@@ -103,29 +103,39 @@ distinct_append (x ∷ xs) ys dx dy apart = (
     other x y true e ne = absurd (ne ((bytes_eq-Decides x y).0 e))
     other x y false e ne = refl
 
-names_apart : (f : Found) (e : Entry) (entries : List Entry) → IsNameBelow e.name → AllByRecursion (λ (x : Entry). IsNameBelow x.name) entries
+cancel : (front a b : List ℕ) → front ++ a ≡ front ++ b → a ≡ b
+cancel [] a b h = h
+cancel (c ∷ front) a b h =
+    let rest : front ++ a ≡ front ++ b = cc in
+    cancel front a b rest
+
+-- two names in one folder are told apart by their paths
+same_name : (path a b : List ℕ) → child path a ≡ child path b → a ≡ b
+same_name [] a b h = h
+same_name (c ∷ path) a b h = let slash : 47 ∷ a ≡ 47 ∷ b = cancel (c ∷ path) (47 ∷ a) (47 ∷ b) h in cc
+
+names_apart : (f : Found) (e : Entry) (entries : List Entry)
     → AllByRecursion (λ (n : List ℕ). bytes_eq e.name n ≡ false) (map (λ (x : Entry). x.name) entries)
     → AllByRecursion (λ (p : List ℕ). bytes_eq (child f.path e.name) p ≡ false) (paths_of (map (child_of f) entries))
-names_apart f e [] name names d = tt
-names_apart f e (x ∷ entries) name names d =
-    (other (bytes_eq (child f.path e.name) (child f.path x.name)) refl, names_apart f e entries name names.1 d.1)
+names_apart f e [] d = tt
+names_apart f e (x ∷ entries) d =
+    (other (bytes_eq (child f.path e.name) (child f.path x.name)) refl, names_apart f e entries d.1)
   where
     other : (b : Bool) → bytes_eq (child f.path e.name) (child f.path x.name) ≡ b → b ≡ false
-    other true is =
-        absurd (bytes_differ e.name x.name d.0 ((child_tells f.path f.path e.name x.name name names.0 ((bytes_eq-Decides _ _).0 is)).1))
+    other true is = absurd (bytes_differ e.name x.name d.0 (same_name f.path e.name x.name ((bytes_eq-Decides _ _).0 is)))
     other false is = refl
 
-entries_apart : (f : Found) (entries : List Entry) → AllByRecursion (λ (x : Entry). IsNameBelow x.name) entries
-    → IsDistinct bytes_eq (map (λ (x : Entry). x.name) entries) → IsDistinct bytes_eq (paths_of (map (child_of f) entries))
+pub entries_apart : (f : Found) (entries : List Entry) → IsDistinct bytes_eq (map (λ (x : Entry). x.name) entries)
+    → IsDistinct bytes_eq (paths_of (map (child_of f) entries))
 unfolding IsDistinct
-entries_apart f [] names d = tt
-entries_apart f (e ∷ entries) names d = (names_apart f e entries names.0 names.1 d.0, entries_apart f entries names.1 d.1)
+entries_apart f [] d = tt
+entries_apart f (e ∷ entries) d = (names_apart f e entries d.0, entries_apart f entries d.1)
 
 children_apart : (f : Found) (entries : List Entry) → AllByRecursion (λ (x : Entry). IsNameBelow x.name) entries
     → IsDistinct bytes_eq (map (λ (x : Entry). x.name) entries) → IsDistinct bytes_eq (paths_of (children f entries))
 children_apart f entries names d =
     let all : filter has_name entries ≡ entries = filter_all has_name entries (all_weaker (λ (x : Entry). IsNameBelow x.name) _ entries test_of_named names) in
-    subst (λ (es : List Entry). IsDistinct bytes_eq (paths_of (map (child_of f) es))) (sym all) (entries_apart f entries names d)
+    subst (λ (es : List Entry). IsDistinct bytes_eq (paths_of (map (child_of f) es))) (sym all) (entries_apart f entries d)
 
 same_place : (found : List Found) (i j : ℕ) (f g : Found) → IsDistinct bytes_eq (paths_of found) → slice_get found i ≡ Some f
     → slice_get found j ≡ Some g → f.path ≡ g.path → i < j → ⊥

@@ -10,23 +10,23 @@ use Rattle.std.proofs.lemmas.List.Elements.{filter_more}
 use Rattle.std.proofs.lemmas.List.Sums.{sum_by-append}
 use Rattle.std.proofs.lemmas.Slice.Eq.{bytes_eq-Decides, ends_is}
 use Rattle.jk_model.specs.declared.entries.Entry.{Entry}
-use Rattle.jk_model.specs.Outside.{FileIs, FolderIsLong, Tree, ◌/-◌}
+use Rattle.jk_model.specs.Outside.{AreNamed, FileIs, FolderIs, FolderIsLong, Tree, ◌/-◌}
 use Rattle.jk_model.proofs.EachItem.{all_front, all_push, all_weaker}
 use Rattle.std.proofs.lemmas.Option.{get_or_from_slice_get, slice_get_within}
 use Rattle.jk_model_folders.specs.declared.files.FolderFile.{FolderFile}
 use Rattle.jk_model_folders.specs.declared.files.FolderFiles.{FolderFiles}
-use Rattle.jk_model_folders.specs.FolderTrees.{AreFiles, AreFilesOf, AreToldFiles, HasClassFileAt, HasEntryAt, HasFileAt, IsClassPath, IsThatFile, IsTooLarge, deep_folder, wide_top, wide_folder, many_entries, many_files, long_file, long_resolver, long_together, MAX_CLASSES, MAX_FILE, MOST_ENTRIES, MOST_FILES, MOST_LEVELS, RESOLVER, StandsBelow, directly, deeper}
+use Rattle.jk_model_folders.specs.FolderTrees.{AreFiles, AreFilesOf, AreToldFiles, HasClassFileAt, HasEntryAt, HasFileAt, IsClassPath, IsThatFile, IsTooLarge, deep_folder, many_entries, many_files, long_file, long_resolver, long_together, MAX_CLASSES, MAX_FILE, MOST_ENTRIES, MOST_FILES, MOST_LEVELS, RESOLVER, StandsBelow, directly, deeper}
 use Rattle.folder_reader.specs.declared.found.Found.{Found}
 use Rattle.folder_reader.specs.Calls.{HasFile, HasFolder, IsLongFile}
 use Rattle.folder_reader.specs.FolderAnswers.{IsLarge, IsWithin}
 use Rattle.folder_reader.specs.Listings.{AreRead, IsFilePath, IsToldFilePath, IsToRead, sum_of}
 use Rattle.folder_reader.specs.Paths.{child, child_of, class_paths, is_class, is_resolver, IsRising, paths_of, top, whole_path}
 use Rattle.folder_reader.specs.Walks.{AreFound, IsBelow, IsFound, IsLooked, IsPlace, IsToldWalk, IsWalk}
-use Rattle.folder_reader.proofs.ItemsOfLists.{all_of, all_unmapped, each_of, in_filter, in_map, item_at, of_filter, of_map, place_of}
+use Rattle.folder_reader.proofs.ItemsOfLists.{all_mapped, all_of, all_unmapped, each_of, in_filter, in_map, item_at, of_filter, of_map, place_of}
 use Rattle.folder_reader.proofs.NoMoreThanFound.{length_within, sum_within}
 use Rattle.folder_reader.proofs.PathsInOrder.{rising_at}
 use Rattle.folder_reader.proofs.PathsTellNames.{whole_below}
-use Rattle.folder_reader.proofs.WalkGoesOn.{place_at}
+use Rattle.folder_reader.proofs.WalkGoesOn.{entries_apart, place_at, stands_in}
 
 -- ---- what stands below
 
@@ -49,14 +49,31 @@ too_deep t root f (inl is) folder deep = absurd (let level : f.level ≡ 0 = ap 
 too_deep t root f (inr b) folder deep =
     (root_is_listed t root f.path f.level b.entry b.stands, deep_folder f.path f.level b.entry b.stands (b.sort ∙ folder) deep)
 
-pub too_wide : (t : Tree) (root : List ℕ) (f : Found) (k k' : ℕ) → IsPlace (Some t) root f → f.folder ≡ true
-    → FolderIsLong (Some t) (whole_path root f.path) MOST_ENTRIES k k' → IsLarge (Some t) root
-too_wide t root f k k' (inl is) folder (entries, listed, long) =
+-- the entries of one folder stand below, each at its own path
+wide_entries : (t : Tree) (root : List ℕ) (f : Found) (entries : List Entry) → IsPlace (Some t) root f → f.folder ≡ true
+    → t.folder (whole_path root f.path) ≡ Some entries → AllByRecursion (HasEntryAt t root) (paths_of (map (child_of f) entries))
+wide_entries t root f entries place folder listed =
+    all_mapped (λ (g : Found). g.path) (HasEntryAt t root) (map (child_of f) entries)
+    (all_mapped (child_of f) (λ (g : Found). HasEntryAt t root g.path) entries
+    (all_of (λ (e : Entry). HasEntryAt t root (child f.path e.name)) entries (λ e h. (f.level + 1, e, stands_in t root f entries e place folder listed h))))
+
+place_is_listed : (t : Tree) (root : List ℕ) (f : Found) (entries : List Entry) → IsPlace (Some t) root f → t.folder (whole_path root f.path) ≡ Some entries
+    → t.folder root ≢ None
+place_is_listed t root f entries (inl is) listed =
     let at : t.folder root ≡ Some entries = subst (λ (g : Found). t.folder (whole_path root g.path) ≡ Some entries) is listed in
-    ((λ none. absurd cc), wide_top entries at long)
-too_wide t root f k k' (inr b) folder (entries, listed, long) =
-    let at : t.folder (root /- f.path) ≡ Some entries = ap t.folder (sym (whole_below root f.path b.named)) ∙ listed in
-    (root_is_listed t root f.path f.level b.entry b.stands, wide_folder f.path f.level b.entry entries b.stands (b.sort ∙ folder) at long)
+    λ none. absurd cc
+place_is_listed t root f entries (inr b) listed = root_is_listed t root f.path f.level b.entry b.stands
+
+pub too_wide : (t : Tree) (root : List ℕ) (f : Found) (k k' : ℕ) → IsPlace (Some t) root f → f.folder ≡ true
+    → FolderIsLong (Some t) (whole_path root f.path) MOST_ENTRIES k k'
+    → ((entries : List Entry) → FolderIs (Some t) (whole_path root f.path) entries → AreNamed (Some t) entries) → IsLarge (Some t) root
+too_wide t root f k k' place folder (entries, listed, long) named =
+    let paths = length-map (map (child_of f) entries) (λ (g : Found). g.path) in
+    let found = length-map entries (child_of f) in (
+      place_is_listed t root f entries place listed,
+      many_entries (paths_of (map (child_of f) entries)) (entries_apart f entries (named entries listed).1) (wide_entries t root f entries place folder listed)
+          (omega (arith, long, paths, found)),
+    )
 
 entries_at : (t : Tree) (root : List ℕ) (below : List Found) → AllByRecursion (IsBelow t root) below → AllByRecursion (HasEntryAt t root) (paths_of below)
 entries_at t root [] h = tt
@@ -349,26 +366,6 @@ module _ (t : Tree) (root : List ℕ) (found : List Found) (w : IsWalk t root fo
       let low = looked.shallow in
       omega arith
 
-  no_wide_folder : (path : List ℕ) (level : ℕ) (e : Entry) (entries : List Entry) → StandsBelow t root path level e → e.folder ≡ true
-      → t.folder (root /- path) ≡ Some entries → MOST_ENTRIES < length entries → ⊥
-  no_wide_folder path level e entries s folder l wide =
-      let f : Found = record { path = path; level = level; folder = e.folder } in
-      let at = place_of found f (all_found path level e s) in
-      let looked = w.each at.0 f (slice_get_within found at.0 f at.1) at.1 folder in
-      let some : path ≢ [] = below_is at.0 path level e s at.1 in
-      let same = same_list looked.entries entries (root /- path) (ap t.folder (sym (whole_below root path some)) ∙ looked.listed) l in
-      let few = looked.few in
-      let lengths = ap length same in
-      omega (arith, few, lengths)
-    where
-      below_is : (k : ℕ) (p : List ℕ) (n : ℕ) (above : Entry) → StandsBelow t root p n above
-          → slice_get found k ≡ Some (record { path = p; level = n; folder = above.folder }) → p ≢ []
-      below_is k p n above s at =
-          elim (place_at t root found (length found) k _ w at) [
-            | inl is ↦ absurd (let low = level_is_below t root p n above s in let level : n ≡ 0 = ap (λ (g : Found). g.level) is in omega arith)
-            | inr b ↦ b.named
-          ]
-
   in_below : (f : Found) → 0 < f.level → Contains found f → Contains w.below f
   in_below f deep h = by (place_of (top ∷ w.below) f (subst (λ (xs : List Found). Contains xs f) w.shape h))
     where
@@ -454,13 +451,6 @@ module _ (t : Tree) (root : List ℕ) (found : List Found) (w : IsWalk t root fo
 
   not_large : IsTooLarge t root → ⊥
   not_large (deep_folder path level e s folder deep) = no_deep_folder t root found w path level e s folder deep
-  not_large (wide_top entries l wide) =
-      let looked = top_looked t root found w in
-      let same = same_list t root found w looked.entries entries root looked.listed l in
-      let small = looked.few in
-      let lengths = ap length same in
-      omega (arith, small, lengths)
-  not_large (wide_folder path level e entries s folder l wide) = no_wide_folder t root found w path level e entries s folder l wide
   not_large (many_entries ps d h many) = no_more_entries t root found w few ps d h many
   not_large (many_files fs d h many) =
       let are = all_weaker (IsThatFile t root) (Contains files.classes) fs that_is_read h in

@@ -3,7 +3,7 @@
 ghost use Rattle.std.specs.Prelude.{◌≡◌, ◌≢◌, ◌≤◌, ℕ, length, true, Err, IfOk, IsUtf8, Option, Some, List, take};
 ghost use Rattle.std.specs.List.{AllByRecursion};
 ghost use Rattle.jk_model.specs.declared.entries.Entry.{Entry};
-ghost use Rattle.jk_model.specs.Outside.{FileIs, FolderIsAbsent, FolderIsLong, HasRisen, Tree};
+ghost use Rattle.jk_model.specs.Outside.{AreNamed, FileIs, FolderIs, FolderIsAbsent, FolderIsLong, HasRisen, Tree};
 ghost use Rattle.jk_model_folders.specs.FolderTrees.{MAX_FILE, MOST_ENTRIES};
 ghost use Rattle.folder_reader.specs.Calls.{HasFile, IsListing, IsLongFile, Moves};
 ghost use Rattle.folder_reader.specs.FolderAnswers.{Counts, IsAbsent, IsLarge, IsWithin};
@@ -31,6 +31,8 @@ fn entries_of<F: Files>(files: &mut F, root: &str, folder: &str) -> Result<List<
     ensures no_folder { result ≡ Err Why.NoFolder → FolderIsAbsent (F.tree files.old) folder.now (F.faults files.old) (F.faults files.new) }
     ensures too_large { result ≡ Err Why.TooLarge
         → FolderIsLong (F.tree files.old) folder.now MOST_ENTRIES (F.taken files.old) (F.taken files.new) }
+    ensures long_named { result ≡ Err Why.TooLarge
+        → (entries : List Entry) → FolderIs (F.tree files.old) folder.now entries → AreNamed (F.tree files.old) entries }
     ensures read_fault { result ≡ Err Why.ReadFault → HasRisen (F.faults files.old) (F.faults files.new) }
     ensures something { F.asked files.new ≢ F.asked files.old }
     ensures calm { (t : Tree) → F.tree files.old ≡ Some t → result ≢ Err Why.ReadFault → F.faults files.new ≡ F.faults files.old }

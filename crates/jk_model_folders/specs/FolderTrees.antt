@@ -34,7 +34,7 @@ HasClassFileAt t root path bytes = IsClassPath path × HasFileAt t root path byt
 abbrev pub RESOLVER : List ℕ
 RESOLVER = codes "resolver.txt"
 
--- ---- L5. A folder that lists too many entries is too large, whatever it lists twice.
+-- ---- L5, a folder that is too large
 
 -- the greatest file, and the greatest sum of all class files, in bytes
 abbrev pub MAX_FILE : ℕ
@@ -62,9 +62,6 @@ IsThatFile t root f = HasClassFileAt t root f.path f.bytes
 pub data IsTooLarge (t : Tree) (root : List ℕ) : Type 0 where
   deep_folder : (path : List ℕ) (level : ℕ) (e : Entry) → StandsBelow t root path level e → e.folder ≡ true → MOST_LEVELS < level
       → IsTooLarge t root
-  wide_top : (entries : List Entry) → t.folder root ≡ Some entries → MOST_ENTRIES < length entries → IsTooLarge t root
-  wide_folder : (path : List ℕ) (level : ℕ) (e : Entry) (entries : List Entry) → StandsBelow t root path level e → e.folder ≡ true
-      → t.folder (root /- path) ≡ Some entries → MOST_ENTRIES < length entries → IsTooLarge t root
   many_entries : (paths : List (List ℕ)) → AreDistinct paths → AllByRecursion (HasEntryAt t root) paths
       → MOST_ENTRIES < length paths → IsTooLarge t root
   many_files : (files : List FolderFile) → AreDistinct (map (λ (f : FolderFile). f.path) files) → AllByRecursion (IsThatFile t root) files

@@ -1,4 +1,5 @@
-//! The world outside, behind two traits: files that are listed and read, and sinks that bytes go out to. Contracts name what
+//! The world outside, behind two traits: files that are listed and read, and sinks that bytes go out to. A third says what a
+//! system does for files, and `Disk` passes it on to the one that the program runs on. Contracts name what
 //! is told: files in memory tell their tree, and a disk doesn't. Every fault is counted, so that an answer other than the
 //! good one has its cause.
 #![tactic(auto)]

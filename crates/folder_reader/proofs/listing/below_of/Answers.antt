@@ -9,5 +9,6 @@ pub returns-clause-too_large : goal.returns-clause-too_large
 returns-clause-too_large g c = λ is.
     let path = c.as_str.ensures.value ∙ c.in_ok-folder.ensures ∙ ap (whole_path c.args.root.now) (c.text_of.ensures ∙ c.as_slice.ensures) in
     let same = err_inner _ _ (Err _) refl is in
+    let large = c.in-Err.is ∙ ap Err (sym c.in-Err.e-is ∙ same) in
     is_wide _ c.args.root.now c.args.above.now _ _ c.requires.place c.requires.folder
-    (rw path at (c.entries_of.ensures.too_large (c.in-Err.is ∙ ap Err (sym c.in-Err.e-is ∙ same))))
+    (rw path at (c.entries_of.ensures.too_large large)) (rw path at (c.entries_of.ensures.long_named large))
