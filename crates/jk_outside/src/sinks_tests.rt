@@ -4,7 +4,7 @@ ghost use Rattle.std.specs.Prelude.{◌<◌, length};
 
 use crate::{
     LineBuffer, LineRef, MemorySink, Part, PlaceRef, Sink, SinkFailed, StreamSink, print_line,
-    write_line,
+    print_next, print_none, write_line,
 };
 use jk_model::{Rule, ThreadNo};
 use std::io;
@@ -264,6 +264,28 @@ fn prints_each_kind_of_line(rt: HostRuntime) -> Result<(), Fail> {
         let mut sink = MemorySink::with_room(rt.alloc(), 100, &[])?;
         print_line(line, &mut sink)?;
         assert!(rt; sink.bytes() == text);
+    }
+    Ok(())
+}
+
+#[test]
+fn prints_no_more_after_a_failure(rt: HostRuntime) -> Result<(), Fail> {
+    let all = b"* domain a killed\n* thread 1 ended by kill\n* thread 2 ended by kill\n".as_slice();
+    // The second line fails, and there is room for the third.
+    for (fails, wanted) in [(0, all), (2, b"* domain a killed\n".as_slice())] {
+        let mut sink = MemorySink::with_room(rt.alloc(), 1000, &[fails])?;
+        let killed = print_next(
+            print_none(&sink),
+            LineRef::Killed { domain: b"a" },
+            &mut sink,
+        );
+        let thread = ThreadNo(1);
+        let first = print_next(killed, LineRef::EndedByKill { thread }, &mut sink);
+        let thread = ThreadNo(2);
+        let last = print_next(first, LineRef::EndedByKill { thread }, &mut sink);
+        assert!(rt; last.is_err() == (fails == 2));
+        assert!(rt; sink.bytes().starts_with(wanted));
+        assert!(rt; !sink.bytes().ends_with(b"2 ended by kill\n") || fails == 0);
     }
     Ok(())
 }
