@@ -2,7 +2,6 @@
 
 ghost use Rattle.std.specs.Prelude.{◌≡◌, ◌↔◌, ℕ, ◌<◌, IfOk, IfNone, IfSome, IsTrue, Some, length, slice_get};
 ghost use Rattle.jk_model.specs.declared.class_file.ClassFile.{ClassFile as AClassFile};
-ghost use Rattle.jk_model_classes.specs.ClassFlags.{has};
 ghost use Rattle.jk_model_classes.specs.Items.{Member, Spot};
 ghost use Rattle.jk_model_classes.specs.References.{HasBadHierarchy, HasBadInterface, HasBadParent, MissesClass};
 ghost use Rattle.name_rules.specs.BadHierarchies.{HasOwnNames, IsBadAt, IsBadParent, IsNoInterface, IsUnfit, TextIsBad, folder_scope};
@@ -16,25 +15,14 @@ use crate::scope::{Scope, flags_of, is_closed};
 use class_files::FolderClass;
 use class_table::ClassTable;
 use domain_resolver::NameTable;
-use jk_model::{ClassFile, OutOfMemory};
+use jk_model::{AccessFlags, ClassFile, OutOfMemory, has};
 use shared_values::Text;
 use std::alloc::Global;
-
-const FINAL: u16 = 0x0010;
-
-const INTERFACE: u16 = 0x0200;
 
 /// `java/lang/Object`
 const OBJECT: [u16; 16] = [
     106, 97, 118, 97, 47, 108, 97, 110, 103, 47, 79, 98, 106, 101, 99, 116,
 ];
-
-/// Whether a flag is set.
-fn has_flag(flags: u16, flag: u16) -> bool
-    ensures { result ≡ has flags flag }
-{
-    flags & flag == flag
-}
 
 /// Whether a name means an interface or a final class.
 fn is_unfit(x: &Scope, name: &[u16]) -> bool
@@ -42,7 +30,7 @@ fn is_unfit(x: &Scope, name: &[u16]) -> bool
     ensures { IsTrue result ↔ IsUnfit (folder_scope x.now) name.now }
 {
     match flags_of(x, name) {
-        Some(flags) => has_flag(flags, INTERFACE) || has_flag(flags, FINAL),
+        Some(flags) => has(flags, AccessFlags::INTERFACE) || has(flags, AccessFlags::FINAL),
         None => false,
     }
 }
@@ -53,7 +41,7 @@ fn is_no_interface(x: &Scope, name: &[u16]) -> bool
     ensures { IsTrue result ↔ IsNoInterface (folder_scope x.now) name.now }
 {
     match flags_of(x, name) {
-        Some(flags) => !has_flag(flags, INTERFACE),
+        Some(flags) => !has(flags, AccessFlags::INTERFACE),
         None => false,
     }
 }
@@ -69,7 +57,7 @@ fn is_bad_parent(x: &Scope, c: &ClassFile, name: &Text) -> bool
     if is_unfit(x, name.as_slice()) {
         return true;
     }
-    has_flag(c.flags, INTERFACE) && !name.is(&OBJECT)
+    has(c.flags, AccessFlags::INTERFACE) && !name.is(&OBJECT)
 }
 
 /// Whether a class file extends what it may not.

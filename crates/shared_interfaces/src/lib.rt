@@ -4,7 +4,6 @@
 
 mod class_rule;
 mod earliest;
-mod flags;
 pub mod laws;
 mod path_order;
 mod references;

@@ -9,11 +9,10 @@ ghost use Rattle.shared_interfaces.specs.Shapes.{IsSilent, IsSilentAt};
 ghost use Rattle.shared_interfaces.specs.SystemNames.{AreRemoteNumbers};
 
 use crate::class_rule::{ClassRule, first_to_break};
-use crate::flags::{INTERFACE, has};
 use crate::remote_numbers::{RemoteNumbers, is_remote, remote_numbers, some_announces};
 use class_table::ClassTable;
 use domain_resolver::World;
-use jk_model::{ClassId, List, Rule};
+use jk_model::{AccessFlags, ClassId, List, Rule, has};
 use jk_model_classes::{ClassFault, ClassRecord, MethodRecord};
 
 /// `<clinit>`.
@@ -69,7 +68,7 @@ impl ClassRule for RemoteShape<'_> {
 
     fn least_number(&self, c: ClassId, class: &ClassRecord, passed: usize) -> Option<u32> {
         self.classes.ordered();
-        if !has(class.flags, INTERFACE) || !is_remote(&self.numbers, self.classes, c) {
+        if !has(class.flags, AccessFlags::INTERFACE) || !is_remote(&self.numbers, self.classes, c) {
             return None;
         }
         if lists_other(&self.numbers, self.classes, class.interfaces.as_slice()) {

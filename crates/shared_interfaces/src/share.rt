@@ -6,11 +6,10 @@ ghost use Rattle.shared_interfaces.specs.Earliest.{IsLeast};
 ghost use Rattle.shared_interfaces.specs.Shapes.{IsStaticAt};
 
 use crate::class_rule::{ClassRule, first_to_break};
-use crate::flags::{STATIC, has};
 use crate::references::first_exposed;
 use class_table::ClassTable;
 use domain_resolver::{Offers, World};
-use jk_model::{ClassId, DomainId, Rule};
+use jk_model::{AccessFlags, ClassId, DomainId, Rule, has};
 use jk_model_classes::{ClassFault, ClassRecord, FieldRecord};
 
 /// The first of C25 and C26 that the shared classes of a folder break, with the class whose file comes first and the least
@@ -86,7 +85,7 @@ fn first_static(fields: &[FieldRecord]) -> Option<u32>
     ensures { IsLeast (IsStaticAt fields.now) result }
 {
     for (i, field) in fields.iter().enumerate() {
-        if has(field.flags, STATIC) {
+        if has(field.flags, AccessFlags::STATIC) {
             return Some(i as u32 + 1);
         }
     }

@@ -18,22 +18,22 @@ returns-then-is_unfit c =
     unfit_parent s c.args.c.now c.args.name.now
     (subst (λ (n : List ℕ). IsUnfit s n) c.as_slice-2.ensures (c.is_unfit.ensures.0 c.if-is_unfit.true))
 
-pub returns-then-has_flag : goal.returns-then-has_flag
-returns-then-has_flag c =
+pub returns-then-has : goal.returns-then-has
+returns-then-has c =
     let s = folder_scope c.args.x.now in
     let name = c.args.name.now in
     last_parent s c.args.c.now name (not c.is.result)
     (λ closed. iff_false c.is_closed.ensures c.if-is_closed.false (subst (λ (n : List ℕ). IsClosedNamed n) (sym c.as_slice.ensures) closed))
     (λ unfit. iff_false c.is_unfit.ensures c.if-is_unfit.false (subst (λ (n : List ℕ). IsUnfit s n) (sym c.as_slice-2.ensures) unfit)) (
-      λ t. (sym c.has_flag.ensures ∙ c.if-has_flag.true, (denied (name ≡ codes "java/lang/Object") c.is.result c.is.ensures).0 t),
+      λ t. (sym c.has.ensures ∙ c.if-has.true, (denied (name ≡ codes "java/lang/Object") c.is.result c.is.ensures).0 t),
       λ (low, other). (denied (name ≡ codes "java/lang/Object") c.is.result c.is.ensures).1 other,
     )
 
-pub returns-else-has_flag : goal.returns-else-has_flag
-returns-else-has_flag c =
+pub returns-else-has : goal.returns-else-has
+returns-else-has c =
     let s = folder_scope c.args.x.now in
     let name = c.args.name.now in
-    last_parent s c.args.c.now name c.has_flag.result
+    last_parent s c.args.c.now name c.has.result
     (λ closed. iff_false c.is_closed.ensures c.if-is_closed.false (subst (λ (n : List ℕ). IsClosedNamed n) (sym c.as_slice.ensures) closed))
     (λ unfit. iff_false c.is_unfit.ensures c.if-is_unfit.false (subst (λ (n : List ℕ). IsUnfit s n) (sym c.as_slice-2.ensures) unfit))
-    (λ t. absurd (let never : false ≡ true = sym c.if-has_flag.false ∙ t in cc), λ (low, other). c.has_flag.ensures ∙ low)
+    (λ t. absurd (let never : false ≡ true = sym c.if-has.false ∙ t in cc), λ (low, other). c.has.ensures ∙ low)

@@ -9,8 +9,8 @@ use Rattle.name_rules.proofs.hierarchies.is_no_interface.Goals as goal
 pub returns-in-Some : goal.returns-in-Some
 returns-in-Some c =
     let low = λ (f : ℕ). IsTrue (not (has f INTERFACE)) in
-    some_test (FlagsOfNamed (folder_scope c.args.x.now) c.args.name.now) low c.in-Some.flags (not c.has_flag.result) c.in-Some.ensures
-    (subst (λ (r : Bool). IsTrue (not r) ↔ low c.in-Some.flags) (sym c.has_flag.ensures) (λ t. t, λ t. t))
+    some_test (FlagsOfNamed (folder_scope c.args.x.now) c.args.name.now) low c.in-Some.flags (not c.has.result) c.in-Some.ensures
+    (subst (λ (r : Bool). IsTrue (not r) ↔ low c.in-Some.flags) (sym c.has.ensures) (λ t. t, λ t. t))
 
 pub returns-in-None : goal.returns-in-None
 returns-in-None c =

@@ -9,20 +9,20 @@ use Rattle.name_rules.proofs.hierarchies.is_unfit.Goals as goal
 abbrev Unfit : ℕ → Type 0
 Unfit f = IsTrue (has f INTERFACE) ⊎ IsTrue (has f FINAL)
 
-pub returns-then-has_flag : goal.returns-then-has_flag
-returns-then-has_flag c =
+pub returns-then-has : goal.returns-then-has
+returns-then-has c =
     let flags = c.in-Some.flags in
-    some_test (FlagsOfNamed (folder_scope c.args.x.now) c.args.name.now) Unfit flags c.has_flag.result c.in-Some.ensures
-    (λ t. inl (sym c.has_flag.ensures ∙ t), λ h. c.if-has_flag.true)
+    some_test (FlagsOfNamed (folder_scope c.args.x.now) c.args.name.now) Unfit flags c.has.result c.in-Some.ensures
+    (λ t. inl (sym c.has.ensures ∙ t), λ h. c.if-has.true)
 
-pub returns-else-has_flag : goal.returns-else-has_flag
-returns-else-has_flag c =
+pub returns-else-has : goal.returns-else-has
+returns-else-has c =
     let flags = c.in-Some.flags in
-    some_test (FlagsOfNamed (folder_scope c.args.x.now) c.args.name.now) Unfit flags c.has_flag-else-has_flag.result c.in-Some.ensures (
-      λ t. inr (sym c.has_flag-else-has_flag.ensures ∙ t),
+    some_test (FlagsOfNamed (folder_scope c.args.x.now) c.args.name.now) Unfit flags c.has-else-has.result c.in-Some.ensures (
+      λ t. inr (sym c.has-else-has.ensures ∙ t),
       λ h. elim h [
-        | inl interface ↦ absurd (let never : false ≡ true = sym c.if-has_flag.false ∙ c.has_flag.ensures ∙ interface in cc)
-        | inr closed ↦ c.has_flag-else-has_flag.ensures ∙ closed
+        | inl interface ↦ absurd (let never : false ≡ true = sym c.if-has.false ∙ c.has.ensures ∙ interface in cc)
+        | inr closed ↦ c.has-else-has.ensures ∙ closed
       ],
     )
 
