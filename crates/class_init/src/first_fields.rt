@@ -1,16 +1,14 @@
 //! The static fields of a class as they begin.
 
 ghost use Rattle.std.specs.Prelude.{◌≡◌, ◌≤◌, IfOk, length, map};
-ghost use Rattle.jk_model_classes.specs.ClassFlags.{STATIC as A_STATIC, has};
+ghost use Rattle.jk_model_classes.specs.ClassFlags.{STATIC, has};
 ghost use Rattle.jk_model_domains.specs.OwnStates.{first_statics, first_value, zero_of};
 ghost use Rattle.class_init.specs.Statics.{statics_from};
 
 use crate::statics::{FieldSlot, Statics};
-use jk_model::{OutOfMemory, Value};
+use jk_model::{AccessFlags, OutOfMemory, Value, has};
 use jk_model_classes::{BaseRef, FieldRecord, Link, TypeRef};
 use std::alloc::Global;
-
-const STATIC: u16 = 0x0008;
 
 /// The static fields among these, each with its whole-number constant, or else 0 or null.
 pub(crate) fn first_fields(alloc: Global, fields: &[FieldRecord]) -> Result<Statics, OutOfMemory>
@@ -29,9 +27,9 @@ pub(crate) fn first_fields(alloc: Global, fields: &[FieldRecord]) -> Result<Stat
 
 /// Whether the class has such a field, and not its objects.
 fn is_static(field: &FieldRecord) -> bool
-    ensures { result ≡ has field.now.flags A_STATIC }
+    ensures { result ≡ has field.now.flags STATIC }
 {
-    field.flags & STATIC == STATIC
+    has(field.flags, AccessFlags::STATIC)
 }
 
 /// A static field as it begins.
