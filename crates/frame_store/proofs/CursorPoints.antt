@@ -75,7 +75,7 @@ module _ {S : Type 0} (m : IndexMap ℕ DomainFrames S) (t : SegmentTable) (owed
 -- ---- A cursor that has what is found.
 
 module _ {S : Type 0} (m : IndexMap ℕ DomainFrames S) (t : SegmentTable) (s : ℕ) (c : Cursor) (x : DomainFrames) (slot : ℕ) (f : IsFound m t s x slot)
-    (entry_is : slice_get m.entries c.domain ≡ Some (f.domain, x)) (top_is : IsTopOf x slot c.frame) (lowest_is : c.lowest ≡ lowest_block x c.frame) where
+    (entry_is : slice_get m.entries c.domain ≡ Some (f.domain, x)) (top_is : IsTopOf x slot c.frame) (lowest_is : c.lowest ≡ lowest_block x c.frame) (place_is : table.place_in t s ≡ Some c.place) where
   module _ (z : DomainFrames) (i : ℕ) (g : IsFound m t s z i) where
     same_place : (let here : Place = record { domain = g.domain; slot = i } in let there : Place = record { domain = f.domain; slot = slot } in here ≡ there)
     same_place = same_some _ _ (sym g.at ∙ f.at)
@@ -99,7 +99,7 @@ module _ {S : Type 0} (m : IndexMap ℕ DomainFrames S) (t : SegmentTable) (s : 
     lowest_at = lowest_is ∙ ap (λ (w : DomainFrames). lowest_block w c.frame) (sym same_frames)
 
   pub points : PointsAt m t s c
-  points = record { top = record { in_table = ap is_some f.at; entry = entry_at; top = top_at }; lowest = lowest_at }
+  points = record { place = place_is; top = record { in_table = ap is_some f.at; entry = entry_at; top = top_at }; lowest = lowest_at }
 
 module _ {S : Type 0} (m : IndexMap ℕ DomainFrames S) (t : SegmentTable) (s at slot : ℕ) (k : HasTopAt m t s at slot) where
   abbrev pub place_stands : HasDomainAt m at
@@ -107,13 +107,13 @@ module _ {S : Type 0} (m : IndexMap ℕ DomainFrames S) (t : SegmentTable) (s at
 
   -- where a call reads the domain at the place
   pub points_at : (c : Cursor) (x : DomainFrames) → x ≡ k.domain → c.domain ≡ at → c.frame ≡ top_number x slot → c.lowest ≡ lowest_block x c.frame
-      → PointsAt m t s c
-  points_at c x same here frame lowest =
+      → table.place_in t s ≡ Some c.place → PointsAt m t s c
+  points_at c x same here frame lowest place_is =
       let z = k.domain in
       points m t s c z slot k.found
       (ap (λ i. slice_get m.entries i) here ∙ k.entry)
       (record { has_top = k.has_top; is = frame ∙ ap (λ (w : DomainFrames). top_number w slot) same })
-      (lowest ∙ ap (λ (w : DomainFrames). lowest_block w c.frame) same)
+      (lowest ∙ ap (λ (w : DomainFrames). lowest_block w c.frame) same) place_is
 
 -- ---- After a write in the domain that leaves its chains as they are.
 
@@ -138,7 +138,7 @@ module _ {S : Type 0} (m : IndexMap ℕ DomainFrames S) (t : SegmentTable) (owed
       let p : Place = record { domain = f.domain; slot = slot } in
       let g : IsFound n t s.0 y slot = record { domain = f.domain; at = f.at; is = get_here m n t owed s p x y h f.at f.is wrote } in
       points n t s.0 c y slot g (set_here m.entries c.domain f.domain x y (k.top.entry x slot f)) (same_top x y slot c.frame chunks frames (k.top.top x slot f))
-      (k.lowest x slot f ∙ ap (λ (q : Chains). place q c.frame 0) (sym parts))
+      (k.lowest x slot f ∙ ap (λ (q : Chains). place q c.frame 0) (sym parts)) k.place
 
 -- ---- After a frame is pushed or popped in the domain.
 

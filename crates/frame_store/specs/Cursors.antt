@@ -16,8 +16,9 @@ module _ {S : Type 0} where
     pub entry : (x : DomainFrames) (slot : ℕ) (found : IsFound domains places s x slot) → slice_get domains.entries place ≡ Some (found.domain, x)
     pub top : (x : DomainFrames) (slot : ℕ) → IsFound domains places s x slot → IsTopOf x slot frame
 
-  -- The cursor has where the segment's top frame is, and that frame's lowest block.
+  -- The cursor has where the segment stands, where its top frame is, and that frame's lowest block.
   pub record PointsAt (domains : IndexMap ℕ DomainFrames S) (places : SegmentTable) (s : ℕ) (c : Cursor) : Type 0 where
+    pub place : table.place_in places s ≡ Some c.place
     pub top : IsTopAt domains places s c.domain c.frame
     pub lowest : (x : DomainFrames) (slot : ℕ) → IsFound domains places s x slot → c.lowest ≡ lowest_block x c.frame
 

@@ -1,12 +1,16 @@
 //! Where a store was last at work.
 
+use crate::segment_table::Place;
+
 /// Where the top frame of the segment that a store last touched is, so that a run of calls on one segment looks it up once:
-/// the segment's number, the place of its domain in the map, the frame's number in the domain, and the frame's lowest block.
+/// the segment's number and where it stands, the place of its domain in the map, the frame's number in the domain, and the
+/// frame's lowest block.
 /// Nothing of it has a meaning while it isn't set.
 #[derive(Clone, Copy)]
 pub(crate) struct Cursor {
     pub(crate) set: bool,
     pub(crate) segment: u64,
+    pub(crate) place: Place,
     pub(crate) domain: usize,
     pub(crate) frame: usize,
     pub(crate) lowest: usize,
@@ -16,6 +20,7 @@ pub(crate) struct Cursor {
 pub(crate) const UNSET: Cursor = Cursor {
     set: false,
     segment: 0,
+    place: Place { domain: 0, slot: 0 },
     domain: 0,
     frame: 0,
     lowest: 0,

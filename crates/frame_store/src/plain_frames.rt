@@ -117,11 +117,25 @@ impl PlainFrames {
 }
 
 impl PlainFrames {
-    ghost use Rattle.std.specs.Prelude.{◌≡◌, ℕ, ◌-◌, Some, IsTrue, ◌↔◌, length, slice_get};
+    ghost use Rattle.std.specs.Prelude.{◌≡◌, ℕ, ◌-◌, Some, IsSome, IsTrue, ◌↔◌, length, slice_get};
+    ghost use Rattle.frame_store.specs.TableMoves.{place_in};
     ghost use Rattle.jk_model_frames.specs.Frames.{FrameState as AFrame};
     ghost use Rattle.frame_store.specs.FrameContents.{HasTop, HasLocal, HasEntry, TopFrame};
     ghost use Rattle.frame_store.specs.StoreContents.{content_of, StandsAt};
     ghost use Rattle.frame_store.specs.Cursors.{HasDomainAt, HasTopAt, IsTopAt, PointsAt};
+
+    /// Where a segment's domain stands in the map, and where the segment stands. The cursor has both where it is at the segment.
+    fn whereabouts(&self, s: SegmentNo) -> (usize, Place)
+        requires { IsSome (place_in self.now.places s.0) }
+        ensures place { place_in self.now.places s.0 ≡ Some result.1 }
+        ensures stands { StandsAt self.now.domains result.1.domain result.0 }
+    {
+        if self.is_at(s) {
+            return (self.cursor.domain, self.cursor.place);
+        }
+        let p = self.place(s);
+        (self.index_of(p.domain), p)
+    }
 
     /// Whether the cursor is at a segment.
     fn is_at(&self, s: SegmentNo) -> bool
@@ -165,29 +179,32 @@ impl PlainFrames {
     {
         let p = self.place(s);
         let domain = self.index_of(p.domain);
-        self.cursor_at(s, domain, p.slot)
+        self.cursor_at(s, domain, p)
     }
 
     /// Moves the cursor to a segment that was found.
-    fn aim(&mut self, s: SegmentNo, place: usize, slot: u32)
-        requires { HasTopAt self.old.domains self.old.places s.0 place slot }
+    fn aim(&mut self, s: SegmentNo, place: usize, p: Place)
+        requires found { HasTopAt self.old.domains self.old.places s.0 place p.slot }
+        requires place { place_in self.old.places s.0 ≡ Some p }
         ensures { content_of self.new.domains self.new.places ≡ content_of self.old.domains self.old.places }
     {
-        self.cursor = self.cursor_at(s, place, slot);
+        self.cursor = self.cursor_at(s, place, p);
     }
 
-    /// Where the top frame of a segment is, which is found in this slot of the domain at this place of the map.
-    fn cursor_at(&self, s: SegmentNo, place: usize, slot: u32) -> Cursor
-        requires { HasTopAt self.now.domains self.now.places s.0 place slot }
+    /// Where the top frame of a segment is, which stands so, in the domain at this place of the map.
+    fn cursor_at(&self, s: SegmentNo, place: usize, p: Place) -> Cursor
+        requires found { HasTopAt self.now.domains self.now.places s.0 place p.slot }
+        requires place { place_in self.now.places s.0 ≡ Some p }
         ensures set { IsTrue result.set }
         ensures segment { result.segment ≡ s.0 }
         ensures points { PointsAt self.now.domains self.now.places s.0 result }
     {
         let x = self.at(place);
-        let frame = x.top(slot);
+        let frame = x.top(p.slot);
         Cursor {
             set: true,
             segment: s.0,
+            place: p,
             domain: place,
             frame,
             lowest: x.lowest(frame),
@@ -291,33 +308,30 @@ impl FrameStore for PlainFrames {
     }
 
     fn push(&mut self, s: SegmentNo, head: FrameHead) -> Result<(), NoChunks> {
+        let (place, p) = self.whereabouts(s);
         self.cursor.set = false;
-        let p = self.place(s);
-        let place = self.index_of(p.domain);
         match self.domains.get_index_mut(place) {
             Some(x) => x.push(p.slot, head)?,
             None => unreachable!(),
         }
-        self.aim(s, place, p.slot);
+        self.aim(s, place, p);
         Ok(())
     }
 
     fn call(&mut self, s: SegmentNo, head: FrameHead, arguments: u16) -> Result<(), NoChunks> {
+        let (place, p) = self.whereabouts(s);
         self.cursor.set = false;
-        let p = self.place(s);
-        let place = self.index_of(p.domain);
         match self.domains.get_index_mut(place) {
             Some(x) => x.call(p.slot, head, arguments)?,
             None => unreachable!(),
         }
-        self.aim(s, place, p.slot);
+        self.aim(s, place, p);
         Ok(())
     }
 
     fn pop(&mut self, s: SegmentNo) {
+        let (place, p) = self.whereabouts(s);
         self.cursor.set = false;
-        let p = self.place(s);
-        let place = self.index_of(p.domain);
         let frames = match self.domains.get_index_mut(place) {
             Some(x) => {
                 x.pop(p.slot);
@@ -326,7 +340,7 @@ impl FrameStore for PlainFrames {
             None => unreachable!(),
         };
         if frames > 0 {
-            self.aim(s, place, p.slot);
+            self.aim(s, place, p);
         }
     }
 

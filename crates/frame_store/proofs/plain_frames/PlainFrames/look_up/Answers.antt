@@ -3,8 +3,8 @@ use Rattle.frame_store.specs.StoreContents.{IsFound}
 use Rattle.frame_store.proofs.StoreChanges.{found_top}
 use Rattle.frame_store.proofs.plain_frames.PlainFrames.look_up.Goals as goal
 
-pub cursor_at-requires : goal.cursor_at-requires
-cursor_at-requires c =
+pub cursor_at-requires-clause-found : goal.cursor_at-requires-clause-found
+cursor_at-requires-clause-found c =
     let st = c.args.self.now in
     let p = c.place-p.result in
     let stands = c.index_of-domain.ensures in

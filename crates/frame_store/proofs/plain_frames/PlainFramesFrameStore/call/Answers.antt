@@ -21,50 +21,50 @@ pub call-requires-clause-slot : goal.call-requires-clause-slot
 call-requires-clause-slot c =
     let st = c.args.self.now in
     let x = c.in-Some.x.now in
-    let p = c.place-p.result in
-    let is = read_at st.domains p.domain c.index_of-place.result c.index_of-place.ensures x c.in-Some.ensures.value in
-    let found : IsFound st.domains st.places c.args.s.0 x p.slot = record { domain = p.domain; at = c.place-p.ensures; is = is } in
+    let p = c.whereabouts-place.result.1 in
+    let is = read_at st.domains p.domain c.whereabouts-place.result.0 c.whereabouts-place.ensures.stands x c.in-Some.ensures.value in
+    let found : IsFound st.domains st.places c.args.s.0 x p.slot = record { domain = p.domain; at = c.whereabouts-place.ensures.place; is = is } in
     found_slot _ _ _ c.args.s st.ok x p.slot found
 
 pub call-requires-clause-top : goal.call-requires-clause-top
 call-requires-clause-top c =
     let st = c.args.self.now in
     let x = c.in-Some.x.now in
-    let p = c.place-p.result in
-    let is = read_at st.domains p.domain c.index_of-place.result c.index_of-place.ensures x c.in-Some.ensures.value in
-    let found : IsFound st.domains st.places c.args.s.0 x p.slot = record { domain = p.domain; at = c.place-p.ensures; is = is } in
+    let p = c.whereabouts-place.result.1 in
+    let is = read_at st.domains p.domain c.whereabouts-place.result.0 c.whereabouts-place.ensures.stands x c.in-Some.ensures.value in
+    let found : IsFound st.domains st.places c.args.s.0 x p.slot = record { domain = p.domain; at = c.whereabouts-place.ensures.place; is = is } in
     found_top _ _ _ c.args.s st.ok x p.slot found c.requires.0 c.requires.1
 
 pub call-requires-clause-given : goal.call-requires-clause-given
 call-requires-clause-given c =
     let st = c.args.self.now in
     let x = c.in-Some.x.now in
-    let p = c.place-p.result in
-    let is = read_at st.domains p.domain c.index_of-place.result c.index_of-place.ensures x c.in-Some.ensures.value in
-    let found : IsFound st.domains st.places c.args.s.0 x p.slot = record { domain = p.domain; at = c.place-p.ensures; is = is } in
+    let p = c.whereabouts-place.result.1 in
+    let is = read_at st.domains p.domain c.whereabouts-place.result.0 c.whereabouts-place.ensures.stands x c.in-Some.ensures.value in
+    let found : IsFound st.domains st.places c.args.s.0 x p.slot = record { domain = p.domain; at = c.whereabouts-place.ensures.place; is = is } in
     let same = found_top_is _ _ _ c.args.s st.ok x p.slot found c.requires.0 c.requires.1 in
     let has = c.requires in
     (has.2, has.3, ap (λ (g : FrameState). g.stack) (sym same.1) ∙ has.4, has.5, has.6)
 
-pub invariant_of-self-in-Some : goal.invariant_of-self-in-Some
-invariant_of-self-in-Some c =
+pub invariant_of-self : goal.invariant_of-self
+invariant_of-self c =
     let st = c.args.self.now in
     let x = c.in-Some.x.now in
-    let p = c.place-p.result in
-    let is = read_at st.domains p.domain c.index_of-place.result c.index_of-place.ensures x c.in-Some.ensures.value in
-    let found : IsFound st.domains st.places c.args.s.0 x p.slot = record { domain = p.domain; at = c.place-p.ensures; is = is } in
+    let p = c.whereabouts-place.result.1 in
+    let is = read_at st.domains p.domain c.whereabouts-place.result.0 c.whereabouts-place.ensures.stands x c.in-Some.ensures.value in
+    let found : IsFound st.domains st.places c.args.s.0 x p.slot = record { domain = p.domain; at = c.whereabouts-place.ensures.place; is = is } in
     let y = c.call.new.self in
-    let wrote = written_at st.domains p.domain c.index_of-place.result c.index_of-place.ensures y c.get_index_mut.ensures.unique in
+    let wrote = written_at st.domains p.domain c.whereabouts-place.result.0 c.whereabouts-place.ensures.stands y c.get_index_mut.ensures.unique in
     let same = found_top_is _ _ _ c.args.s st.ok x p.slot found c.requires.0 c.requires.1 in
     let has = c.requires in
     record {
       ok =
-          either_way c.call.result _ _ (IsStore (with_value_at st.domains c.index_of-place.result y) st.places st.owed)
+          either_way c.call.result _ _ (IsStore (with_value_at st.domains c.whereabouts-place.result.0 y) st.places st.owed)
           (λ (calls : CallsOn x y p.slot c.args.head c.args.arguments).
           let b = calls has.2 has.3 (ap (λ (g : FrameState). g.stack) (sym same.1) ∙ has.4) has.5 in
-          store_kept _ _ st.places st.owed c.args.s p x y st.ok c.place-p.ensures is wrote b.same_chunks b.same_slots)
+          store_kept _ _ st.places st.owed c.args.s p x y st.ok c.whereabouts-place.ensures.place is wrote b.same_chunks b.same_slots)
           (λ (e : y ≡ x).
-          store_kept _ _ st.places st.owed c.args.s p x y st.ok c.place-p.ensures is wrote
+          store_kept _ _ st.places st.owed c.args.s p x y st.ok c.whereabouts-place.ensures.place is wrote
           (ap (λ (z : DomainFrames). z.chunks) e) (ap (λ (z : DomainFrames). z.slots) e))
           c.call.ensures.ok c.call.ensures.err;
       at = λ e. absurd (cc);
@@ -74,23 +74,23 @@ pub returns-in_err-call-in-Some-clause-err : goal.returns-in_err-call-in-Some-cl
 returns-in_err-call-in-Some-clause-err c =
     let st = c.args.self.now in
     let x = c.in-Some.x.now in
-    let p = c.place-p.result in
-    let at = c.index_of-place.result in
-    let stands = c.index_of-place.ensures in
+    let p = c.whereabouts-place.result.1 in
+    let at = c.whereabouts-place.result.0 in
+    let stands = c.whereabouts-place.ensures.stands in
     let is = read_at st.domains p.domain at stands x c.in-Some.ensures.value in
     let y = c.call.new.self in
     let wrote = written_at st.domains p.domain at stands y c.get_index_mut.ensures.unique in
-    to_err _ _ (steps_none _ _ st.places st.owed c.args.s p x y st.ok c.place-p.ensures is wrote c.in_err-call-in-Some.ensures.err)
+    to_err _ _ (steps_none _ _ st.places st.owed c.args.s p x y st.ok c.whereabouts-place.ensures.place is wrote c.in_err-call-in-Some.ensures.err)
 
-pub aim-requires : goal.aim-requires
-aim-requires c =
+pub aim-requires-clause-found : goal.aim-requires-clause-found
+aim-requires-clause-found c =
     let st = c.args.self.now in
     let x = c.in-Some.x.now in
-    let p = c.place-p.result in
-    let at = c.index_of-place.result in
-    let stands = c.index_of-place.ensures in
+    let p = c.whereabouts-place.result.1 in
+    let at = c.whereabouts-place.result.0 in
+    let stands = c.whereabouts-place.ensures.stands in
     let is = read_at st.domains p.domain at stands x c.in-Some.ensures.value in
-    let found : IsFound st.domains st.places c.args.s.0 x p.slot = record { domain = p.domain; at = c.place-p.ensures; is = is } in
+    let found : IsFound st.domains st.places c.args.s.0 x p.slot = record { domain = p.domain; at = c.whereabouts-place.ensures.place; is = is } in
     let y = c.call.new.self in
     let wrote = written_at st.domains p.domain at stands y c.get_index_mut.ensures.unique in
     let same = found_top_is _ _ _ c.args.s st.ok x p.slot found c.requires.0 c.requires.1 in
@@ -103,15 +103,15 @@ pub returns-clause-ok : goal.returns-clause-ok
 returns-clause-ok c =
     let st = c.args.self.now in
     let x = c.in-Some.x.now in
-    let p = c.place-p.result in
-    let at = c.index_of-place.result in
-    let stands = c.index_of-place.ensures in
+    let p = c.whereabouts-place.result.1 in
+    let at = c.whereabouts-place.result.0 in
+    let stands = c.whereabouts-place.ensures.stands in
     let is = read_at st.domains p.domain at stands x c.in-Some.ensures.value in
     let y = c.call.new.self in
     let wrote = written_at st.domains p.domain at stands y c.get_index_mut.ensures.unique in
     let P : FrameContent → Type 0 = λ q. Calls (content_of st.domains st.places) q c.args.s c.args.head c.args.arguments in
     subst P (sym c.aim.ensures)
-    (steps_call _ _ st.places st.owed c.args.s p x y st.ok c.place-p.ensures is wrote c.args.head c.args.arguments c.in_ok-call-in-Some.ensures.ok)
+    (steps_call _ _ st.places st.owed c.args.s p x y st.ok c.whereabouts-place.ensures.place is wrote c.args.head c.args.arguments c.in_ok-call-in-Some.ensures.ok)
 
 -- what the domain may still use
 free_is : {S : Type 0} (m : IndexMap ℕ DomainFrames S) (places : SegmentTable) (d : DomainId) (x : DomainFrames) → get nat_eq m d.0 ≡ Some x
@@ -126,12 +126,12 @@ pub returns-clause-room : goal.returns-clause-room
 returns-clause-room c =
     let st = c.args.self.now in
     let x = c.in-Some.x.now in
-    let p = c.place-p.result in
-    let at = c.index_of-place.result in
-    let stands = c.index_of-place.ensures in
+    let p = c.whereabouts-place.result.1 in
+    let at = c.whereabouts-place.result.0 in
+    let stands = c.whereabouts-place.ensures.stands in
     let is = read_at st.domains p.domain at stands x c.in-Some.ensures.value in
     let d : DomainId = record { 0 = p.domain } in
-    let found : IsFound st.domains st.places c.args.s.0 x p.slot = record { domain = p.domain; at = c.place-p.ensures; is = is } in (
+    let found : IsFound st.domains st.places c.args.s.0 x p.slot = record { domain = p.domain; at = c.whereabouts-place.ensures.place; is = is } in (
       segment_in x p.domain p.slot,
       found_segment _ _ _ c.args.s st.ok x p.slot found,
       subst (λ k. head_chunks c.args.head ≤ k) (sym (free_is st.domains st.places d x is)) c.in_ok-call-in-Some.ensures.room,
@@ -141,11 +141,11 @@ pub returns-in_err-call-in-Some-clause-no_room : goal.returns-in_err-call-in-Som
 returns-in_err-call-in-Some-clause-no_room c =
     let st = c.args.self.now in
     let x = c.in-Some.x.now in
-    let p = c.place-p.result in
-    let at = c.index_of-place.result in
-    let stands = c.index_of-place.ensures in
+    let p = c.whereabouts-place.result.1 in
+    let at = c.whereabouts-place.result.0 in
+    let stands = c.whereabouts-place.ensures.stands in
     let is = read_at st.domains p.domain at stands x c.in-Some.ensures.value in
-    let found : IsFound st.domains st.places c.args.s.0 x p.slot = record { domain = p.domain; at = c.place-p.ensures; is = is } in
+    let found : IsFound st.domains st.places c.args.s.0 x p.slot = record { domain = p.domain; at = c.whereabouts-place.ensures.place; is = is } in
     let never : HasRoomFor (content_of st.domains st.places) c.args.s c.args.head → ⊥ =
     λ room.
     let same = same_some (segment_in x p.domain p.slot) room.0 (sym (found_segment _ _ _ c.args.s st.ok x p.slot found) ∙ room.1) in
@@ -155,4 +155,4 @@ returns-in_err-call-in-Some-clause-no_room c =
 
 pub unreachable-requires : goal.unreachable-requires
 unreachable-requires c =
-    never_none c.args.self.now.domains c.place-p.result.domain c.index_of-place.result c.index_of-place.ensures c.in-None.ensures.value
+    never_none c.args.self.now.domains c.whereabouts-place.result.1.domain c.whereabouts-place.result.0 c.whereabouts-place.ensures.stands c.in-None.ensures.value

@@ -21,27 +21,27 @@ pub push-requires : goal.push-requires
 push-requires c =
     let st = c.args.self.now in
     let x = c.in-Some.x.now in
-    let p = c.place-p.result in
-    let is = read_at st.domains p.domain c.index_of-place.result c.index_of-place.ensures x c.in-Some.ensures.value in
-    let found : IsFound st.domains st.places c.args.s.0 x p.slot = record { domain = p.domain; at = c.place-p.ensures; is = is } in
+    let p = c.whereabouts-place.result.1 in
+    let is = read_at st.domains p.domain c.whereabouts-place.result.0 c.whereabouts-place.ensures.stands x c.in-Some.ensures.value in
+    let found : IsFound st.domains st.places c.args.s.0 x p.slot = record { domain = p.domain; at = c.whereabouts-place.ensures.place; is = is } in
     found_slot _ _ _ c.args.s st.ok x p.slot found
 
-pub invariant_of-self-in-Some : goal.invariant_of-self-in-Some
-invariant_of-self-in-Some c =
+pub invariant_of-self : goal.invariant_of-self
+invariant_of-self c =
     let st = c.args.self.now in
     let x = c.in-Some.x.now in
-    let p = c.place-p.result in
-    let is = read_at st.domains p.domain c.index_of-place.result c.index_of-place.ensures x c.in-Some.ensures.value in
-    let found : IsFound st.domains st.places c.args.s.0 x p.slot = record { domain = p.domain; at = c.place-p.ensures; is = is } in
+    let p = c.whereabouts-place.result.1 in
+    let is = read_at st.domains p.domain c.whereabouts-place.result.0 c.whereabouts-place.ensures.stands x c.in-Some.ensures.value in
+    let found : IsFound st.domains st.places c.args.s.0 x p.slot = record { domain = p.domain; at = c.whereabouts-place.ensures.place; is = is } in
     let y = c.push.new.self in
-    let wrote = written_at st.domains p.domain c.index_of-place.result c.index_of-place.ensures y c.get_index_mut.ensures.unique in
+    let wrote = written_at st.domains p.domain c.whereabouts-place.result.0 c.whereabouts-place.ensures.stands y c.get_index_mut.ensures.unique in
     record {
       ok =
-          either_way c.push.result _ _ (IsStore (with_value_at st.domains c.index_of-place.result y) st.places st.owed)
+          either_way c.push.result _ _ (IsStore (with_value_at st.domains c.whereabouts-place.result.0 y) st.places st.owed)
           (λ (b : Becomes x y p.slot (frames_of x p.slot ++ new_frame c.args.head ∷ []) (x.used + head_chunks c.args.head)).
-          store_kept _ _ st.places st.owed c.args.s p x y st.ok c.place-p.ensures is wrote b.same_chunks b.same_slots)
+          store_kept _ _ st.places st.owed c.args.s p x y st.ok c.whereabouts-place.ensures.place is wrote b.same_chunks b.same_slots)
           (λ (e : y ≡ x).
-          store_kept _ _ st.places st.owed c.args.s p x y st.ok c.place-p.ensures is wrote
+          store_kept _ _ st.places st.owed c.args.s p x y st.ok c.whereabouts-place.ensures.place is wrote
           (ap (λ (z : DomainFrames). z.chunks) e) (ap (λ (z : DomainFrames). z.slots) e))
           c.push.ensures.ok c.push.ensures.err;
       at = λ e. absurd (cc);
@@ -51,23 +51,23 @@ pub returns-in_err-push-in-Some-clause-err : goal.returns-in_err-push-in-Some-cl
 returns-in_err-push-in-Some-clause-err c =
     let st = c.args.self.now in
     let x = c.in-Some.x.now in
-    let p = c.place-p.result in
-    let at = c.index_of-place.result in
-    let stands = c.index_of-place.ensures in
+    let p = c.whereabouts-place.result.1 in
+    let at = c.whereabouts-place.result.0 in
+    let stands = c.whereabouts-place.ensures.stands in
     let is = read_at st.domains p.domain at stands x c.in-Some.ensures.value in
     let y = c.push.new.self in
     let wrote = written_at st.domains p.domain at stands y c.get_index_mut.ensures.unique in
-    to_err _ _ (steps_none _ _ st.places st.owed c.args.s p x y st.ok c.place-p.ensures is wrote c.in_err-push-in-Some.ensures.err)
+    to_err _ _ (steps_none _ _ st.places st.owed c.args.s p x y st.ok c.whereabouts-place.ensures.place is wrote c.in_err-push-in-Some.ensures.err)
 
-pub aim-requires : goal.aim-requires
-aim-requires c =
+pub aim-requires-clause-found : goal.aim-requires-clause-found
+aim-requires-clause-found c =
     let st = c.args.self.now in
     let x = c.in-Some.x.now in
-    let p = c.place-p.result in
-    let at = c.index_of-place.result in
-    let stands = c.index_of-place.ensures in
+    let p = c.whereabouts-place.result.1 in
+    let at = c.whereabouts-place.result.0 in
+    let stands = c.whereabouts-place.ensures.stands in
     let is = read_at st.domains p.domain at stands x c.in-Some.ensures.value in
-    let found : IsFound st.domains st.places c.args.s.0 x p.slot = record { domain = p.domain; at = c.place-p.ensures; is = is } in
+    let found : IsFound st.domains st.places c.args.s.0 x p.slot = record { domain = p.domain; at = c.whereabouts-place.ensures.place; is = is } in
     let y = c.push.new.self in
     let wrote = written_at st.domains p.domain at stands y c.get_index_mut.ensures.unique in
     let some = some_pushed (frames_of x p.slot) (new_frame c.args.head) in
@@ -78,15 +78,15 @@ pub returns-clause-ok : goal.returns-clause-ok
 returns-clause-ok c =
     let st = c.args.self.now in
     let x = c.in-Some.x.now in
-    let p = c.place-p.result in
-    let at = c.index_of-place.result in
-    let stands = c.index_of-place.ensures in
+    let p = c.whereabouts-place.result.1 in
+    let at = c.whereabouts-place.result.0 in
+    let stands = c.whereabouts-place.ensures.stands in
     let is = read_at st.domains p.domain at stands x c.in-Some.ensures.value in
     let y = c.push.new.self in
     let wrote = written_at st.domains p.domain at stands y c.get_index_mut.ensures.unique in
     let P : FrameContent → Type 0 = λ q. Pushes (content_of st.domains st.places) q c.args.s c.args.head in
     subst P (sym c.aim.ensures)
-    (steps_push _ _ st.places st.owed c.args.s p x y st.ok c.place-p.ensures is wrote c.args.head c.in_ok-push-in-Some.ensures.ok)
+    (steps_push _ _ st.places st.owed c.args.s p x y st.ok c.whereabouts-place.ensures.place is wrote c.args.head c.in_ok-push-in-Some.ensures.ok)
 
 -- what the domain may still use
 free_is : {S : Type 0} (m : IndexMap ℕ DomainFrames S) (places : SegmentTable) (d : DomainId) (x : DomainFrames) → get nat_eq m d.0 ≡ Some x
@@ -101,12 +101,12 @@ pub returns-clause-room : goal.returns-clause-room
 returns-clause-room c =
     let st = c.args.self.now in
     let x = c.in-Some.x.now in
-    let p = c.place-p.result in
-    let at = c.index_of-place.result in
-    let stands = c.index_of-place.ensures in
+    let p = c.whereabouts-place.result.1 in
+    let at = c.whereabouts-place.result.0 in
+    let stands = c.whereabouts-place.ensures.stands in
     let is = read_at st.domains p.domain at stands x c.in-Some.ensures.value in
     let d : DomainId = record { 0 = p.domain } in
-    let found : IsFound st.domains st.places c.args.s.0 x p.slot = record { domain = p.domain; at = c.place-p.ensures; is = is } in (
+    let found : IsFound st.domains st.places c.args.s.0 x p.slot = record { domain = p.domain; at = c.whereabouts-place.ensures.place; is = is } in (
       segment_in x p.domain p.slot,
       found_segment _ _ _ c.args.s st.ok x p.slot found,
       subst (λ k. head_chunks c.args.head ≤ k) (sym (free_is st.domains st.places d x is)) c.in_ok-push-in-Some.ensures.room,
@@ -116,11 +116,11 @@ pub returns-in_err-push-in-Some-clause-no_room : goal.returns-in_err-push-in-Som
 returns-in_err-push-in-Some-clause-no_room c =
     let st = c.args.self.now in
     let x = c.in-Some.x.now in
-    let p = c.place-p.result in
-    let at = c.index_of-place.result in
-    let stands = c.index_of-place.ensures in
+    let p = c.whereabouts-place.result.1 in
+    let at = c.whereabouts-place.result.0 in
+    let stands = c.whereabouts-place.ensures.stands in
     let is = read_at st.domains p.domain at stands x c.in-Some.ensures.value in
-    let found : IsFound st.domains st.places c.args.s.0 x p.slot = record { domain = p.domain; at = c.place-p.ensures; is = is } in
+    let found : IsFound st.domains st.places c.args.s.0 x p.slot = record { domain = p.domain; at = c.whereabouts-place.ensures.place; is = is } in
     let never : HasRoomFor (content_of st.domains st.places) c.args.s c.args.head → ⊥ =
     λ room.
     let same = same_some (segment_in x p.domain p.slot) room.0 (sym (found_segment _ _ _ c.args.s st.ok x p.slot found) ∙ room.1) in
@@ -130,4 +130,4 @@ returns-in_err-push-in-Some-clause-no_room c =
 
 pub unreachable-requires : goal.unreachable-requires
 unreachable-requires c =
-    never_none c.args.self.now.domains c.place-p.result.domain c.index_of-place.result c.index_of-place.ensures c.in-None.ensures.value
+    never_none c.args.self.now.domains c.whereabouts-place.result.1.domain c.whereabouts-place.result.0 c.whereabouts-place.ensures.stands c.in-None.ensures.value
