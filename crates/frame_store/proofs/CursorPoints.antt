@@ -1,5 +1,5 @@
 -- The top frame of a segment, where a cursor or a look-up has it.
-use Rattle.std.proofs.Common.{◌≡◌, ◌<◌, ◌-◌, ℕ, List, ◌∷◌, ◌++◌, [], length, arith, Option, Some, None, IsSome, is_some, nat_eq, slice_get, refl, sym, ap, subst, zero, suc, ◌∙◌}
+use Rattle.std.proofs.Common.{◌≡◌, ◌*◌, ◌<◌, ◌-◌, ℕ, List, ◌∷◌, ◌++◌, [], length, arith, Option, Some, None, IsSome, is_some, nat_eq, slice_get, refl, sym, ap, subst, zero, suc, ◌∙◌}
 use Rattle.std.specs.HashMap.{WritesThrough}
 use Rattle.std.proofs.lemmas.List.{length_push}
 use Rattle.jk_model.specs.declared.identifiers.SegmentNo.{SegmentNo}
@@ -16,7 +16,7 @@ use Rattle.frame_store.specs.TableMoves as table
 use Rattle.frame_store.specs.Builds.{length-build}
 use Rattle.frame_store.specs.SlotMoves.{IsLive}
 use Rattle.frame_store.specs.ChainMoves.{count, place}
-use Rattle.frame_store.specs.DomainMoves.{depth_of, frames_of, lowest_block, top_number, value_at, HasTop, IsSlot, IsTopOf, IsFrameNumber, Becomes}
+use Rattle.frame_store.specs.DomainMoves.{depth_of, frames_of, start_of, top_number, value_at, HasTop, IsSlot, IsTopOf, IsFrameNumber, Becomes}
 use Rattle.frame_store.specs.StoreContents.{content_of, IsStore, IsFound, IsStanding, StandsAt}
 use Rattle.frame_store.specs.StoreIsContent.{stands}
 use Rattle.frame_store.specs.Cursors.{HasDomainAt, HasTopAt, IsTopAt, PointsAt}
@@ -75,7 +75,7 @@ module _ {S : Type 0} (m : IndexMap ℕ DomainFrames S) (t : SegmentTable) (owed
 -- ---- A cursor that has what is found.
 
 module _ {S : Type 0} (m : IndexMap ℕ DomainFrames S) (t : SegmentTable) (s : ℕ) (c : Cursor) (x : DomainFrames) (slot : ℕ) (f : IsFound m t s x slot)
-    (entry_is : slice_get m.entries c.domain ≡ Some (f.domain, x)) (top_is : IsTopOf x slot c.frame) (lowest_is : c.lowest ≡ lowest_block x c.frame) (place_is : table.place_in t s ≡ Some c.place) where
+    (entry_is : slice_get m.entries c.domain ≡ Some (f.domain, x)) (top_is : IsTopOf x slot c.frame) (start_is : c.start ≡ start_of x c.frame) (place_is : table.place_in t s ≡ Some c.place) where
   module _ (z : DomainFrames) (i : ℕ) (g : IsFound m t s z i) where
     same_place : (let here : Place = record { domain = g.domain; slot = i } in let there : Place = record { domain = f.domain; slot = slot } in here ≡ there)
     same_place = same_some _ _ (sym g.at ∙ f.at)
@@ -95,25 +95,25 @@ module _ {S : Type 0} (m : IndexMap ℕ DomainFrames S) (t : SegmentTable) (s : 
         let There : DomainFrames → Type 0 = λ (w : DomainFrames). IsTopOf w i c.frame in
         subst There (sym same_frames) (subst Here (sym (ap (λ (q : Place). q.slot) same_place)) top_is)
 
-    lowest_at : c.lowest ≡ lowest_block z c.frame
-    lowest_at = lowest_is ∙ ap (λ (w : DomainFrames). lowest_block w c.frame) (sym same_frames)
+    start_at : c.start ≡ start_of z c.frame
+    start_at = start_is ∙ ap (λ (w : DomainFrames). start_of w c.frame) (sym same_frames)
 
   pub points : PointsAt m t s c
-  points = record { place = place_is; top = record { in_table = ap is_some f.at; entry = entry_at; top = top_at }; lowest = lowest_at }
+  points = record { place = place_is; top = record { in_table = ap is_some f.at; entry = entry_at; top = top_at }; start = start_at }
 
 module _ {S : Type 0} (m : IndexMap ℕ DomainFrames S) (t : SegmentTable) (s at slot : ℕ) (k : HasTopAt m t s at slot) where
   abbrev pub place_stands : HasDomainAt m at
   place_stands = (k.found.domain, record { domain = k.domain; entry = k.entry; is = k.found.is })
 
   -- where a call reads the domain at the place
-  pub points_at : (c : Cursor) (x : DomainFrames) → x ≡ k.domain → c.domain ≡ at → c.frame ≡ top_number x slot → c.lowest ≡ lowest_block x c.frame
+  pub points_at : (c : Cursor) (x : DomainFrames) → x ≡ k.domain → c.domain ≡ at → c.frame ≡ top_number x slot → c.start ≡ start_of x c.frame
       → table.place_in t s ≡ Some c.place → PointsAt m t s c
-  points_at c x same here frame lowest place_is =
+  points_at c x same here frame start place_is =
       let z = k.domain in
       points m t s c z slot k.found
       (ap (λ i. slice_get m.entries i) here ∙ k.entry)
       (record { has_top = k.has_top; is = frame ∙ ap (λ (w : DomainFrames). top_number w slot) same })
-      (lowest ∙ ap (λ (w : DomainFrames). lowest_block w c.frame) same) place_is
+      (start ∙ ap (λ (w : DomainFrames). start_of w c.frame) same) place_is
 
 -- ---- After a write in the domain that leaves its chains as they are.
 
@@ -138,7 +138,7 @@ module _ {S : Type 0} (m : IndexMap ℕ DomainFrames S) (t : SegmentTable) (owed
       let p : Place = record { domain = f.domain; slot = slot } in
       let g : IsFound n t s.0 y slot = record { domain = f.domain; at = f.at; is = get_here m n t owed s p x y h f.at f.is wrote } in
       points n t s.0 c y slot g (set_here m.entries c.domain f.domain x y (k.top.entry x slot f)) (same_top x y slot c.frame chunks frames (k.top.top x slot f))
-      (k.lowest x slot f ∙ ap (λ (q : Chains). place q c.frame 0) (sym parts)) k.place
+      (k.start x slot f ∙ ap (λ (q : Chains). 20 * place q c.frame 0) (sym parts)) k.place
 
 -- ---- After a frame is pushed or popped in the domain.
 

@@ -10,7 +10,7 @@ use Rattle.frame_store.specs.declared.domain_frames.DomainFrames.{DomainFrames}
 use Rattle.frame_store.specs.declared.segment_table.Place.{Place}
 use Rattle.frame_store.specs.declared.segment_table.SegmentTable.{SegmentTable}
 use Rattle.frame_store.specs.FrameContents.{FrameContent, TopFrame, SetsTop, TakesEntry}
-use Rattle.frame_store.specs.DomainMoves.{lowest_block, lower_of, top_of, value_at, IsFrameNumber, IsTopOf, Becomes, TakesTopEntry}
+use Rattle.frame_store.specs.DomainMoves.{start_of, lower_of, top_of, value_at, IsFrameNumber, IsTopOf, Becomes, TakesTopEntry}
 use Rattle.frame_store.specs.StoreContents.{content_of, IsStore, IsFound}
 use Rattle.frame_store.specs.Cursors.{IsCursor, PointsAt}
 use Rattle.frame_store.proofs.StoreChanges.{found_top, found_top_is, store_kept}
@@ -45,8 +45,8 @@ module _ {S : Type 0} (old : FrameContent) (m : IndexMap ℕ DomainFrames S) (t 
     pub frame_at : IsFrameNumber x c.frame
     frame_at = frame_is m t owed s h c.domain c.frame k.top x slot found
 
-    pub lowest_at : c.lowest ≡ lowest_block x c.frame
-    lowest_at = k.lowest x slot found
+    pub start_at : c.start ≡ start_of x c.frame
+    start_at = k.start x slot found
 
     pub value_was : (f : FrameState) → TopFrame old s f → f ≡ value_at x c.frame
     value_was f top = value_is m t owed s h c.domain c.frame k.top x slot found f (still f top)

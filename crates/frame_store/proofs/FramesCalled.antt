@@ -1,5 +1,5 @@
 -- A frame is called: it is put on top, the arguments come into its locals, and then they are off the frame below.
-use Rattle.std.proofs.Common.{◌≡◌, ℕ, ◌+◌, ◌-◌, ◌^◌, ◌<◌, ◌≤◌, List, [], ◌∷◌, ◌++◌, length, replicate, set, Some, slice_get, refl, sym, ap, subst, append_assoc, arith, ◌∙◌}
+use Rattle.std.proofs.Common.{◌≡◌, ◌*◌, ℕ, ◌+◌, ◌-◌, ◌^◌, ◌<◌, ◌≤◌, List, [], ◌∷◌, ◌++◌, length, replicate, set, Some, slice_get, refl, sym, ap, subst, append_assoc, arith, ◌∙◌}
 use Rattle.std.proofs.lemmas.List.{append-nil, length-append, length-replicate}
 use Rattle.jk_model.specs.declared.frames.FrameHead.{FrameHead}
 use Rattle.jk_model.specs.declared.values.Value.{Value}
@@ -8,7 +8,7 @@ use Rattle.jk_model_frames.specs.Frames.{FrameState, as_locals, called_frame, lo
 use Rattle.frame_store.specs.declared.chains.Chains.{Chains}
 use Rattle.frame_store.specs.declared.domain_frames.DomainFrames.{DomainFrames}
 use Rattle.frame_store.specs.ChainMoves.{count, place, MovesTop}
-use Rattle.frame_store.specs.DomainMoves.{depth_of, frames_of, lower_of, lowest_block, top_of, top_number, value_at, HasTop, IsTopOf, IsFrameNumber, Becomes, HasGiven, MayGive, GivesTo}
+use Rattle.frame_store.specs.DomainMoves.{depth_of, frames_of, lower_of, start_of, top_of, top_number, value_at, HasTop, IsTopOf, IsFrameNumber, Becomes, HasGiven, MayGive, GivesTo}
 use Rattle.frame_store.specs.Builds.{get-build, length-build}
 use Rattle.frame_store.proofs.TopIsWritten.{frames_more, is_frame, top_is_frame}
 use Rattle.frame_store.proofs.StoreChanges.{last_same, same_some}
@@ -127,8 +127,8 @@ module _ (d : DomainFrames) (caller frame many : ℕ) (may : MayGive d caller fr
     pub frame_is : IsFrameNumber now frame
     frame_is = let P : ℕ → Type 0 = λ n. IsFrameNumber now n in subst P (sym frame_place) (top_is_frame now i has_top)
 
-    pub lowest_is : (g low : ℕ) → low ≡ lowest_block d g → low ≡ lowest_block now g
-    lowest_is g low e = e ∙ ap (λ (q : Chains). place q g 0) (sym some.parts)
+    pub start_is : (g low : ℕ) → low ≡ start_of d g → low ≡ start_of now g
+    start_is g low e = e ∙ ap (λ (q : Chains). 20 * place q g 0) (sym some.parts)
 
     caller_same : value_at now caller ≡ value_at d caller
     caller_same =

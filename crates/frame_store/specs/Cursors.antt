@@ -4,7 +4,7 @@ use Rattle.indexmap.specs.IndexMap.{IndexMap}
 use Rattle.frame_store.specs.declared.cursor.Cursor.{Cursor}
 use Rattle.frame_store.specs.declared.domain_frames.DomainFrames.{DomainFrames}
 use Rattle.frame_store.specs.declared.segment_table.SegmentTable.{SegmentTable}
-use Rattle.frame_store.specs.DomainMoves.{lowest_block, HasTop, IsTopOf}
+use Rattle.frame_store.specs.DomainMoves.{start_of, HasTop, IsTopOf}
 use Rattle.frame_store.specs.StoreContents.{StandsAt, IsFound}
 use Rattle.frame_store.specs.TableMoves as table
 
@@ -16,11 +16,11 @@ module _ {S : Type 0} where
     pub entry : (x : DomainFrames) (slot : ℕ) (found : IsFound domains places s x slot) → slice_get domains.entries place ≡ Some (found.domain, x)
     pub top : (x : DomainFrames) (slot : ℕ) → IsFound domains places s x slot → IsTopOf x slot frame
 
-  -- The cursor has where the segment stands, where its top frame is, and that frame's lowest block.
+  -- The cursor has where the segment stands, where its top frame is, and where that frame's values begin.
   pub record PointsAt (domains : IndexMap ℕ DomainFrames S) (places : SegmentTable) (s : ℕ) (c : Cursor) : Type 0 where
     pub place : table.place_in places s ≡ Some c.place
     pub top : IsTopAt domains places s c.domain c.frame
-    pub lowest : (x : DomainFrames) (slot : ℕ) → IsFound domains places s x slot → c.lowest ≡ lowest_block x c.frame
+    pub start : (x : DomainFrames) (slot : ℕ) → IsFound domains places s x slot → c.start ≡ start_of x c.frame
 
   -- The cursor, where it is set, has where the top frame of its segment is.
   abbrev pub IsCursor : IndexMap ℕ DomainFrames S → SegmentTable → Cursor → Type 0

@@ -1,5 +1,5 @@
 -- What the calls of a domain's frames do.
-use Rattle.std.specs.Prelude.{◌≡◌, ◌≢◌, ℕ, ◌+◌, ◌-◌, ◌^◌, ◌<◌, ◌≤◌, List, [], ◌∷◌, ◌++◌, length}
+use Rattle.std.specs.Prelude.{◌≡◌, ◌≢◌, ℕ, ◌+◌, ◌-◌, ◌*◌, ◌^◌, ◌<◌, ◌≤◌, List, [], ◌∷◌, ◌++◌, length}
 use Rattle.jk_model.specs.declared.frames.FrameHead.{FrameHead}
 use Rattle.jk_model.specs.declared.values.Value.{Value}
 use Rattle.jk_model_frames.specs.Frames.{FrameState, called_frame, head_chunks, locals_of, new_frame, segment_chunks}
@@ -31,9 +31,9 @@ top_of d i = value_at d (top_number d i)
 abbrev pub lower_of : DomainFrames → ℕ → List FrameState
 lower_of d i = lowest_in d.frames d.parts d.records.items d.values.items i (depth_of d i - 1)
 
--- the lowest block of the frame of this number
-abbrev pub lowest_block : DomainFrames → ℕ → ℕ
-lowest_block d f = place d.parts f 0
+-- where the values of the frame of this number begin
+abbrev pub start_of : DomainFrames → ℕ → ℕ
+start_of d f = 20 * place d.parts f 0
 
 -- a segment is in this slot
 abbrev pub IsSlot : DomainFrames → ℕ → Type 0

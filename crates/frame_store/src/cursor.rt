@@ -4,7 +4,7 @@ use crate::segment_table::Place;
 
 /// Where the top frame of the segment that a store last touched is, so that a run of calls on one segment looks it up once:
 /// the segment's number and where it stands, the place of its domain in the map, the frame's number in the domain, and the
-/// frame's lowest block.
+/// place where the frame's values begin.
 /// Nothing of it has a meaning while it isn't set.
 #[derive(Clone, Copy)]
 pub(crate) struct Cursor {
@@ -13,7 +13,7 @@ pub(crate) struct Cursor {
     pub(crate) place: Place,
     pub(crate) domain: usize,
     pub(crate) frame: usize,
-    pub(crate) lowest: usize,
+    pub(crate) start: usize,
 }
 
 /// A cursor that isn't set.
@@ -23,5 +23,5 @@ pub(crate) const UNSET: Cursor = Cursor {
     place: Place { domain: 0, slot: 0 },
     domain: 0,
     frame: 0,
-    lowest: 0,
+    start: 0,
 };

@@ -30,7 +30,7 @@ impl DomainFrames {
     ghost use Rattle.jk_model.specs.declared.values.Value.{Value as AValue};
     ghost use Rattle.jk_model_frames.specs.Frames.{FrameState as AFrame, called_frame, new_frame, head_chunks, frames_chunks};
     ghost use Rattle.frame_store.specs.ChainMoves.{MovesTop, place};
-    ghost use Rattle.frame_store.specs.DomainMoves.{MayGive, GivesTo, HasGiven, CallsOn, depth_of, frames_of, top_of, top_number, lower_of, lowest_block, value_at, IsSlot, HasTop, IsTopOf, IsFrameNumber, IsFresh, Opens, Becomes, Begins, Ends, TakesTopEntry};
+    ghost use Rattle.frame_store.specs.DomainMoves.{MayGive, GivesTo, HasGiven, CallsOn, depth_of, frames_of, top_of, top_number, lower_of, start_of, value_at, IsSlot, HasTop, IsTopOf, IsFrameNumber, IsFresh, Opens, Becomes, Begins, Ends, TakesTopEntry};
 
     /// A domain without segments, which may use so many chunks.
     pub(crate) fn new(alloc: Global, chunks: u32) -> Result<DomainFrames, OutOfMemory>
@@ -185,43 +185,43 @@ impl DomainFrames {
         self.records[frame].height
     }
 
-    /// The lowest block of a frame.
-    pub(crate) fn lowest(&self, frame: usize) -> usize
+    /// Where the values of a frame begin.
+    pub(crate) fn start(&self, frame: usize) -> usize
         requires { IsFrameNumber self.now frame }
-        ensures { result ≡ lowest_block self.now frame }
+        ensures { result ≡ start_of self.now frame }
     {
-        self.parts.at(frame, 0)
+        20 * self.parts.at(frame, 0)
     }
 
-    /// A local of a frame, whose lowest block this is.
-    pub(crate) fn local(&self, frame: usize, lowest: usize, i: u16) -> Value
+    /// A local of a frame, whose values begin here.
+    pub(crate) fn local(&self, frame: usize, start: usize, i: u16) -> Value
         requires frame { IsFrameNumber self.now frame }
-        requires lowest { lowest ≡ lowest_block self.now frame }
+        requires start { start ≡ start_of self.now frame }
         requires there { i < length (value_at self.now frame).locals }
         ensures { slice_get (value_at self.now frame).locals i ≡ Some result }
     {
-        self.values[value_index(&self.parts, frame, lowest, u32::from(i))]
+        self.values[value_index(&self.parts, frame, start, u32::from(i))]
     }
 
-    /// An entry of the operand stack of a frame, whose lowest block this is.
-    pub(crate) fn entry(&self, frame: usize, lowest: usize, i: u16) -> Value
+    /// An entry of the operand stack of a frame, whose values begin here.
+    pub(crate) fn entry(&self, frame: usize, start: usize, i: u16) -> Value
         requires frame { IsFrameNumber self.now frame }
-        requires lowest { lowest ≡ lowest_block self.now frame }
+        requires start { start ≡ start_of self.now frame }
         requires there { i < length (value_at self.now frame).stack }
         ensures { slice_get (value_at self.now frame).stack i ≡ Some result }
     {
         let locals = self.records[frame].head.max_locals;
-        self.values[value_index(&self.parts, frame, lowest, u32::from(locals) + u32::from(i))]
+        self.values[value_index(&self.parts, frame, start, u32::from(locals) + u32::from(i))]
     }
 
-    /// An entry of the operand stack of a frame, whose lowest block this is, by how many entries are above it.
-    pub(crate) fn entry_below(&self, frame: usize, lowest: usize, above: u16) -> Value
+    /// An entry of the operand stack of a frame, whose values begin here, by how many entries are above it.
+    pub(crate) fn entry_below(&self, frame: usize, start: usize, above: u16) -> Value
         requires frame { IsFrameNumber self.now frame }
-        requires lowest { lowest ≡ lowest_block self.now frame }
+        requires start { start ≡ start_of self.now frame }
         requires there { above < length (value_at self.now frame).stack }
         ensures { let entries = (value_at self.now frame).stack in slice_get entries (length entries - 1 - above) ≡ Some result }
     {
-        self.entry(frame, lowest, self.height(frame) - 1 - above)
+        self.entry(frame, start, self.height(frame) - 1 - above)
     }
 
     /// Sets where a top frame stands, and which class it needs.
@@ -237,24 +237,24 @@ impl DomainFrames {
         set.head.need = need;
     }
 
-    /// Sets a local of a top frame, whose lowest block this is.
-    pub(crate) fn set_local(&mut self, frame: usize, lowest: usize, i: u16, v: Value)
+    /// Sets a local of a top frame, whose values begin here.
+    pub(crate) fn set_local(&mut self, frame: usize, start: usize, i: u16, v: Value)
         requires frame { IsFrameNumber self.old frame }
-        requires lowest { lowest ≡ lowest_block self.old frame }
+        requires start { start ≡ start_of self.old frame }
         requires there { i < length (value_at self.old frame).locals }
         ensures frames { self.new.frames ≡ self.old.frames }
         ensures parts { self.new.parts ≡ self.old.parts }
         ensures becomes { (slot : ℕ) → IsTopOf self.old slot frame → let f = top_of self.old slot in
             Becomes self.old self.new slot (lower_of self.old slot ++ record f { locals = slice_set f.locals i v } ∷ []) self.old.used }
     {
-        let index = value_index(&self.parts, frame, lowest, u32::from(i));
+        let index = value_index(&self.parts, frame, start, u32::from(i));
         self.values[index] = v;
     }
 
-    /// Pushes an entry on the operand stack of a top frame, whose lowest block this is.
-    pub(crate) fn push_value(&mut self, frame: usize, lowest: usize, v: Value)
+    /// Pushes an entry on the operand stack of a top frame, whose values begin here.
+    pub(crate) fn push_value(&mut self, frame: usize, start: usize, v: Value)
         requires frame { IsFrameNumber self.old frame }
-        requires lowest { lowest ≡ lowest_block self.old frame }
+        requires start { start ≡ start_of self.old frame }
         requires room { length (value_at self.old frame).stack < (value_at self.old frame).head.max_stack }
         ensures frames { self.new.frames ≡ self.old.frames }
         ensures parts { self.new.parts ≡ self.old.parts }
@@ -264,14 +264,14 @@ impl DomainFrames {
         let record = &mut self.records[frame];
         let value = u32::from(record.head.max_locals) + u32::from(record.height);
         record.height += 1;
-        let index = value_index(&self.parts, frame, lowest, value);
+        let index = value_index(&self.parts, frame, start, value);
         self.values[index] = v;
     }
 
-    /// Takes the top entry off the operand stack of a top frame, whose lowest block this is.
-    pub(crate) fn pop_value(&mut self, frame: usize, lowest: usize) -> Value
+    /// Takes the top entry off the operand stack of a top frame, whose values begin here.
+    pub(crate) fn pop_value(&mut self, frame: usize, start: usize) -> Value
         requires frame { IsFrameNumber self.old frame }
-        requires lowest { lowest ≡ lowest_block self.old frame }
+        requires start { start ≡ start_of self.old frame }
         requires some { 0 < length (value_at self.old frame).stack }
         ensures frames { self.new.frames ≡ self.old.frames }
         ensures parts { self.new.parts ≡ self.old.parts }
@@ -280,7 +280,7 @@ impl DomainFrames {
         let record = &mut self.records[frame];
         record.height -= 1;
         let value = u32::from(record.head.max_locals) + u32::from(record.height);
-        let index = value_index(&self.parts, frame, lowest, value);
+        let index = value_index(&self.parts, frame, start, value);
         self.values[index]
     }
 
@@ -290,13 +290,13 @@ impl DomainFrames {
         ensures frames { self.new.frames ≡ self.old.frames }
         ensures gives { (may : MayGive self.old caller frame count) → GivesTo self.old self.new may.slot may.head may.given }
     {
-        let low = self.lowest(caller);
-        let lowest = self.lowest(frame);
+        let low = self.start(caller);
+        let start = self.start(frame);
         let first = self.height(caller) - count;
         let mut at = 0;
         for k in 0..count {
             let v = self.entry(caller, low, first + k);
-            self.set_local(frame, lowest, at, v);
+            self.set_local(frame, start, at, v);
             at += slots(v);
         }
     }

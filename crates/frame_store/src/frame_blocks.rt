@@ -27,17 +27,17 @@ pub(crate) fn head_chunks(head: &FrameHead) -> u32
     (4 + u32::from(head.max_locals) + u32::from(head.max_stack) + 19) / 20
 }
 
-/// Where a value of a frame is, whose lowest block this is: most values are in it.
-pub(crate) fn value_index(parts: &Chains, frame: usize, lowest: usize, value: u32) -> usize
+/// Where a value of a frame is, whose first value is here: most values are in its lowest block.
+pub(crate) fn value_index(parts: &Chains, frame: usize, start: usize, value: u32) -> usize
     requires there { frame < stacks parts.now }
-    requires lowest { lowest ≡ place parts.now frame 0 }
+    requires start { start ≡ 20 * place parts.now frame 0 }
     requires some { value < 20 * count parts.now frame }
     requires few { nodes parts.now ≤ 262144 }
     ensures index { result ≡ index_of parts.now frame value }
     ensures within { result < 20 * nodes parts.now }
 {
     if value < 20 {
-        return 20 * lowest + value as usize;
+        return start + value as usize;
     }
     let block = parts.at(frame, (value / 20) as usize);
     20 * block + (value % 20) as usize

@@ -207,7 +207,7 @@ impl PlainFrames {
             place: p,
             domain: place,
             frame,
-            lowest: x.lowest(frame),
+            start: x.start(frame),
         }
     }
 
@@ -254,7 +254,7 @@ impl PlainFrames {
         ensures { (f : AFrame) → TopFrame (content_of self.now.domains self.now.places) s f → slice_get f.locals i ≡ Some result }
     {
         let found = self.look_up(s);
-        self.at(found.domain).local(found.frame, found.lowest, i)
+        self.at(found.domain).local(found.frame, found.start, i)
     }
 
     /// As `peek`, where the cursor is elsewhere.
@@ -267,7 +267,7 @@ impl PlainFrames {
     {
         let found = self.look_up(s);
         self.at(found.domain)
-            .entry_below(found.frame, found.lowest, below)
+            .entry_below(found.frame, found.start, below)
     }
 }
 
@@ -368,7 +368,7 @@ impl FrameStore for PlainFrames {
     fn local(&self, s: SegmentNo, i: u16) -> Value {
         if self.is_at(s) {
             self.at(self.cursor.domain)
-                .local(self.cursor.frame, self.cursor.lowest, i)
+                .local(self.cursor.frame, self.cursor.start, i)
         } else {
             self.far_local(s, i)
         }
@@ -378,7 +378,7 @@ impl FrameStore for PlainFrames {
     fn set_local(&mut self, s: SegmentNo, i: u16, v: Value) {
         self.touch(s);
         match self.domains.get_index_mut(self.cursor.domain) {
-            Some(x) => x.set_local(self.cursor.frame, self.cursor.lowest, i, v),
+            Some(x) => x.set_local(self.cursor.frame, self.cursor.start, i, v),
             None => unreachable!(),
         }
     }
@@ -393,7 +393,7 @@ impl FrameStore for PlainFrames {
     fn peek(&self, s: SegmentNo, below: u16) -> Value {
         if self.is_at(s) {
             let x = self.at(self.cursor.domain);
-            x.entry_below(self.cursor.frame, self.cursor.lowest, below)
+            x.entry_below(self.cursor.frame, self.cursor.start, below)
         } else {
             self.far_peek(s, below)
         }
@@ -403,7 +403,7 @@ impl FrameStore for PlainFrames {
     fn push_value(&mut self, s: SegmentNo, v: Value) {
         self.touch(s);
         match self.domains.get_index_mut(self.cursor.domain) {
-            Some(x) => x.push_value(self.cursor.frame, self.cursor.lowest, v),
+            Some(x) => x.push_value(self.cursor.frame, self.cursor.start, v),
             None => unreachable!(),
         }
     }
@@ -412,7 +412,7 @@ impl FrameStore for PlainFrames {
     fn pop_value(&mut self, s: SegmentNo) -> Value {
         self.touch(s);
         match self.domains.get_index_mut(self.cursor.domain) {
-            Some(x) => x.pop_value(self.cursor.frame, self.cursor.lowest),
+            Some(x) => x.pop_value(self.cursor.frame, self.cursor.start),
             None => unreachable!(),
         }
     }
@@ -444,14 +444,14 @@ impl FrameStore for PlainFrames {
     fn local_at(&self, s: SegmentNo, n: u32, i: u16) -> Value {
         let (x, slot) = self.find(s);
         let frame = x.frame(slot, n);
-        x.local(frame, x.lowest(frame), i)
+        x.local(frame, x.start(frame), i)
     }
 
     fn entry_at(&self, s: SegmentNo, n: u32, i: u16) -> Option<Value> {
         let (x, slot) = self.find(s);
         let frame = x.frame(slot, n);
         if i < x.height(frame) {
-            Some(x.entry(frame, x.lowest(frame), i))
+            Some(x.entry(frame, x.start(frame), i))
         } else {
             None
         }

@@ -1,13 +1,13 @@
 -- One argument after the other is copied.
 use Rattle.std.proofs.Common.{◌+◌, ◌-◌, arith}
-use Rattle.frame_store.proofs.FramesCalled.{all_given, caller_frame, caller_is, enough, entry_there, first_entry, frame_is, local_there, lowest_is, new_frame_number, no_overflow, none_yet, one_more}
+use Rattle.frame_store.proofs.FramesCalled.{all_given, caller_frame, caller_is, enough, entry_there, first_entry, frame_is, local_there, start_is, new_frame_number, no_overflow, none_yet, one_more}
 use Rattle.frame_store.proofs.domain_frames.DomainFrames.give.Goals as goal
 
-pub lowest-low-requires : goal.lowest-low-requires
-lowest-low-requires c = caller_frame c.args.self.now c.args.caller c.args.frame c.args.count c.requires
+pub start-low-requires : goal.start-low-requires
+start-low-requires c = caller_frame c.args.self.now c.args.caller c.args.frame c.args.count c.requires
 
-pub lowest-lowest-requires : goal.lowest-lowest-requires
-lowest-lowest-requires c = new_frame_number c.args.self.now c.args.caller c.args.frame c.args.count c.requires
+pub start-start-requires : goal.start-start-requires
+start-start-requires c = new_frame_number c.args.self.now c.args.caller c.args.frame c.args.count c.requires
 
 pub height-requires : goal.height-requires
 height-requires c = caller_frame c.args.self.now c.args.caller c.args.frame c.args.count c.requires
@@ -21,9 +21,9 @@ loop-k-init c = λ may. none_yet c.args.self.now c.args.caller c.args.frame c.ar
 pub entry-v-requires-clause-frame : goal.entry-v-requires-clause-frame
 entry-v-requires-clause-frame c = caller_is _ _ _ _ c.requires _ _ _ (c.loop-k.invariant c.requires)
 
-pub entry-v-requires-clause-lowest : goal.entry-v-requires-clause-lowest
-entry-v-requires-clause-lowest c =
-    lowest_is _ _ _ _ c.requires _ _ _ (c.loop-k.invariant c.requires) c.args.caller c.lowest-low.result c.lowest-low.ensures
+pub entry-v-requires-clause-start : goal.entry-v-requires-clause-start
+entry-v-requires-clause-start c =
+    start_is _ _ _ _ c.requires _ _ _ (c.loop-k.invariant c.requires) c.args.caller c.start-low.result c.start-low.ensures
 
 pub entry-v-requires-clause-there : goal.entry-v-requires-clause-there
 entry-v-requires-clause-there c =
@@ -33,9 +33,9 @@ entry-v-requires-clause-there c =
 pub set_local-requires-clause-frame : goal.set_local-requires-clause-frame
 set_local-requires-clause-frame c = frame_is _ _ _ _ c.requires _ _ _ (c.loop-k.invariant c.requires)
 
-pub set_local-requires-clause-lowest : goal.set_local-requires-clause-lowest
-set_local-requires-clause-lowest c =
-    lowest_is _ _ _ _ c.requires _ _ _ (c.loop-k.invariant c.requires) c.args.frame c.lowest-lowest.result c.lowest-lowest.ensures
+pub set_local-requires-clause-start : goal.set_local-requires-clause-start
+set_local-requires-clause-start c =
+    start_is _ _ _ _ c.requires _ _ _ (c.loop-k.invariant c.requires) c.args.frame c.start-start.result c.start-start.ensures
 
 pub set_local-requires-clause-there : goal.set_local-requires-clause-there
 set_local-requires-clause-there c = local_there _ _ _ _ c.requires _ _ _ (c.loop-k.invariant c.requires) c.loop-k-test.true

@@ -20,4 +20,4 @@ returns-clause-points c =
     let k = c.requires.found in
     let x = c.at-x.result.now in
     let same : x ≡ k.domain = c.at-x.ensures k.found.domain (place_stands _ _ _ _ _ k).1 in
-    points_at st.domains st.places c.args.s.0 c.args.place c.args.p.slot k _ x same refl c.top-frame.ensures.number c.lowest.ensures c.requires.place
+    points_at st.domains st.places c.args.s.0 c.args.place c.args.p.slot k _ x same refl c.top-frame.ensures.number c.start.ensures c.requires.place

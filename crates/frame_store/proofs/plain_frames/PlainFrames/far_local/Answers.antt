@@ -20,12 +20,12 @@ local-requires-clause-frame c =
     let x = c.at.result.now in
     frame_here _ _ _ c.args.s st.ok _ _ k.top x c.at.ensures
 
-pub local-requires-clause-lowest : goal.local-requires-clause-lowest
-local-requires-clause-lowest c =
+pub local-requires-clause-start : goal.local-requires-clause-start
+local-requires-clause-start c =
     let st = c.args.self.now in
     let k = c.look_up-found.ensures.points in
     let x = c.at.result.now in
-    k.lowest x _ (found_here _ _ _ c.args.s st.ok _ _ k.top x c.at.ensures)
+    k.start x _ (found_here _ _ _ c.args.s st.ok _ _ k.top x c.at.ensures)
 
 pub local-requires-clause-there : goal.local-requires-clause-there
 local-requires-clause-there c =

@@ -17,12 +17,12 @@ entry_below-requires-clause-frame c =
     let x = c.at-x.result.now in
     frame_here _ _ _ c.args.s st.ok _ _ k.top x c.at-x.ensures
 
-pub entry_below-requires-clause-lowest : goal.entry_below-requires-clause-lowest
-entry_below-requires-clause-lowest c =
+pub entry_below-requires-clause-start : goal.entry_below-requires-clause-start
+entry_below-requires-clause-start c =
     let st = c.args.self.now in
     let k = c.is_at.ensures.points c.if-is_at.true in
     let x = c.at-x.result.now in
-    k.lowest x _ (found_here _ _ _ c.args.s st.ok _ _ k.top x c.at-x.ensures)
+    k.start x _ (found_here _ _ _ c.args.s st.ok _ _ k.top x c.at-x.ensures)
 
 pub entry_below-requires-clause-there : goal.entry_below-requires-clause-there
 entry_below-requires-clause-there c =

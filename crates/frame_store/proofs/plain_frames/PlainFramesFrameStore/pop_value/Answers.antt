@@ -1,7 +1,7 @@
 -- An entry is taken off in the domain at the cursor.
 use Rattle.std.proofs.Common.{◌<◌, length, subst}
 use Rattle.jk_model_frames.specs.Frames.{FrameState}
-use Rattle.frame_store.proofs.CursorWrites.{some_domain, frame_at, lowest_at, value_was, taken_stays, takes}
+use Rattle.frame_store.proofs.CursorWrites.{some_domain, frame_at, start_at, value_was, taken_stays, takes}
 use Rattle.frame_store.proofs.plain_frames.PlainFramesFrameStore.pop_value.Goals as goal
 
 pub touch-requires : goal.touch-requires
@@ -13,10 +13,10 @@ pop_value-requires-clause-frame c =
     frame_at _ _ _ _ c.args.s st.ok st.cursor c.touch.ensures.points c.touch.ensures.same
     c.in-Some.x.now c.in-Some.ensures.value
 
-pub pop_value-requires-clause-lowest : goal.pop_value-requires-clause-lowest
-pop_value-requires-clause-lowest c =
+pub pop_value-requires-clause-start : goal.pop_value-requires-clause-start
+pop_value-requires-clause-start c =
     let st = c.touch.new.self in
-    lowest_at _ _ _ _ c.args.s st.ok st.cursor c.touch.ensures.points c.touch.ensures.same
+    start_at _ _ _ _ c.args.s st.ok st.cursor c.touch.ensures.points c.touch.ensures.same
     c.in-Some.x.now c.in-Some.ensures.value
 
 pub pop_value-requires-clause-some : goal.pop_value-requires-clause-some

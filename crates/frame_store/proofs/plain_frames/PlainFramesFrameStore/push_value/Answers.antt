@@ -1,7 +1,7 @@
 -- An entry is pushed in the domain at the cursor.
 use Rattle.std.proofs.Common.{◌<◌, ◌++◌, ◌∷◌, [], length, subst}
 use Rattle.jk_model_frames.specs.Frames.{FrameState}
-use Rattle.frame_store.proofs.CursorWrites.{some_domain, frame_at, lowest_at, value_was, set_stays, sets}
+use Rattle.frame_store.proofs.CursorWrites.{some_domain, frame_at, start_at, value_was, set_stays, sets}
 use Rattle.frame_store.proofs.plain_frames.PlainFramesFrameStore.push_value.Goals as goal
 
 pub touch-requires : goal.touch-requires
@@ -13,10 +13,10 @@ push_value-requires-clause-frame c =
     frame_at _ _ _ _ c.args.s st.ok st.cursor c.touch.ensures.points c.touch.ensures.same
     c.in-Some.x.now c.in-Some.ensures.value
 
-pub push_value-requires-clause-lowest : goal.push_value-requires-clause-lowest
-push_value-requires-clause-lowest c =
+pub push_value-requires-clause-start : goal.push_value-requires-clause-start
+push_value-requires-clause-start c =
     let st = c.touch.new.self in
-    lowest_at _ _ _ _ c.args.s st.ok st.cursor c.touch.ensures.points c.touch.ensures.same
+    start_at _ _ _ _ c.args.s st.ok st.cursor c.touch.ensures.points c.touch.ensures.same
     c.in-Some.x.now c.in-Some.ensures.value
 
 pub push_value-requires-clause-room : goal.push_value-requires-clause-room

@@ -1,7 +1,7 @@
 -- A local of the top frame is written in the domain at the cursor.
 use Rattle.std.proofs.Common.{◌<◌, length, set, subst}
 use Rattle.jk_model_frames.specs.Frames.{FrameState}
-use Rattle.frame_store.proofs.CursorWrites.{some_domain, frame_at, lowest_at, value_was, set_stays, sets}
+use Rattle.frame_store.proofs.CursorWrites.{some_domain, frame_at, start_at, value_was, set_stays, sets}
 use Rattle.frame_store.proofs.plain_frames.PlainFramesFrameStore.set_local.Goals as goal
 
 pub touch-requires : goal.touch-requires
@@ -13,10 +13,10 @@ set_local-requires-clause-frame c =
     frame_at _ _ _ _ c.args.s st.ok st.cursor c.touch.ensures.points c.touch.ensures.same
     c.in-Some.x.now c.in-Some.ensures.value
 
-pub set_local-requires-clause-lowest : goal.set_local-requires-clause-lowest
-set_local-requires-clause-lowest c =
+pub set_local-requires-clause-start : goal.set_local-requires-clause-start
+set_local-requires-clause-start c =
     let st = c.touch.new.self in
-    lowest_at _ _ _ _ c.args.s st.ok st.cursor c.touch.ensures.points c.touch.ensures.same
+    start_at _ _ _ _ c.args.s st.ok st.cursor c.touch.ensures.points c.touch.ensures.same
     c.in-Some.x.now c.in-Some.ensures.value
 
 pub set_local-requires-clause-there : goal.set_local-requires-clause-there
