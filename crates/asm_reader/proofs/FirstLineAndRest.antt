@@ -1,10 +1,11 @@
 -- The lines of a text are its first line and the lines of what follows it.
-use Rattle.std.proofs.Common.{◌≡◌, ℕ, ◌+◌, ◌<◌, ◌≤◌, Bool, true, false, cond, List, [], ◌∷◌, length, take, drop, refl, arith, Some, None, length-drop, nat_eq, nat_lt}
+use Rattle.std.proofs.Common.{◌≡◌, ℕ, ◌+◌, ◌<◌, ◌≤◌, Bool, true, false, List, [], ◌∷◌, length, take, drop, refl, arith, Some, None, length-drop, nat_eq, nat_lt}
 use Rattle.std.specs.List.{slice_split, position_or_len, position, All}
-use Rattle.std.proofs.lemmas.Bool.{ltb-true, ltb-false}
+use Rattle.std.proofs.lemmas.Bool.{ltb-true}
 use Rattle.std.proofs.lemmas.List.Splits.{slice_split_first, slice_split_none}
 use Rattle.std.proofs.lemmas.List.Sums.{fails_before_first}
 use Rattle.std.proofs.lemmas.Option.{cond_some}
+use Rattle.list_lemmas.proofs.FirstByTest.{past_end}
 use Rattle.asm_reader.specs.Words.{text_lines}
 
 abbrev is_line_feed : ℕ → Bool
@@ -42,10 +43,6 @@ first_line text line rest n e f g =
     let parts : slice_split is_line_feed text ≡ line ∷ slice_split is_line_feed rest = rw (f, g, ← at.1) cut in
     (line_before line text rest next.first next.others parts next.are, rw g (omega (arith, length-drop (n + 1) text, at.1, inside)))
 
-no_place : (n m : ℕ) (b : Bool) → nat_lt n m ≡ b → cond b (Some n) None ≡ None → m ≤ n
-no_place n m true t e = cc
-no_place n m false t e = ltb-false n m t
-
 -- bytes without a line feed are one line
 pub last_line : (text rest : List ℕ) → 0 < length text → position is_line_feed text ≡ None → rest ≡ []
     → (text_lines text ≡ text ∷ text_lines rest) × (length rest < length text)
@@ -53,7 +50,7 @@ last_line [] rest h e f = absurd (omega arith)
 last_line (b ∷ bs) rest h e f =
     let text : List ℕ = b ∷ bs in
     let far : length text ≤ position_or_len is_line_feed text =
-    no_place (position_or_len is_line_feed text) (length text) (nat_lt (position_or_len is_line_feed text) (length text)) refl e in
+    past_end (position_or_len is_line_feed text) (length text) (nat_lt (position_or_len is_line_feed text) (length text)) refl e in
     let all : All (λ b. is_line_feed b ≡ false) text = λ k d l. fails_before_first is_line_feed text k d (omega arith) in
     let whole : slice_split is_line_feed text ≡ text ∷ [] = slice_split_none is_line_feed text all in
     rw f (rw whole refl, h)

@@ -5,6 +5,8 @@ use Rattle.std.specs.Option.{option_map}
 use Rattle.std.proofs.lemmas.Bool.{cases_lt}
 use Rattle.std.proofs.lemmas.List.Elements.{Contains-push, Contains-push_cases}
 use Rattle.std.proofs.lemmas.Option.{slice_get-get_or, same_Some}
+use Rattle.list_lemmas.proofs.ItemsByPlace.{slice_get-longer}
+use Rattle.list_lemmas.proofs.ItemsOfLists.{Contains-none, Contains-at}
 use Rattle.jk_model.specs.declared.identifiers.ClassId.{ClassId}
 use Rattle.jk_model_classes.specs.declared.records.ClassRecord.{ClassRecord}
 use Rattle.jk_model_classes.specs.Classes.{HasClass, record_of}
@@ -15,7 +17,6 @@ use Rattle.class_init.specs.Beginning.{AddsPart, IsNamedBefore, HasRecordBefore,
 use Rattle.class_init.specs.TextsAdded.{AddsTexts}
 use Rattle.class_init.proofs.ByKey.{Found, found_stands, none_lacks}
 use Rattle.class_init.proofs.PartOfAClass.{number}
-use Rattle.class_init.proofs.PlacesInLists.{contains_at, in_none, stays}
 
 -- ---- Names.
 
@@ -49,9 +50,9 @@ last_named table i e at = record { place = i; low = omega arith; entry = e; ther
 
 pub begun_none : (classes : List ClassRecord) (table : List NamedClass) → IsBegun classes table 0 [] []
 begun_none classes table = record {
-  each = λ e has. absurd (in_none e has);
+  each = λ e has. absurd (Contains-none e has);
   all = λ c r h own. absurd (omega (arith, h.named.low));
-  leads = λ text. (λ has. absurd (in_none text has), λ (h : IsTextBefore classes table 0 text). absurd (omega (arith, h.has.named.low)));
+  leads = λ text. (λ has. absurd (Contains-none text has), λ (h : IsTextBefore classes table 0 text). absurd (omega (arith, h.has.named.low)));
 }
 
 -- what is found stays found
@@ -62,7 +63,7 @@ find_more parts more c (e, found) = by_find (part_in (parts ++ more) c) refl
     f = found_stands number parts c.0 e found
 
     by_find : (r : Option ClassPart) → part_in (parts ++ more) c ≡ r → HasPartOf (parts ++ more) c
-    by_find None none = absurd (none_lacks number (parts ++ more) c.0 none f.place e (stays parts more f.place e f.there) f.is)
+    by_find None none = absurd (none_lacks number (parts ++ more) c.0 none f.place e (slice_get-longer parts more f.place e f.there) f.is)
     by_find (Some x) some = (x, some)
 
 -- an item of the class is found
@@ -164,7 +165,7 @@ no_name table i told low = by_place (slice_get table i) refl told
     by_place (Some x) at e = cc
 
 pub name_is_named : (table : List NamedClass) (i : ℕ) (e : NamedClass) → slice_get table i ≡ Some e → IsNamed table e.class
-name_is_named table i e at = (e.name, contains_at table i (record { name = e.name; class = e.class }) at)
+name_is_named table i e at = (e.name, Contains-at table i (record { name = e.name; class = e.class }) at)
 
 -- the classes of one name more are there
 pub each_is_there : (classes : List ClassRecord) (table : List NamedClass) (i : ℕ)

@@ -15,6 +15,7 @@ use Rattle.std.proofs.lemmas.List.Elements.{filter-append}
 use Rattle.std.proofs.lemmas.List.Sorted.{searchable_from_sorted}
 use Rattle.std.proofs.lemmas.Map.Lookups.{exact_unsigned}
 use Rattle.std.proofs.lemmas.Option.{slice_get_within, slice_get-get_or, get_or_from_slice_get, same_Some}
+use Rattle.list_lemmas.proofs.ItemsByPlace.{old_or_last, comes_from, mapped_at}
 use Rattle.jk_model.specs.declared.values.Value.{Value}
 use Rattle.jk_model.specs.declared.values.Value.TheVariants as Held
 use Rattle.jk_model_classes.specs.declared.records.FieldRecord.{FieldRecord}
@@ -23,7 +24,7 @@ use Rattle.jk_model_domains.specs.OwnStates.{StaticField, with_field, is_static_
 use Rattle.class_init.specs.declared.statics.FieldSlot.{FieldSlot}
 use Rattle.class_init.specs.Statics.{static_field, IsRising, IsIndexAt, LacksIndex, with_values, first_static, statics_from}
 use Rattle.class_init.proofs.ByKey.{Differ, found_none, found_at, unchanged, changed_at}
-use Rattle.class_init.proofs.PlacesInLists.{comes_from, goes_to, slice_get-set, old_or_last}
+use Rattle.class_init.proofs.PlacesInLists.{slice_get-set}
 
 -- ---- The search.
 
@@ -98,7 +99,7 @@ pub value_some : (xs : List FieldSlot) (index place : ℕ) (s : FieldSlot) → I
     → Some s.value ≡ option_map value_of (find (λ (f : StaticField). f.index == index) (map static_field xs))
 value_some xs index place s rising at e =
     let found = found_at index_of (map static_field xs) place index (static_field at.slot) (slots_differ xs rising)
-    (goes_to static_field xs place at.slot at.there) at.is in
+    (mapped_at static_field xs place at.slot at.there) at.is in
     ap (λ (x : FieldSlot). Some x.value) (read_slot xs index place s at e) ∙ sym (ap (option_map value_of) found)
 
 pub set_none : (xs : List FieldSlot) (index : ℕ) (v : Value) → LacksIndex xs index → map static_field xs ≡ with_field index v (map static_field xs)
@@ -110,7 +111,7 @@ set_some xs index place v s rising at e =
     let change : StaticField → StaticField = λ f. record f { value = v } in
     let new : FieldSlot → FieldSlot = λ x. record { index = x.index; value = v } in
     let done = changed_at index_of change (map static_field xs) place index (static_field at.slot) (slots_differ xs rising)
-    (goes_to static_field xs place at.slot at.there) at.is in
+    (mapped_at static_field xs place at.slot at.there) at.is in
     map-set static_field xs place (new s)
     ∙ ap (λ (x : FieldSlot). set (map static_field xs) place (static_field (new x))) (read_slot xs index place s at e)
     ∙ sym done

@@ -1,6 +1,7 @@
 -- What was begun is the first state of a domain.
 use Rattle.std.specs.Prelude.{Contains}
 use Rattle.std.proofs.Common.{◌≡◌, ℕ, inl, inr, List, length, map, refl, sym, ◌∙◌, ap, Some, slice_get}
+use Rattle.list_lemmas.proofs.ItemsOfLists.{Contains-none, Contains-at}
 use Rattle.jk_model.specs.declared.identifiers.ClassId.{ClassId}
 use Rattle.jk_model_classes.specs.declared.records.ClassRecord.{ClassRecord}
 use Rattle.jk_model_classes.specs.Worlds.{NamedClass, IsNamed}
@@ -8,7 +9,7 @@ use Rattle.jk_model_domains.specs.OwnStates.{ClassPart, StaticField, HasPart, Is
 use Rattle.jk_model_domains.specs.declared.states.LiteralImage.{LiteralImage}
 use Rattle.class_init.specs.Beginning.{IsNamedBefore, IsFirstPart, IsTextBefore, IsBegun, new_state}
 use Rattle.class_init.specs.TextsAdded.{AddsTexts, IsOfSome, HasText}
-use Rattle.class_init.proofs.PlacesInLists.{contains_at, in_none, stands_at}
+use Rattle.class_init.proofs.PlacesInLists.{stands_at}
 use Rattle.std.proofs.lemmas.Option.{same_Some}
 
 named_before : (table : List NamedClass) (c : ClassId) → IsNamed table c → IsNamedBefore table (length table) c
@@ -18,7 +19,7 @@ named_before table c (name, has) =
 
 is_named : (table : List NamedClass) (end : ℕ) (c : ClassId) → IsNamedBefore table end c → IsNamed table c
 is_named table end c h =
-    let of : IsNamed table h.entry.class = (h.entry.name, contains_at table h.place (record { name = h.entry.name; class = h.entry.class }) h.there) in
+    let of : IsNamed table h.entry.class = (h.entry.name, Contains-at table h.place (record { name = h.entry.name; class = h.entry.class }) h.there) in
     rw h.means at of
 
 abbrev DifferentClasses : List ClassPart → Type 0
@@ -42,7 +43,7 @@ begun_state classes table parts texts more h kept differ apart = record {
   classes_differ = differ;
   texts = λ text is. kept text ((h.leads text).1 (text_before classes table text is));
   texts_differ = apart;
-  literals = λ l has. absurd (in_none l has);
+  literals = λ l has. absurd (Contains-none l has);
   literals_differ = λ i j a b p q e. cc;
   standing = refl;
 }

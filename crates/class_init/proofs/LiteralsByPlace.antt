@@ -12,11 +12,13 @@ use Rattle.std.proofs.lemmas.Map.Steps.{length-le_from_distinct_below}
 use Rattle.std.proofs.lemmas.Option.{slice_get-get_or, same_Some}
 use Rattle.std.proofs.lemmas.Slice.Eq.{bytes_eq-Decides}
 use Rattle.indexmap.proofs.CallerLemmas.{Contains-list_any}
+use Rattle.list_lemmas.proofs.ItemsByPlace.{comes_from, mapped_at}
+use Rattle.list_lemmas.proofs.ItemsOfLists.{Contains-at}
 use Rattle.jk_model_domains.specs.OwnStates.{Literal}
 use Rattle.jk_model_domains.specs.declared.states.LiteralImage.{LiteralImage}
 use Rattle.class_init.specs.Literals.{LiteralTable, literal_of, literal_from, AreNamed}
 use Rattle.class_init.proofs.PartOfAClass.{differ_from_distinct}
-use Rattle.class_init.proofs.PlacesInLists.{comes_from, contains_at, goes_to, stands_at}
+use Rattle.class_init.proofs.PlacesInLists.{stands_at}
 
 abbrev has_text : List ℕ → Literal → Bool
 has_text text l = bytes_eq l.text text
@@ -64,7 +66,7 @@ unknown_unnamed texts (p ∷ names) text h absent =
     by_test true t rest =
         let same : (literal_of texts p).text ≡ text = (bytes_eq-Decides (literal_of texts p).text text).0 t in
         let at = (text_at texts p (first_within texts p names h)).there in
-        absurd (absent (contains_at texts p.0 text (at ∙ ap Some same)))
+        absurd (absent (Contains-at texts p.0 text (at ∙ ap Some same)))
     by_test false t rest = rw t rest
 
 -- a text is a literal's where its place is
@@ -178,7 +180,7 @@ pub key_within : (texts : List (List ℕ)) (names : List (ℕ × ℕ)) (p : ℕ 
     → Contains names p → p.0 < length texts
 key_within texts names p h has =
     let s = stands_at names p has in
-    h p.0 (contains_at (keys_of names) s.place p.0 (goes_to (λ (q : ℕ × ℕ). q.0) names s.place p s.there))
+    h p.0 (Contains-at (keys_of names) s.place p.0 (mapped_at (λ (q : ℕ × ℕ). q.0) names s.place p s.there))
 
 -- ---- What holds of all literals.
 
@@ -192,7 +194,7 @@ text_place : (texts : List (List ℕ)) (names : List (ℕ × ℕ)) (k : ℕ) (l 
     → slice_get (map (literal_of texts) names) k ≡ Some l → TextPlace texts names k l
 text_place texts names k l within at =
     let x = comes_from (literal_of texts) names k l at in
-    let low = key_within texts names x.from within (contains_at names k x.from x.there) in
+    let low = key_within texts names x.from within (Contains-at names k x.from x.there) in
     record {
       from = x.from;
       there = x.there;
@@ -214,4 +216,4 @@ pub text_known : (texts : List (List ℕ)) (names : List (ℕ × ℕ)) (room : �
 text_known texts names room h l has =
     let s = stands_at (map (literal_of texts) names) l has in
     let x = text_place texts names s.place l h.within s.there in
-    contains_at texts x.from.0 l.text x.text
+    Contains-at texts x.from.0 l.text x.text

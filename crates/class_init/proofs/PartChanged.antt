@@ -5,6 +5,7 @@ use Rattle.std.specs.Option.{option_map}
 use Rattle.std.proofs.lemmas.List.{map-set}
 use Rattle.std.proofs.Math.Seq.{map-set_same}
 use Rattle.std.proofs.lemmas.Option.{get_or_from_slice_get, same_Some}
+use Rattle.list_lemmas.proofs.ItemsByPlace.{comes_from}
 use Rattle.jk_model.specs.declared.identifiers.ClassId.{ClassId}
 use Rattle.jk_model_domains.specs.declared.states.OwnClass.{OwnClass}
 use Rattle.jk_model_domains.specs.OwnStates.{ClassPart, with_part}
@@ -12,7 +13,6 @@ use Rattle.class_init.specs.declared.class_parts.Part.{Part}
 use Rattle.class_init.specs.Parts.{AreNumbered, IsPartAt, FitsAll, class_part, class_number, part_in, restored, restored_all}
 use Rattle.class_init.proofs.ByKey.{unchanged, changed_at, none_lacks}
 use Rattle.class_init.proofs.PartOfAClass.{number, parts_differ}
-use Rattle.class_init.proofs.PlacesInLists.{comes_from}
 use Rattle.class_init.proofs.FieldOfAnIndex.{length-with_values}
 
 -- what was read at the place is the class's part

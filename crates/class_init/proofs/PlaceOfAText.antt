@@ -4,10 +4,12 @@ use Rattle.std.specs.Prelude.{Contains}
 use Rattle.std.specs.Option.{MatchOption, option_map_or}
 use Rattle.std.proofs.lemmas.Bool.{cases_lt}
 use Rattle.std.proofs.lemmas.Option.{slice_get_within, same_Some}
+use Rattle.list_lemmas.proofs.ItemsByPlace.{comes_from, mapped_at}
+use Rattle.list_lemmas.proofs.ItemsOfLists.{Contains-at}
 use Rattle.shared_values.specs.Fingerprints.{fingerprint_of}
 use Rattle.class_init.specs.declared.known_texts.TextEntry.{TextEntry}
 use Rattle.class_init.specs.Texts.{text_of, IsNewest, HasFingerprint, AreChained, LacksText, HasTextAt}
-use Rattle.class_init.proofs.PlacesInLists.{comes_from, goes_to, contains_at, stands_at}
+use Rattle.class_init.proofs.PlacesInLists.{stands_at}
 
 -- the texts differ, as contracts see them
 pub texts_differ : (es : List TextEntry)
@@ -25,11 +27,11 @@ place_says es text None h =
     λ has.
     let s = stands_at (map text_of es) text has in
     let x = comes_from text_of es s.place text s.there in h s.place x.from x.there x.gives
-place_says es text (Some place) h = goes_to text_of es place h.entry h.there ∙ ap Some h.is
+place_says es text (Some place) h = mapped_at text_of es place h.entry h.there ∙ ap Some h.is
 
 -- and a text that isn't known stands in no entry
 pub lacks_from_absent : (es : List TextEntry) (text : List ℕ) → (Contains (map text_of es) text → ⊥) → LacksText es text
-lacks_from_absent es text h k e at same = h (contains_at (map text_of es) k text (goes_to text_of es k e at ∙ ap Some same))
+lacks_from_absent es text h k e at same = h (Contains-at (map text_of es) k text (mapped_at text_of es k e at ∙ ap Some same))
 
 -- ---- The search from the newest entry on.
 

@@ -7,6 +7,8 @@ use Rattle.std.proofs.lemmas.List.{length-map}
 use Rattle.std.proofs.lemmas.List.Sorted.{Contains-permutation, IsPermutation-refl, IsPermutation-sym}
 use Rattle.std.proofs.lemmas.Option.{same_Some}
 use Rattle.std.proofs.lemmas.Slice.Eq.{bytes_eq-Decides}
+use Rattle.list_lemmas.proofs.ItemsByPlace.{comes_from, mapped_at}
+use Rattle.list_lemmas.proofs.ItemsOfLists.{Contains-none, Contains-at, Contains-here}
 use Rattle.jk_model.specs.declared.identifiers.ClassId.{ClassId}
 use Rattle.jk_model.specs.declared.values.Value.{Value}
 use Rattle.jk_model_classes.specs.declared.records.ClassRecord.{ClassRecord}
@@ -22,8 +24,8 @@ use Rattle.class_init.specs.Statics.{with_values}
 use Rattle.class_init.proofs.ByKey.{found_at, found_stands}
 use Rattle.class_init.proofs.PartChanged.{found_changed}
 use Rattle.class_init.proofs.PartOfAClass.{number, same_class}
-use Rattle.class_init.proofs.PlacesInLists.{comes_from, contains_at, goes_to, in_none, stands_at}
-use Rattle.class_init.proofs.SameElements.{all_differ, an_other, first_or_other, permuted, still_differ, the_first}
+use Rattle.class_init.proofs.PlacesInLists.{stands_at}
+use Rattle.class_init.proofs.SameElements.{all_differ, an_other, first_or_other, permuted, still_differ}
 
 abbrev listed : OwnClass → ℕ
 listed o = o.class.0
@@ -74,13 +76,13 @@ is_listed own parts o are has =
     let back = Contains-permutation parts.classes (map own_class own.classes) o (IsPermutation-sym _ _ are.classes) has in
     let s = stands_at (map own_class own.classes) o back in
     let x = comes_from own_class own.classes s.place o s.there in
-    record { part = x.from; has = contains_at own.classes s.place x.from x.there; is = x.gives }
+    record { part = x.from; has = Contains-at own.classes s.place x.from x.there; is = x.gives }
 
 lists : (own : OwnState) (parts : OwnParts) (e : ClassPart) → ArePartsOf own parts → Contains own.classes e → Contains parts.classes (own_class e)
 lists own parts e are has =
     let s = stands_at own.classes e has in
     Contains-permutation (map own_class own.classes) parts.classes (own_class e) are.classes
-    (contains_at (map own_class own.classes) s.place (own_class e) (goes_to own_class own.classes s.place e s.there))
+    (Contains-at (map own_class own.classes) s.place (own_class e) (mapped_at own_class own.classes s.place e s.there))
 
 -- the texts of the listed literals are known
 abbrev pub AreKnown : OwnState → OwnParts → Type 0
@@ -108,7 +110,7 @@ pub parts_fit : (classes : List ClassRecord) (table : List NamedClass) (first ow
 parts_fit classes table first own parts f s are o has e found =
     let l = is_listed own parts o are has in
     let at = found_stands number first.classes o.class.0 e found in
-    let here : Contains first.classes e = contains_at first.classes at.place e at.there in
+    let here : Contains first.classes e = Contains-at first.classes at.place e at.there in
     let classed : e.class.0 ≡ l.part.class.0 = at.is ∙ sym (ap listed l.is) in
     let same = same_indices classes table first own f s e l.part here l.has (same_class e.class l.part.class classed) in
     let sizes : length e.statics ≡ length l.part.statics = size_of e ∙ ap length same ∙ sym (size_of l.part) in
@@ -135,7 +137,7 @@ once o list d x has e =
 
 pub restored_at : (list : List OwnClass) (parts : List ClassPart) (k : ℕ) (e : ClassPart) → DifferentClasses list
     → slice_get (restored_all list parts) k ≡ Some e → RestoredAt list parts k e
-restored_at [] parts k e d at = record { old = e; there = at; class = refl; from = inr (λ o has. absurd (in_none o has), refl) }
+restored_at [] parts k e d at = record { old = e; there = at; class = refl; from = inr (λ o has. absurd (Contains-none o has), refl) }
 restored_at (o ∷ list) parts k e d at =
     let later = restored_at list (with_part o.class (restored o) parts) k e (differ_tail o list d) at in
     let change : ClassPart → ClassPart = λ x. if x.class.0 == o.class.0 then restored o x else x in
@@ -152,7 +154,7 @@ restored_at (o ∷ list) parts k e d at =
           old = x;
           there = there;
           class = later.class ∙ sym classed;
-          from = inl (o, the_first o list, mine, by_side is (mine ∙ classed) later.from);
+          from = inl (o, Contains-here o list, mine, by_side is (mine ∙ classed) later.from);
         }
       where
         by_side : restored o x ≡ later.old → o.class ≡ later.old.class
@@ -247,7 +249,7 @@ restored_is_state classes table first own parts f s are known = record {
       λ l has.
       let at = stands_at (map literal_from parts.literals) l has in
       let x = comes_from literal_from parts.literals at.place l at.there in
-      rw (ap (λ (y : Literal). y.text) x.gives) at (known x.from (contains_at parts.literals at.place x.from x.there));
+      rw (ap (λ (y : Literal). y.text) x.gives) at (known x.from (Contains-at parts.literals at.place x.from x.there));
   literals_differ =
       λ i j a b p q e.
       let x = comes_from literal_from parts.literals i a p in
@@ -264,7 +266,7 @@ restored_is_state classes table first own parts f s are known = record {
         → (r : ClassRecord) × HasPart classes table e.class r × IsPartFor r e
     each_is e k at =
         let h = restored_at parts.classes first.classes k e differ at in
-        let x = f.each h.old (contains_at first.classes k h.old h.there) in
+        let x = f.each h.old (Contains-at first.classes k h.old h.there) in
         let of : ClassId → Type 0 = λ c. HasPart classes table c x.0 in
         (x.0, subst of (sym h.class) x.1, same_indices_restored parts.classes first.classes k e h ∙ x.2)
 
@@ -296,7 +298,7 @@ lists_one classes table first own parts f s are e k at =
         let x = f.each old has in
         let y = s.all old.class x.0 x.1 in
         let at = found_stands number own.classes old.class.0 y.0 y.1 in
-        none (own_class y.0) (lists own parts y.0 are (contains_at own.classes at.place y.0 at.there)) (same_class y.0.class old.class at.is)
+        none (own_class y.0) (lists own parts y.0 are (Contains-at own.classes at.place y.0 at.there)) (same_class y.0.class old.class at.is)
 
     by_side : (old : ClassPart) → slice_get first.classes k ≡ Some old
         → ((o : OwnClass) × Contains parts.classes o × (o.class ≡ old.class) × (e ≡ restored o old))
@@ -305,7 +307,7 @@ lists_one classes table first own parts f s are e k at =
         let found = found_first first f.classes_differ k old o.class there classed in
         let size : length o.statics ≡ length old.statics = parts_fit classes table first own parts f s are o has old found in
         record { from = o; has = has; is = ap own_class is ∙ restored_lists o old classed size }
-    by_side old there (inr (none, is)) = absurd (no_part old (contains_at first.classes k old there) none)
+    by_side old there (inr (none, is)) = absurd (no_part old (Contains-at first.classes k old there) none)
 
 same_listed : (list : List OwnClass) (a b : OwnClass) → DifferentClasses list → Contains list a → Contains list b → a.class ≡ b.class → a ≡ b
 same_listed list a b d ha hb e =
@@ -327,7 +329,7 @@ each_listed classes table first own parts f s are o has =
     let classed : one.from.class ≡ o.class =
     sym (ap (λ (z : OwnClass). z.class) one.is) ∙ same_class y.0.class l.part.class at.is ∙ ap (λ (z : OwnClass). z.class) l.is in
     let same : one.from ≡ o = same_listed parts.classes one.from o (classes_of_parts_differ own parts s.classes_differ are) one.has has classed in
-    contains_at (map own_class new) at.place o (goes_to own_class new at.place y.0 at.there ∙ ap Some (one.is ∙ same))
+    Contains-at (map own_class new) at.place o (mapped_at own_class new at.place y.0 at.there ∙ ap Some (one.is ∙ same))
 
 each_lists : (classes : List ClassRecord) (table : List NamedClass) (first own : OwnState) (parts : OwnParts) → IsOwnState classes table first
     → IsOwnState classes table own → ArePartsOf own parts → (o : OwnClass) → Contains (map own_class (restored_all parts.classes first.classes)) o

@@ -9,7 +9,9 @@ use Rattle.std.proofs.lemmas.List.Elements.{Contains-append_left, Contains-appen
 use Rattle.std.proofs.lemmas.List.Sorted.{IsPermutation-refl, IsPermutation-sym, IsPermutation-cons, IsPermutation-middle, IsPermutation-trans, IsPermutation-map}
 use Rattle.std.proofs.lemmas.Map.Keys.{apart_from_distinct, IsDistinct-from_apart, IsDistinct-IsPermutation}
 use Rattle.std.proofs.lemmas.Option.{slice_get_within, get_or_from_slice_get, same_Some}
-use Rattle.class_init.proofs.PlacesInLists.{contains_at, stands_at, in_none, goes_to}
+use Rattle.list_lemmas.proofs.ItemsOfLists.{Contains-here, Contains-none, Contains-at}
+use Rattle.list_lemmas.proofs.ItemsByPlace.{mapped_at}
+use Rattle.class_init.proofs.PlacesInLists.{stands_at}
 
 module _ {X : Type 0} where
   -- an item of a list is its first, or one of the others
@@ -18,10 +20,7 @@ module _ {X : Type 0} where
     where
       by_place : (k : ℕ) → slice_get (x ∷ xs) k ≡ Some y → (x ≡ y) ⊎ Contains xs y
       by_place zero at = inl (same_Some x y at)
-      by_place (suc k) at = inr (contains_at xs k y at)
-
-  pub the_first : (x : X) (xs : List X) → Contains (x ∷ xs) x
-  the_first x xs = contains_at (x ∷ xs) 0 x refl
+      by_place (suc k) at = inr (Contains-at xs k y at)
 
   pub an_other : (x : X) (xs : List X) (y : X) → Contains xs y → Contains (x ∷ xs) y
   an_other x xs y has = Contains-append_right (x ∷ []) xs y has
@@ -77,15 +76,15 @@ module _ {X : Type 0} where
       )
     where
       by_first : (y ≡ x) ⊎ Contains (front ++ back) x → (Contains (front ++ back) x → ⊥) → ⊥
-      by_first (inl e) absent = h.0 (rw e (Contains-append_right front (x ∷ back) x (the_first x back)))
+      by_first (inl e) absent = h.0 (rw e (Contains-append_right front (x ∷ back) x (Contains-here x back)))
       by_first (inr has) absent = absent has
 
   pub permuted : (xs ys : List X) → AllDiffer xs → AllDiffer ys → ((x : X) → Contains xs x → Contains ys x) → ((x : X) → Contains ys x → Contains xs x)
       → IsPermutation xs ys
   permuted [] [] a b there back = IsPermutation-refl []
-  permuted [] (y ∷ ys) a b there back = absurd (in_none y (back y (the_first y ys)))
+  permuted [] (y ∷ ys) a b there back = absurd (Contains-none y (back y (Contains-here y ys)))
   permuted (x ∷ xs) ys a b there back =
-      let s = stands_at ys x (there x (the_first x xs)) in
+      let s = stands_at ys x (there x (Contains-here x xs)) in
       let p = parted ys s.place x s.there in
       let differ : AllDiffer (p.front ++ x ∷ p.back) = rw p.is at b in
       let out = middle_out p.front x p.back differ in
@@ -139,8 +138,8 @@ module _ {X K : Type 0} (key : X → K) (eq : K → K → Bool) (yes : (a b : K)
           let two : j < length xs = rw length-map at high in
           let a = item_at xs i (omega (arith, low, two)) in
           let b = item_at xs j two in
-          let p : get_or (map key xs) i d ≡ key a.item = get_or_from_slice_get (map key xs) i (key a.item) d (goes_to key xs i a.item a.there) in
-          let q : get_or (map key xs) j d ≡ key b.item = get_or_from_slice_get (map key xs) j (key b.item) d (goes_to key xs j b.item b.there) in
+          let p : get_or (map key xs) i d ≡ key a.item = get_or_from_slice_get (map key xs) i (key a.item) d (mapped_at key xs i a.item a.there) in
+          let q : get_or (map key xs) j d ≡ key b.item = get_or_from_slice_get (map key xs) j (key b.item) d (mapped_at key xs j b.item b.there) in
           rw (p, q) (no_from (key a.item) (key b.item) (λ e. (let here : i ≡ j = h i j a.item b.item a.there b.there e in omega (arith, here, low))))
 
   from_distinct : (xs : List X) → IsDistinct eq (map key xs) → DifferBy xs
@@ -149,8 +148,8 @@ module _ {X K : Type 0} (key : X → K) (eq : K → K → Bool) (yes : (a b : K)
       apart : (i j : ℕ) (a b : X) → slice_get xs i ≡ Some a → slice_get xs j ≡ Some b → key a ≡ key b → i < j → ⊥
       apart i j a b p q e low =
           let high : j < length (map key xs) = rw length-map (slice_get_within xs j b q) in
-          let one : get_or (map key xs) i (key a) ≡ key a = get_or_from_slice_get (map key xs) i (key a) (key a) (goes_to key xs i a p) in
-          let two : get_or (map key xs) j (key a) ≡ key b = get_or_from_slice_get (map key xs) j (key b) (key a) (goes_to key xs j b q) in
+          let one : get_or (map key xs) i (key a) ≡ key a = get_or_from_slice_get (map key xs) i (key a) (key a) (mapped_at key xs i a p) in
+          let two : get_or (map key xs) j (key a) ≡ key b = get_or_from_slice_get (map key xs) j (key b) (key a) (mapped_at key xs j b q) in
           let no : eq (get_or (map key xs) i (key a)) (get_or (map key xs) j (key a)) ≡ false =
           apart_from_distinct eq (map key xs) i j (key a) h low high in
           let false_too : eq (key a) (key b) ≡ false = rw (one, two) at no in

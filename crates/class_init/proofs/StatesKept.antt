@@ -6,6 +6,8 @@ use Rattle.std.proofs.lemmas.Option.{same_Some}
 use Rattle.std.proofs.lemmas.List.{length-set}
 use Rattle.std.proofs.lemmas.List.Elements.{Contains-push_cases}
 use Rattle.std.proofs.lemmas.Slice.Eq.{bytes_eq-Decides}
+use Rattle.list_lemmas.proofs.ItemsByPlace.{slice_get-front, old_or_last, comes_from}
+use Rattle.list_lemmas.proofs.ItemsOfLists.{Contains-at}
 use Rattle.class_table.proofs.ItemsByPlace.{slice_get-set_other}
 use Rattle.jk_model.specs.declared.identifiers.ClassId.{ClassId}
 use Rattle.jk_model.specs.declared.identifiers.MemberId.{MemberId}
@@ -19,7 +21,7 @@ use Rattle.jk_model_domains.specs.declared.states.ClassState.{ClassState}
 use Rattle.jk_model_domains.specs.OwnStates.{OwnState, ClassPart, StaticField, Literal, HasPart, IsPartFor, IsOwnState, literal_named, standing_place, with_field, with_part, with_state, with_static}
 use Rattle.class_init.proofs.PartChanged.{found_changed}
 use Rattle.class_init.proofs.PartOfAClass.{same_class}
-use Rattle.class_init.proofs.PlacesInLists.{comes_from, contains_at, old_or_last, slice_get-append, stands_at}
+use Rattle.class_init.proofs.PlacesInLists.{stands_at}
 
 -- ---- One part changes.
 
@@ -79,7 +81,7 @@ part_kept classes table own c change keeps h = record {
     each : (e : ClassPart) (k : ℕ) → slice_get new k ≡ Some e → (r : ClassRecord) × HasPart classes table e.class r × IsPartFor r e
     each e k at =
         let x = comes_from some own.classes k e at in
-        let old = h.each x.from (contains_at own.classes k x.from x.there) in
+        let old = h.each x.from (Contains-at own.classes k x.from x.there) in
         let of : ClassId → Type 0 = λ d. HasPart classes table d old.0 in
         let same : indices e.statics ≡ indices x.from.statics = sym (ap (λ (y : ClassPart). indices y.statics) x.gives) ∙ one.places x.from in
         (old.0, subst of (class_of e x.from x.gives) old.1, same ∙ old.2)
@@ -210,7 +212,7 @@ records_kept old new table own same h = record {
 -- classes after the others
 pub same_appended : (table : List NamedClass) (classes more : List ClassRecord) → ((c : ClassId) → IsNamed table c → HasClass classes c)
     → SameNamed table classes (classes ++ more)
-same_appended table classes more there c named = slice_get-append classes more c.0 (there c named)
+same_appended table classes more there c named = slice_get-front classes more c.0 (there c named)
 
 -- the links of a class that the table doesn't name
 pub same_linked : (table : List NamedClass) (old new : List ClassRecord) (d : ClassId) (links : List Link) → (IsNamed table d → ⊥) → GetsLinks old d links new

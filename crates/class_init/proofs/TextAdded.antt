@@ -2,22 +2,22 @@
 use Rattle.std.proofs.Common.{◌≡◌, ℕ, ◌+◌, ◌<◌, ◌≤◌, ◌⊎◌, inl, inr, Bool, true, false, List, [], ◌∷◌, ◌++◌, length, refl, sym, ◌∙◌, ap, arith, Option, Some, None, slice_get, length-append, if◌then◌else◌}
 use Rattle.std.specs.BTreeMap.{is_at}
 use Rattle.std.specs.Map.{lookup}
-use Rattle.std.specs.Ordering.{is_eq, nat_cmp}
+use Rattle.std.specs.Ordering.{nat_cmp}
 use Rattle.std.proofs.lemmas.Bool.{cases_lt}
-use Rattle.std.proofs.lemmas.Cmp.{nat_cmp_total, tied_itself}
 use Rattle.std.proofs.lemmas.Map.Lookups.{exact_unsigned}
 use Rattle.std.proofs.lemmas.Map.Views.{tells_apart}
 use Rattle.std.proofs.lemmas.Option.{same_Some}
+use Rattle.list_lemmas.proofs.TestsAndOrders.{found_itself}
+use Rattle.list_lemmas.proofs.ItemsByPlace.{slice_get-front, slice_get-longer, slice_get-seam, old_or_last}
 use Rattle.shared_values.specs.Fingerprints.{fingerprint_of}
 use Rattle.class_init.specs.declared.known_texts.TextEntry.{TextEntry}
 use Rattle.class_init.specs.Texts.{IsNewest, HasFingerprint, AreChained, LacksText, IsIndex}
-use Rattle.class_init.proofs.PlacesInLists.{slice_get-append, slice_get-seam, stays, old_or_last}
 
 keeps_print : (es : List TextEntry) (y : TextEntry) (f k : ℕ) → HasFingerprint es f k → HasFingerprint (es ++ y ∷ []) f k
-keeps_print es y f k h = record { entry = h.entry; there = stays es (y ∷ []) k h.entry h.there; is = h.is }
+keeps_print es y f k h = record { entry = h.entry; there = slice_get-longer es (y ∷ []) k h.entry h.there; is = h.is }
 
 had_print : (es : List TextEntry) (y : TextEntry) (f k : ℕ) → k < length es → HasFingerprint (es ++ y ∷ []) f k → HasFingerprint es f k
-had_print es y f k low h = record { entry = h.entry; there = sym (slice_get-append es (y ∷ []) k low) ∙ h.there; is = h.is }
+had_print es y f k low h = record { entry = h.entry; there = sym (slice_get-front es (y ∷ []) k low) ∙ h.there; is = h.is }
 
 last_print : (es : List TextEntry) (y : TextEntry) (f : ℕ) → HasFingerprint (es ++ y ∷ []) f (length es) → fingerprint_of y.text ≡ f
 last_print es y f h =
@@ -52,10 +52,6 @@ newest_itself es y f same = (
   record { entry = y; there = slice_get-seam es y []; is = same },
   λ k after low has. absurd (omega arith),
 )
-
--- a number is found where it is looked for
-found_itself : (n m : ℕ) → n ≡ m → is_at (nat_cmp n) m ≡ true
-found_itself n m same = ap (λ (k : ℕ). is_eq (nat_cmp n k)) (sym same) ∙ ap is_eq (tied_itself nat_cmp_total n)
 
 newest_added : (es : List TextEntry) (y : TextEntry) (f : ℕ) (r : Option ℕ) → IsNewest es f (length es) r
     → (b : Bool) → is_at (nat_cmp (fingerprint_of y.text)) f ≡ b → IsNewest (es ++ y ∷ []) f (length es + 1) (if b then Some (length es) else r)

@@ -2,12 +2,12 @@
 use Rattle.std.proofs.Common.{◌≡◌, ℕ, ◌⊎◌, inl, inr, Result, Ok, Err, List, [], ◌∷◌, ◌++◌, refl, sym, ap, subst}
 use Rattle.std.specs.Prelude.{Contains, OnOk}
 use Rattle.std.proofs.lemmas.List.Elements.{Contains-append_left, Contains-push, Contains-push_cases}
+use Rattle.list_lemmas.proofs.ItemsOfLists.{Contains-none}
 use Rattle.jk_model_classes.specs.declared.records.ClassRecord.{ClassRecord}
 use Rattle.jk_model_classes.specs.declared.records.Link.TheVariants as To
 use Rattle.jk_model_domains.specs.OwnStates.{IsTextOf}
 use Rattle.class_init.specs.Texts.{AddsText}
 use Rattle.class_init.specs.TextsAdded.{AddsTexts, IsOfSome, LeadsTo, HasConstant}
-use Rattle.class_init.proofs.PlacesInLists.{in_none}
 
 pub none_added : (these : List ℕ → Type 0) (old : List (List ℕ)) → ((text : List ℕ) → these text → ⊥) → AddsTexts these old old
 none_added these old none = record { has = λ text. (λ has. inl has, λ (h : Contains old text ⊎ these text). by_side text h) }
@@ -83,7 +83,7 @@ link_added old text new h =
 -- ---- The texts of a list of items.
 
 pub of_none : {X : Type 0} (has : X → List ℕ → Type 0) (old : List (List ℕ)) → AddsTexts (IsOfSome has []) old old
-of_none has old = none_added (IsOfSome has []) old (λ text h. in_none h.0 h.1)
+of_none has old = none_added (IsOfSome has []) old (λ text h. Contains-none h.0 h.1)
 
 pub one_more : {X : Type 0} (has : X → List ℕ → Type 0) (xs : List X) (x : X) (old cur new : List (List ℕ)) → AddsTexts (IsOfSome has xs) old cur
     → AddsTexts (has x) cur new → AddsTexts (IsOfSome has (xs ++ x ∷ [])) old new

@@ -1,12 +1,13 @@
 -- Classes that are brought into a table one after the other, and all that is reached from a class.
-use Rattle.std.proofs.Common.{◌≡◌, ℕ, ◌+◌, ◌<◌, ◌≤◌, ◌⊎◌, inl, inr, Bool, List, [], ◌∷◌, ◌++◌, length, refl, sym, ◌∙◌, ap, arith, append-nil, append_assoc, Option, Some, None, Result, Ok, Err, slice_get, find, get_or}
+use Rattle.std.proofs.Common.{◌≡◌, ℕ, ◌+◌, ◌<◌, ◌≤◌, ◌⊎◌, inl, inr, Bool, List, [], ◌∷◌, ◌++◌, length, refl, sym, ◌∙◌, ap, arith, append-nil, append_assoc, Option, Some, None, Result, Ok, Err, find, get_or}
 use Rattle.std.specs.Prelude.{Contains, MatchBool, IfOk, OnErr}
 use Rattle.std.specs.Option.{option_map}
 use Rattle.std.specs.Str.{bytes_eq}
 use Rattle.std.proofs.lemmas.Bool.{cases_lt}
 use Rattle.std.proofs.lemmas.List.{get_or_default}
 use Rattle.std.proofs.lemmas.List.Elements.{Contains-get_or, Contains-append_left, Contains-push, Contains-append_cases}
-use Rattle.std.proofs.lemmas.Option.{slice_get_within, slice_get_read, get_or_from_slice_get, same_Some}
+use Rattle.std.proofs.lemmas.Option.{same_Some}
+use Rattle.list_lemmas.proofs.ItemsOfLists.{Contains-none, Contains-at}
 use Rattle.jk_model.specs.declared.identifiers.ClassId.{ClassId}
 use Rattle.jk_model_classes.specs.declared.records.ClassRecord.{ClassRecord}
 use Rattle.jk_model_classes.specs.Classes.{record_of}
@@ -16,17 +17,8 @@ use Rattle.domain_resolver.proofs.PlacesInLists.{Finds, finds}
 
 -- ---- What is in a list.
 
-pub contains_at : {X : Type 0} (xs : List X) (k : ℕ) (x : X) → slice_get xs k ≡ Some x → Contains xs x
-contains_at xs k x e = (k, slice_get_within xs k x e, get_or_from_slice_get xs k x x e)
-
-pub stands_at : {X : Type 0} (xs : List X) (x : X) → Contains xs x → (k : ℕ) × (k < length xs) × (slice_get xs k ≡ Some x)
-stands_at xs x (k, low, at) = (k, low, slice_get_read xs (length xs) k x refl low (sym at))
-
 pub only_one : {X : Type 0} (y x : X) → Contains (y ∷ []) x → x ≡ y
 only_one y x (k, low, at) = let first : k ≡ 0 = omega (arith, low) in let same : get_or (y ∷ []) 0 x ≡ x = rw first at at in sym same
-
-in_none : {X : Type 0} (x : X) → Contains [] x → ⊥
-in_none x (k, low, at) = omega (arith, low)
 
 -- ---- Names that stay.
 
@@ -49,12 +41,12 @@ means_named t name c e = by_find (find (λ (n : NamedClass). bytes_eq n.name nam
     by_find (Some n) f h =
         let g : Finds (λ (n : NamedClass). bytes_eq n.name name) t (Some n) = rw f at h in
         let class : Some n.class ≡ Some c = ap (option_map (λ (n : NamedClass). n.class)) (sym f) ∙ e in
-        (n.name, contains_at t g.0 (record { name = n.name; class = c }) (g.1 ∙ ap Some (same n (same_Some n.class c class))))
+        (n.name, Contains-at t g.0 (record { name = n.name; class = c }) (g.1 ∙ ap Some (same n (same_Some n.class c class))))
 
 -- ---- One class, and then others.
 
 pub brings_nothing : (classes : List ClassRecord) (cs : List ClassId) (old new : List NamedClass) → new ≡ old → Brings classes cs old new
-brings_nothing classes cs old new e = record { more = []; is = e ∙ sym (append-nil old); own = λ x has. absurd (in_none x has) }
+brings_nothing classes cs old new e = record { more = []; is = e ∙ sym (append-nil old); own = λ x has. absurd (Contains-none x has) }
 
 pub brings_one : (classes : List ClassRecord) (c : ClassId) (of : ClassRecord) (old new : List NamedClass) (given : Bool) → record_of classes c ≡ Some of
     → (IsNamed old c → ⊥) → Gives old of.name c given new → Brings classes (c ∷ []) old new
@@ -64,7 +56,7 @@ brings_one classes c of old new given there free (inl (none, told, is)) = record
   own =
       λ x has. (
       let same = only_one (record { name = of.name; class = c }) x has in
-      rw same (record { listed = contains_at (c ∷ []) 0 c refl; free = free }, record { of = of; there = there; named = refl }));
+      rw same (record { listed = Contains-at (c ∷ []) 0 c refl; free = free }, record { of = of; there = there; named = refl }));
 }
 brings_one classes c of old new given there free (inr (inl (means, told, is))) = brings_nothing classes (c ∷ []) old new is
 brings_one classes c of old new given there free (inr (inr (other, means, differs, told, is))) = brings_nothing classes (c ∷ []) old new is
@@ -77,7 +69,7 @@ one_done classes c of old new given there free (inr (inl (means, told, is))) = a
 one_done classes c of old new given there free (inr (inr (other, means, differs, told, is))) =
     rw told (record {
       class = c;
-      fresh = record { listed = contains_at (c ∷ []) 0 c refl; free = free };
+      fresh = record { listed = Contains-at (c ∷ []) 0 c refl; free = free };
       taken = record { of = of; there = there; other = other; means = rw is means; differs = differs };
     })
 

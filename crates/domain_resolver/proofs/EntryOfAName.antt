@@ -5,12 +5,13 @@ use Rattle.std.specs.Str.{bytes_eq}
 use Rattle.std.proofs.lemmas.Bool.{cases_lt}
 use Rattle.std.proofs.lemmas.Slice.Eq.{bytes_eq-Decides}
 use Rattle.std.proofs.lemmas.Option.{slice_get_within, same_Some}
+use Rattle.list_lemmas.proofs.ItemsByPlace.{comes_from, mapped_at}
 use Rattle.jk_model.specs.declared.identifiers.ClassId.{ClassId}
 use Rattle.shared_values.specs.Fingerprints.{fingerprint_of}
 use Rattle.jk_model_classes.specs.Worlds.{NamedClass, class_named}
 use Rattle.domain_resolver.specs.declared.name_table.NameEntry.{NameEntry}
 use Rattle.domain_resolver.specs.NameIndex.{named_class, IsNewest, HasFingerprint, AreChained, HasName, LacksName}
-use Rattle.domain_resolver.proofs.PlacesInLists.{Finds, finds, comes_from, goes_to}
+use Rattle.domain_resolver.proofs.PlacesInLists.{Finds, finds}
 
 abbrev pub NamesDiffer : List NameEntry → Type 0
 NamesDiffer es = (i j : ℕ) (a b : NameEntry) → slice_get es i ≡ Some a → slice_get es j ≡ Some b → a.name ≡ b.name → i ≡ j
@@ -50,7 +51,7 @@ means_class es name class differ has = by_find (find (has_name name) (map named_
         → class_named (map named_class es) name ≡ Some class
     by_find None e h =
         let g : Finds (has_name name) (map named_class es) None = rw e at h in
-        let fails = g has.place (named_class has.entry) (goes_to named_class es has.place has.entry has.there) in
+        let fails = g has.place (named_class has.entry) (mapped_at named_class es has.place has.entry has.there) in
         absurd (true≢false (sym ((bytes_eq-Decides has.entry.name name).1 has.named) ∙ fails))
     by_find (Some n) e h =
         let g : Finds (has_name name) (map named_class es) (Some n) = rw e at h in
@@ -76,7 +77,7 @@ lacks_from_none es name none k e at same =
         → Finds (has_name name) (map named_class es) (find (has_name name) (map named_class es)) → ⊥
     by_find None f h =
         let g : Finds (has_name name) (map named_class es) None = rw f at h in
-        let fails = g k (named_class e) (goes_to named_class es k e at) in
+        let fails = g k (named_class e) (mapped_at named_class es k e at) in
         true≢false (sym ((bytes_eq-Decides e.name name).1 same) ∙ fails)
     by_find (Some n) f h =
         let some : Some n.class ≡ None = sym (ap (option_map (λ (m : NamedClass). m.class)) f) ∙ none in cc

@@ -5,7 +5,8 @@ use Rattle.std.specs.Str.Lines.{lines, lines_of_parts, strip_carriage_return}
 use Rattle.std.proofs.lemmas.Bool.{ne_eqb}
 use Rattle.std.proofs.lemmas.List.Splits.{slice_split_first, slice_split_none}
 use Rattle.std.proofs.lemmas.List.Sums.{fails_before_first}
-use Rattle.domain_resolver.proofs.WordsInTurn.{found_at, found_nowhere, first_part}
+use Rattle.list_lemmas.proofs.FirstByTest.{found_at, found_nowhere}
+use Rattle.domain_resolver.proofs.WordsInTurn.{first_part}
 
 abbrev is_line_feed : ℕ → Bool
 is_line_feed b = nat_eq b 10

@@ -4,10 +4,11 @@ use Rattle.std.specs.Str.{bytes_eq}
 use Rattle.std.proofs.lemmas.List.{length-set}
 use Rattle.std.proofs.lemmas.Option.{same_Some, slice_get_within}
 use Rattle.std.proofs.lemmas.Slice.Eq.{bytes_eq-Decides}
+use Rattle.list_lemmas.proofs.ItemsByPlace.{slice_get-longer, slice_get-seam, old_or_last}
 use Rattle.jk_model.specs.declared.identifiers.DomainId.{DomainId}
 use Rattle.jk_model_classes.specs.Worlds.{DomainRecord, WorldRecord, IsLiveNamed}
 use Rattle.domain_resolver.specs.LiveDomains.{LivesAt, IsIndexed, IsLiveLast, LosesName}
-use Rattle.domain_resolver.proofs.PlacesInLists.{slice_get-seam, stays, old_or_last, slice_get-set, other_place}
+use Rattle.domain_resolver.proofs.PlacesInLists.{slice_get-set, other_place}
 
 same_domain : (a b : DomainId) → a.0 ≡ b.0 → a ≡ b
 same_domain a b e = let of : (m n : ℕ) → m ≡ n → (let x : DomainId = record { 0 = m } in x) ≡ record { 0 = n } = λ m n q. cc in of a.0 b.0 e
@@ -52,7 +53,7 @@ found_alike found found' ds h same = record {
 -- ---- A domain is added.
 
 lives_longer : (ds : List DomainRecord) (d : DomainRecord) (name : List ℕ) (place : ℕ) → LivesAt ds name place → LivesAt (ds ++ d ∷ []) name place
-lives_longer ds d name place l = record { domain = l.domain; there = stays ds (d ∷ []) place l.domain l.there; lives = l.lives; named = l.named }
+lives_longer ds d name place l = record { domain = l.domain; there = slice_get-longer ds (d ∷ []) place l.domain l.there; lives = l.lives; named = l.named }
 
 pub found_added : (found found' : List ℕ → Option ℕ) (ds : List DomainRecord) (d : DomainRecord) → IsIndexed found ds → d.id.0 ≡ length ds
     → d.live ≡ true → length ds < 2 ^ 32 - 2 → ((place : ℕ) → LivesAt ds d.name place → ⊥)
@@ -98,7 +99,7 @@ last_is_live ds d (e, at, live) =
 pub found_taken_back : (found found' : List ℕ → Option ℕ) (ds : List DomainRecord) (d : DomainRecord) → IsIndexed found (ds ++ d ∷ []) → d.live ≡ true
     → ((q : List ℕ) → found' q ≡ (if bytes_eq d.name q then None else found q)) → IsIndexed found' ds
 found_taken_back found found' ds d h live takes = record {
-  numbered = λ i e at. h.numbered i e (stays ds (d ∷ []) i e at);
+  numbered = λ i e at. h.numbered i e (slice_get-longer ds (d ∷ []) i e at);
   few = omega (arith, length-append ds (d ∷ []), h.few);
   lives = λ name place e. lives_by name place (bytes_eq d.name name) refl (sym (takes name) ∙ e);
   finds = λ name place l. takes name ∙ finds_by name place l (bytes_eq d.name name) refl;

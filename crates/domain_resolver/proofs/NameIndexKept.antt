@@ -4,30 +4,30 @@ use Rattle.std.specs.Prelude.{IsTrue, ◌↔◌, Contains}
 use Rattle.std.specs.List.{list_any}
 use Rattle.std.specs.BTreeMap.{is_at}
 use Rattle.std.specs.Map.{lookup}
-use Rattle.std.specs.Ordering.{is_eq, nat_cmp}
+use Rattle.std.specs.Ordering.{nat_cmp}
 use Rattle.std.proofs.lemmas.Bool.{cases_lt, eqb-true, eq-eqb}
-use Rattle.std.proofs.lemmas.Cmp.{nat_cmp_total, tied_itself}
 use Rattle.std.proofs.lemmas.List.{map-append}
 use Rattle.std.proofs.lemmas.List.Elements.{Contains-append_left, Contains-push, Contains-push_cases}
 use Rattle.std.proofs.lemmas.Map.Lookups.{exact_unsigned}
 use Rattle.std.proofs.lemmas.Map.Views.{tells_apart}
 use Rattle.std.proofs.lemmas.Option.{same_Some}
+use Rattle.list_lemmas.proofs.TestsAndOrders.{found_itself}
+use Rattle.list_lemmas.proofs.ItemsByPlace.{slice_get-front, slice_get-longer, slice_get-seam, old_or_last}
 use Rattle.jk_model.specs.declared.identifiers.ClassId.{ClassId}
 use Rattle.shared_values.specs.Fingerprints.{fingerprint_of}
 use Rattle.jk_model_classes.specs.Worlds.{NamedClass, IsNamed}
 use Rattle.domain_resolver.proofs.ClassOfANumber.{same_class}
 use Rattle.domain_resolver.specs.declared.name_table.NameEntry.{NameEntry}
 use Rattle.domain_resolver.specs.NameIndex.{named_class, IsNewest, HasFingerprint, AreChained, LacksName, IsIndex}
-use Rattle.domain_resolver.proofs.PlacesInLists.{slice_get-append, slice_get-seam, stays, old_or_last}
 use Rattle.domain_resolver.proofs.EntryOfAName.{NamesDiffer}
 
 -- ---- The entries by fingerprints.
 
 keeps_print : (es : List NameEntry) (y : NameEntry) (f k : ℕ) → HasFingerprint es f k → HasFingerprint (es ++ y ∷ []) f k
-keeps_print es y f k h = record { entry = h.entry; there = stays es (y ∷ []) k h.entry h.there; is = h.is }
+keeps_print es y f k h = record { entry = h.entry; there = slice_get-longer es (y ∷ []) k h.entry h.there; is = h.is }
 
 had_print : (es : List NameEntry) (y : NameEntry) (f k : ℕ) → k < length es → HasFingerprint (es ++ y ∷ []) f k → HasFingerprint es f k
-had_print es y f k low h = record { entry = h.entry; there = sym (slice_get-append es (y ∷ []) k low) ∙ h.there; is = h.is }
+had_print es y f k low h = record { entry = h.entry; there = sym (slice_get-front es (y ∷ []) k low) ∙ h.there; is = h.is }
 
 last_print : (es : List NameEntry) (y : NameEntry) (f : ℕ) → HasFingerprint (es ++ y ∷ []) f (length es) → fingerprint_of y.name ≡ f
 last_print es y f h =
@@ -62,10 +62,6 @@ newest_itself es y f same = (
   record { entry = y; there = slice_get-seam es y []; is = same },
   λ k after low has. absurd (omega arith),
 )
-
--- a number is found where it is looked for
-found_itself : (n m : ℕ) → n ≡ m → is_at (nat_cmp n) m ≡ true
-found_itself n m same = ap (λ (k : ℕ). is_eq (nat_cmp n k)) (sym same) ∙ ap is_eq (tied_itself nat_cmp_total n)
 
 newest_added : (es : List NameEntry) (y : NameEntry) (f : ℕ) (r : Option ℕ) → IsNewest es f (length es) r
     → (b : Bool) → is_at (nat_cmp (fingerprint_of y.name)) f ≡ b

@@ -1,37 +1,8 @@
 -- What stands at a place of a list that got longer or was mapped, and the first that passes a test.
-use Rattle.std.proofs.Common.{◌≡◌, ℕ, zero, suc, ◌<◌, ◌⊎◌, inl, inr, Bool, true, false, List, [], ◌∷◌, ◌++◌, length, map, refl, sym, ◌∙◌, ap, arith, Option, Some, None, slice_get, slice_set, find}
-use Rattle.std.specs.Option.{option_map}
-use Rattle.std.proofs.lemmas.Option.{slice_get_within, slice_get-map, same_Some}
+use Rattle.std.proofs.Common.{◌≡◌, ℕ, zero, suc, ◌⊎◌, inl, inr, Bool, true, false, List, [], ◌∷◌, refl, sym, ap, arith, Option, Some, None, slice_get, slice_set, find}
+use Rattle.std.proofs.lemmas.Option.{same_Some}
 
 module _ {X : Type 0} where
-  -- more at the end changes no place
-  pub slice_get-append : (xs ys : List X) (k : ℕ) → k < length xs → slice_get (xs ++ ys) k ≡ slice_get xs k
-  slice_get-append [] ys k h = absurd (omega arith)
-  slice_get-append (x ∷ xs) ys zero h = refl
-  slice_get-append (x ∷ xs) ys (suc k) h = slice_get-append xs ys k (omega arith)
-
-  -- the first of what is put at the end
-  pub slice_get-seam : (xs : List X) (y : X) (ys : List X) → slice_get (xs ++ y ∷ ys) (length xs) ≡ Some y
-  slice_get-seam [] y ys = refl
-  slice_get-seam (x ∷ xs) y ys = slice_get-seam xs y ys
-
-  -- what stands there, stays there
-  pub stays : (xs ys : List X) (k : ℕ) (x : X) → slice_get xs k ≡ Some x → slice_get (xs ++ ys) k ≡ Some x
-  stays xs ys k x e = slice_get-append xs ys k (slice_get_within xs k x e) ∙ e
-
-  -- with one more at the end, a place is an old one or the last
-  pub old_or_last : (xs : List X) (y : X) (k : ℕ) (x : X) → slice_get (xs ++ y ∷ []) k ≡ Some x
-      → ((k < length xs) × (slice_get xs k ≡ Some x)) ⊎ ((k ≡ length xs) × (x ≡ y))
-  old_or_last [] y zero x e = inr (refl, sym (same_Some y x e))
-  old_or_last [] y (suc k) x e = cc
-  old_or_last (z ∷ xs) y zero x e = inl (omega arith, e)
-  old_or_last (z ∷ xs) y (suc k) x e = further (old_or_last xs y k x e)
-    where
-      further : ((k < length xs) × (slice_get xs k ≡ Some x)) ⊎ ((k ≡ length xs) × (x ≡ y))
-          → ((suc k < suc (length xs)) × (slice_get xs k ≡ Some x)) ⊎ ((suc k ≡ suc (length xs)) × (x ≡ y))
-      further (inl h) = inl (omega (arith, h.0), h.1)
-      further (inr h) = inr (ap suc h.0, h.1)
-
   -- what a search for the first answers: one that passes, and where; or none does
   abbrev pub Finds : (X → Bool) → List X → Option X → Type 0
   Finds p xs None = (k : ℕ) (x : X) → slice_get xs k ≡ Some x → p x ≡ false
@@ -58,17 +29,6 @@ pub record ComesFrom {X Y : Type 0} (f : X → Y) (xs : List X) (k : ℕ) (y : Y
   pub from : X
   pub there : slice_get xs k ≡ Some from
   pub gives : f from ≡ y
-
-pub comes_from : {X Y : Type 0} (f : X → Y) (xs : List X) (k : ℕ) (y : Y) → slice_get (map f xs) k ≡ Some y → ComesFrom f xs k y
-comes_from f xs k y e = by_place f xs k y (slice_get xs k) refl (sym (slice_get-map f xs k) ∙ e)
-  where
-    by_place : {X Y : Type 0} (f : X → Y) (xs : List X) (k : ℕ) (y : Y) (r : Option X) → slice_get xs k ≡ r
-        → option_map f (slice_get xs k) ≡ Some y → ComesFrom f xs k y
-    by_place f xs k y None at e = cc
-    by_place f xs k y (Some x) at e = record { from = x; there = at; gives = let g : Some (f x) ≡ Some y = rw at at e in same_Some (f x) y g }
-
-pub goes_to : {X Y : Type 0} (f : X → Y) (xs : List X) (k : ℕ) (x : X) → slice_get xs k ≡ Some x → slice_get (map f xs) k ≡ Some (f x)
-goes_to f xs k x e = slice_get-map f xs k ∙ ap (option_map f) e
 
 module _ {X : Type 0} where
   -- another place than the one that is set

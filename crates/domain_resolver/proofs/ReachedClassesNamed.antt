@@ -1,5 +1,5 @@
 -- A table that is its own list of what is left to do: once each class that was brought in is passed, all that is reached is named.
-use Rattle.std.proofs.Common.{◌≡◌, ℕ, zero, suc, ◌+◌, ◌<◌, ◌≤◌, ◌⊎◌, inl, inr, Bool, true, false, List, [], ◌∷◌, ◌++◌, length, map, refl, sym, ◌∙◌, ap, arith, append_assoc, length-append, Option, zero-add, Some, None, slice_get, get_or}
+use Rattle.std.proofs.Common.{◌≡◌, ℕ, zero, suc, ◌+◌, ◌<◌, ◌≤◌, ◌⊎◌, inl, inr, Bool, true, false, List, [], ◌∷◌, ◌++◌, length, map, refl, sym, ◌∙◌, ap, arith, append_assoc, length-append, Option, Some, None, slice_get, get_or}
 use Rattle.std.specs.Prelude.{Contains, nat_eq}
 use Rattle.std.specs.List.{list_any}
 use Rattle.std.specs.Option.{option_map}
@@ -9,13 +9,14 @@ use Rattle.std.proofs.lemmas.Map.Steps.{length-le_from_distinct_below}
 use Rattle.std.proofs.lemmas.Map.Keys.{IsDistinct-from_apart}
 use Rattle.std.proofs.lemmas.List.Elements.{Contains-append_cases}
 use Rattle.std.proofs.lemmas.Option.{slice_get_within, slice_get-get_or, same_Some}
+use Rattle.list_lemmas.proofs.ItemsByPlace.{slice_get-behind, slice_get-front, comes_from}
+use Rattle.list_lemmas.proofs.ItemsOfLists.{Contains-at, stands_at}
 use Rattle.jk_model.specs.declared.identifiers.ClassId.{ClassId}
 use Rattle.jk_model_classes.specs.declared.records.ClassRecord.{ClassRecord}
 use Rattle.jk_model_classes.specs.Worlds.{NamedClass, IsNamed}
 use Rattle.domain_resolver.specs.Imports.{references_of, IsOwnName, IsNew, Brings, Clashes, IsReached, Itself, Further, Imported, IsImport, IsClash}
 use Rattle.indexmap.proofs.CallerLemmas.{Contains-list_any}
-use Rattle.domain_resolver.proofs.PlacesInLists.{slice_get-append, comes_from}
-use Rattle.domain_resolver.proofs.BroughtInTurn.{contains_at, stands_at, only_one, named_more}
+use Rattle.domain_resolver.proofs.BroughtInTurn.{only_one, named_more}
 
 -- what is known once the entries before a place are passed
 pub record Importing (classes : List ClassRecord) (old : List NamedClass) (from : ClassId) (cur : List NamedClass) (next : ℕ) : Type 0 where
@@ -50,7 +51,7 @@ importing_begins classes old cur from h root = record {
 
 -- what stands past the first list stands in the second
 in_back : {X : Type 0} (xs ys : List X) (k : ℕ) (x : X) → length xs ≤ k → slice_get (xs ++ ys) k ≡ Some x → Contains ys x
-in_back [] ys k x low at = contains_at ys k x at
+in_back [] ys k x low at = Contains-at ys k x at
 in_back (y ∷ xs) ys zero x low at = absurd (omega (arith, low))
 in_back (y ∷ xs) ys (suc k) x low at = in_back xs ys k x (omega (arith, low)) at
 
@@ -113,7 +114,7 @@ importing_goes_on classes old cur new from next e h at k done = record {
 }
   where
     before : (i : ℕ) (x : NamedClass) → i < length cur → slice_get new i ≡ Some x → slice_get cur i ≡ Some x
-    before i x within there = sym (slice_get-append cur k.more i within) ∙ rw k.is at there
+    before i x within there = sym (slice_get-front cur k.more i within) ∙ rw k.is at there
 
     by_order : (i : ℕ) (x : NamedClass) → length old ≤ i → i < next + 1 → slice_get new i ≡ Some x → (d : ClassId)
         → Contains (references_of classes x.class) d → (i < next) ⊎ (next ≤ i) → IsNamed new d
@@ -144,8 +145,8 @@ reached_named classes old cur from next h end c (Further b d r has free) =
         → (s.0 < length old) ⊎ (length old ≤ s.0) → IsNamed cur d
     by_order name s (inl l) =
         let there : slice_get (old ++ h.imported.more) s.0 ≡ Some (record { name = name; class = b }) = rw h.imported.is at s.2 in
-        let before = sym (slice_get-append old h.imported.more s.0 l) ∙ there in
-        absurd (reached_free classes old from b r (name, contains_at old s.0 (record { name = name; class = b }) before))
+        let before = sym (slice_get-front old h.imported.more s.0 l) ∙ there in
+        absurd (reached_free classes old from b r (name, Contains-at old s.0 (record { name = name; class = b }) before))
     by_order name s (inr l) = h.closed s.0 (record { name = name; class = b }) l (omega (arith, s.1, end)) s.2 d has
 
 pub importing_ends : (classes : List ClassRecord) (old cur : List NamedClass) (from : ClassId) (next : ℕ) → Importing classes old from cur next
@@ -173,10 +174,6 @@ later_imported classes old cur new from next e h at k =
 
 -- ---- There is an end: no more entries are brought in than there are classes.
 
-at_back : {X : Type 0} (xs ys : List X) (i : ℕ) → slice_get (xs ++ ys) (length xs + i) ≡ slice_get ys i
-at_back [] ys i = rw zero-add
-at_back (x ∷ xs) ys i = let e : suc (length xs) + i ≡ suc (length xs + i) = omega arith in rw e (at_back xs ys i)
-
 pub room : (classes : List ClassRecord) (old cur : List NamedClass) (from : ClassId) → Imported classes old from cur
     → ((i j : ℕ) (a b : NamedClass) → slice_get cur i ≡ Some a → slice_get cur j ≡ Some b → a.name ≡ b.name → i ≡ j)
     → length cur ≤ length old + length classes
@@ -195,12 +192,12 @@ room classes old cur from h differ =
 
     of_places : (i j : ℕ) → i < length h.more → j < length h.more → (entry i).class.0 ≡ (entry j).class.0 → i ≡ j
     of_places i j low_i low_j same =
-        let a = (h.own (entry i) (contains_at h.more i (entry i) (stands i low_i))).1 in
-        let b = (h.own (entry j) (contains_at h.more j (entry j) (stands j low_j))).1 in
+        let a = (h.own (entry i) (Contains-at h.more i (entry i) (stands i low_i))).1 in
+        let b = (h.own (entry j) (Contains-at h.more j (entry j) (stands j low_j))).1 in
         let record_same : a.of ≡ b.of = same_Some a.of b.of (sym a.there ∙ ap (slice_get classes) same ∙ b.there) in
         let names : (entry i).name ≡ (entry j).name = a.named ∙ ap (λ (r : ClassRecord). r.name) record_same ∙ sym b.named in
-        let at_i : slice_get cur (length old + i) ≡ Some (entry i) = rw h.is (at_back old h.more i ∙ stands i low_i) in
-        let at_j : slice_get cur (length old + j) ≡ Some (entry j) = rw h.is (at_back old h.more j ∙ stands j low_j) in
+        let at_i : slice_get cur (length old + i) ≡ Some (entry i) = rw h.is (slice_get-behind old h.more i ∙ stands i low_i) in
+        let at_j : slice_get cur (length old + j) ≡ Some (entry j) = rw h.is (slice_get-behind old h.more j ∙ stands j low_j) in
         let places : length old + i ≡ length old + j = differ (length old + i) (length old + j) (entry i) (entry j) at_i at_j names in
         omega (arith, places)
 
@@ -224,5 +221,5 @@ room classes old cur from h differ =
     below q has =
         let s = stands_at ks q (Contains-list_any nat_eq eqb-true ks q has) in
         let x = comes_from (λ (e : NamedClass). e.class.0) h.more s.0 q s.2 in
-        let o = (h.own x.from (contains_at h.more s.0 x.from x.there)).1 in
+        let o = (h.own x.from (Contains-at h.more s.0 x.from x.there)).1 in
         rw (← x.gives) (slice_get_within classes x.from.class.0 o.of o.there)

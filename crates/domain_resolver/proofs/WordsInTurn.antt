@@ -1,31 +1,12 @@
 -- The words of a line are its first word and the words of what follows that.
-use Rattle.std.proofs.Common.{◌≡◌, ℕ, ◌<◌, ◌≤◌, Bool, true, false, not, List, [], ◌∷◌, length, take, drop, filter, refl, sym, ◌∙◌, ap, get_or, cond, nat_lt, arith, one-add, add-zero, get_or-drop, length-drop, Option, Some, None, unwrap_or, nat_eq}
-use Rattle.std.specs.List.{prefix_len, slice_split, position_or_len, position}
+use Rattle.std.proofs.Common.{◌≡◌, ℕ, ◌<◌, ◌≤◌, Bool, true, false, not, List, [], ◌∷◌, length, take, drop, filter, refl, sym, ◌∙◌, ap, get_or, arith, one-add, add-zero, get_or-drop, length-drop, Option, Some, None, unwrap_or, nat_eq}
+use Rattle.std.specs.List.{slice_split, position_or_len, position}
 use Rattle.std.proofs.lemmas.List.Sums.{prefix_len-le-length, passes_at_first}
 use Rattle.std.proofs.lemmas.List.Folds.{length-prefix_len}
-use Rattle.std.proofs.lemmas.Bool.{ltb-true, ltb-false, ne_eqb}
-use Rattle.std.proofs.lemmas.Option.{cond_some}
+use Rattle.std.proofs.lemmas.Bool.{ne_eqb}
 use Rattle.std.proofs.Math.Seq.{drop-length}
+use Rattle.list_lemmas.proofs.FirstByTest.{found_at, found_nowhere, found_or_end, first_passes}
 use Rattle.jk_model.specs.Script.{is_blank, words}
-
--- what `position` finds is the length of what stands before it
-pub found_at : {X : Type 0} (p : X → Bool) (xs : List X) (i : ℕ) → position p xs ≡ Some i → (i ≡ position_or_len p xs) × (position_or_len p xs < length xs)
-found_at p xs i e =
-    let (inside, is) = cond_some (nat_lt (position_or_len p xs) (length xs)) (position_or_len p xs) i e in
-    (sym is, ltb-true (position_or_len p xs) (length xs) inside)
-
-past_end : (n m : ℕ) (b : Bool) → nat_lt n m ≡ b → cond b (Some n) None ≡ None → m ≤ n
-past_end n m true t e = cc
-past_end n m false t e = ltb-false n m t
-
-pub found_nowhere : {X : Type 0} (p : X → Bool) (xs : List X) → position p xs ≡ None → position_or_len p xs ≡ length xs
-found_nowhere p xs e =
-    let high : length xs ≤ position_or_len p xs = past_end (position_or_len p xs) (length xs) (nat_lt (position_or_len p xs) (length xs)) refl e in
-    omega (arith, prefix_len-le-length (λ x. not (p x)) xs)
-
-found_or_end : {X : Type 0} (p : X → Bool) (xs : List X) (o : Option ℕ) → o ≡ position p xs → unwrap_or o (length xs) ≡ position_or_len p xs
-found_or_end p xs None e = sym (found_nowhere p xs (sym e))
-found_or_end p xs (Some i) e = (found_at p xs i (sym e)).0
 
 -- the words between the bytes that pass
 abbrev words_by : (ℕ → Bool) → List ℕ → List (List ℕ)
@@ -75,10 +56,6 @@ no_word line e =
     let none : drop (position_or_len (λ b. not (is_blank b)) line) line ≡ [] = rw (found_nowhere (λ b. not (is_blank b)) line e) (drop-length line) in
     sym (words_from is_blank line) ∙ ap (words_by is_blank) none
 
-starts : (p : ℕ → Bool) (xs : List ℕ) → 0 < length xs → p (get_or xs 0 0) ≡ true → 0 < prefix_len p xs
-starts p [] h e = absurd (omega arith)
-starts p (x ∷ xs) h e = rw e (omega arith)
-
 -- from the first byte that is no blank to the next blank stands the first word
 pub record WordStands (line text : List ℕ) (n : ℕ) : Type 0 where
   pub parts : words line ≡ take n text ∷ words (drop n text)
@@ -92,7 +69,7 @@ word_stands line text i end e f g =
     let same : words text ≡ words line = rw (f, at.0) (words_from is_blank line) in
     let long : 0 < length text = rw f (omega (arith, length-drop i line, at.0, at.1)) in
     let passes : not (is_blank (get_or text 0 0)) ≡ true = rw (f, get_or-drop, add-zero, at.0) (passes_at_first (λ b. not (is_blank b)) line 0 at.1) in
-    let some : 0 < position_or_len is_blank text = starts (λ b. not (is_blank b)) text long passes in
+    let some : 0 < position_or_len is_blank text = first_passes (λ b. not (is_blank b)) text long passes in
     let n : unwrap_or end (length text) ≡ position_or_len is_blank text = found_or_end is_blank text end g in
     rw n (record {
       parts = sym same ∙ word_at_front is_blank text some;

@@ -1,11 +1,11 @@
 -- The words of a line are its first word and the words of what follows it.
-use Rattle.std.proofs.Common.{◌≡◌, ℕ, ◌+◌, ◌<◌, ◌≤◌, Bool, true, false, not, List, [], ◌∷◌, length, take, drop, filter, refl, sym, ◌∙◌, ap, get_or, cond, nat_lt, arith, one-add, add-zero, get_or-drop, length-drop, Option, Some, None, unwrap_or, nat_eq}
-use Rattle.std.specs.List.{prefix_len, slice_split, position_or_len, position}
+use Rattle.std.proofs.Common.{◌≡◌, ℕ, ◌+◌, ◌<◌, ◌≤◌, Bool, true, false, not, List, [], ◌∷◌, length, take, drop, filter, refl, sym, ◌∙◌, ap, get_or, arith, one-add, add-zero, get_or-drop, length-drop, Option, Some, None, unwrap_or, nat_eq}
+use Rattle.std.specs.List.{slice_split, position_or_len, position}
 use Rattle.std.proofs.lemmas.List.Sums.{prefix_len-le-length, passes_at_first}
 use Rattle.std.proofs.lemmas.List.Folds.{length-prefix_len}
-use Rattle.std.proofs.lemmas.Bool.{ltb-true, ltb-false, ne_eqb}
-use Rattle.std.proofs.lemmas.Option.{cond_some}
+use Rattle.std.proofs.lemmas.Bool.{ne_eqb}
 use Rattle.std.proofs.Math.Seq.{drop-length}
+use Rattle.list_lemmas.proofs.FirstByTest.{found_at, found_nowhere, found_or_end, first_passes}
 use Rattle.jk_model.specs.Script.{is_blank, words}
 
 -- a word that is not empty
@@ -57,45 +57,22 @@ words_from p xs h =
     let long : 0 < length (take (position_or_len p xs) xs) = omega (arith, length-prefix_len (λ x. not (p x)) xs) in
     ap (filter is_word) f.parts ∙ word_kept _ f.tail _ long f.rest
 
--- what `position` answers
-not_chosen : (n m : ℕ) (b : Bool) → nat_lt n m ≡ b → cond b (Some n) None ≡ None → m ≤ n
-not_chosen n m true t e = cc
-not_chosen n m false t e = ltb-false n m t
-
-pub place : {X : Type 0} (p : X → Bool) (xs : List X) (i : ℕ) → position p xs ≡ Some i → (i ≡ position_or_len p xs) × (position_or_len p xs < length xs)
-place p xs i e =
-    let (inside, is) = cond_some (nat_lt (position_or_len p xs) (length xs)) (position_or_len p xs) i e in
-    (sym is, ltb-true (position_or_len p xs) (length xs) inside)
-
-pub no_place : {X : Type 0} (p : X → Bool) (xs : List X) → position p xs ≡ None → position_or_len p xs ≡ length xs
-no_place p xs e =
-    let high : length xs ≤ position_or_len p xs = not_chosen (position_or_len p xs) (length xs) (nat_lt (position_or_len p xs) (length xs)) refl e in
-    omega (arith, prefix_len-le-length (λ x. not (p x)) xs)
-
-place_or_len : {X : Type 0} (p : X → Bool) (xs : List X) (o : Option ℕ) → o ≡ position p xs → unwrap_or o (length xs) ≡ position_or_len p xs
-place_or_len p xs None e = sym (no_place p xs (sym e))
-place_or_len p xs (Some i) e = (place p xs i (sym e)).0
-
 pub no_word : (xs : List ℕ) → position (λ b. not (is_blank b)) xs ≡ None → words xs ≡ []
 no_word xs e =
-    let none : drop (position_or_len (λ b. not (is_blank b)) xs) xs ≡ [] = rw (no_place (λ b. not (is_blank b)) xs e) (drop-length xs) in
+    let none : drop (position_or_len (λ b. not (is_blank b)) xs) xs ≡ [] = rw (found_nowhere (λ b. not (is_blank b)) xs e) (drop-length xs) in
     sym (words_after is_blank xs) ∙ ap (words_by is_blank) none
-
-begins : (p : ℕ → Bool) (xs : List ℕ) → 0 < length xs → p (get_or xs 0 0) ≡ true → 0 < prefix_len p xs
-begins p [] h e = absurd (omega arith)
-begins p (x ∷ xs) h e = rw e (omega arith)
 
 pub first_word : (xs text : List ℕ) (i : ℕ) (o : Option ℕ) → position (λ b. not (is_blank b)) xs ≡ Some i → text ≡ drop i xs
     → o ≡ position is_blank text
     → (words xs ≡ take (unwrap_or o (length text)) text ∷ words (drop (unwrap_or o (length text)) text))
     × (0 < length (take (unwrap_or o (length text)) text)) × (unwrap_or o (length text) ≤ length text)
 first_word xs text i o e f g =
-    let at = place (λ b. not (is_blank b)) xs i e in
+    let at = found_at (λ b. not (is_blank b)) xs i e in
     let inside : i < length xs = omega (arith, at.0, at.1) in
     let same : words text ≡ words xs = rw (f, at.0) (words_after is_blank xs) in
     let long : 0 < length text = rw f (omega (arith, length-drop i xs, inside)) in
     let passes : not (is_blank (get_or text 0 0)) ≡ true = rw (f, get_or-drop, add-zero, at.0) (passes_at_first (λ b. not (is_blank b)) xs 0 at.1) in
-    let some : 0 < position_or_len is_blank text = begins (λ b. not (is_blank b)) text long passes in
-    let n : unwrap_or o (length text) ≡ position_or_len is_blank text = place_or_len is_blank text o g in
+    let some : 0 < position_or_len is_blank text = first_passes (λ b. not (is_blank b)) text long passes in
+    let n : unwrap_or o (length text) ≡ position_or_len is_blank text = found_or_end is_blank text o g in
     let low = prefix_len-le-length (λ b. not (is_blank b)) text in
     rw n (sym same ∙ words_from is_blank text some, omega (arith, some, length-prefix_len (λ b. not (is_blank b)) text), low)

@@ -3,6 +3,8 @@ use Rattle.std.proofs.Common.{◌≡◌, ℕ, zero, suc, ◌+◌, ◌≤◌, Lis
 use Rattle.std.specs.List.{AllByRecursion, AllZip, range_with_len}
 use Rattle.std.specs.Option.{option_map}
 use Rattle.std.proofs.lemmas.List.{length-map}
+use Rattle.std.proofs.lemmas.Slice.Zip.{AllZip-long}
+use Rattle.list_lemmas.proofs.ItemByItem.{zip_at}
 use Rattle.jk_model.specs.SystemTable as Table
 use Rattle.jk_model.specs.SystemTable.{system_classes, number_named, first_method_number}
 use Rattle.jk_model.specs.declared.identifiers.ClassId.{ClassId}
@@ -20,7 +22,7 @@ use Rattle.system_records.specs.KnownTypes.{IsKnownField, IsKnownMethod}
 use Rattle.system_records.specs.Numbers.{numbered}
 use Rattle.system_records.proofs.ClassesInFront.{parent_below, interfaces_below}
 use Rattle.system_records.proofs.DescriptorsAreKnown.{known_fields, known_methods, few_members}
-use Rattle.system_records.proofs.ItemByItem.{zip_length, zip_at, zip_map, all_mapped}
+use Rattle.system_records.proofs.ItemByItem.{zip_map, all_mapped}
 
 abbrev pub FieldIs : SystemField → FieldRecord → Type 0
 FieldIs f r = IsSystemField (field_of f) r
@@ -98,9 +100,9 @@ class_made n c r (e, at, shows) parts =
       flags = parts.flags ∙ shows.flags;
       parent = ap (λ p. option_map (λ (x : ClassId). x.0) p) parts.parent ∙ parent_back c.parent ∙ shows.parent;
       interfaces = ap (λ xs. map (λ (x : ClassId). Some x.0) xs) parts.interfaces ∙ interfaces_back c.interfaces.now ∙ shows.interfaces;
-      field_count = zip_length IsSystemField e.fields r.fields fields;
+      field_count = AllZip-long IsSystemField e.fields r.fields fields;
       fields = zip_at IsSystemField e.fields r.fields fields;
-      method_count = zip_length MethodIs c.methods.now r.methods parts.methods ∙ sym count;
+      method_count = AllZip-long MethodIs c.methods.now r.methods parts.methods ∙ sym count;
       methods = λ i x m at_x at_m.
           methods_at (first_method_number n) c.methods.now r.methods parts.methods numbers i x m (ap (λ ms. slice_get ms i) shows.methods ∙ at_x) at_m;
       links = parts.links;
@@ -120,7 +122,7 @@ pub class_few : (n : ℕ) (c : SystemClass) (r : ClassRecord) → IsEntry n c �
 class_few n c r (e, at, shows) parts =
     let few = few_members n e at in
     let field_count : length r.fields ≡ length e.fields =
-    zip_length FieldIs c.fields.now r.fields parts.fields ∙ sym (length-map c.fields.now field_of) ∙ ap (λ fs. length fs) shows.fields in
+    AllZip-long FieldIs c.fields.now r.fields parts.fields ∙ sym (length-map c.fields.now field_of) ∙ ap (λ fs. length fs) shows.fields in
     let method_count : length r.methods ≡ length e.methods =
-    zip_length MethodIs c.methods.now r.methods parts.methods ∙ sym (length-map c.methods.now method_of) ∙ ap (λ ms. length ms) shows.methods in
+    AllZip-long MethodIs c.methods.now r.methods parts.methods ∙ sym (length-map c.methods.now method_of) ∙ ap (λ ms. length ms) shows.methods in
     (omega (arith, field_count, few.0), omega (arith, method_count, few.1))

@@ -1,6 +1,8 @@
 -- The parts of a member's record are those of the table's member.
 use Rattle.std.proofs.Common.{◌≡◌, ℕ, List, refl, sym, subst}
 use Rattle.std.specs.List.{AllZip}
+use Rattle.std.proofs.lemmas.Slice.Zip.{AllZip-long}
+use Rattle.list_lemmas.proofs.ItemByItem.{zip_at}
 use Rattle.jk_model.specs.Descriptors.{IsFieldText, IsMethodText}
 use Rattle.jk_model.specs.SystemTable.{SystemField, SystemMethod}
 use Rattle.jk_model.specs.declared.descriptors.FieldType.{FieldType}
@@ -12,7 +14,6 @@ use Rattle.jk_model_classes.specs.declared.records.MethodRecord.{MethodRecord}
 use Rattle.jk_model_classes.specs.declared.records.TypeRef.{TypeRef}
 use Rattle.system_records.specs.KnownTypes.{class_called}
 use Rattle.system_records.proofs.ClassesByName.{called_is_meaning}
-use Rattle.system_records.proofs.ItemByItem.{zip_length, zip_at}
 
 pub field_made : (e : SystemField) (name : List ℕ) (type : FieldType) (kind : TypeRef) → name ≡ e.name → IsFieldText e.descriptor type
     → IsTypeFor class_called type kind → IsSystemField e (record { name = name; flags = e.flags; kind = kind; constant = Nothing })
@@ -27,7 +28,7 @@ field_made e name type kind named text is = record {
 
 types_for : (types : List FieldType) (refs : List TypeRef) → AllZip (IsTypeFor class_called) types refs → AreTypesFor class_called types refs
 types_for types refs h = record {
-  as_many = zip_length (IsTypeFor class_called) types refs h;
+  as_many = AllZip-long (IsTypeFor class_called) types refs h;
   each = zip_at (IsTypeFor class_called) types refs h;
 }
 

@@ -1,19 +1,19 @@
 -- One part after the other gets its name.
 use Rattle.std.proofs.Common.{◌∙◌, ◌++◌, ◌∷◌, [], List, map, take, ap, refl}
 use Rattle.std.proofs.lemmas.List.{map-append, take_all, take_more}
+use Rattle.list_lemmas.proofs.ItemsOfLists.{Contains-none}
 use Rattle.jk_model_domains.specs.OwnStates.{own_class}
 use Rattle.jk_model_domains.specs.declared.states.OwnClass.{OwnClass}
 use Rattle.class_init.specs.declared.class_parts.Part.{Part}
 use Rattle.class_init.specs.InOrder.{part_of_named}
 use Rattle.class_init.specs.Parts.{class_part}
 use Rattle.class_init.proofs.ListedInOrder.{named_one_more}
-use Rattle.class_init.proofs.PlacesInLists.{in_none}
 use Rattle.class_init.proofs.in_order.with_names.Goals as goal
 
 pub loop-part-init : goal.loop-part-init
 loop-part-init c = record {
   parts = rw c.new-named.ensures.items refl;
-  names = rw c.new-named.ensures.items (λ n has. absurd (in_none n has));
+  names = rw c.new-named.ensures.items (λ n has. absurd (Contains-none n has));
 }
 
 pub loop-part-preserved : goal.loop-part-preserved

@@ -1,8 +1,8 @@
 -- One more field, and its record.
 use Rattle.std.proofs.Common.{arith}
+use Rattle.list_lemmas.proofs.ItemByItem.{zip_more}
 use Rattle.jk_model_classes.specs.SystemRecords.{IsSystemField}
 use Rattle.system_table.specs.Entry.{field_of}
-use Rattle.system_records.proofs.ItemByItem.{zip_more}
 use Rattle.system_records.proofs.members.field_records.Goals as goal
 
 pub loop-field-preserved : goal.loop-field-preserved

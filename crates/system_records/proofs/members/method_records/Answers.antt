@@ -1,8 +1,8 @@
 -- One more method, and its record.
 use Rattle.std.proofs.Common.{arith}
+use Rattle.list_lemmas.proofs.ItemByItem.{zip_more}
 use Rattle.jk_model_classes.specs.SystemRecords.{IsSystemMethodAt}
 use Rattle.system_table.specs.Entry.{method_of}
-use Rattle.system_records.proofs.ItemByItem.{zip_more}
 use Rattle.system_records.proofs.members.method_records.Goals as goal
 
 pub loop-method-preserved : goal.loop-method-preserved

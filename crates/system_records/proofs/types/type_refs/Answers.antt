@@ -1,8 +1,8 @@
 -- One more type, with the numbers of its classes.
 use Rattle.std.proofs.Common.{arith, subst}
+use Rattle.list_lemmas.proofs.ItemByItem.{zip_more}
 use Rattle.jk_model_classes.specs.SystemRecords.{IsTypeFor}
 use Rattle.system_records.specs.KnownTypes.{class_called}
-use Rattle.system_records.proofs.ItemByItem.{zip_more}
 use Rattle.system_records.proofs.types.type_refs.Goals as goal
 
 pub loop-t-preserved : goal.loop-t-preserved

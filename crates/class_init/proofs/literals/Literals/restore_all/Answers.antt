@@ -2,11 +2,11 @@
 use Rattle.std.proofs.Common.{◌≡◌, ◌∙◌, ◌++◌, ◌∷◌, [], ℕ, List, None, Some, map, find, take, sym, ap, refl, slice_get}
 use Rattle.std.specs.Prelude.{bytes_eq, Contains}
 use Rattle.std.proofs.lemmas.List.{map-append, take_all, take_more}
+use Rattle.list_lemmas.proofs.ItemsByPlace.{item_read}
 use Rattle.jk_model_domains.specs.OwnStates.{Literal}
 use Rattle.jk_model_domains.specs.declared.states.LiteralImage.{LiteralImage}
 use Rattle.class_init.specs.Literals.{LiteralTable, literal_from}
 use Rattle.class_init.proofs.LiteralsByPlace.{fresh_literal, table_is}
-use Rattle.class_init.proofs.PlacesInLists.{within_read}
 use Rattle.class_init.proofs.literals.Literals.restore_all.Goals as goal
 
 pub loop-image-init : goal.loop-image-init
@@ -25,7 +25,7 @@ set-requires-clause-new c =
     let i = c.loop-image.image-index in
     let x = c.image-item.result in
     let literals : c.loop-image.self.literals ≡ map literal_from (take i images) = ap (λ (t : LiteralTable). t.literals) c.loop-image.invariant in
-    let at : slice_get images i ≡ Some x = within_read images i x c.loop-image-test.true c.image-item.is in
+    let at : slice_get images i ≡ Some x = item_read images i x c.loop-image-test.true c.image-item.is in
     let none : find (λ (l : Literal). bytes_eq l.text c.as_slice-units.result.now) c.loop-image.self.literals ≡ None =
     rw (c.as_slice-units.ensures, literals) (fresh_literal images i x c.requires.differ at) in
     none

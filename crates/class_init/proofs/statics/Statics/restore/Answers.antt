@@ -3,10 +3,10 @@ use Rattle.std.proofs.Common.{◌≡◌, ◌<◌, ◌∙◌, sym, ap, arith, len
 use Rattle.std.specs.Prelude.{pos}
 use Rattle.std.proofs.lemmas.List.{length-map, length-set, map-set, take_all}
 use Rattle.std.proofs.lemmas.Option.{slice_get_read}
+use Rattle.list_lemmas.proofs.ItemsByPlace.{mapped_at}
 use Rattle.jk_model.specs.declared.values.Value.TheVariants as Held
 use Rattle.class_init.specs.Statics.{static_field, with_values}
 use Rattle.class_init.proofs.FieldOfAnIndex.{one_value_more, rising_set, with_no_values}
-use Rattle.class_init.proofs.PlacesInLists.{goes_to}
 use Rattle.class_init.proofs.statics.Statics.restore.Goals as goal
 
 pub loop-i-init : goal.loop-i-init
@@ -32,7 +32,7 @@ loop-i-preserved c =
           map-set static_field xs i _
           ∙ rw (c.loop-i.invariant.are, add-one)
           (one_value_more c.args.self.now c.args.values.now i (static_field s) (Held.Int (pos 0)) c.loop-i-test.true
-          (rw (← c.loop-i.invariant.are) (goes_to static_field xs i s there)));
+          (rw (← c.loop-i.invariant.are) (mapped_at static_field xs i s there)));
       rising = rising_set xs i s _ c.loop-i.invariant.rising there;
     }
 
