@@ -27,9 +27,10 @@ use Rattle.jk_model_machine.specs.Steps.{IsThrown}
 use Rattle.frame_store.specs.FrameContents.{FrameContent, TopFrame}
 use Rattle.number_laws.specs.FrameLaws.{FitsResult, IsTyped}
 use Rattle.number_ops.specs.NumberSteps.{DoesNumbers, IsReady}
+use Rattle.number_ops.proofs.HeadAsStored.{in_place}
 use Rattle.sealed_steps.proofs.CallersResume.{AnswersWell, resumes}
 use Rattle.sealed_steps.proofs.FramesInARow.{CallersFit, all-pop, all-push, callers-pop}
-use Rattle.sealed_steps.proofs.NamesStayKnown.{number-head}
+use Rattle.number_laws.proofs.HeadsStay.{number-head}
 use Rattle.sealed_steps.proofs.OneItemChanged.{Contains-at}
 use Rattle.sealed_steps.proofs.StandsHere.{ordered-here}
 use Rattle.jk_kernel.specs.declared.domain_parts.DomainPart.{DomainPart}
@@ -79,10 +80,12 @@ module _ {c : FrameContent} {w : WorldRecord} {names : DomainRecord} {d paid : D
       let lt : there.0 < length s.code.instrs = omega (arith, slice_get_within (here next).typed.frames there.0 (Some there.2.0) there.2.1, places next) in
       (there.0, there.1, lt)
 
-  pub numbers_ready : IsOfNumbers s i → IsReady c w.classes r.segment i
-  numbers_ready numbers = record {
+  -- where the stored head says
+  ready_as_stored : IsOfNumbers s i → IsReady c w.classes r.segment (frame next).head i
+  ready_as_stored numbers = record {
     frame = frame next;
     top = top next;
+    ahead = refl;
     method = (code next).method;
     method_is = (code next).is_method;
     scope = s;
@@ -101,6 +104,9 @@ module _ {c : FrameContent} {w : WorldRecord} {names : DomainRecord} {d paid : D
     short = (next.at.decoded (code next).method s (code next).is_scope).short;
   }
 
+  pub numbers_ready : IsOfNumbers s i → IsReady c w.classes r.segment head i
+  numbers_ready numbers = subst (λ (h : FrameHead). IsReady c w.classes r.segment h i) (sym next.head_is) (ready_as_stored numbers)
+
   -- The head that was read is that of the frame on top.
   pub head_on_top : (f : FrameState) → TopFrame c r.segment f → head ≡ f.head
   head_on_top f on = next.head_is ∙ ap (λ (x : FrameState). x.head) (same_top c r.segment (frame next) f (top next) on)
@@ -113,18 +119,20 @@ module _ {c : FrameContent} {w : WorldRecord} {names : DomainRecord} {d paid : D
     pub head_left : left.head ≡ (frame next).head
     pub gets : GetsFrames c mid r.segment r.domain (callers next ++ frame next ∷ []) (callers next ++ left ∷ [])
 
-  pub is_done : (mid : FrameContent) (after : After) → DoesNumbers c mid w.classes r.segment i after → IsDone mid after
-  is_done mid after (f, g, method, scope, on, has, is, row, sets) =
-      let same : f ≡ frame next = same_top c r.segment f (frame next) on (top next) in
-      let in_scope = in_this_scope next method scope (ap (λ (x : FrameState). x.head.method) (sym same) ∙ has) is in
-      let here_row : NumberRow s (frame next).head.at i (frame next) g after =
-      subst (λ (x : FrameState). NumberRow s x.head.at i x g after) same (subst (λ (x : CodeScope). NumberRow x f.head.at i f g after) in_scope row) in
-      let head_is = number-head s (frame next).head.at i (frame next) g after here_row in
+  pub is_done : (mid : FrameContent) (after : After) → DoesNumbers c mid w.classes r.segment head i after → IsDone mid after
+  is_done mid after does =
+      let done = in_place c mid w.classes r.segment head i after head_on_top does in
+      let same : done.before ≡ frame next = same_top c r.segment done.before (frame next) done.top (top next) in
+      let in_scope = in_this_scope next done.method done.scope (ap (λ (x : FrameState). x.head.method) (sym same) ∙ done.method_is) done.scope_is in
+      let here_row : NumberRow s (frame next).head.at i (frame next) done.left after =
+      subst (λ (x : FrameState). NumberRow s x.head.at i x done.left after) same
+      (subst (λ (x : CodeScope). NumberRow x done.before.head.at i done.before done.left after) in_scope done.row) in
+      let head_is = number-head s (frame next).head.at i (frame next) done.left after here_row in
       record {
-        left = g;
+        left = done.left;
         row = here_row;
         head_left = head_is;
-        gets = top_set c mid r.segment r.domain (callers next) (frame next) g (holds next) (ap head_chunks head_is) sets;
+        gets = top_set c mid r.segment r.domain (callers next) (frame next) done.left (holds next) (ap head_chunks head_is) done.sets;
       }
 
   -- ---- What follows may be done.

@@ -1,5 +1,5 @@
 -- An instruction on numbers may be done at a frame that fits its method's typing, and the frame fits again where it goes on.
-use Rattle.std.proofs.Common.{◌≡◌, ◌<◌, ℕ, ℤ, pos, List, length, Some, sym, ap, subst, ◌∙◌, arith}
+use Rattle.std.proofs.Common.{◌≡◌, ◌<◌, ℕ, ℤ, pos, List, length, Some, refl, sym, ap, subst, ◌∙◌, arith}
 use Rattle.std.proofs.lemmas.Option.{same_Some, slice_get_within}
 use Rattle.jk_model.specs.declared.frames.FrameHead.{FrameHead}
 use Rattle.jk_model.specs.declared.identifiers.MemberId.{MemberId}
@@ -21,7 +21,8 @@ use Rattle.jk_model_machine.specs.Sealed.{FitsHere}
 use Rattle.frame_store.specs.FrameContents.{FrameContent, SetsTop, TopFrame}
 use Rattle.number_laws.specs.FrameLaws.{IsTyped}
 use Rattle.number_ops.specs.NumberSteps.{DoesNumbers, IsReady}
-use Rattle.sealed_steps.proofs.NamesStayKnown.{number-head}
+use Rattle.number_ops.proofs.HeadAsStored.{DoesInPlace, in_place}
+use Rattle.number_laws.proofs.HeadsStay.{number-head}
 use Rattle.sealed_steps.proofs.OneMeaning.{same_pos}
 use Rattle.sealed_steps.proofs.OneScope.{one-scope}
 use Rattle.sealed_steps.proofs.StandsHere.{Stands, fits-on, stands-here}
@@ -58,10 +59,12 @@ module _ (c : FrameContent) (classes : List ClassRecord) (s : SegmentNo) (scope 
       let lt : there.0 < length scope.code.instrs = omega (arith, slice_get_within here.typed.frames there.0 (Some there.2.0) there.2.1, as_many) in
       (there.0, there.1, lt)
 
-  pub is_ready : IsReady c classes s i
-  is_ready = record {
+  -- where the stored head says
+  ready_as_stored : IsReady c classes s r.frame.head i
+  ready_as_stored = record {
     frame = r.frame;
     top = r.top;
+    ahead = refl;
     method = code.method;
     method_is = code.is_method;
     scope = scope;
@@ -80,21 +83,23 @@ module _ (c : FrameContent) (classes : List ClassRecord) (s : SegmentNo) (scope 
     short = r.short;
   }
 
+  pub is_ready : IsReady c classes s head i
+  is_ready = subst (λ (h : FrameHead). IsReady c classes s h i) (sym (is_head r.frame r.top)) ready_as_stored
+
   typed : IsTyped scope HEAP r.frame.head.at i r.frame here.before here.typed.goes.after
   typed = record { sized = here.typed.sized; row = here.typed.goes.row; holds = here.holds }
 
   module _ (laws : RowsKeepTypes) (ordered : AreOrdered classes) (new : FrameContent) where
     -- the row, as one of the frame that stands here
-    row_here : (after : After) (f g : FrameState) (method : MemberId) (other : CodeScope) → TopFrame c s f → f.head.method ≡ Some method
-        → IsScopeOf classes method other → NumberRow other f.head.at i f g after → NumberRow scope r.frame.head.at i r.frame g after
-    row_here after f g method other on has is row =
-        let same : f ≡ r.frame = same_top c s f r.frame on r.top in
-        let one : method ≡ code.method =
-        same_Some method code.method (sym has ∙ ap (λ (x : FrameState). x.head.method) same ∙ code.is_method) in
-        let in_scope : other ≡ scope =
-        one-scope classes code.method other scope (subst (λ (m : MemberId). IsScopeOf classes m other) one is) code.is_scope in
-        subst (λ (x : FrameState). NumberRow scope x.head.at i x g after) same
-        (subst (λ (x : CodeScope). NumberRow x f.head.at i f g after) in_scope row)
+    row_here : (after : After) → (done : DoesInPlace c new classes s i after) → NumberRow scope r.frame.head.at i r.frame done.left after
+    row_here after done =
+        let same : done.before ≡ r.frame = same_top c s done.before r.frame done.top r.top in
+        let one : done.method ≡ code.method =
+        same_Some done.method code.method (sym done.method_is ∙ ap (λ (x : FrameState). x.head.method) same ∙ code.is_method) in
+        let in_scope : done.scope ≡ scope =
+        one-scope classes code.method done.scope scope (subst (λ (m : MemberId). IsScopeOf classes m done.scope) one done.scope_is) code.is_scope in
+        subst (λ (x : FrameState). NumberRow scope x.head.at i x done.left after) same
+        (subst (λ (x : CodeScope). NumberRow x done.before.head.at i done.before done.left after) in_scope done.row)
 
     goes_on : (g : FrameState) (next : ℕ) → NumberRow scope r.frame.head.at i r.frame g (Next.Goto next)
         → RunsCodeOf classes scope g × FitsHere classes HEAP (gone_to g next)
@@ -112,15 +117,18 @@ module _ (c : FrameContent) (classes : List ClassRecord) (s : SegmentNo) (scope 
               (record { locals = kept.0.locals; stack = kept.0.stack }),
         )
 
-    pub leads_on : (after : After) → DoesNumbers c new classes s i after → LeadsOn new classes s scope after
-    leads_on (Next.Goto next) (f, g, method, other, on, has, is, row, sets) =
-        let on_it = goes_on g next (row_here (Next.Goto next) f g method other on has is row) in
-        (g, top_set c new s g sets, on_it.0, on_it.1, r.short)
-    leads_on (Next.Raise x) (f, g, method, other, on, has, is, row, sets) = (g, top_set c new s g sets)
-    leads_on (Next.Call x) (f, g, method, other, on, has, is, row, sets) = (g, top_set c new s g sets)
-    leads_on (Next.Crossing k x) (f, g, method, other, on, has, is, row, sets) = (g, top_set c new s g sets)
-    leads_on (Next.Return v) (f, g, method, other, on, has, is, row, sets) = (g, top_set c new s g sets)
-    leads_on Next.Terminate (f, g, method, other, on, has, is, row, sets) = (g, top_set c new s g sets)
+    leads : (after : After) → DoesInPlace c new classes s i after → LeadsOn new classes s scope after
+    leads (Next.Goto next) done =
+        let on_it = goes_on done.left next (row_here (Next.Goto next) done) in
+        (done.left, top_set c new s done.left done.sets, on_it.0, on_it.1, r.short)
+    leads (Next.Raise x) done = (done.left, top_set c new s done.left done.sets)
+    leads (Next.Call x) done = (done.left, top_set c new s done.left done.sets)
+    leads (Next.Crossing k x) done = (done.left, top_set c new s done.left done.sets)
+    leads (Next.Return v) done = (done.left, top_set c new s done.left done.sets)
+    leads Next.Terminate done = (done.left, top_set c new s done.left done.sets)
+
+    pub leads_on : (after : After) → DoesNumbers c new classes s head i after → LeadsOn new classes s scope after
+    leads_on after does = leads after (in_place c new classes s head i after is_head does)
 
 -- the frame that goes on runs where it was set
 pub goes_on_running : (c new : FrameContent) (classes : List ClassRecord) (s : SegmentNo) (scope : CodeScope) (next : ℕ)

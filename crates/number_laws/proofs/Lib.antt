@@ -1,6 +1,7 @@
 -- What rows of instructions on numbers keep of the types of frames and results.
 pub mod EachOpcode
 pub mod FrameParts
+pub mod HeadsStay
 pub mod JumpsGoOn
 pub mod ResultsFit
 pub mod SameEnds

@@ -1,7 +1,9 @@
--- When a frame fits the frame types before and after an instruction, and when a value fits what a method answers.
+-- When a frame fits the frame types before and after an instruction, and when a value fits what a method answers; and a frame whose
+-- head is another one.
 use Rattle.std.specs.Prelude.{◌≡◌, ℕ, List, Some}
 use Rattle.jk_model.specs.declared.values.Value.{Value}
 use Rattle.jk_model_classes.specs.declared.records.TypeRef.{TypeRef}
+use Rattle.jk_model.specs.declared.frames.FrameHead.{FrameHead}
 use Rattle.jk_model.specs.declared.instructions.Instr.{Instr}
 use Rattle.jk_model_typing.specs.declared.frames.FrameType.{FrameType}
 use Rattle.jk_model_typing.specs.FrameTypes.{IsFrameOf, value_of}
@@ -20,3 +22,7 @@ pub record IsTyped (s : CodeScope) (heap : List NamedObject) (place : ℕ) (i : 
 -- the method's result is of a type that the value fits
 abbrev pub FitsResult : CodeScope → List NamedObject → Value → Type 0
 FitsResult s heap v = (t : TypeRef) × (s.method.result ≡ Some t) × ValueFits s heap v (value_of s.classes t)
+
+-- the frame with this head
+abbrev pub with_head : FrameState → FrameHead → FrameState
+with_head f h = record f { head = h }

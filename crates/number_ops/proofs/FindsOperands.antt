@@ -8,6 +8,7 @@ use Rattle.std.proofs.lemmas.List.{append-nil, length-append}
 use Rattle.std.proofs.lemmas.List.Sums.{sum_by-cons}
 use Rattle.std.proofs.lemmas.Option.{slice_get_within}
 use Rattle.class_table.proofs.ItemsByPlace.{slice_get-set_other, slice_get-set_same}
+use Rattle.jk_model.specs.declared.frames.FrameHead.{FrameHead}
 use Rattle.jk_model.specs.declared.identifiers.SegmentNo.{SegmentNo}
 use Rattle.jk_model.specs.declared.instructions.Instr.{Instr}
 use Rattle.jk_model.specs.declared.values.Value.{Value}
@@ -254,8 +255,9 @@ module _ (c : FrameContent) (s : SegmentNo) (scope : CodeScope) (heap : List Nam
   by_group h ReturnsReference shape is does = finds_returned h (Fitting (Ref is.0)) (subst (λ (x : Shape). Does scope place x before after) is.2 does)
   by_group h _ shape is does = tt
 
-pub finds : (c : FrameContent) (classes : List ClassRecord) (s : SegmentNo) (i : Instr) → IsReady c classes s i → Finds c s i (group_of i.op)
-finds c classes s i r =
-    by_group c s r.scope r.heap r.frame r.frame.head.at i r.before r.after
-    (record { top = r.top; max = r.room.1; sized = r.sized; room = r.row.room; holds = r.holds })
+pub finds : (c : FrameContent) (classes : List ClassRecord) (s : SegmentNo) (head : FrameHead) (i : Instr) → IsReady c classes s head i → Finds c s i (group_of i.op)
+finds c classes s head i r =
+    let max = sym (ap (λ (h : FrameHead). h.max_stack) r.ahead) ∙ r.room.1 in
+    by_group c s r.scope r.heap r.frame head.at i r.before r.after
+    (record { top = r.top; max = max; sized = r.sized; room = r.row.room; holds = r.holds })
     (group_of i.op) r.row.shape r.row.shape_is r.row.does

@@ -5,6 +5,7 @@ mod Comparisons
 mod EntriesOnTop
 mod FindsOperands
 mod FoundOperands
+pub mod HeadAsStored
 mod LocalsUsed
 mod OpcodesAmong
 mod PartsOfOpcodes

@@ -11,9 +11,6 @@ mod moves;
 mod parts;
 mod switches;
 
-ghost use Rattle.std.specs.Prelude.{◌≡◌};
-ghost use Rattle.jk_model_frames.specs.Frames.{FrameState};
-ghost use Rattle.frame_store.specs.FrameContents.{TopFrame};
 ghost use Rattle.number_ops.specs.NumberSteps.{DoesNumbers, IsReady};
 
 use crate::arithmetic::calculate;
@@ -32,8 +29,9 @@ use jk_model::{After, ClassId, FrameHead, Instr, Raise, SegmentNo};
 const ARITHMETIC_EXCEPTION: ClassId = ClassId(19);
 
 /// Does the instruction at which the top frame of a segment stands, and answers what is done next: the frame goes on at
-/// another place, an exception is raised, or the frame returns. The frame still stands at its place. A division by 0 leaves
-/// its operands on the stack, and a return takes the value off. The caller has read the frame's head, so it isn't read again.
+/// another place, an exception is raised, or the frame returns. The stored head stays as it is. A division by 0 leaves
+/// its operands on the stack, and a return takes the value off. The frame stands where the head says that is handed in, which
+/// is the stored one but for the place: the caller may go on from place to place, and store the last one alone.
 pub fn step<F: FrameStore>(
     frames: &mut F,
     w: &World,
@@ -41,9 +39,8 @@ pub fn step<F: FrameStore>(
     head: &FrameHead,
     i: &Instr,
 ) -> After
-    requires ready { IsReady (F.content frames.old) w.now.classes s i.now }
-    requires head { (f : FrameState) → TopFrame (F.content frames.old) s f → head.now ≡ f.head }
-    ensures { DoesNumbers (F.content frames.old) (F.content frames.new) w.now.classes s i.now result }
+    requires { IsReady (F.content frames.old) w.now.classes s head.now i.now }
+    ensures { DoesNumbers (F.content frames.old) (F.content frames.new) w.now.classes s head.now i.now result }
 {
     match part_of(i.op) {
         Part::Nothing => {}

@@ -46,7 +46,8 @@ use Rattle.class_table.proofs.ItemsOfLists.{Contains-here, Contains-there}
 use Rattle.jk_model_machine.specs.SoundClasses.{AreSoundClasses, IsClosedTable}
 use Rattle.sealed_steps.proofs.BegunFrames.{IsBegun, begun-fits}
 use Rattle.sealed_steps.proofs.FramesInARow.{all-append}
-use Rattle.sealed_steps.proofs.NamesStayKnown.{AreKnown, head-kept, locals-known, number-head, number-known, replaced-known, returned-known, taken-known, unset-known}
+use Rattle.number_laws.proofs.HeadsStay.{head-kept, number-head}
+use Rattle.sealed_steps.proofs.NamesStayKnown.{AreKnown, locals-known, number-known, replaced-known, returned-known, taken-known, unset-known}
 use Rattle.number_laws.specs.FrameLaws.{FitsResult, IsTyped}
 use Rattle.sealed_steps.proofs.NumberLaws.{NumberLaws}
 use Rattle.sealed_steps.proofs.OneMeaning.{one_field, scope, scope_of}

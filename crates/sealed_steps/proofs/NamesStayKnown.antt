@@ -1,5 +1,5 @@
 -- An instruction on numbers makes no new names: each object that the frame names after it is one that it named before.
-use Rattle.std.proofs.Common.{◌≡◌, inl, inr, ℕ, zero, suc, List, [], ◌∷◌, ◌++◌, replicate, set, Some, sym, ap, subst}
+use Rattle.std.proofs.Common.{◌≡◌, inl, inr, ℕ, zero, suc, List, [], ◌∷◌, ◌++◌, replicate, set, Some, sym, subst}
 use Rattle.std.specs.Prelude.{flat_map}
 use Rattle.std.specs.List.{AllByRecursion}
 use Rattle.jk_model.specs.declared.instructions.Instr.{Instr}
@@ -146,22 +146,3 @@ module _ (heap : List NamedObject) where
         let same : w ≡ v = cc in
         subst (IsKnownValue heap) same (taken-known f g (w ∷ []) [] h rep).0
     returned-known a (returns_nothing op same) v e = absurd cc
-
--- ---- The head stays.
-
-pub head-kept : (f g : FrameState) (taken pushed : List Value) → Replaces f g taken pushed → g.head ≡ f.head
-head-kept f g taken pushed rep = ap (λ (x : FrameState). x.head) rep.after
-
-head-local : (i : Instr) (f g : FrameState) → UsesLocal i f g → g.head ≡ f.head
-head-local i f g (inl u) = ap (λ (x : FrameState). x.head) u.5
-head-local i f g (inr (inl u)) = ap (λ (x : FrameState). x.head) u.6
-head-local i f g (inr (inr u)) = ap (λ (x : FrameState). x.head) u.5
-
-pub number-head : (s : CodeScope) (place : ℕ) (i : Instr) (f g : FrameState) (a : After) → NumberRow s place i f g a → g.head ≡ f.head
-number-head s place i f g a (exchanges taken pushed ex rep) = head-kept f g taken pushed rep
-number-head s place i f g a (uses_local u) = head-local i f g u
-number-head s place i f g a (jumps taken holds n d rep at) = head-kept f g taken [] rep
-number-head s place i f g a (switches key n op rep at) = head-kept f g (Held.Int key ∷ []) [] rep
-number-head s place i f g a (divides_by_zero taken d on same) = ap (λ (x : FrameState). x.head) same
-number-head s place i f g a (returns v op rep) = head-kept f g (v ∷ []) [] rep
-number-head s place i f g a (returns_nothing op same) = ap (λ (x : FrameState). x.head) same

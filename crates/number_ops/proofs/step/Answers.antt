@@ -1,7 +1,6 @@
 -- Each part of a step does what the row of the instruction says.
-use Rattle.std.proofs.Common.{◌≡◌, ◌+◌, ◌<◌, pos, Bool, true, false, MatchBool, [], ◌∷◌, rules, refl, sym, ap, subst, ◌∙◌, arith}
+use Rattle.std.proofs.Common.{◌≡◌, ◌+◌, ◌<◌, Bool, true, false, MatchBool, [], ◌∷◌, rules, refl, sym, ap, subst, ◌∙◌, arith}
 use Rattle.std.specs.Int.{cast_signed, cast_unsigned, w32}
-use Rattle.jk_model.specs.declared.frames.FrameHead.{FrameHead}
 use Rattle.jk_model.specs.declared.steps.After.TheVariants as Next
 use Rattle.jk_model_domains.specs.NumberRows.{switch_target}
 use Rattle.jk_model_typing.specs.Groups.{int, takes}
@@ -30,103 +29,102 @@ constant-requires-clause-op g c = of_part _ P.Constant c.args.i.now.op c.in-Cons
 
 pub constant-requires-clause-linked : goal.constant-requires-clause-linked
 constant-requires-clause-linked g c = record {
-  member = c.requires.ready.method;
-  method_is = ap (λ (h : FrameHead). h.method) (c.requires.head c.requires.ready.frame c.requires.ready.top) ∙ c.requires.ready.method_is;
-  scope = c.requires.ready.scope;
-  scope_is = c.requires.ready.scope_is;
-  int = ldc_int _ _ _ c.args.i.now c.requires.ready;
-  long = ldc_long _ _ _ c.args.i.now c.requires.ready;
+  member = c.requires.method;
+  method_is = c.requires.method_is;
+  scope = c.requires.scope;
+  scope_is = c.requires.scope_is;
+  int = ldc_int _ _ _ c.args.head.now c.args.i.now c.requires;
+  long = ldc_long _ _ _ c.args.head.now c.args.i.now c.requires;
 }
 
 pub push-requires : goal.push-requires
 push-requires g c = finds_room _ _ c.args.i.now (of_part _ P.Constant c.args.i.now.op c.in-Constant.is c.part_of.ensures)
-    (finds _ _ _ c.args.i.now c.requires.ready)
+    (finds _ _ _ c.args.head.now c.args.i.now c.requires)
 
 pub load-requires-clause-op : goal.load-requires-clause-op
 load-requires-clause-op g c = is_load_among c.args.i.now.op (of_part _ P.Load c.args.i.now.op c.in-Load.is c.part_of.ensures)
 
 pub load-requires-clause-most : goal.load-requires-clause-most
-load-requires-clause-most g c = most_locals _ _ _ c.args.i.now c.requires.ready c.args.head.now (c.requires.head c.requires.ready.frame c.requires.ready.top)
+load-requires-clause-most g c = most_locals _ _ _ c.args.head.now c.args.i.now c.requires
 
 pub load-requires-clause-finds : goal.load-requires-clause-finds
 load-requires-clause-finds g c = finds_load _ _ c.args.i.now (of_part _ P.Load c.args.i.now.op c.in-Load.is c.part_of.ensures)
-    (finds _ _ _ c.args.i.now c.requires.ready)
+    (finds _ _ _ c.args.head.now c.args.i.now c.requires)
 
 pub store-requires-clause-op : goal.store-requires-clause-op
 store-requires-clause-op g c = is_store_among c.args.i.now.op (of_part _ P.Store c.args.i.now.op c.in-Store.is c.part_of.ensures)
 
 pub store-requires-clause-most : goal.store-requires-clause-most
-store-requires-clause-most g c = most_locals _ _ _ c.args.i.now c.requires.ready c.args.head.now (c.requires.head c.requires.ready.frame c.requires.ready.top)
+store-requires-clause-most g c = most_locals _ _ _ c.args.head.now c.args.i.now c.requires
 
 pub store-requires-clause-finds : goal.store-requires-clause-finds
 store-requires-clause-finds g c = finds_store _ _ c.args.i.now (of_part _ P.Store c.args.i.now.op c.in-Store.is c.part_of.ensures)
-    (finds _ _ _ c.args.i.now c.requires.ready)
+    (finds _ _ _ c.args.head.now c.args.i.now c.requires)
 
 pub move_entries-requires-clause-op : goal.move_entries-requires-clause-op
 move_entries-requires-clause-op g c = of_part _ P.Move c.args.i.now.op c.in-Move.is c.part_of.ensures
 
 pub move_entries-requires-clause-finds : goal.move_entries-requires-clause-finds
-move_entries-requires-clause-finds g c = finds _ _ _ c.args.i.now c.requires.ready
+move_entries-requires-clause-finds g c = finds _ _ _ c.args.head.now c.args.i.now c.requires
 
 pub calculate-requires-clause-op : goal.calculate-requires-clause-op
 calculate-requires-clause-op g c = of_part _ (P.Calculate c.in-Calculate.kind) c.args.i.now.op c.in-Calculate.is c.part_of.ensures
 
 pub calculate-requires-clause-finds : goal.calculate-requires-clause-finds
-calculate-requires-clause-finds g c = finds _ _ _ c.args.i.now c.requires.ready
+calculate-requires-clause-finds g c = finds _ _ _ c.args.head.now c.args.i.now c.requires
 
 pub returns-then-not-calculate : goal.returns-then-not-calculate
 returns-then-not-calculate g c =
     let no : c.calculate.result ≡ false = search rules in
-    divided _ _ _ _ c.args.i.now c.requires.ready (when_false _ _ c.calculate.result no c.calculate.ensures)
+    divided _ _ _ _ c.args.head.now c.args.i.now c.requires (when_false _ _ c.calculate.result no c.calculate.ensures)
 
 pub increment-requires-clause-op : goal.increment-requires-clause-op
 increment-requires-clause-op g c = is_only 0x84 c.args.i.now.op (of_part _ P.Increment c.args.i.now.op c.in-Increment.is c.part_of.ensures)
 
 pub increment-requires-clause-most : goal.increment-requires-clause-most
-increment-requires-clause-most g c = most_locals _ _ _ c.args.i.now c.requires.ready c.args.head.now
-    (c.requires.head c.requires.ready.frame c.requires.ready.top)
+increment-requires-clause-most g c = most_locals _ _ _ c.args.head.now c.args.i.now c.requires
 
 pub increment-requires-clause-finds : goal.increment-requires-clause-finds
 increment-requires-clause-finds g c = finds_at _ _ c.args.i.now 0x84 (is_only 0x84 c.args.i.now.op
-    (of_part _ P.Increment c.args.i.now.op c.in-Increment.is c.part_of.ensures)) (finds _ _ _ c.args.i.now c.requires.ready)
+    (of_part _ P.Increment c.args.i.now.op c.in-Increment.is c.part_of.ensures)) (finds _ _ _ c.args.head.now c.args.i.now c.requires)
 
 pub decides-requires-clause-op : goal.decides-requires-clause-op
 decides-requires-clause-op g c = of_part _ (P.Decide c.in-Decide.kind) c.args.i.now.op c.in-Decide.is c.part_of.ensures
 
 pub decides-requires-clause-there : goal.decides-requires-clause-there
-decides-requires-clause-there g c = (c.requires.ready.frame, c.requires.ready.top)
+decides-requires-clause-there g c = (c.requires.frame, c.requires.top)
 
 pub decides-requires-clause-finds : goal.decides-requires-clause-finds
-decides-requires-clause-finds g c = finds _ _ _ c.args.i.now c.requires.ready
+decides-requires-clause-finds g c = finds _ _ _ c.args.head.now c.args.i.now c.requires
 
 pub place_of-requires : goal.place_of-requires
 place_of-requires g c =
     let jump = is_jump_among c.in-Decide.kind c.args.i.now.op (of_part _ (P.Decide c.in-Decide.kind) c.args.i.now.op c.in-Decide.is c.part_of.ensures) in
-    let to = leads _ _ _ c.args.i.now c.requires.ready c.args.i.now.a (jump_goes_on c.requires.ready.frame.head.at c.args.i.now jump) in
+    let to = leads _ _ _ c.args.head.now c.args.i.now c.requires c.args.i.now.a (jump_goes_on c.args.head.now.at c.args.i.now jump) in
     let round : cast_signed w32 (cast_unsigned w32 c.args.i.now.a) ≡ c.args.i.now.a = search rules in
     (to.0, round ∙ to.1)
 
 pub returns-then-decides : goal.returns-then-decides
 returns-then-decides g c =
     let round : cast_signed w32 (cast_unsigned w32 c.args.i.now.a) ≡ c.args.i.now.a = search rules in
-    jumped _ _ _ _ c.args.i.now c.requires.ready c.place_of.result true (subst (Decided _ _ _ _) c.if-decides.true c.decides.ensures)
+    jumped _ _ _ _ c.args.head.now c.args.i.now c.requires c.place_of.result true (subst (Decided _ _ _ _) c.if-decides.true c.decides.ensures)
     (sym round ∙ c.place_of.ensures)
 
 pub pop_int-key-requires : goal.pop_int-key-requires
 pop_int-key-requires g c =
     let h = found_int _ _ [] (finds_as switch_opcodes _ _ c.args.i.now (takes (int ∷ []) []) (refl, (refl, tt))
-    (of_part _ P.Switch c.args.i.now.op c.in-Switch.is c.part_of.ensures) (finds _ _ _ c.args.i.now c.requires.ready)) in
+    (of_part _ P.Switch c.args.i.now.op c.in-Switch.is c.part_of.ensures) (finds _ _ _ c.args.head.now c.args.i.now c.requires)) in
     (h.0, roomless _ _ _ 0 h.1)
 
 pub target-requires : goal.target-requires
-target-requires g c = c.requires.ready.keys
+target-requires g c = c.requires.keys
 
 pub place_of-requires-in-Switch : goal.place_of-requires-in-Switch
 place_of-requires-in-Switch g c =
     let key = cast_signed w32 (cast_unsigned w32 c.pop_int-key.result) in
     let switch = is_switch_among c.args.i.now.op (of_part _ P.Switch c.args.i.now.op c.in-Switch.is c.part_of.ensures) in
-    let to = leads _ _ _ c.args.i.now c.requires.ready (switch_target c.args.i.now key)
-    (switch_goes_on c.requires.ready.frame.head.at c.args.i.now key switch) in
+    let to = leads _ _ _ c.args.head.now c.args.i.now c.requires (switch_target c.args.i.now key)
+    (switch_goes_on c.args.head.now.at c.args.i.now key switch) in
     let round : cast_signed w32 (cast_unsigned w32 c.target.result) ≡ c.target.result = search rules in
     (to.0, round ∙ c.target.ensures ∙ to.1)
 
@@ -136,52 +134,48 @@ returns-in-Switch g c =
     let round : cast_signed w32 (cast_unsigned w32 c.target.result) ≡ c.target.result = search rules in
     let key : cast_signed w32 (cast_unsigned w32 c.pop_int-key.result) ≡ c.pop_int-key.result = search rules in
     let is = ap (switch_target c.args.i.now) (sym key) ∙ sym c.target.ensures ∙ sym round ∙ c.place_of-in-Switch.ensures in
-    switched _ _ _ _ c.args.i.now c.requires.ready c.place_of-in-Switch.result c.pop_int-key.result switch c.pop_int-key.ensures is
+    switched _ _ _ _ c.args.head.now c.args.i.now c.requires c.place_of-in-Switch.result c.pop_int-key.result switch c.pop_int-key.ensures is
 
 pub pop-requires : goal.pop-requires
 pop-requires g c = finds_value _ _ c.args.i.now (of_part _ P.ReturnValue c.args.i.now.op c.in-ReturnValue.is c.part_of.ensures)
-    (finds _ _ _ c.args.i.now c.requires.ready)
+    (finds _ _ _ c.args.head.now c.args.i.now c.requires)
 
 pub returns-in-ReturnValue : goal.returns-in-ReturnValue
 returns-in-ReturnValue g c =
-    returned _ _ _ _ c.args.i.now c.requires.ready c.pop.result (is_return_among c.args.i.now.op
+    returned _ _ _ _ c.args.head.now c.args.i.now c.requires c.pop.result (is_return_among c.args.i.now.op
     (of_part _ P.ReturnValue c.args.i.now.op c.in-ReturnValue.is c.part_of.ensures)) c.pop.ensures
 
 pub returns-in-ReturnNothing : goal.returns-in-ReturnNothing
-returns-in-ReturnNothing g c = returned_nothing _ _ _ c.args.i.now c.requires.ready (is_only 0xb1 c.args.i.now.op
+returns-in-ReturnNothing g c = returned_nothing _ _ _ c.args.head.now c.args.i.now c.requires (is_only 0xb1 c.args.i.now.op
     (of_part _ P.ReturnNothing c.args.i.now.op c.in-ReturnNothing.is c.part_of.ensures))
 
 pub unreachable-requires : goal.unreachable-requires
-unreachable-requires g c = no_other _ _ _ c.args.i.now c.requires.ready (of_part _ P.Other c.args.i.now.op c.in-Other.is c.part_of.ensures)
+unreachable-requires g c = no_other _ _ _ c.args.head.now c.args.i.now c.requires (of_part _ P.Other c.args.i.now.op c.in-Other.is c.part_of.ensures)
 
 pub overflow_add-result : goal.overflow_add-result
 overflow_add-result g c =
-    let same = ap (λ (h : FrameHead). h.at) (c.requires.head c.requires.ready.frame c.requires.ready.top) in
-    let fits = next_fits _ _ _ c.args.i.now c.requires.ready in
-    let low : c.args.head.now.at + 1 < 4294967296 = omega (arith, same, fits) in
+    let fits = next_fits _ _ _ c.args.head.now c.args.i.now c.requires in
+    let low : c.args.head.now.at + 1 < 4294967296 = omega (arith, fits) in
     record { fits = low }
 
 pub returns : goal.returns
 returns g c =
-    let next : c.args.head.now.at + 1 ≡ c.requires.ready.frame.head.at + 1 = ap (λ (h : FrameHead). h.at + 1)
-    (c.requires.head c.requires.ready.frame c.requires.ready.top) in
     let Done = λ (x : g.row.F.Denot). DoesNumbers (g.F.FrameStore.content c.args.frames.now) (g.F.FrameStore.content x) c.args.w.now.classes
-    c.args.s c.args.i.now (Next.Goto (c.args.head.now.at + 1)) in
+    c.args.s c.args.head.now c.args.i.now (Next.Goto (c.args.head.now.at + 1)) in
     elim c.match-part_of.branch [
-      | in-Nothing w ↦ subst Done (sym w.frames-is) (did_nothing _ _ _ c.args.i.now c.requires.ready _ (is_only 0x00 c.args.i.now.op
-          (of_part _ P.Nothing c.args.i.now.op w.in-Nothing.is c.part_of.ensures)) next)
-      | in-Constant w ↦ subst Done (sym w.frames-is) (pushed _ _ _ _ c.args.i.now c.requires.ready _ w.constant.result
-          (w.constant.ensures c.requires.ready.method c.requires.ready.scope (ap (λ (h : FrameHead). h.method)
-          (c.requires.head c.requires.ready.frame c.requires.ready.top) ∙ c.requires.ready.method_is) c.requires.ready.scope_is)
-          w.push.ensures next)
-      | in-Load w ↦ subst Done (sym w.frames-is) (used _ _ _ _ c.args.i.now c.requires.ready _ w.load.ensures next)
-      | in-Store w ↦ subst Done (sym w.frames-is) (used _ _ _ _ c.args.i.now c.requires.ready _ w.store.ensures next)
-      | in-Move w ↦ subst Done (sym w.frames-is) (moved _ _ _ _ c.args.i.now c.requires.ready _ w.move_entries.ensures next)
+      | in-Nothing w ↦ subst Done (sym w.frames-is) (did_nothing _ _ _ c.args.head.now c.args.i.now c.requires _ (is_only 0x00 c.args.i.now.op
+          (of_part _ P.Nothing c.args.i.now.op w.in-Nothing.is c.part_of.ensures)) refl)
+      | in-Constant w ↦ subst Done (sym w.frames-is) (pushed _ _ _ _ c.args.head.now c.args.i.now c.requires _ w.constant.result
+          (w.constant.ensures c.requires.method c.requires.scope (c.requires.method_is) c.requires.scope_is)
+          w.push.ensures refl)
+      | in-Load w ↦ subst Done (sym w.frames-is) (used _ _ _ _ c.args.head.now c.args.i.now c.requires _ w.load.ensures refl)
+      | in-Store w ↦ subst Done (sym w.frames-is) (used _ _ _ _ c.args.head.now c.args.i.now c.requires _ w.store.ensures refl)
+      | in-Move w ↦ subst Done (sym w.frames-is) (moved _ _ _ _ c.args.head.now c.args.i.now c.requires _ w.move_entries.ensures refl)
       | in-Calculate+else-not-calculate w ↦
           (let yes : w.calculate.result ≡ true = search rules in
           subst Done (sym w.frames-is)
-          (calculated _ _ _ _ c.args.i.now c.requires.ready _ (when_true _ _ w.calculate.result yes w.calculate.ensures) next))
-      | in-Increment w ↦ subst Done (sym w.frames-is) (used _ _ _ _ c.args.i.now c.requires.ready _ w.increment.ensures next)
-      | in-Decide+else-decides w ↦ subst Done (sym w.frames-is) (jumped _ _ _ _ c.args.i.now c.requires.ready _ false
-          (subst (Decided _ _ _ _) w.if-decides.false w.decides.ensures) (ap pos (sym next)))
+          (calculated _ _ _ _ c.args.head.now c.args.i.now c.requires _ (when_true _ _ w.calculate.result yes w.calculate.ensures) refl))
+      | in-Increment w ↦ subst Done (sym w.frames-is) (used _ _ _ _ c.args.head.now c.args.i.now c.requires _ w.increment.ensures refl)
+      | in-Decide+else-decides w ↦ subst Done (sym w.frames-is) (jumped _ _ _ _ c.args.head.now c.args.i.now c.requires _ false
+          (subst (Decided _ _ _ _) w.if-decides.false w.decides.ensures) refl)
     ]

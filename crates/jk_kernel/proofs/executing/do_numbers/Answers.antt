@@ -1,13 +1,10 @@
 -- The instruction may be done at its frame, what follows it may be done then, and both together are a step.
-use Rattle.jk_kernel.proofs.NumbersBegin.{ReturnsFit, head_on_top, is_done, may_follow, numbers_ready}
+use Rattle.jk_kernel.proofs.NumbersBegin.{ReturnsFit, is_done, may_follow, numbers_ready}
 use Rattle.jk_kernel.proofs.NumbersFollowed.{followed}
 use Rattle.jk_kernel.proofs.executing.do_numbers.Goals as goal
 
-pub step-after-requires-clause-ready : goal.step-after-requires-clause-ready
-step-after-requires-clause-ready g c = numbers_ready c.requires.may.4 c.requires.numbers
-
-pub step-after-requires-clause-head : goal.step-after-requires-clause-head
-step-after-requires-clause-head g c = head_on_top c.requires.may.4
+pub step-after-requires : goal.step-after-requires
+step-after-requires g c = numbers_ready c.requires.may.4 c.requires.numbers
 
 pub follow-requires : goal.follow-requires
 follow-requires g c =

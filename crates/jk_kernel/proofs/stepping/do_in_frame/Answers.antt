@@ -8,20 +8,17 @@ use Rattle.jk_kernel.specs.Following.{GoesTo}
 use Rattle.jk_kernel.proofs.BuiltByOpcode.{numbers_left}
 use Rattle.jk_kernel.proofs.GoesOnInFrame.{goes_on, no_other}
 use Rattle.jk_kernel.proofs.InstructionsBegin.{built_here, callers, frame}
-use Rattle.jk_kernel.proofs.NumbersBegin.{head_on_top, is_done, numbers_ready}
+use Rattle.jk_kernel.proofs.NumbersBegin.{is_done, numbers_ready}
 use Rattle.jk_kernel.proofs.NumbersFollowed.{followed}
 use Rattle.jk_kernel.proofs.StoredFrames.{top_there}
 use Rattle.jk_kernel.proofs.stepping.do_in_frame.Goals as goal
 
-pub step-requires-clause-ready : goal.step-requires-clause-ready
-step-requires-clause-ready g c =
+pub step-requires : goal.step-requires
+step-requires g c =
     let s = scope_of c.args.at.now.code in
     let i = c.args.at.now.instr.now in
     let next = c.requires.may.4 in
     numbers_ready next (numbers_left s i (built_here next) (no_other s i c.requires.stays))
-
-pub step-requires-clause-head : goal.step-requires-clause-head
-step-requires-clause-head g c = head_on_top c.requires.may.4
 
 pub go-requires : goal.go-requires
 go-requires g c =
@@ -49,7 +46,7 @@ returns g c =
     let d = c.args._d.now in
     let n = c.in-Goto.n in
     let holds = g.met.F.FrameStore.holds c.step.new.frames in
-    let did = subst (DoesNumbers old mid c.args.w.now.classes c.args.r.segment c.args.at.now.instr.now) c.in-Goto.is c.step.ensures in
+    let did = subst (DoesNumbers old mid c.args.w.now.classes c.args.r.segment c.args.head.now c.args.at.now.instr.now) c.in-Goto.is c.step.ensures in
     let to : GoesTo mid new c.args.r.segment n d d Came.Silent = record { silent = refl; part = refl; sets = c.go.ensures } in
     record {
       keeps = (followed next mid new d (Next.Goto n) Came.Silent holds (is_done next mid (Next.Goto n) did) to).0;

@@ -4,8 +4,8 @@ use Rattle.number_check.specs.declared.stores.TheConstants.{SEGMENT}
 use Rattle.number_check.proofs.FramesGoOn.{is_ready, leads_on}
 use Rattle.number_check.proofs.running.do_next.Goals as goal
 
-pub step-requires-clause-ready : goal.step-requires-clause-ready
-step-requires-clause-ready g c =
+pub step-requires : goal.step-requires
+step-requires g c =
     is_ready (g.F.FrameStore.content c.args.frames.now) c.args.world.now.classes SEGMENT (scope_of c.args.view.now) c.head-head.result
     c.instruction_at-i.result.now c.requires c.head-head.ensures c.instruction_at-i.ensures
 
