@@ -47,7 +47,13 @@ pub record BeginsMain (m : Machine) (class : ClassId) (head : FrameHead) : Type 
 abbrev pub HasNoMain : Machine → ClassId → Type 0
 HasNoMain m class = (main : MemberId) (code : LinkedCode) → IsMain m class main code → ⊥
 
--- No rule refuses the start, and its first frame has this head, in this domain.
+-- No rule refuses the start.
+pub record IsAllowed (m : Machine) (name class : List ℕ) : Type 0 where
+  pub has_main : HasMain m name class
+  pub few : HasFewThreads has_main
+  pub fits : 1 + head_chunks (call_head has_main.main has_main.code) ≤ free_chunks m has_main.knows.domain
+
+-- The same, and its first frame has this head, in this domain.
 pub record MayStart (m : Machine) (name class : List ℕ) (d : DomainId) (head : FrameHead) : Type 0 where
   pub has_main : HasMain m name class
   pub few : HasFewThreads has_main

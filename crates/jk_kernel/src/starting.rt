@@ -12,7 +12,7 @@ ghost use Rattle.jk_model_frames.specs.Frames.{head_chunks};
 ghost use Rattle.jk_model_machine.specs.Machine.{started_in};
 ghost use Rattle.jk_model_machine.specs.Starts.{Starts};
 ghost use Rattle.frame_store.specs.FrameContents.{IsAdmitted, free_chunks};
-ghost use Rattle.jk_kernel.specs.KernelStarts.{BeginsMain, BeginsThread, HasNoMain, MayStart, told_of};
+ghost use Rattle.jk_kernel.specs.KernelStarts.{BeginsMain, BeginsThread, HasNoMain, IsAllowed, MayStart, told_of};
 
 use crate::answers::EventAnswer;
 use crate::calls::{call_head, chunks_of};
@@ -71,7 +71,8 @@ struct FirstFrame {
 
 impl<F: FrameStore + Drop> Kernel<F> {
     /// The start of a thread in the live domain of this name, at the public static `main` of this class. Its line is printed, also
-    /// where it is refused. Where the sink fails, the start has happened; without memory nothing has.
+    /// where it is refused. Where the sink fails, the start has happened; without memory nothing has. A start that a rule refuses
+    /// takes no memory.
     pub fn start<S: Sink>(
         &mut self,
         name: &[u8],
@@ -88,6 +89,7 @@ impl<F: FrameStore + Drop> Kernel<F> {
         ensures failed { result ≡ Err EventAnswer.SinkFailed → (lines : AList Line) × Starts self.old name.now class.now [] lines self.new
             × AppendsPart (S.bytes out.old) (S.bytes out.new) (text_of lines) × HasRisen (S.faults out.old) (S.faults out.new) }
         ensures nothing { result ≡ Err EventAnswer.OutOfMemory → (self.new ≡ self.old) × (S.bytes out.new ≡ S.bytes out.old) }
+        ensures allowed { result ≡ Err EventAnswer.OutOfMemory → IsAllowed self.old name.now class.now }
         ensures calm { (result ≡ Err EventAnswer.SinkFailed → ⊥) → S.faults out.new ≡ S.faults out.old }
         ensures faults { NeverFalls (S.faults out.old) (S.faults out.new) }
         ensures counts { (self.new.next_thread ≤ suc self.old.next_thread) × (self.new.next_segment ≤ suc self.old.next_segment) }
@@ -105,13 +107,14 @@ impl<F: FrameStore + Drop> Kernel<F> {
 }
 
 impl<F: FrameStore + Drop> Kernel<F> {
-    /// A start without its line. Without memory all is as before.
+    /// A start without its line. Without memory all is as before, and no rule refuses the start.
     fn begin(&mut self, name: &[u8], class: &[u8]) -> Result<Beginning, OutOfMemory>
         requires class { length class.now ≤ 255 }
         requires thread { self.old.next_thread < 2 ^ 32 - 1 }
         requires segment { self.old.next_segment < 2 ^ 64 - 1 }
         ensures came { IfOk result (λ came. Starts self.old name.now class.now [] (told_of name.now came ∷ []) self.new) }
         ensures nothing { OnErr result (self.new ≡ self.old) }
+        ensures allowed { OnErr result (IsAllowed self.old name.now class.now) }
         ensures counts { (self.new.next_thread ≤ suc self.old.next_thread) × (self.new.next_segment ≤ suc self.old.next_segment) }
     {
         starts_keep_sound();

@@ -1,10 +1,11 @@
 -- The thread's parts are a kernel again, and a start leads to its machine.
 use Rattle.std.proofs.Common.{◌+◌, ◌<◌, ◌-◌, ◌^◌, [], ◌∷◌, length, set, refl, sym, subst, arith}
+use Rattle.std.specs.Prelude.{Err, Ok, OnErr, Result}
 use Rattle.std.proofs.lemmas.Option.{slice_get_read}
 use Rattle.jk_model.specs.declared.output.Line.TheVariants as Says
 use Rattle.jk_model_machine.specs.Machine.{Machine, started_in}
 use Rattle.jk_model_machine.specs.Starts.{Starts}
-use Rattle.jk_kernel.specs.KernelStarts.{MayStart}
+use Rattle.jk_kernel.specs.KernelStarts.{IsAllowed, MayStart}
 use Rattle.jk_kernel.specs.KernelStates.{machine_of}
 use Rattle.jk_kernel.proofs.StartsOfKernels.{admitted-here, few-there, has-part, home-here, local-there, room-there, started}
 use Rattle.jk_kernel.proofs.ThreadIsNew.{no-segment}
@@ -75,3 +76,13 @@ returns-clause-came g c =
     subst (λ (m : Machine). Starts m c.args.name.now c.args.class.now [] (Says.Started (record { 0 = k.next_thread }) c.args.name.now ∷ [])
     (machine_of k.world (set k.parts.items c.in-Ok.first.domain.0 c.begin_thread.new.d) c.begin_thread.new.threads.entries
     (g.F.FrameStore.content c.begin_thread.new.frames) (k.next_thread + 1) (k.next_segment + 1))) c.self.view_is next.starts
+
+on-err : {A E : Type 0} (r : Result A E) (P : Type 0) → P → OnErr r P
+on-err (Ok x) P p = tt
+on-err (Err e) P p = p
+
+pub returns-in_err-begin_thread-clause-allowed : goal.returns-in_err-begin_thread-clause-allowed
+returns-in_err-begin_thread-clause-allowed g c =
+    let may = c.in-Ok.ensures.first in
+    let allowed : IsAllowed c.args.self.now c.args.name.now c.args.class.now = record { has_main = may.has_main; few = may.few; fits = may.fits } in
+    on-err _ _ allowed
