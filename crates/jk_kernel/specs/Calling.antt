@@ -1,5 +1,5 @@
 -- When a method may be called, and the frame with which it begins.
-use Rattle.std.specs.Prelude.{◌≡◌, ℕ, ◌-◌, ◌<◌, ◌≤◌, List, [], ◌∷◌, ◌++◌, length, flat_map, replicate}
+use Rattle.std.specs.Prelude.{◌≡◌, ◌-◌, ◌<◌, ◌≤◌, List, [], ◌∷◌, ◌++◌, length, flat_map, replicate}
 use Rattle.jk_model.specs.declared.frames.FrameHead.{FrameHead}
 use Rattle.jk_model.specs.declared.identifiers.ClassId.{ClassId}
 use Rattle.jk_model.specs.declared.identifiers.DomainId.{DomainId}
@@ -39,18 +39,6 @@ begun head given = record {
 pub record HasOnTop (c : FrameContent) (s : SegmentNo) (d : DomainId) (lower : List FrameState) (f : FrameState) (below given : List Value) : Type 0 where
   pub holds : Holds c s d (lower ++ f ∷ [])
   pub stack : f.stack ≡ below ++ given
-
--- so many arguments are on top, and a frame with them fits
-pub record MayBegin (c : FrameContent) (s : SegmentNo) (count : ℕ) (head : FrameHead) : Type 0 where
-  pub domain : DomainId
-  pub lower : List FrameState
-  pub frame : FrameState
-  pub below : List Value
-  pub given : List Value
-  pub on_top : HasOnTop c s domain lower frame below given
-  pub as_many : length given ≡ count
-  pub locals : length (locals_of given) ≤ head.max_locals
-  pub room : head_chunks head ≤ free_chunks c domain
 
 -- The arguments of the method are on top, and fit its locals.
 pub record MayCall (classes : List ClassRecord) (c : FrameContent) (s : SegmentNo) (d : DomainId) (m : MemberId) : Type 0 where

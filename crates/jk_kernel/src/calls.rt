@@ -7,11 +7,11 @@ ghost use Rattle.jk_model_domains.specs.declared.states.ClassState.TheVariants a
 ghost use Rattle.jk_model.specs.declared.values.Value.{Value as AValue};
 ghost use Rattle.jk_model_frames.specs.Frames.{FrameState, head_chunks};
 ghost use Rattle.jk_model_typing.specs.Scopes.{CodeScope, IsScopeOf};
-ghost use Rattle.jk_model_machine.specs.Executions.{as_locals, call_head};
+ghost use Rattle.jk_model_machine.specs.Executions.{call_head};
 ghost use Rattle.jk_model_domains.specs.OwnStates.{with_state};
 ghost use Rattle.jk_model_machine.specs.Steps.{resumed};
 ghost use Rattle.jk_kernel.specs.declared.happened.Happened.TheVariants as Came;
-ghost use Rattle.jk_kernel.specs.Calling.{CallsSo, HasOnTop, MayBegin, MayCall, begun, locals_of, with_stack};
+ghost use Rattle.jk_kernel.specs.Calling.{CallsSo, HasOnTop, MayCall};
 ghost use Rattle.jk_kernel.specs.Returning.{MayReturn, TopCanResume};
 ghost use Rattle.jk_kernel.specs.SegmentFrames.{GetsFrames, HasKnownFrames, Holds, IsOut};
 
@@ -47,63 +47,30 @@ pub(crate) fn chunks_of(head: &FrameHead) -> u32
     (4 + u32::from(head.max_locals) + u32::from(head.max_stack) + 19) / 20
 }
 
-/// How many locals a value takes.
-fn slots(v: Value) -> u16
-    ensures { result ≡ length (as_locals v) }
-{
-    match v {
-        Value::Long(_) => 2,
-        _ => 1,
-    }
-}
-
-/// Takes so many arguments off the stack, puts the new frame on top, and puts them into its locals, a long into the first of its
-/// two. The answer is how many locals they take.
-fn begin<F: FrameStore>(frames: &mut F, s: SegmentNo, count: usize, head: FrameHead) -> u16
-    requires { MayBegin (F.content frames.old) s count head }
-    ensures count { (d : ADomainId) (lower : AList FrameState) (f : FrameState) (below given : AList AValue)
-        → HasOnTop (F.content frames.old) s d lower f below given → length given ≡ count → result ≡ length (locals_of given) }
-    ensures frames { (d : ADomainId) (lower : AList FrameState) (f : FrameState) (below given : AList AValue)
-        → HasOnTop (F.content frames.old) s d lower f below given → length given ≡ count
-        → GetsFrames (F.content frames.old) (F.content frames.new) s d (lower ++ f ∷ []) (lower ++ with_stack f below ∷ begun head given ∷ []) }
-{
-    let _room = head.max_locals;
-    if count == 0 {
-        match frames.push(s, head) {
-            Ok(()) => return 0,
-            Err(_) => unreachable!(),
-        }
-    }
-    let v = frames.pop_value(s);
-    let at = begin(frames, s, count - 1, head);
-    frames.set_local(s, at, v);
-    at + slots(v)
-}
-
 /// Calls a static method with code. Where its frame doesn't fit, a StackOverflowError ends the thread.
 pub(crate) fn call<F: FrameStore>(
     t: &ClassTable,
     d: &mut DomainPart,
     frames: &mut F,
-    id: DomainId,
+    _id: DomainId,
     s: SegmentNo,
     m: MemberId,
 ) -> Happened
-    requires may { MayCall t.now (F.content frames.old) s id m }
+    requires may { MayCall t.now (F.content frames.old) s _id m }
     requires known { HasKnownFrames (F.content frames.old) s d.old.own }
     ensures { (scope : CodeScope) (lower : AList FrameState) (f : FrameState) (below given : AList AValue) → IsScopeOf t.now m scope
-        → HasOnTop (F.content frames.old) s id lower f below given → length given ≡ length scope.method.params
-        → CallsSo t.now (F.content frames.old) (F.content frames.new) s id (call_head m scope.code) lower f below given d.old d.new result }
+        → HasOnTop (F.content frames.old) s _id lower f below given → length given ≡ length scope.method.params
+        → CallsSo t.now (F.content frames.old) (F.content frames.new) s _id (call_head m scope.code) lower f below given d.old d.new result }
 {
     let Some(code) = CodeView::of(t, m) else {
         unreachable!();
     };
     let head = call_head(m, code.code);
-    if frames.free(id) < chunks_of(&head) {
-        return Happened::EndedBy(throw(t, &mut d.own, frames, s, STACK_OVERFLOW_ERROR));
+    let _room = head.max_locals;
+    match frames.call(s, head, code.method.params.get().len() as u16) {
+        Ok(()) => Happened::Silent,
+        Err(_) => Happened::EndedBy(throw(t, &mut d.own, frames, s, STACK_OVERFLOW_ERROR)),
     }
-    let _locals = begin(frames, s, code.method.params.get().len(), head);
-    Happened::Silent
 }
 
 /// The top frame goes on behind its instruction, with this value, or none, on its stack.
