@@ -10,6 +10,3 @@ mod reading;
 mod walk;
 
 pub use reading::{FolderError, read_folder};
-
-#[cfg(test)]
-mod tests;

@@ -41,8 +41,3 @@ pub use several_lines::{print_next, print_none};
 pub use sinks::{Sink, SinkFailed};
 pub use stream_sink::StreamSink;
 pub use system::System;
-
-#[cfg(test)]
-mod files_tests;
-#[cfg(test)]
-mod sinks_tests;

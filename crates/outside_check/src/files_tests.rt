@@ -2,10 +2,8 @@
 
 ghost use Rattle.std.specs.Prelude.{◌≤◌, length};
 
-use crate::files::{Files, FilesError};
-use crate::system::System;
-use crate::{Disk, DiskFiles, Entry, MemoryFiles};
 use jk_model::{Bytes, List};
+use jk_outside::{Disk, DiskFiles, Entry, Files, FilesError, MemoryFiles, System};
 use std::alloc::Global;
 use std::fs::Metadata;
 use std::io::{Error, ErrorKind};

@@ -1,6 +1,6 @@
 //! Folders in memory, and what is read of them.
 
-use crate::{FolderError, read_folder};
+use folder_reader::{FolderError, read_folder};
 use jk_model_folders::FolderFiles;
 use jk_outside::{Files, MemoryFiles};
 use std::alloc::Global;

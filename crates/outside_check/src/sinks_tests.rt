@@ -2,11 +2,11 @@
 
 ghost use Rattle.std.specs.Prelude.{◌<◌, length};
 
-use crate::{
+use jk_model::{Rule, ThreadNo};
+use jk_outside::{
     LineBuffer, LineRef, MemorySink, Part, PlaceRef, Sink, SinkFailed, StreamSink, print_line,
     print_next, print_none, write_line,
 };
-use jk_model::{Rule, ThreadNo};
 use std::io;
 use std::io::{ErrorKind, Write};
 use std::process::Abort;
