@@ -1,6 +1,7 @@
 -- A world of the system classes alone, and a folder without class files.
 use Rattle.std.proofs.Common.{◌≡◌, ℕ, ◌<◌, ◌≤◌, List, [], length, take, sym, ◌∙◌, arith, take_all, Some, None, slice_get}
 use Rattle.std.proofs.lemmas.Option.{slice_get_within}
+use Rattle.list_lemmas.proofs.ItemsByPlace.{item_there}
 use Rattle.jk_model.specs.declared.identifiers.ClassId.{ClassId}
 use Rattle.jk_model.specs.SystemTable.{system_classes}
 use Rattle.jk_model_classes.specs.declared.records.ClassRecord.{ClassRecord}
@@ -9,7 +10,6 @@ use Rattle.jk_model_classes.specs.SystemRecords.{AreSystemRecords}
 use Rattle.jk_model_classes.specs.Worlds.{IsWorld, WorldRecord}
 use Rattle.jk_model_folders.specs.declared.files.FolderFiles.{FolderFiles}
 use Rattle.jk_model_folders.specs.FolderTrees.{AreFiles, MAX_FILE}
-use Rattle.resolver_rules.proofs.ClassesOfNames.{something_at}
 
 nothing_at : {X : Type 0} (xs : List X) (k : ℕ) (x : X) → xs ≡ [] → slice_get xs k ≡ Some x → ⊥
 nothing_at xs k x none at = let there : slice_get [] k ≡ Some x = rw none at at in cc
@@ -19,7 +19,7 @@ of_system : (classes : List ClassRecord) → AreSystemRecords classes → (c : C
     → (r.references ≡ []) × (r.home ≡ None)
 of_system classes h c r at =
     let low : c.0 < length system_classes = rw (← h.as_many) (slice_get_within classes c.0 r at) in
-    let entry = something_at system_classes c.0 low in
+    let entry = item_there system_classes c.0 low in
     let is = h.each c.0 entry.0 r entry.1 at in
     (is.references, is.home)
 

@@ -1,14 +1,15 @@
 -- What a table says of a name is what its one entry of that name says; and which entries system classes have.
-use Rattle.std.proofs.Common.{◌≡◌, ℕ, zero, suc, ◌<◌, Bool, true, false, nat_lt, List, [], ◌∷◌, length, refl, sym, ◌∙◌, ap, arith, Option, Some, None, slice_get, get_or, Bor}
+use Rattle.std.proofs.Common.{◌≡◌, ℕ, zero, suc, ◌<◌, Bool, true, false, nat_lt, List, [], ◌∷◌, length, refl, sym, ◌∙◌, ap, arith, Option, Some, None, slice_get, get_or}
 use Rattle.std.specs.Prelude.{Contains}
 use Rattle.std.specs.List.{position_or_len}
 use Rattle.std.specs.Option.{option_map}
-use Rattle.std.specs.Slice.{IsItemAt}
 use Rattle.std.specs.Str.{bytes_eq}
 use Rattle.std.proofs.lemmas.Bool.{ltb-true}
 use Rattle.std.proofs.lemmas.List.Sums.{passes_at_first}
-use Rattle.std.proofs.lemmas.Option.{cond_some, slice_get_within, slice_get_read, slice_get_past, get_or_from_slice_get, same_Some}
+use Rattle.std.proofs.lemmas.Option.{cond_some, get_or_from_slice_get, same_Some}
 use Rattle.std.proofs.lemmas.Slice.Eq.{bytes_eq-Decides}
+use Rattle.list_lemmas.proofs.ItemsByPlace.{item_there}
+use Rattle.list_lemmas.proofs.ItemsOfLists.{stands_at}
 use Rattle.class_table.proofs.ItemsOfLists.{Contains-there}
 use Rattle.jk_model.specs.declared.identifiers.ClassId.{ClassId}
 use Rattle.jk_model.specs.SystemTable.{SystemClass, system_classes, number_named}
@@ -17,24 +18,6 @@ use Rattle.jk_model_classes.specs.Worlds.{NamedClass, class_named}
 use Rattle.resolver_rules.specs.Imported.{NamesDiffer}
 
 -- ---- What is in a list.
-
-pub contains_at : {X : Type 0} (xs : List X) (k : ℕ) (x : X) → slice_get xs k ≡ Some x → Contains xs x
-contains_at xs k x e = (k, slice_get_within xs k x e, get_or_from_slice_get xs k x x e)
-
-pub stands_at : {X : Type 0} (xs : List X) (x : X) → Contains xs x → (k : ℕ) × (k < length xs) × (slice_get xs k ≡ Some x)
-stands_at xs x (k, low, at) = (k, low, slice_get_read xs (length xs) k x refl low (sym at))
-
-pub something_at : {X : Type 0} (xs : List X) (k : ℕ) → k < length xs → (x : X) × (slice_get xs k ≡ Some x)
-something_at [] k low = absurd (omega (arith, low))
-something_at (x ∷ xs) zero low = (x, refl)
-something_at (x ∷ xs) (suc k) low = something_at xs k (omega (arith, low))
-
--- what a search by place lends is the item there
-pub item_lent : {X : Type 0} (xs : List X) (i : ℕ) (x : Bor X) → IsItemAt xs i (Some x) → slice_get xs i ≡ Some x.now
-item_lent xs i x h = slice_get_read xs (length xs) i x.now refl h.3.0 h.1
-
-pub none_lent : {X : Type 0} (xs : List X) (i : ℕ) → IsItemAt {X = X} xs i None → slice_get xs i ≡ None
-none_lent xs i h = slice_get_past xs i h.3
 
 pub same_class : (a b : ClassId) → a.0 ≡ b.0 → a ≡ b
 same_class a b e = let of : (m n : ℕ) → m ≡ n → (let x : ClassId = record { 0 = m } in x) ≡ record { 0 = n } = λ m n q. cc in of a.0 b.0 e
@@ -56,7 +39,7 @@ entry_at t k class told = by_place (slice_get t k) refl told
 
 pub no_entry : (t : List NamedClass) (k : ℕ) → None ≡ option_map (λ (e : NamedClass). e.class) (slice_get t k) → k < length t → ⊥
 no_entry t k told low =
-    let x = something_at t k low in
+    let x = item_there t k low in
     let both : None ≡ Some x.0.class = told ∙ ap (option_map (λ (e : NamedClass). e.class)) x.1 in
     cc
 

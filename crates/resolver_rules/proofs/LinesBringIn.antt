@@ -5,6 +5,8 @@ use Rattle.std.specs.Prelude.{Contains, IfOk, MatchBool}
 use Rattle.std.proofs.lemmas.Bool.{cases_lt}
 use Rattle.std.proofs.lemmas.List.Elements.{Contains-append_left, Contains-append_cases}
 use Rattle.std.proofs.lemmas.Option.{slice_get_within, same_Some}
+use Rattle.list_lemmas.proofs.ItemsByPlace.{item_there}
+use Rattle.list_lemmas.proofs.ItemsOfLists.{Contains-at, stands_at}
 use Rattle.class_table.proofs.ItemsByPlace.{slice_get-front}
 use Rattle.class_table.proofs.ItemsOfLists.{Contains-none, each-of}
 use Rattle.jk_model.specs.declared.identifiers.ClassId.{ClassId}
@@ -22,7 +24,7 @@ use Rattle.jk_model_folders.specs.FolderRules.{BreaksL7, HasGoodLines, class_pat
 use Rattle.domain_resolver.specs.Imports.{Imported, IsClash, IsOwnName}
 use Rattle.resolver_rules.specs.Faults.{IsFirstNotOffered}
 use Rattle.resolver_rules.specs.Imported.{AreBrought, HasOtherMeaning, HasTakenFrom, IsFreeImport, IsOffered, IsTakenImport}
-use Rattle.resolver_rules.proofs.ClassesOfNames.{contains_at, stands_at, something_at, named_entry, same_meaning}
+use Rattle.resolver_rules.proofs.ClassesOfNames.{named_entry, same_meaning}
 use Rattle.resolver_rules.proofs.ReachedByImport.{IsClosed, is_reached, reached_further, reached_is_named, refers}
 
 abbrev at_name : List ℕ → ClassId → NamedClass
@@ -108,7 +110,7 @@ module _ (f : FolderFiles) (w : WorldRecord) (into : List ℕ) where
         let brings = before.4 in
         let there = refers w.classes c d refer in
         let low = each-of (HasClass w.classes) there.0.references d (world.records c there.0 there.1).references there.2 in
-        let of_d = something_at w.classes d.0 low in
+        let of_d = item_there w.classes d.0 low in
         let reached = reached_further w.classes brings.0 c d there.0 brings.2 there.1 there.2 in
         let brings_d : BringsIn w into line of_d.0.name d = (brings.0, brings.1, reached, (of_d.0, of_d.1, refl)) in
         (of_d.0.name, h.all of_d.0.name d (before.0, line, before.2, before.3, brings_d))
@@ -187,7 +189,7 @@ module _ (f : FolderFiles) (w : WorldRecord) (into : List ℕ) where
               ]
 
           past_old : (k : ℕ) (e : NamedClass) (xs : List NamedClass) → length xs ≤ k → slice_get (xs ++ t.imported.more) k ≡ Some e → Contains t.imported.more e
-          past_old k e [] low at = contains_at t.imported.more k e at
+          past_old k e [] low at = Contains-at t.imported.more k e at
           past_old zero e (x ∷ xs) low at = absurd (omega (arith, low))
           past_old (suc k) e (x ∷ xs) low at = past_old k e xs (omega (arith, low)) at
 
@@ -242,7 +244,7 @@ module _ (f : FolderFiles) (w : WorldRecord) (into : List ℕ) where
             by_order : (k : ℕ) → slice_get new k ≡ Some e → (k < length old) ⊎ (length old ≤ k) → HasOtherMeaning (class_paths f) e.name e.class → ⊥
             by_order k at (inl low) =
                 let there : slice_get (old ++ t.import.imported.more) k ≡ Some e = rw t.import.imported.is at at in
-                h.free e (contains_at old k e (sym (slice_get-front old t.import.imported.more k low) ∙ there))
+                h.free e (Contains-at old k e (sym (slice_get-front old t.import.imported.more k low) ∙ there))
             by_order k at (inr high) = t.free k e high at
 
         one_class : (name : List ℕ) (a b : ClassId) → Contains new (at_name name a) → Contains new (at_name name b) → a ≡ b

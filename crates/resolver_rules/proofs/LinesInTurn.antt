@@ -2,11 +2,12 @@
 use Rattle.std.proofs.Common.{◌≡◌, ℕ, ◌+◌, ◌-◌, ◌<◌, ◌≤◌, Bool, true, false, not, List, [], ◌∷◌, length, take, drop, refl, sym, ◌∙◌, ap, arith, Some, None, cond, slice_index, get_or-take, length-drop, length-take, nat_eq, nat_lt}
 use Rattle.std.specs.List.{slice_split, onto_first, position_or_len, position, All}
 use Rattle.std.specs.Str.Lines.{lines, lines_of_parts, strip_carriage_return}
-use Rattle.std.proofs.lemmas.Bool.{ltb-true, ltb-false, ne_eqb}
+use Rattle.std.proofs.lemmas.Bool.{ltb-true, ne_eqb}
 use Rattle.std.proofs.lemmas.List.Elements.{All-take}
 use Rattle.std.proofs.lemmas.List.Splits.{slice_split_first, slice_split_none, slice_split-cons_yes, slice_split-cons_no}
 use Rattle.std.proofs.lemmas.List.Sums.{fails_before_first, prefix_len-le-length}
 use Rattle.std.proofs.lemmas.Option.{cond_some}
+use Rattle.list_lemmas.proofs.FirstByTest.{past_end}
 use Rattle.jk_model_classes.specs.Resolver.{lines_say}
 use Rattle.resolver_rules.specs.Lines.{IsFirstOf, IsOneLine}
 
@@ -22,10 +23,6 @@ found_at : (p : ℕ → Bool) (xs : List ℕ) (i : ℕ) → position p xs ≡ So
 found_at p xs i e =
     let (inside, is) = cond_some (nat_lt (position_or_len p xs) (length xs)) (position_or_len p xs) i e in
     (sym is, ltb-true (position_or_len p xs) (length xs) inside)
-
-past_end : (n m : ℕ) (b : Bool) → nat_lt n m ≡ b → cond b (Some n) None ≡ None → m ≤ n
-past_end n m true t e = cc
-past_end n m false t e = ltb-false n m t
 
 found_nowhere : (p : ℕ → Bool) (xs : List ℕ) → position p xs ≡ None → position_or_len p xs ≡ length xs
 found_nowhere p xs e =

@@ -1,5 +1,5 @@
 -- Which names an index has after a name is put into it, and after all class files were taken in.
-use Rattle.std.proofs.Common.{◌≡◌, ℕ, ◌+◌, ◌<◌, ◌≤◌, ◌⊎◌, ◌↔◌, inl, inr, Bool, true, false, ◌||◌, List, [], ◌∷◌, ◌++◌, length, map, refl, sym, ◌∙◌, ap, arith, Option, Some, None, Ordering, slice_get, codes, subst}
+use Rattle.std.proofs.Common.{◌≡◌, ℕ, ◌+◌, ◌<◌, ◌≤◌, ◌⊎◌, ◌↔◌, inl, inr, Bool, true, false, ◌||◌, List, [], ◌∷◌, ◌++◌, length, map, refl, sym, ◌∙◌, ap, arith, Some, Ordering, slice_get, codes, subst}
 use Rattle.std.specs.Prelude.{IsTrue}
 use Rattle.std.specs.List.{list_any}
 use Rattle.std.specs.Option.{option_map}
@@ -13,6 +13,7 @@ use Rattle.std.proofs.lemmas.Map.Lookups.{exact_bytes}
 use Rattle.std.proofs.lemmas.Map.Text.{is_eq-slice_cmp}
 use Rattle.std.proofs.lemmas.Option.{slice_get_within, slice_get-map, same_Some}
 use Rattle.std.proofs.lemmas.Slice.Eq.{bytes_eq-Decides}
+use Rattle.list_lemmas.proofs.TestsAndOrders.{mapped_option}
 use Rattle.jk_model.specs.Text.{utf16_of}
 use Rattle.jk_model_folders.specs.declared.files.FolderFile.{FolderFile}
 use Rattle.jk_model_classes.specs.Items.{HasItemBefore}
@@ -125,10 +126,6 @@ names_further old new files n file at h k name = (
         let same : i.1 ≡ file = same_Some i.1 file (sym i.3 ∙ ap (slice_get files) here ∙ at) in
         (k name).1 (inr (subst (IsNamed name) same i.4))
 
-mapped : {X Y : Type 0} (f : X → Y) (o : Option X) (y : Y) → option_map f o ≡ Some y → (x : X) × (o ≡ Some x) × (f x ≡ y)
-mapped f None y e = absurd cc
-mapped f (Some x) y e = (x, refl, cc)
-
 pub names_end : (has : List ℕ → Bool) (files : List FolderFile) (n : ℕ) → length files ≤ n → HasNamesBefore has files n → (name : List ℕ)
     → IsTrue (has name) ↔ HasFileOf (map (λ (f : FolderFile). f.path) files) name
 names_end has files n end h name = (
@@ -136,7 +133,7 @@ names_end has files n end h name = (
       let i = (h name).0 b in
       (i.0, i.1.path, slice_get-map (λ (f : FolderFile). f.path) files i.0 ∙ ap (option_map (λ (f : FolderFile). f.path)) i.3, i.4)),
   λ i. (
-      let from = mapped (λ (f : FolderFile). f.path) (slice_get files i.0) i.1 (sym (slice_get-map (λ (f : FolderFile). f.path) files i.0) ∙ i.2) in
+      let from = mapped_option (λ (f : FolderFile). f.path) (slice_get files i.0) i.1 (sym (slice_get-map (λ (f : FolderFile). f.path) files i.0) ∙ i.2) in
       let is : utf16_of from.0.path ≡ name ++ codes ".class" = rw from.2 i.3 in
       (h name).1 (i.0, from.0, omega (arith, slice_get_within files i.0 from.0 from.1, end), from.1, is)),
 )

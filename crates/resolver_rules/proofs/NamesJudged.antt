@@ -4,6 +4,7 @@ use Rattle.std.specs.Prelude.{Contains, IsTrue, MatchBool}
 use Rattle.std.proofs.lemmas.Bool.{cases_lt, eqb-false, ne_eqb, not-true}
 use Rattle.std.proofs.lemmas.List.Elements.{Contains-append_cases}
 use Rattle.std.proofs.lemmas.Option.{slice_get_within, same_Some}
+use Rattle.list_lemmas.proofs.ItemsOfLists.{Contains-at}
 use Rattle.jk_model.specs.declared.identifiers.ClassId.{ClassId}
 use Rattle.jk_model.specs.SystemTable.{number_named}
 use Rattle.jk_model_classes.specs.declared.records.ClassRecord.{ClassRecord}
@@ -12,7 +13,7 @@ use Rattle.jk_model_classes.specs.SystemRecords.{system_meaning}
 use Rattle.jk_model_classes.specs.Worlds.{NamedClass}
 use Rattle.domain_resolver.specs.Imports.{Imported, IsImport, IsOwnName}
 use Rattle.resolver_rules.specs.Imported.{AreFreeFrom, HasOtherMeaning, HasTakenFrom, IsFreeImport, IsTakenClass, IsTakenImport, NamesDiffer}
-use Rattle.resolver_rules.proofs.ClassesOfNames.{EntryAt, contains_at, meaning_number, number_meaning, same_class}
+use Rattle.resolver_rules.proofs.ClassesOfNames.{EntryAt, meaning_number, number_meaning, same_class}
 
 -- ---- One name.
 
@@ -71,7 +72,7 @@ AreFreeTo paths names first place =
 module _ (paths : List (List ℕ)) (classes : List ClassRecord) (names : List NamedClass) (own : (e : NamedClass) → Contains names e → IsOwnName classes e)
     (first place : ℕ) (class : ClassId) (here : EntryAt names place class) where
   own_here : IsOwnName classes here.entry
-  own_here = own here.entry (contains_at names place here.entry here.there)
+  own_here = own here.entry (Contains-at names place here.entry here.there)
 
   pub taken_here : first ≤ place → IsTakenClass paths classes class → HasTakenFrom paths names first
   taken_here low taken =

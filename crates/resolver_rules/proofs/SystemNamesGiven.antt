@@ -5,6 +5,8 @@ use Rattle.std.proofs.lemmas.Bool.{cases_eq, cases_lt}
 use Rattle.std.proofs.lemmas.List.{length-take}
 use Rattle.std.proofs.lemmas.List.Elements.{Contains-append_left, Contains-push, Contains-push_cases}
 use Rattle.std.proofs.lemmas.Option.{slice_get_within, same_Some}
+use Rattle.list_lemmas.proofs.ItemsByPlace.{item_there}
+use Rattle.list_lemmas.proofs.ItemsOfLists.{Contains-at, stands_at}
 use Rattle.class_table.proofs.ItemsByPlace.{slice_get-take}
 use Rattle.jk_model.specs.declared.identifiers.ClassId.{ClassId}
 use Rattle.jk_model.specs.SystemTable.{system_classes, number_named}
@@ -19,7 +21,7 @@ use Rattle.jk_model_folders.specs.FolderRules.{AreOuterNames}
 use Rattle.system_table.proofs.LawsOfTheTable.{each, has_own_name, own_name}
 use Rattle.resolver_rules.specs.Imported.{AreBrought, NamesDiffer}
 use Rattle.resolver_rules.specs.SystemNames.{AddsSystemName, AgreesWithSystem, HasSystemNames, IsSystemName}
-use Rattle.resolver_rules.proofs.ClassesOfNames.{class_at, contains_at, entry_named, meaning_number, named_entry, number_meaning, same_class, something_at, stands_at}
+use Rattle.resolver_rules.proofs.ClassesOfNames.{class_at, entry_named, meaning_number, named_entry, number_meaning, same_class}
 
 -- ---- The name of one system class.
 
@@ -30,7 +32,7 @@ class_of n = record { 0 = n }
 record_meaning : (classes : List ClassRecord) (n : ℕ) (r : ClassRecord) → AreSystemRecords (take (length system_classes) classes)
     → n < length system_classes → slice_get classes n ≡ Some r → system_meaning r.name ≡ Some (class_of n)
 record_meaning classes n r h low at =
-    let entry = something_at system_classes n low in
+    let entry = item_there system_classes n low in
     let there : slice_get (take (length system_classes) classes) n ≡ Some r = slice_get-take classes (length system_classes) n low ∙ at in
     let named = (h.each n entry.0 r entry.1 there).name in
     let number : number_named r.name ≡ Some n = rw named (own_name n entry.0 (each has_own_name refl n entry.0 entry.1)) in
@@ -40,7 +42,7 @@ record_meaning classes n r h low at =
 one_name : (a b : List ℕ) (n : ℕ) → number_named a ≡ Some n → number_named b ≡ Some n → a ≡ b
 one_name a b n at_a at_b =
     let x = class_at a n at_a in
-    let entry = something_at system_classes n x.0 in
+    let entry = item_there system_classes n x.0 in
     sym (x.1 entry.0 entry.1) ∙ (class_at b n at_b).1 entry.0 entry.1
 
 same_entry : (name : List ℕ) (n : ℕ) (e : NamedClass) → system_meaning name ≡ Some (class_of n) → IsSystemName n e
@@ -152,7 +154,7 @@ module _ (f : FolderFiles) (w : WorldRecord) (into : List ℕ) (lines : List Res
     outer_names differ name c = (
       λ means. elim ((k.has (record { name = name; class = c })).0 (named_entry names name c means)) [
         | inl system ↦ inl system.1
-        | inr has ↦ inr (let b = h.from (record { name = name; class = c }) has in (b.1, contains_at lines b.0 b.1 b.3, b.4))
+        | inr has ↦ inr (let b = h.from (record { name = name; class = c }) has in (b.1, Contains-at lines b.0 b.1 b.3, b.4))
       ],
       λ either. elim either [
         | inl system ↦ entry_named names name c differ

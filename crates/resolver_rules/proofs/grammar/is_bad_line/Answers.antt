@@ -1,9 +1,9 @@
 -- What the line says by itself is what it reads as.
 use Rattle.std.proofs.Common.{◌↔◌, IfOk, IsTrue, subst, sym}
+use Rattle.list_lemmas.proofs.ItemsByPlace.{item_lent}
 use Rattle.jk_model_classes.specs.Resolver.{Reading}
 use Rattle.jk_model_classes.specs.ResolverRules.{IsBadReading}
 use Rattle.jk_model_folders.specs.FolderRules.{class_paths}
-use Rattle.resolver_rules.proofs.ClassesOfNames.{item_lent}
 use Rattle.resolver_rules.proofs.WhatLinesSay.{says_this}
 use Rattle.resolver_rules.proofs.grammar.is_bad_line.Goals as goal
 

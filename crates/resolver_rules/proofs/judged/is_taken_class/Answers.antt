@@ -1,5 +1,5 @@
 -- The class's record has its own name.
-use Rattle.resolver_rules.proofs.ClassesOfNames.{item_lent, none_lent}
+use Rattle.list_lemmas.proofs.ItemsByPlace.{item_lent, none_lent}
 use Rattle.resolver_rules.proofs.NamesJudged.{not_taken, taken_by_record}
 use Rattle.jk_model_folders.specs.FolderRules.{class_paths}
 use Rattle.resolver_rules.proofs.judged.is_taken_class.Goals as goal

@@ -1,8 +1,8 @@
 -- The record of the system class has its name.
 use Rattle.std.proofs.Common.{◌≡◌, ℕ, Some, arith, slice_get, subst}
+use Rattle.list_lemmas.proofs.ItemsByPlace.{item_lent}
 use Rattle.jk_model_classes.specs.Worlds.{Gives}
 use Rattle.resolver_rules.proofs.SystemNamesGiven.{adds_name, enough_classes}
-use Rattle.resolver_rules.proofs.ClassesOfNames.{item_lent}
 use Rattle.resolver_rules.proofs.system_names.give_system_name.Goals as goal
 
 pub unreachable-requires : goal.unreachable-requires
