@@ -23,6 +23,9 @@ use Rattle.jk_model_classes.specs.MemberDescriptors.{IsFloatBase}
 use Rattle.jk_model_classes.specs.Members.{ClassAt, TextAt}
 use Rattle.jk_model_classes.specs.SystemRecords.{IsBaseFor, IsTypeFor}
 use Rattle.jk_model_classes.specs.Worlds.{NamedClass, class_named}
+use Rattle.model_lemmas.proofs.ClassNamesDecided.{class_or_not}
+use Rattle.class_lemmas.proofs.ArraysHaveNoNames.{no_array, array_begins}
+use Rattle.class_lemmas.proofs.EntriesAreGood.{class_there}
 use Rattle.class_texts.proofs.OneText.{one_text}
 use Rattle.descriptors.proofs.NoTextBeginsAnother.{one_field}
 use Rattle.class_linker.specs.LinkedFiles.{IsLinkable}
@@ -30,8 +33,7 @@ use Rattle.class_linker.specs.LinkParts.{IsClassLinkFrom, type_of_class, type_sa
 use Rattle.class_linker.specs.ThrownClasses.{IsItemOf}
 use Rattle.class_linker.specs.TextsSaid.{Answers, IsSaidAt, SaysClass, SaysField}
 use Rattle.class_linker.specs.declared.said.Said.{Said}
-use Rattle.class_linker.proofs.ClassNamesDecided.{array_begins, class_or_not, no_array}
-use Rattle.class_linker.proofs.EntriesAreGood.{class_known, class_there, good_entries}
+use Rattle.class_linker.proofs.EntriesAreGood.{class_known, good_entries}
 
 -- ---- A type that is no float has a number for its class, where that is known.
 

@@ -1,42 +1,26 @@
 -- What the entries of a class file that is linked name, and what Class entries are called.
-use Rattle.std.proofs.Common.{◌≡◌, ℕ, inl, inr, List, Some, refl, sym, subst}
-use Rattle.std.specs.Prelude.{slice_get, IsSome}
+use Rattle.std.proofs.Common.{◌≡◌, ℕ, inl, inr, List, refl, sym, subst}
+use Rattle.std.specs.Prelude.{IsSome}
 use Rattle.std.specs.List.{AllByRecursion}
 use Rattle.jk_model.specs.declared.class_file.ClassFile.{ClassFile}
 use Rattle.jk_model.specs.declared.class_file.PoolEntry.{PoolEntry}
-use Rattle.jk_model.specs.declared.class_file.PoolEntry.TheVariants.{Utf8, Class, Str}
+use Rattle.jk_model.specs.declared.class_file.PoolEntry.TheVariants.{Str}
 use Rattle.jk_model.specs.declared.output.Rule.TheVariants.{C7}
-use Rattle.jk_model.specs.ClassFile.{IsGoodEntry, NamesEntry, IsUtf8Entry, IsClassEntry}
+use Rattle.jk_model.specs.ClassFile.{IsGoodEntry}
 use Rattle.jk_model.specs.Descriptors.{IsClassName}
+use Rattle.jk_model.proofs.EachItem.{all_at}
 use Rattle.jk_model_classes.specs.ClassNames.{BeginsArray, IsArrayDescriptor, IsClassEntryName}
 use Rattle.jk_model_classes.specs.Items.{Entry}
 use Rattle.jk_model_classes.specs.Members.{TextAt, ClassAt}
 use Rattle.jk_model_classes.specs.Worlds.{NamedClass, class_named}
+use Rattle.model_lemmas.proofs.ClassNamesDecided.{class_or_not}
+use Rattle.class_lemmas.proofs.EntriesAreGood.{text_there}
+use Rattle.class_lemmas.proofs.ArraysHaveNoNames.{array_begins}
 use Rattle.class_linker.specs.LinkedFiles.{IsLinkable}
 use Rattle.class_linker.specs.ThrownClasses.{IsItemOf}
-use Rattle.class_linker.proofs.ClassNamesDecided.{class_or_not, array_begins}
-use Rattle.class_linker.proofs.ItemByItem.{all_at}
 
 abbrev AreGood : List PoolEntry → Type 0
 AreGood pool = AllByRecursion (IsGoodEntry pool) pool
-
-text_of : (pool : List PoolEntry) (i : ℕ) (e : PoolEntry) → slice_get pool i ≡ Some e → IsGoodEntry pool e → IsUtf8Entry e
-    → (units : List ℕ) × TextAt pool i units
-text_of pool i (Utf8 bytes) at good k = (good.0, (bytes, at, good.1))
-text_of pool i _ at good k = absurd k
-
--- an entry that is named as a text is one
-pub text_there : (pool : List PoolEntry) (i : ℕ) → AreGood pool → NamesEntry IsUtf8Entry pool i → (units : List ℕ) × TextAt pool i units
-text_there pool i good (e, at, k) = text_of pool i e at (all_at (IsGoodEntry pool) pool i e good at) k
-
-class_of : (pool : List PoolEntry) (i : ℕ) (e : PoolEntry) → AreGood pool → slice_get pool i ≡ Some e → IsGoodEntry pool e → IsClassEntry e
-    → (units : List ℕ) × ClassAt pool i units
-class_of pool i (Class name) all at good k = let text = text_there pool name all good in (text.0, (name, at, text.1))
-class_of pool i _ all at good k = absurd k
-
--- an entry that is named as a class is one
-pub class_there : (pool : List PoolEntry) (i : ℕ) → AreGood pool → NamesEntry IsClassEntry pool i → (units : List ℕ) × ClassAt pool i units
-class_there pool i good (e, at, k) = class_of pool i e good at (all_at (IsGoodEntry pool) pool i e good at) k
 
 module _ (c : ClassFile) (names : List NamedClass) (linkable : IsLinkable c names) where
   pub good_entries : AreGood c.pool

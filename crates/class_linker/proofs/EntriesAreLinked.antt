@@ -4,6 +4,8 @@ use Rattle.std.specs.Prelude.{slice_get}
 use Rattle.std.specs.List.{AllZip}
 use Rattle.std.proofs.Math.Path.{fun_ext}
 use Rattle.std.proofs.lemmas.Option.{same_Some}
+use Rattle.std.proofs.lemmas.Slice.Zip.{AllZip-long}
+use Rattle.list_lemmas.proofs.ItemByItem.{zip_at}
 use Rattle.jk_model.specs.declared.class_file.ClassFile.{ClassFile}
 use Rattle.jk_model.specs.declared.class_file.PoolEntry.{PoolEntry}
 use Rattle.jk_model.specs.declared.class_file.PoolEntry.TheVariants as Entry
@@ -21,7 +23,7 @@ use Rattle.jk_model_folders.specs.LinkedClasses.{AreLinksFor, IsFieldLink, IsLin
 use Rattle.class_linker.specs.LinkedFiles.{HasNames}
 use Rattle.class_linker.specs.LinkParts.{FieldLinksFrom, LeadsFrom, LinksBy, MethodLinksFrom, scope_of}
 use Rattle.class_linker.specs.TextsSaid.{IsPairOf, NamesClassBy, SaysField, SaysMethod}
-use Rattle.class_linker.proofs.ItemsInTurn.{zip_all, zip_at, zip_length}
+use Rattle.class_linker.proofs.ItemsInTurn.{zip_all}
 use Rattle.class_linker.proofs.TextsAreSaid.{one_class_named}
 
 same_reference : (k l : MemberKind) (a b c d : ℕ) → reference k a b ≡ reference l c d → (a ≡ c) × (b ≡ d)
@@ -183,7 +185,7 @@ all_linked names classes c pool links n own end h s named same =
     let every : AllZip (LeadsFrom names pool classes) pool links = zip_all (LeadsFrom names pool classes) pool links n end h in
     let all : AllZip (LeadsFrom names c.pool classes) c.pool links = subst (λ (p : List PoolEntry). AllZip (LeadsFrom names p classes) p links) own every in
     let made : AreLinksFor (scope_of names classes s.self) c links = record {
-      as_many = zip_length (LeadsFrom names c.pool classes) c.pool links all;
+      as_many = AllZip-long (LeadsFrom names c.pool classes) c.pool links all;
       each = λ i entry link at there.
           link_is names classes s.self c i entry link at (zip_at (LeadsFrom names c.pool classes) c.pool links all i entry link at there);
     } in

@@ -8,13 +8,13 @@ use Rattle.jk_model.specs.declared.class_file.MemberInfo.{MemberInfo}
 use Rattle.jk_model.specs.declared.descriptors.Base.{Base}
 use Rattle.jk_model.specs.declared.descriptors.Base.TheVariants.{Byte, Char, Double, Float, Int, Long, Short, Bool as Boolean, Class}
 use Rattle.jk_model.specs.ClassFile.{IsGoodEntry, IsUtf8Entry}
+use Rattle.jk_model.proofs.EachItem.{all_at}
 use Rattle.jk_model_classes.specs.ClassFlags.{STATIC, has}
 use Rattle.jk_model_classes.specs.MemberAttributes.{HasBadConstant, IsConstantOf}
 use Rattle.jk_model_classes.specs.Worlds.{NamedClass}
 use Rattle.class_linker.specs.KnownConstants.{HasNoBadConstant, HasTextOf, IsConstantKind}
 use Rattle.class_linker.specs.KnownDescriptors.{HasSomeText}
 use Rattle.class_linker.specs.LinkedFiles.{IsLinkable}
-use Rattle.class_linker.proofs.ItemByItem.{all_at}
 
 kind_of : (base : Base) (e : PoolEntry) → IsConstantOf base e → IsConstantKind e
 kind_of base (Integer n) h = tt

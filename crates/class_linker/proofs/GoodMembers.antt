@@ -1,6 +1,8 @@
 -- What each part of a class file that breaks no rule can't but be.
 use Rattle.std.proofs.Common.{◌≡◌, ℕ, ◌+◌, ◌<◌, ◌^◌, inl, inr, List, length, refl, sym, subst, Bool, true, false, Option, Some, None, IsSome, slice_get}
-use Rattle.std.specs.Prelude.{IsTrue, not, ◌&&◌}
+use Rattle.std.specs.Prelude.{IsTrue, not}
+use Rattle.list_lemmas.proofs.TestsAndOrders.{both_true}
+use Rattle.list_lemmas.proofs.ItemsOfLists.{each-by_place}
 use Rattle.jk_model.specs.declared.class_file.ClassFile.{ClassFile}
 use Rattle.jk_model.specs.declared.class_file.PoolEntry.{PoolEntry}
 use Rattle.jk_model.specs.declared.class_file.MemberInfo.{MemberInfo}
@@ -21,13 +23,12 @@ use Rattle.jk_model_classes.specs.MemberCode.{CodeAt}
 use Rattle.jk_model_classes.specs.MemberDescriptors.{IsFloatBase, IsFloatResult}
 use Rattle.jk_model_classes.specs.Members.{TextAt, ClassAt}
 use Rattle.jk_model_classes.specs.Worlds.{NamedClass, class_named}
+use Rattle.class_lemmas.proofs.ArraysHaveNoNames.{begins_by}
 use Rattle.class_texts.proofs.OneText.{one_text, one_class}
 use Rattle.class_linker.specs.KnownCodes.{IsGoodCode}
 use Rattle.class_linker.specs.KnownMembers.{IsGoodField, IsGoodMethod, HasGoodCode}
 use Rattle.class_linker.specs.KnownTypes.{Meaning, IsKnownBase, IsKnownType, IsKnownResult, IsKnownKind}
 use Rattle.class_linker.specs.LinkedFiles.{IsLinkable}
-use Rattle.class_linker.proofs.ClassNamesDecided.{begins_by}
-use Rattle.class_linker.proofs.ItemByItem.{all_items}
 use Rattle.class_linker.proofs.ShortBodies.{short_body}
 use Rattle.class_linker.proofs.TextsAreSaid.{few_units}
 
@@ -109,14 +110,10 @@ flag_off : (b : Bool) → (IsTrue b → ⊥) → IsTrue (not b)
 flag_off true h = absurd (h refl)
 flag_off false h = refl
 
-both : (a b : Bool) → IsTrue a → IsTrue b → IsTrue (a && b)
-both true b p q = q
-both false b p q = let never : false ≡ true = p in cc
-
 method_kind : (c : ClassFile) (names : List NamedClass) → IsLinkable c names → (i : ℕ) (method : MemberInfo) → slice_get c.methods i ≡ Some method
     → (units : List ℕ) → TextAt c.pool method.descriptor units → (m : MethodType) → IsMethodText units m → IsKnownKind (class_named names) m
 method_kind c names h i method at units there m text = record {
-  params = all_items (IsKnownType (class_named names)) m.params (λ k t at_t. known_base (class_named names) t.base
+  params = each-by_place (IsKnownType (class_named names)) m.params (λ k t at_t. known_base (class_named names) t.base
       (λ float. h.alone C10 (Member (length c.fields + i + 1)) (inl (inr (method, (i, refl, at), (units, there, (m, text, inl (k, t, at_t, float)))))))
       (λ name is. h.known method.descriptor name (inr (units, inr (inl (i, method, at, refl)), there, inr (m, text, inl (k, t, at_t, is))))));
   returns = known_result (class_named names) m.result (λ t is_t. known_base (class_named names) t.base
@@ -162,7 +159,7 @@ method_code c names h i method at flags counted is_open =
         at = (i, refl, at);
         flags = flags;
         counted = counted;
-        concrete = both (not (has flags ABSTRACT)) (not (has flags NATIVE)) is_open own;
+        concrete = both_true (not (has flags ABSTRACT)) (not (has flags NATIVE)) is_open own;
         body = body;
       }) (code_short c.pool method.attributes code body);
     }

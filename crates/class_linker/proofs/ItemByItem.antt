@@ -1,21 +1,14 @@
 -- Two lists that are made item by item: what holds of the items at each place.
-use Rattle.std.proofs.Common.{◌≡◌, ℕ, zero, suc, ◌+◌, ◌<◌, ◌≤◌, inl, inr, List, [], ◌∷◌, ◌++◌, length, take, get_or, refl, sym, ◌∙◌, subst, arith, Some, slice_get, Result, Ok, Err, IfOk}
+use Rattle.std.proofs.Common.{◌≡◌, ℕ, ◌+◌, ◌<◌, ◌≤◌, inl, inr, List, length, take, get_or, refl, sym, ◌∙◌, subst, arith, Some, slice_get, Result, Ok, Err, IfOk}
 use Rattle.std.specs.Prelude.{Contains}
 use Rattle.std.proofs.lemmas.Bool.{cases_lt}
 use Rattle.std.specs.List.{AllByRecursion, AllZip}
-use Rattle.std.proofs.lemmas.List.{take_more, take_all}
+use Rattle.std.proofs.lemmas.List.{take_all}
 use Rattle.std.proofs.lemmas.Option.{same_Some, slice_get_read, slice_get-get_or}
-use Rattle.std.proofs.lemmas.Slice.Zip.{all_zipped_more, AllZip-long}
+use Rattle.std.proofs.lemmas.Slice.Zip.{AllZip-long}
+use Rattle.list_lemmas.proofs.ItemByItem.{zip_at}
+use Rattle.jk_model.proofs.EachItem.{all_at}
 use Rattle.jk_model_folders.specs.LinkedClasses.{GoAlong}
-use Rattle.class_linker.proofs.ItemsInTurn.{zip_at}
-
--- one more item on both sides
-pub zip_more : {X Y : Type 0} (R : X → Y → Type 0) (xs : List X) (ys zs : List Y) (i : ℕ) (d : X) (y : Y) → i < length xs
-    → AllZip R (take i xs) ys → R (get_or xs i d) y → zs ≡ ys ++ y ∷ [] → AllZip R (take (i + 1) xs) zs
-zip_more R xs ys zs i d y below h k longer =
-    let firsts : AllZip R (take i xs ++ get_or xs i d ∷ []) (ys ++ y ∷ []) = all_zipped_more R (take i xs) ys (get_or xs i d) y h k in
-    let all : AllZip R (take (i + 1) xs) (ys ++ y ∷ []) = subst (λ ws. AllZip R ws (ys ++ y ∷ [])) (sym (take_more xs i d below)) firsts in
-    subst (λ ws. AllZip R (take (i + 1) xs) ws) (sym longer) all
 
 pub along : {X Y : Type 0} (R : X → Y → Type 0) (xs : List X) (ys : List Y) → AllZip R xs ys → GoAlong R xs ys
 along R xs ys h = record { as_many = AllZip-long R xs ys h; each = zip_at R xs ys h }
@@ -25,18 +18,6 @@ pub along_all : {X Y : Type 0} (R : X → Y → Type 0) (xs : List X) (ys : List
 along_all R xs ys i all h = along R xs ys (subst (λ zs. AllZip R zs ys) (take_all i xs all) h)
 
 -- ---- All items of one list.
-
-pub all_at : {X : Type 0} (P : X → Type 0) (xs : List X) (i : ℕ) (x : X) → AllByRecursion P xs → slice_get xs i ≡ Some x → P x
-all_at P [] i x h at = absurd cc
-all_at P (y ∷ xs) zero x h at =
-    let here : Some y ≡ Some x = at in
-    let same : y ≡ x = cc in
-    subst P same h.0
-all_at P (y ∷ xs) (suc i) x h at = all_at P xs i x h.1 at
-
-pub all_items : {X : Type 0} (P : X → Type 0) (xs : List X) → ((i : ℕ) (x : X) → slice_get xs i ≡ Some x → P x) → AllByRecursion P xs
-all_items P [] h = tt
-all_items P (x ∷ xs) h = (h 0 x refl, all_items P xs (λ i y at. h (suc i) y at))
 
 pub all_read : {X : Type 0} (P : X → Type 0) (xs : List X) (i : ℕ) (d : X) → AllByRecursion P xs → i < length xs → P (get_or xs i d)
 all_read P xs i d h below = all_at P xs i (get_or xs i d) h (slice_get-get_or xs i d below)

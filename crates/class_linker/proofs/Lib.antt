@@ -1,6 +1,5 @@
 -- Lemmas on class files that are linked: what their parts can't but be, and what is made of them item by item.
 mod ClassEntryTypes
-mod ClassNamesDecided
 mod ClassesOfScope
 mod EntriesAreGood
 mod EntriesAreLinked

@@ -3,14 +3,15 @@ use Rattle.std.proofs.Common.{◌≡◌, ◌↔◌, ◌+◌, ◌<◌, ◌≤◌,
 use Rattle.std.specs.Prelude.{IsTrue, slice_get}
 use Rattle.std.proofs.lemmas.List.{get_or-replicate, length-replicate}
 use Rattle.std.proofs.lemmas.Option.{get_or_from_slice_get, slice_get_within}
+use Rattle.list_lemmas.proofs.ItemsByPlace.{item_read}
 use Rattle.jk_model.specs.declared.class_file.ClassFile.{ClassFile}
 use Rattle.jk_model.specs.declared.class_file.MemberInfo.{MemberInfo}
 use Rattle.jk_model.specs.declared.class_file.PoolEntry.{PoolEntry}
 use Rattle.jk_model.specs.declared.class_file.PoolEntry.TheVariants.{NameAndType}
 use Rattle.jk_model_classes.specs.Items.{HasItem, HasItemBefore}
 use Rattle.jk_model_classes.specs.References.{IsDescriptorEntry}
+use Rattle.class_lemmas.proofs.SomeItem.{none_yet}
 use Rattle.class_linker.specs.KnownReferences.{AreMarked, Marks}
-use Rattle.class_linker.proofs.ItemsInTurn.{item_at, none_yet}
 use Rattle.class_linker.proofs.NumbersAdded.{all_before, before_new, before_old, before_split, some_before}
 
 -- nothing more is marked
@@ -81,7 +82,7 @@ module _ {X : Type 0} (P : ℕ → X → Type 0) (items : List X) where
   pub marks_more : (k : ℕ) (x : X) (a b c : List Bool) → k < length items → x ≡ get_or items k x → Marks (λ i. HasItemBefore k (P i) items) a b
       → Marks (λ i. P i x) b c → Marks (λ i. HasItemBefore (k + 1) (P i) items) a c
   marks_more k x a b c below is first second =
-      let at : slice_get items k ≡ Some x = item_at items k x below is in
+      let at : slice_get items k ≡ Some x = item_read items k x below is in
       marks_then (λ i. HasItemBefore k (P i) items) (λ i. P i x) (λ i. HasItemBefore (k + 1) (P i) items) a b c (λ i. before_old (P i) items k)
       (λ i. before_new (P i) items k x at) (λ i. before_split (P i) items k x at) first second
 

@@ -2,21 +2,19 @@
 use Rattle.std.proofs.Common.{◌≡◌, ℕ, ◌+◌, ◌*◌, ◌<◌, inl, inr, Bool, cond, List, Option, Some, None, nat_eq, sym, ◌∙◌, ap, subst, arith}
 use Rattle.std.proofs.lemmas.Bool.Decides.{eqb_tells}
 use Rattle.std.proofs.lemmas.Option.{same_Some}
+use Rattle.list_lemmas.proofs.ItemsOfLists.{Contains-at}
 use Rattle.jk_model.specs.declared.identifiers.ClassId.{ClassId}
 use Rattle.jk_model.specs.declared.identifiers.MemberId.{MemberId}
 use Rattle.jk_model_classes.specs.declared.records.Link.{Link}
 use Rattle.jk_model_classes.specs.declared.records.Link.TheVariants as To
 use Rattle.jk_model_classes.specs.Lookups.{FindsOn}
+use Rattle.model_lemmas.proofs.SameNumbers.{same_class}
 use Rattle.class_linker.specs.LinkParts.{AreFound, LinksIn, key_of}
-use Rattle.class_linker.proofs.ItemsInTurn.{contained}
 
 pub never_both : (Suits : MemberId → Type 0) (walk : List ClassId) (m : MemberId) → FindsOn Suits walk None → FindsOn Suits walk (Some m) → ⊥
-never_both Suits walk m none first = none m.class (contained walk first.place m.class first.visited) (m.index, first.member.suits)
+never_both Suits walk m none first = none m.class (Contains-at walk first.place m.class first.visited) (m.index, first.member.suits)
 
 -- ---- What is remembered.
-
-same_class : (a b : ClassId) → a.0 ≡ b.0 → a ≡ b
-same_class a b e = ap (λ (n : ℕ). let x : ClassId = record { 0 = n } in x) e
 
 record SameKey (a b : ClassId) (i j : ℕ) : Type 0 where
   class : a ≡ b

@@ -1,25 +1,26 @@
 -- The classes that the names of Class entries say, of a file that breaks no rule.
-use Rattle.std.proofs.Common.{◌≡◌, ◌≢◌, ℕ, zero, suc, ◌<◌, ◌⊎◌, ◌↔◌, Bool, List, length, ◌∷◌, ◌++◌, replicate, inl, inr, sym, ◌∙◌, ap, subst, arith, Some}
+use Rattle.std.proofs.Common.{◌≡◌, ◌≢◌, ℕ, ◌<◌, ◌⊎◌, ◌↔◌, Bool, List, length, inl, inr, sym, ◌∙◌, ap, subst, arith, Some}
 use Rattle.std.specs.Prelude.{IsTrue}
 use Rattle.jk_model.specs.declared.class_file.ClassFile.{ClassFile}
-use Rattle.jk_model.specs.declared.descriptors.Base.{Base}
-use Rattle.jk_model.specs.declared.descriptors.Base.TheVariants.{Byte, Char, Double, Float, Int, Long, Short, Bool as Boolean, Class}
+use Rattle.jk_model.specs.declared.descriptors.Base.TheVariants.{Class}
 use Rattle.jk_model.specs.declared.descriptors.FieldType.{FieldType}
 use Rattle.jk_model.specs.declared.output.Rule.TheVariants.{C7}
-use Rattle.jk_model.specs.Descriptors.{IsClassName, IsFieldText, base_text}
+use Rattle.jk_model.specs.Descriptors.{IsClassName, IsFieldText}
 use Rattle.jk_model_classes.specs.ClassNames.{BeginsArray}
 use Rattle.jk_model_classes.specs.Items.{Entry}
 use Rattle.jk_model_classes.specs.Members.{ClassAt, TextAt}
 use Rattle.jk_model_classes.specs.References.{IsDescriptorEntry, Mentions}
 use Rattle.jk_model_classes.specs.Worlds.{NamedClass, class_named}
+use Rattle.model_lemmas.proofs.ClassNamesDecided.{class_or_not}
 use Rattle.descriptors.proofs.NoTextBeginsAnother.{one_field}
+use Rattle.class_lemmas.proofs.ClassesInDescriptors.{some_dims}
+use Rattle.class_lemmas.proofs.ArraysHaveNoNames.{no_array, array_begins}
 use Rattle.class_texts.proofs.OneText.{one_text}
 use Rattle.class_linker.specs.KnownReferences.{Adds, AreKnown, IsGoodName, IsNameEntry, IsNamedBy, RefersBy}
 use Rattle.class_linker.specs.KnownTypes.{Meaning}
 use Rattle.class_linker.specs.LinkedFiles.{IsLinkable}
-use Rattle.class_linker.proofs.ClassNamesDecided.{array_begins, class_or_not, no_array}
 use Rattle.class_linker.proofs.KnownOnce.{text_within}
-use Rattle.class_linker.proofs.NumbersAdded.{adds_as, differ}
+use Rattle.class_linker.proofs.NumbersAdded.{adds_as}
 
 -- ---- What the rules say.
 
@@ -34,18 +35,6 @@ pub known_descriptor : (c : ClassFile) (names : List NamedClass) → IsLinkable 
 known_descriptor c names h i units text descriptor name is = h.known i name (inr (units, descriptor, text, is))
 
 -- ---- Names of arrays.
-
-some_dims : (n : ℕ) (base : Base) (rest : List ℕ) → replicate n 91 ++ base_text base ≡ 91 ∷ rest → n ≢ 0
-some_dims (suc n) base rest e none = omega arith
-some_dims zero Byte rest e none = differ 91 66 _ _ (omega arith) (sym e)
-some_dims zero Char rest e none = differ 91 67 _ _ (omega arith) (sym e)
-some_dims zero Double rest e none = differ 91 68 _ _ (omega arith) (sym e)
-some_dims zero Float rest e none = differ 91 70 _ _ (omega arith) (sym e)
-some_dims zero Int rest e none = differ 91 73 _ _ (omega arith) (sym e)
-some_dims zero Long rest e none = differ 91 74 _ _ (omega arith) (sym e)
-some_dims zero Short rest e none = differ 91 83 _ _ (omega arith) (sym e)
-some_dims zero Boolean rest e none = differ 91 90 _ _ (omega arith) (sym e)
-some_dims zero (Class name) rest e none = differ 91 76 _ _ (omega arith) (sym e)
 
 array_dims : (units : List ℕ) (t : FieldType) → BeginsArray units → IsFieldText units t → t.dims ≢ 0
 array_dims units t (rest, e) text = some_dims t.dims t.base rest (sym text.1 ∙ e)

@@ -1,16 +1,12 @@
 -- The numbers of classes that are added in turn.
-use Rattle.std.proofs.Common.{◌≡◌, ℕ, zero, suc, ◌+◌, ◌<◌, ◌≤◌, ◌⊎◌, inl, inr, List, ◌∷◌, ◌++◌, length, replicate, sym, ◌∙◌, subst, arith, Option, Some, Result, Ok, Err, slice_get}
+use Rattle.std.proofs.Common.{◌≡◌, ℕ, ◌+◌, ◌<◌, ◌≤◌, ◌⊎◌, inl, inr, List, length, sym, ◌∙◌, subst, arith, Option, Some, Result, Ok, Err, slice_get}
 use Rattle.std.specs.Prelude.{OnOk}
 use Rattle.std.proofs.lemmas.Bool.{cases_lt}
 use Rattle.std.proofs.lemmas.Option.{same_Some, slice_get_within}
-use Rattle.jk_model.specs.declared.descriptors.Base.{Base}
-use Rattle.jk_model.specs.declared.descriptors.Base.TheVariants.{Byte, Char, Double, Float, Int, Long, Short, Bool as Boolean, Class}
+use Rattle.jk_model.specs.declared.descriptors.Base.TheVariants.{Class}
 use Rattle.jk_model.specs.declared.descriptors.FieldType.{FieldType}
-use Rattle.jk_model.specs.declared.descriptors.MethodType.{MethodType}
-use Rattle.jk_model.specs.Descriptors.{IsFieldText, IsMethodText, base_text}
 use Rattle.jk_model_classes.specs.Items.{HasItem, HasItemBefore}
-use Rattle.jk_model_classes.specs.References.{IsOfClass, IsResultOfClass, Mentions}
-use Rattle.descriptors.proofs.NoTextBeginsAnother.{one_field, one_method}
+use Rattle.jk_model_classes.specs.References.{IsResultOfClass}
 use Rattle.class_linker.specs.KnownReferences.{Adds}
 use Rattle.class_linker.specs.KnownTypes.{Meaning}
 
@@ -96,34 +92,6 @@ pub some_before : {X : Type 0} (P : X → Type 0) (xs : List X) (k : ℕ) → Ha
 some_before P xs k (i, y, below, found, p) = (i, y, found, p)
 
 -- ---- Classes in descriptors.
-
-pub differ : (a b : ℕ) (xs ys : List ℕ) → b < a → a ∷ xs ≡ b ∷ ys → ⊥
-differ a b xs ys above e = let first : a ≡ b = cc in omega arith
-
-no_parenthesis : (n : ℕ) (base : Base) (rest : List ℕ) → replicate n 91 ++ base_text base ≡ 40 ∷ rest → ⊥
-no_parenthesis (suc n) base rest e = differ 91 40 _ _ (omega arith) e
-no_parenthesis zero Byte rest e = differ 66 40 _ _ (omega arith) e
-no_parenthesis zero Char rest e = differ 67 40 _ _ (omega arith) e
-no_parenthesis zero Double rest e = differ 68 40 _ _ (omega arith) e
-no_parenthesis zero Float rest e = differ 70 40 _ _ (omega arith) e
-no_parenthesis zero Int rest e = differ 73 40 _ _ (omega arith) e
-no_parenthesis zero Long rest e = differ 74 40 _ _ (omega arith) e
-no_parenthesis zero Short rest e = differ 83 40 _ _ (omega arith) e
-no_parenthesis zero Boolean rest e = differ 90 40 _ _ (omega arith) e
-no_parenthesis zero (Class name) rest e = differ 76 40 _ _ (omega arith) e
-
-not_both : (units : List ℕ) (t : FieldType) (k : MethodType) → IsFieldText units t → IsMethodText units k → ⊥
-not_both units t k field method = no_parenthesis t.dims t.base _ (sym field.1 ∙ method.1)
-
-pub field_mentions : (units name : List ℕ) (t : FieldType) → IsFieldText units t → Mentions units name → t.base ≡ Class name
-field_mentions units name t text (inl (u, other, is)) = subst (λ (x : FieldType). x.base ≡ Class name) (one_field units u t other text) is
-field_mentions units name t text (inr (k, method, is)) = absurd (not_both units t k text method)
-
-pub method_mentions : (units name : List ℕ) (m : MethodType) → IsMethodText units m → Mentions units name
-    → HasItem (IsOfClass name) m.params ⊎ IsResultOfClass name m.result
-method_mentions units name m text (inl (t, field, is)) = absurd (not_both units t m field text)
-method_mentions units name m text (inr (k, method, is)) =
-    subst (λ (x : MethodType). HasItem (IsOfClass name) x.params ⊎ IsResultOfClass name x.result) (one_method units k m method text) is
 
 pub result_names : (name : List ℕ) (of : Option FieldType) (t : FieldType) → of ≡ Some t → IsResultOfClass name of → t.base ≡ Class name
 result_names name of t is (u, e, k) = subst (λ (x : FieldType). x.base ≡ Class name) (same_Some u t (sym e ∙ is)) k

@@ -8,6 +8,7 @@ use Rattle.std.proofs.lemmas.List.Kept.{AllPairs-from_increasing, Contains-dedup
 use Rattle.std.proofs.lemmas.List.Sorted.{Contains-permutation, IsPermutation-sym}
 use Rattle.std.proofs.lemmas.Map.Keys.{IsStrictlyIncreasing-dedup}
 use Rattle.std.proofs.lemmas.Option.{get_or_from_slice_get, slice_get-map, slice_get_within}
+use Rattle.list_lemmas.proofs.ItemsOfLists.{Contains-at, place_of}
 use Rattle.jk_model.specs.declared.class_file.ClassFile.{ClassFile}
 use Rattle.jk_model.specs.declared.class_file.PoolEntry.TheVariants.{Class}
 use Rattle.jk_model.specs.declared.identifiers.ClassId.{ClassId}
@@ -17,7 +18,6 @@ use Rattle.jk_model_classes.specs.Worlds.{NamedClass, class_named}
 use Rattle.jk_model_folders.specs.LinkedClasses.{AreReferences}
 use Rattle.class_linker.specs.KnownReferences.{Adds, RefersBy}
 use Rattle.class_linker.specs.LinkedFiles.{HasNames}
-use Rattle.class_linker.proofs.ItemsInTurn.{contained, placed}
 
 none_there : (n : ℕ) → Contains [] n → ⊥
 none_there n (k, within, at) = absurd (omega arith)
@@ -46,13 +46,13 @@ number_at list i class at = slice_get-map number list i ∙ ap (option_map numbe
 
 has_number : (list : List ClassId) (class : ClassId) → Contains list class → Contains (map number list) class.0
 has_number list class there =
-    let at = placed list class there in
-    contained (map number list) at.0 class.0 (number_at list at.0 class at.1)
+    let at = place_of list class there in
+    Contains-at (map number list) at.0 class.0 (number_at list at.0 class at.1)
 
 has_class : (list : List ClassId) (class : ClassId) → Contains (map number list) class.0 → Contains list class
 has_class list class there =
-    let at = placed (map number list) class.0 there in
-    contained list at.0 class (one_class (slice_get list at.0) class (sym (slice_get-map number list at.0) ∙ at.1))
+    let at = place_of (map number list) class.0 there in
+    Contains-at list at.0 class (one_class (slice_get list at.0) class (sym (slice_get-map number list at.0) ∙ at.1))
 
 rise : (numbers : List ℕ) → IsStrictlyIncreasing numbers → (j k a b : ℕ) → j < k → slice_get numbers j ≡ Some a → slice_get numbers k ≡ Some b → a < b
 rise numbers up j k a b less at_a at_b =

@@ -1,8 +1,9 @@
 -- What a text says is said at its index, and it says one thing.
-use Rattle.std.proofs.Common.{◌≡◌, ℕ, zero, suc, ◌<◌, ◌≤◌, ◌^◌, ◌⊎◌, inl, inr, List, [], ◌∷◌, ◌++◌, length, Option, Some, None, Result, Ok, Err, refl, sym, ◌∙◌, ap, subst, arith, length-append}
+use Rattle.std.proofs.Common.{◌≡◌, ℕ, ◌<◌, ◌^◌, inl, inr, List, [], ◌∷◌, ◌++◌, length, Option, Some, None, Result, Ok, Err, sym, ◌∙◌, ap, subst, arith}
 use denote.Ref.{Bor}
 use Rattle.std.specs.Prelude.{slice_get, IfOk, MatchOption}
-use Rattle.std.proofs.lemmas.Option.{same_Some, none-some, slice_get_within}
+use Rattle.std.proofs.lemmas.Option.{same_Some, slice_get_within}
+use Rattle.list_lemmas.proofs.ItemsByPlace.{old_or_new, item_there}
 use Rattle.jk_model.specs.declared.class_file.ClassFile.{ClassFile}
 use Rattle.jk_model.specs.declared.class_file.PoolEntry.{PoolEntry}
 use Rattle.jk_model.specs.declared.class_file.PoolEntry.TheVariants.{Utf8, Class, NameAndType}
@@ -14,34 +15,24 @@ use Rattle.jk_model.specs.declared.identifiers.ClassId.{ClassId}
 use Rattle.jk_model.specs.ClassFile.{IsEntry}
 use Rattle.jk_model.specs.Descriptors.{IsFieldText, IsMethodText}
 use Rattle.jk_model.specs.ReadFaults.{IsWritable}
-use Rattle.jk_model.specs.Text.{IsUnit, Spells}
+use Rattle.jk_model.proofs.EachItem.{all_at}
 use Rattle.jk_model_classes.specs.declared.records.BaseRef.{BaseRef}
 use Rattle.jk_model_classes.specs.declared.records.TypeRef.{TypeRef}
 use Rattle.jk_model_classes.specs.Members.{TextAt}
 use Rattle.jk_model_classes.specs.SystemRecords.{IsBaseFor, IsTypeFor}
 use Rattle.jk_model_classes.specs.Worlds.{NamedClass, class_named}
+use Rattle.model_lemmas.proofs.TextsAreLong.{units_within}
+use Rattle.class_lemmas.proofs.OneMember.{same_type}
 use Rattle.class_texts.proofs.OneText.{one_text, one_class}
 use Rattle.descriptors.proofs.NoTextBeginsAnother.{one_field, one_method}
 use Rattle.class_linker.specs.TextsSaid.{Answers, AreAt, AreSaid, IsFieldTextFor, IsPairOf, IsSaid, IsSaidAt, NamesClassBy, SaysClass, SaysField, SaysMethod}
 use Rattle.class_linker.specs.declared.said.Said.{Said}
-use Rattle.class_linker.proofs.ItemByItem.{all_at}
 
 pub answers_moved : {X : Type 0} (P Q : X → Type 0) (r : Option X) → ((x : X) → P x → Q x) → ((x : X) → Q x → P x) → Answers P r → Answers Q r
 answers_moved P Q None to from h = λ x q. h x (from x q)
 answers_moved P Q (Some x) to from h = to x h
 
 -- ---- A text has few units.
-
-some_bytes : (front : List ℕ) (u : ℕ) → IsUnit front u → 1 ≤ length front
-some_bytes [] u h = absurd h
-some_bytes (a ∷ front) u h = omega arith
-
-units_within : (bytes units : List ℕ) → Spells bytes units → length units ≤ length bytes
-units_within bytes [] h = omega arith
-units_within bytes (u ∷ units) (front, rest, one, e, h) =
-    let others = units_within rest units h in
-    let first = some_bytes front u one in
-    omega (arith, ap length e, length-append front rest)
 
 pub few_units : (c : ClassFile) (i : ℕ) (units : List ℕ) → IsWritable c → TextAt c.pool i units → length units < 2 ^ 31
 few_units c i units writable (bytes, at, spells) =
@@ -95,11 +86,6 @@ one_base names (Base.Class name) a b (c, means, e) (d, also, f) =
     let same : c ≡ d = same_Some c d (sym means ∙ also) in
     cc
 
-same_type : (a b : TypeRef) → a.dims ≡ b.dims → a.base ≡ b.base → a ≡ b
-same_type a b d e =
-    ap (λ (n : ℕ). let x : TypeRef = record { dims = n; base = a.base } in x) d
-    ∙ ap (λ (r : BaseRef). let x : TypeRef = record { dims = b.dims; base = r } in x) e
-
 one_type : (names : List NamedClass) (t : FieldType) (a b : TypeRef) → IsTypeFor (class_named names) t a → IsTypeFor (class_named names) t b → a ≡ b
 one_type names t a b p q = same_type a b (p.0 ∙ sym q.0) (one_base names t.base a.base b.base p.1 q.1)
 
@@ -121,17 +107,12 @@ one_pair Says one pool i a b k l (n, d, at, name, kind) (m, e, there, other, typ
 
 -- ---- The list of all.
 
-some_item : {X : Type 0} (xs : List X) (k : ℕ) → k < length xs → (x : X) × (slice_get xs k ≡ Some x)
-some_item [] k lt = absurd (omega arith)
-some_item (x ∷ xs) zero lt = (x, refl)
-some_item (x ∷ xs) (suc k) lt = some_item xs k (omega arith)
-
 -- there is no text where the list has no item
 pub past_all : (names : List NamedClass) (pool : List PoolEntry) (said : List Said) (i : ℕ) (units : List ℕ) → AreSaid names pool said
     → slice_get said i ≡ None → TextAt pool i units → ⊥
 past_all names pool said i units h none (bytes, at, spells) =
     let below : i < length said = omega (arith, slice_get_within pool i (Utf8 bytes) at, h.as_many) in
-    let there = some_item said i below in
+    let there = item_there said i below in
     let z : None ≡ Some there.0 = sym none ∙ there.1 in
     cc
 
@@ -140,13 +121,6 @@ pub said_read : {E : Type 0} (names : List NamedClass) (pool : List PoolEntry) (
 said_read names pool i text units (Ok said) at e h =
     said_at_text names pool i units said (subst (λ (w : List ℕ). TextAt pool i w) (sym e) at) h
 said_read names pool i text units (Err error) at e h = tt
-
-old_or_new : {X : Type 0} (xs : List X) (x : X) (k : ℕ) (y : X) → slice_get (xs ++ x ∷ []) k ≡ Some y
-    → (slice_get xs k ≡ Some y) ⊎ ((k ≡ length xs) × (y ≡ x))
-old_or_new [] x zero y e = inr (refl, sym (same_Some x y e))
-old_or_new [] x (suc k) y e = absurd (none-some y e)
-old_or_new (z ∷ xs) x zero y e = inl e
-old_or_new (z ∷ xs) x (suc k) y e = elim (old_or_new xs x k y e) [ inl old ↦ inl old | inr new ↦ inr (ap (λ n. suc n) new.0, new.1) ]
 
 -- one item more
 pub at_more : {X : Type 0} (P : ℕ → X → Type 0) (xs longer : List X) (n : ℕ) (x : X) → length xs ≡ n → P n x → longer ≡ xs ++ x ∷ [] → AreAt P xs

@@ -7,6 +7,9 @@ use Rattle.std.specs.Option.{option_to_list}
 use Rattle.std.proofs.Math.ListN.{get_or}
 use Rattle.std.proofs.lemmas.List.{take_more, take_all}
 use Rattle.std.proofs.lemmas.Option.{same_Some, some_pair_parts}
+use Rattle.std.proofs.lemmas.Slice.Zip.{AllZip-long}
+use Rattle.list_lemmas.proofs.ItemByItem.{zip_at}
+use Rattle.list_lemmas.proofs.ItemsOfLists.{Contains-at, place_of}
 use Rattle.jk_model.specs.declared.class_file.Attribute.{Attribute}
 use Rattle.jk_model.specs.declared.class_file.ClassFile.{ClassFile}
 use Rattle.jk_model.specs.declared.class_file.MemberInfo.{MemberInfo}
@@ -24,7 +27,7 @@ use Rattle.byte_fields.specs.Reading.{number_at, counted_at}
 use Rattle.byte_fields.specs.OneReading.{u2_reader, counted_reader}
 use Rattle.class_linker.specs.LinkedFiles.{HasNames, IsLinkable}
 use Rattle.class_linker.specs.ThrownClasses.{AreClassesIn, AreClassesOf, AreClassesThrown, IsClassOfEntry, IsExceptionsOf}
-use Rattle.class_linker.proofs.ItemsInTurn.{contained, placed, zip_all, zip_at, zip_length}
+use Rattle.class_linker.proofs.ItemsInTurn.{zip_all}
 
 -- ---- One class more.
 
@@ -123,13 +126,13 @@ pub some_thrown : {E : Type 0} (names : List NamedClass) (c : ClassFile) (info :
     → slice_get info.attributes j ≡ Some a → IsExceptions c.pool a → IfOk result (λ thrown. AreClassesIn names c a.body thrown)
     → IfOk result (λ thrown. AreClassesThrown names c info thrown)
 some_thrown names c info j a (Ok thrown) there is (indices, fits, e, h) =
-    λ s named. inl (a, indices, contained info.attributes j a there, is, fits, e, h s named)
+    λ s named. inl (a, indices, Contains-at info.attributes j a there, is, fits, e, h s named)
 some_thrown names c info j a (Err error) there is h = tt
 
 pub none_thrown : (names : List NamedClass) (c : ClassFile) (info : MemberInfo) (thrown : List ClassId)
     → (HasItem (IsExceptions c.pool) info.attributes → ⊥) → thrown ≡ [] → AreClassesThrown names c info thrown
 none_thrown names c info thrown none e = λ s named.
-    inr (λ a has is. let (j, there) = placed info.attributes a has in none (j, a, there, is), e)
+    inr (λ a has is. let (j, there) = place_of info.attributes a has in none (j, a, there, is), e)
 
 -- ---- Facts of one list, at another that is the same.
 
@@ -146,6 +149,6 @@ all_thrown names c methods lists n same end h s named =
     let all : AllZip (AreClassesThrown names c) c.methods lists =
     subst (λ (w : List MemberInfo). AllZip (AreClassesThrown names c) w lists) same (zip_all (AreClassesThrown names c) methods lists n end h) in
     record {
-      as_many = zip_length (AreClassesThrown names c) c.methods lists all;
+      as_many = AllZip-long (AreClassesThrown names c) c.methods lists all;
       each = λ i x y at_x at_y. zip_at (AreClassesThrown names c) c.methods lists all i x y at_x at_y s named;
     }

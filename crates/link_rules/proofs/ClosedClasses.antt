@@ -12,11 +12,11 @@ use Rattle.jk_model.specs.SystemTable.{number_named, system_classes, throwable}
 use Rattle.jk_model_classes.specs.Items.{HasItem, HasItemBefore}
 use Rattle.jk_model_classes.specs.LinkRules.{HasNoConstructor}
 use Rattle.jk_model_classes.specs.Members.{INIT}
+use Rattle.class_lemmas.proofs.SomeItem.{none_more}
 use Rattle.system_table.specs.declared.entry.SystemClass.{SystemClass}
 use Rattle.system_table.specs.declared.entry.SystemMethod.{SystemMethod}
 use Rattle.system_table.specs.Entry.{IsEntry, method_of}
 use Rattle.system_table.specs.Laws.{IsAt}
-use Rattle.link_rules.proofs.ItemsInTurn.{none_more}
 
 -- ---- The first class of a name.
 

@@ -2,6 +2,7 @@
 use Rattle.std.proofs.Common.{◌≡◌, ℕ, ◌↔◌, Bool, IsTrue, List, Some, sym, ◌∙◌, subst, pos, arith}
 use Rattle.std.specs.Prelude.{slice_get}
 use Rattle.std.proofs.lemmas.Option.{slice_get_within}
+use Rattle.list_lemmas.proofs.ItemsByPlace.{item_there}
 use Rattle.jk_model.specs.declared.class_file.ClassFile.{ClassFile}
 use Rattle.jk_model.specs.declared.class_file.PoolEntry.{PoolEntry}
 use Rattle.jk_model.specs.declared.identifiers.ClassId.{ClassId}
@@ -16,7 +17,7 @@ use Rattle.jk_model_classes.specs.Lookups.{FieldIs}
 use Rattle.jk_model_classes.specs.Members.{Field, reference}
 use Rattle.jk_model_folders.specs.LinkedClasses.{AreLinksFor, IsLinkFor}
 use Rattle.link_rules.specs.FinalFields.{LeadsFinal}
-use Rattle.link_rules.proofs.WrongByLinks.{field_found, field_linked, some_entry}
+use Rattle.link_rules.proofs.WrongByLinks.{field_found, field_linked}
 
 module _ (s : LinkScope) (c : ClassFile) (i : ℕ) (entry : PoolEntry) (at : slice_get c.pool i ≡ Some entry) (instr : Instr) (names : instr.a ≡ pos i) where
   puts_by : (link : Link) → IsLinkFor s c i entry link → LeadsFinal s.classes s.self instr.op link → PutsFinal s c instr
@@ -36,7 +37,7 @@ pub final_by_link : (classes : List ClassRecord) (self : ClassId) (links : List 
     → slice_get links i ≡ Some link → (IsTrue final ↔ LeadsFinal classes self instr.op link) → (s : LinkScope) (c : ClassFile) → s.classes ≡ classes
     → s.self ≡ self → AreLinksFor s c links → IsTrue final ↔ PutsFinal s c instr
 final_by_link classes self links instr i link final names there says s c same own h =
-    let entry = some_entry c.pool i (omega (arith, slice_get_within links i link there, h.as_many)) in
+    let entry = item_there c.pool i (omega (arith, slice_get_within links i link there, h.as_many)) in
     let linked = h.each i entry.0 link entry.1 there in
     let says_own : IsTrue final ↔ LeadsFinal s.classes s.self instr.op link =
     subst (λ (w : List ClassRecord). IsTrue final ↔ LeadsFinal w s.self instr.op link) (sym same)
@@ -49,7 +50,7 @@ pub no_final : (links : List Link) (instr : Instr) → ((i : ℕ) (link : Link) 
     → (s : LinkScope) (c : ClassFile) → AreLinksFor s c links → PutsFinal s c instr → ⊥
 no_final links instr none s c h (m, field, (i, names, f, is), puts, marked, outside) =
     let (a, b, at, target, rest) = f.is_there in
-    let link = some_entry links i (omega (arith, slice_get_within c.pool i (reference Field a b) at, h.as_many)) in
+    let link = item_there links i (omega (arith, slice_get_within c.pool i (reference Field a b) at, h.as_many)) in
     none i link.0 names link.1
 
 at_field : (classes : List ClassRecord) (self : ClassId) (op : ℕ) (cls : ClassId) (m : MemberId) → ((field : FieldRecord) → FieldIs classes m field → ⊥)

@@ -2,7 +2,8 @@
 use Rattle.std.proofs.Common.{◌≡◌, ◌≢◌, ℕ, ◌+◌, ◌<◌, ◌≤◌, inl, inr, Bool, false, ◌↔◌, IsTrue, List, [], ◌∷◌, length, Option, Some, None, Contains, refl, sym, ap, subst, ◌∙◌, arith}
 use Rattle.std.specs.Prelude.{slice_get}
 use Rattle.std.specs.Option.{is_some, option_map, option_to_list}
-use Rattle.std.proofs.lemmas.Option.{slice_get_within, get_or_from_slice_get, same_Some}
+use Rattle.std.proofs.lemmas.Option.{same_Some}
+use Rattle.list_lemmas.proofs.ItemsOfLists.{Contains-at}
 use Rattle.class_table.proofs.StandingAbove.{parent-lower, superclasses-cases, superclasses-lower, superclasses-of_parent}
 use Rattle.class_table.proofs.ItemsOfLists.{Contains-here}
 use Rattle.jk_model.specs.declared.identifiers.ClassId.{ClassId}
@@ -15,9 +16,6 @@ use Rattle.jk_model_classes.specs.LinkRules.{HasFinalOverridden, LinkScope, Over
 use Rattle.jk_model_classes.specs.Lookups.{FindsOn}
 use Rattle.link_rules.specs.FinalMethods.{IsFinalFor, IsFirstPlace, scope_of}
 use Rattle.link_rules.specs.LinkFaults.{IsLeastNumber}
-
-contained : {X : Type 0} (xs : List X) (i : ℕ) (x : X) → slice_get xs i ≡ Some x → Contains xs x
-contained xs i x at = (i, slice_get_within xs i x at, get_or_from_slice_get xs i x x at)
 
 module _ (classes : List ClassRecord) (ordered : AreOrdered classes) (class : ClassId) (method : MethodRecord) where
   abbrev Overrides : Type 0
@@ -32,7 +30,7 @@ module _ (classes : List ClassRecord) (ordered : AreOrdered classes) (class : Cl
   found_above : (p : ClassId) (m : MemberId) → parents_of classes class ≡ p ∷ [] → Finds p (Some m) → Overrides
   found_above p m e first =
       let (final, is, named, typed, marked, over) = first.member.suits in
-      let there : Contains (superclasses classes p) m.class = contained (superclasses classes p) first.place m.class first.visited in
+      let there : Contains (superclasses classes p) m.class = Contains-at (superclasses classes p) first.place m.class first.visited in
       let parent : Contains (parents_of classes class) p = subst (λ (w : List ClassId). Contains w p) (sym e) (Contains-here p []) in
       let lower = is_lower p m.class (parent-lower classes ordered class p e) (superclasses-lower classes ordered p m.class there) in
       (m, final, is, superclasses-of_parent classes ordered class p m.class parent there, lower, named, typed, marked, over)

@@ -3,11 +3,9 @@ mod ClosedClasses
 mod FinalByLinks
 mod FinalsAbove
 mod FinalsOfAClass
-mod ItemsInTurn
 mod MadeByLinks
 mod MethodsByRecord
 mod MissingByLinks
-mod NamesOfArrays
 mod OneDecoding
 mod OneMember
 mod RefusedByLinks

@@ -2,6 +2,7 @@
 use Rattle.std.proofs.Common.{◌≡◌, ◌≢◌, ℕ, ◌≤◌, ◌⊎◌, inl, inr, Bool, ◌↔◌, IsTrue, List, Option, Some, arith, sym, ◌∙◌, ap, subst}
 use Rattle.std.specs.Prelude.{pos, slice_get}
 use Rattle.std.proofs.lemmas.Option.{same_Some, slice_get_within}
+use Rattle.list_lemmas.proofs.ItemsByPlace.{item_there}
 use Rattle.jk_model.specs.declared.class_file.ClassFile.{ClassFile}
 use Rattle.jk_model.specs.declared.class_file.Code.{Code}
 use Rattle.jk_model.specs.declared.class_file.PoolEntry.{PoolEntry}
@@ -22,12 +23,11 @@ use Rattle.jk_model_classes.specs.LinkRules.{IsAccessRefused, LinkScope, MakesWh
 use Rattle.jk_model_classes.specs.MemberCode.{CodeAt, HasCode, HasInstr, NEW}
 use Rattle.jk_model_classes.specs.Members.{ClassAt, TextAt}
 use Rattle.jk_model_classes.specs.OneClassRules.{HasNoFault}
+use Rattle.class_lemmas.proofs.ArraysHaveNoNames.{no_array, array_begins}
 use Rattle.jk_model_folders.specs.LinkedClasses.{AreLinksFor, IsEntryType, IsLinkFor}
 use Rattle.class_texts.proofs.OneText.{one_text}
 use Rattle.class_texts.specs.PoolTexts.{AreTextsOf}
 use Rattle.link_rules.specs.LinkedInstrs.{BreaksAccess, IsClassLink, LeadsUnmakable, MakesUnmakable}
-use Rattle.link_rules.proofs.NamesOfArrays.{array_begins, no_array}
-use Rattle.link_rules.proofs.WrongByLinks.{some_entry}
 
 abbrev class_type : ClassId → TypeRef
 class_type class = record { dims = 0; base = Base.Class class }
@@ -118,7 +118,7 @@ no_entry pool instr none s c same (i, name, class, op, names, (n, here, text), o
 pub no_made_link : (links : List Link) (instr : Instr) → ((i : ℕ) (link : Link) → instr.a ≡ pos i → slice_get links i ≡ Some link → ⊥)
     → (s : LinkScope) (c : ClassFile) → AreLinksFor s c links → MakesUnmakable s c instr → ⊥
 no_made_link links instr none s c h (i, name, class, op, names, (n, here, text), own, means, bad) =
-    let link = some_entry links i (omega (arith, slice_get_within c.pool i (Entry.Class n) here, h.as_many)) in
+    let link = item_there links i (omega (arith, slice_get_within c.pool i (Entry.Class n) here, h.as_many)) in
     none i link.0 names link.1
 
 pub other_opcode : (s : LinkScope) (c : ClassFile) (instr : Instr) → instr.op ≢ NEW → MakesUnmakable s c instr → ⊥
@@ -131,7 +131,7 @@ module _ (s : LinkScope) (c : ClassFile) (links : List Link) (h : AreLinksFor s 
   named_class : (code : Code) → CodeAt c n code → (instrs : List Instr) → Decodes code.code instrs → (k : ℕ) (x : Instr) → slice_get instrs k ≡ Some x
       → x.op ≡ NEW → (i : ℕ) → x.a ≡ pos i → (name : List ℕ) → ClassAt c.pool i name → IsClassName name
   named_class code at instrs decodes k x there new i names name (m, here, text) =
-      let link = some_entry links i (omega (arith, slice_get_within c.pool i (Entry.Class m) here, h.as_many)) in
+      let link = item_there links i (omega (arith, slice_get_within c.pool i (Entry.Class m) here, h.as_many)) in
       let (units, t, also, type, leads) = h.each i (Entry.Class m) link.0 here link.1 in
       let same : units ≡ name = one_text c.pool m units name also text in
       elim type [

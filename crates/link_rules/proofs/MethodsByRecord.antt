@@ -3,6 +3,9 @@ use Rattle.std.proofs.Common.{◌≡◌, ℕ, ◌+◌, ◌<◌, inl, inr, ◌↔
 use Rattle.std.specs.Prelude.{◌&&◌, ◌||◌, not, slice_get}
 use Rattle.std.proofs.lemmas.Bool.{and_parts, cases_Bool, cases_order}
 use Rattle.std.proofs.lemmas.Option.{same_Some, slice_get_within}
+use Rattle.list_lemmas.proofs.EndsOfLists.{cancel}
+use Rattle.list_lemmas.proofs.ItemsByPlace.{item_there}
+use Rattle.list_lemmas.proofs.ItemsOfLists.{place_of}
 use Rattle.jk_model.specs.declared.class_file.Attribute.{Attribute}
 use Rattle.jk_model.specs.declared.class_file.ClassFile.{ClassFile}
 use Rattle.jk_model.specs.declared.class_file.Code.{Code}
@@ -28,9 +31,7 @@ use Rattle.byte_fields.specs.OneReading.{one_u4}
 use Rattle.link_rules.specs.FinalMethods.{IsFirstPlace}
 use Rattle.link_rules.specs.LinkedInstrs.{BodyHas, HasLinkedInstr}
 use Rattle.link_rules.specs.LinkFaults.{IsLeastNumber, IsLinked}
-use Rattle.link_rules.proofs.ItemsInTurn.{placed}
-use Rattle.link_rules.proofs.OneDecoding.{alike_at, cancel}
-use Rattle.link_rules.proofs.WrongByLinks.{some_entry}
+use Rattle.link_rules.proofs.OneDecoding.{alike_at}
 
 -- ---- A body is of one code.
 
@@ -70,7 +71,7 @@ module _ (P : Instr → Type 0) (told : IsTold P) where
 
   decoded_item : (decoded linked : List Instr) → GoAlong (IsInstrFor decoded) decoded linked → HasItem P linked → HasItem P decoded
   decoded_item decoded linked along (k, x, at, p) =
-      let d = some_entry decoded k (omega (arith, slice_get_within linked k x at, along.as_many)) in
+      let d = item_there decoded k (omega (arith, slice_get_within linked k x at, along.as_many)) in
       let is = along.each k d.0 x d.1 at in
       let plain : IsTrue (not (is_jump d.0.op || is_switch d.0.op)) =
       subst (λ (o : ℕ). IsTrue (not (is_jump o || is_switch o))) is.op (told.plain x p) in
@@ -78,7 +79,7 @@ module _ (P : Instr → Type 0) (told : IsTold P) where
 
   linked_item : (decoded linked : List Instr) → GoAlong (IsInstrFor decoded) decoded linked → HasItem P decoded → HasItem P linked
   linked_item decoded linked along (k, d, at, p) =
-      let x = some_entry linked k (omega (arith, slice_get_within decoded k d at, along.as_many)) in
+      let x = item_there linked k (omega (arith, slice_get_within decoded k d at, along.as_many)) in
       let is = along.each k d x.0 at x.1 in
       (k, x.0, x.1, told.alike d x.0 (sym is.op) (sym (is.names (told.plain d p))) p)
 
@@ -98,7 +99,7 @@ module _ (P : Instr → Type 0) (told : IsTold P) where
     code_of_body : (flags : ℕ) (body : Body) → MethodFlags c info flags → IsBodyFor s c info flags body → BodyHas P body → HasCode (HasInstr P) c n
     code_of_body flags body counted (inl (abstract, none)) h = absurd (subst (BodyHas P) none h)
     code_of_body flags body counted (inr (concrete, (a, code, linked, there, called, layout, is, e))) h =
-        let (j, listed) = placed info.attributes a there in (
+        let (j, listed) = place_of info.attributes a there in (
           code,
           record {
             method = info;
@@ -132,7 +133,7 @@ module _ (P : Instr → Type 0) (told : IsTold P) where
         let no : IsTrue (not true) = subst (λ (b : Bool). IsTrue (not b)) abstract concrete in absurd cc
     body_of_code code flags body counted (inr (too, (a, mine, linked, there, called, layout, is, e))) concrete own (i, b, listed, (also, laid))
         (instrs, decodes, item) =
-        let (j, placed_a) = placed info.attributes a there in
+        let (j, placed_a) = place_of info.attributes a there in
         let same : a ≡ b = one_attribute flags counted concrete own j i a b placed_a listed called also in
         let one : code.code ≡ mine.code = one_code b.body code mine laid (subst (λ (w : Attribute). CodeLayout w.body mine) same layout) in
         let decoded : HasItem P is.decoded =
@@ -145,7 +146,7 @@ module _ (P : Instr → Type 0) (told : IsTold P) where
     method_breaks : (i : ℕ) (method : MethodRecord) → slice_get r.methods i ≡ Some method → HasLinkedInstr P method
         → HasCode (HasInstr P) c (length r.fields + i + 1)
     method_breaks i method there h =
-        let info = some_entry c.methods i (omega (arith, slice_get_within r.methods i method there, is.methods.as_many)) in
+        let info = item_there c.methods i (omega (arith, slice_get_within r.methods i method there, is.methods.as_many)) in
         let m = is.methods.each i info.0 method info.1 there in
         let number : length r.fields + i + 1 ≡ length c.fields + i + 1 = omega (arith, is.fields.as_many) in
         code_of_body s c path alone (length r.fields + i + 1) info.0 (i, number, info.1) method.flags method.body m.flags m.body h
@@ -154,7 +155,7 @@ module _ (P : Instr → Type 0) (told : IsTold P) where
         → (i : ℕ) × (method : MethodRecord) × (n ≡ length r.fields + i + 1) × (slice_get r.methods i ≡ Some method) × HasLinkedInstr P method
     breaking_method n (code, at, h) =
         let (i, number, there) = at.at in
-        let method = some_entry r.methods i (omega (arith, slice_get_within c.methods i at.method there, is.methods.as_many)) in
+        let method = item_there r.methods i (omega (arith, slice_get_within c.methods i at.method there, is.methods.as_many)) in
         let m = is.methods.each i at.method method.0 there method.1 in
         let flags : at.flags ≡ method.0.flags = one_flags c at.method at.flags method.0.flags at.counted m.flags in
         let tests = and_parts (not (has at.flags ABSTRACT)) (not (has at.flags NATIVE)) at.concrete in

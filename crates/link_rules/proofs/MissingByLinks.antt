@@ -1,51 +1,32 @@
 -- An entry that leads to nothing, or to a method of a class of the wrong sort, is one that misses its member.
-use Rattle.std.proofs.Common.{◌≡◌, ◌≢◌, ℕ, zero, suc, ◌+◌, ◌^◌, ◌<◌, ◌≤◌, inl, inr, Bool, true, false, ◌↔◌, IsTrue, List, [], ◌∷◌, length, arith, Some, None, refl, sym, ◌∙◌, ap, subst}
+use Rattle.std.proofs.Common.{◌≡◌, ◌≢◌, ℕ, ◌+◌, ◌^◌, ◌<◌, ◌≤◌, inl, inr, Bool, true, false, ◌↔◌, IsTrue, List, length, arith, Some, None, refl, sym, ◌∙◌, ap, subst}
 use Rattle.std.specs.Prelude.{slice_get}
 use Rattle.std.specs.List.{AllByRecursion}
 use Rattle.std.proofs.lemmas.Bool.{cases_lt}
-use Rattle.std.proofs.lemmas.Option.{same_Some, none-some, slice_get_within}
+use Rattle.std.proofs.lemmas.Option.{same_Some, slice_get_within}
 use Rattle.jk_model.specs.declared.class_file.ClassFile.{ClassFile}
 use Rattle.jk_model.specs.declared.class_file.PoolEntry.{PoolEntry}
 use Rattle.jk_model.specs.declared.class_file.PoolEntry.TheVariants as Entry
 use Rattle.jk_model.specs.declared.identifiers.ClassId.{ClassId}
 use Rattle.jk_model.specs.declared.identifiers.MemberId.{MemberId}
-use Rattle.jk_model.specs.ClassFile.{IsClassEntry, IsGoodEntry, IsPairEntry, IsUtf8Entry, NamesEntry}
+use Rattle.jk_model.specs.ClassFile.{IsClassEntry, IsGoodEntry, IsPairEntry, NamesEntry}
 use Rattle.jk_model.specs.ReadFaults.{IsWritable}
+use Rattle.jk_model.proofs.EachItem.{all_at}
 use Rattle.jk_model_classes.specs.declared.records.ClassRecord.{ClassRecord}
 use Rattle.jk_model_classes.specs.declared.records.Link.{Link}
 use Rattle.jk_model_classes.specs.declared.records.Link.TheVariants as To
 use Rattle.jk_model_classes.specs.Items.{Entry as AtEntry}
 use Rattle.jk_model_classes.specs.LinkRules.{FindsFieldAt, FindsMethodAt, IsReferenceAt, LinkScope, MissesMember, NamesRightSort}
-use Rattle.jk_model_classes.specs.Members.{ClassAt, MemberKind, Field, Method, InterfaceMethod, NameAndTypeAt, TextAt, reference}
+use Rattle.jk_model_classes.specs.Members.{ClassAt, MemberKind, Field, Method, InterfaceMethod, NameAndTypeAt, reference}
+use Rattle.class_lemmas.proofs.EntriesAreGood.{text_there, class_there}
 use Rattle.jk_model_folders.specs.LinkedClasses.{AreLinksFor, IsFieldLink, IsLinkFor, IsMethodLink}
 use Rattle.class_texts.proofs.OneText.{one_class}
 use Rattle.link_rules.specs.MissingMembers.{IsFirstMissing, IsMissingBy, NamesInterface, NamesNoInterface}
 
 -- ---- What the entries name is there.
 
-all_at : {X : Type 0} (P : X → Type 0) (xs : List X) (i : ℕ) (x : X) → AllByRecursion P xs → slice_get xs i ≡ Some x → P x
-all_at P [] i x h e = absurd (none-some x e)
-all_at P (y ∷ xs) zero x h e = subst P (same_Some y x e) h.0
-all_at P (y ∷ xs) (suc i) x h e = all_at P xs i x h.1 e
-
 abbrev AreGood : List PoolEntry → Type 0
 AreGood pool = AllByRecursion (IsGoodEntry pool) pool
-
-text_of : (pool : List PoolEntry) (i : ℕ) (e : PoolEntry) → slice_get pool i ≡ Some e → IsGoodEntry pool e → IsUtf8Entry e
-    → (units : List ℕ) × TextAt pool i units
-text_of pool i (Entry.Utf8 bytes) at good k = (good.0, (bytes, at, good.1))
-text_of pool i _ at good k = absurd k
-
-text_there : (pool : List PoolEntry) (i : ℕ) → AreGood pool → NamesEntry IsUtf8Entry pool i → (units : List ℕ) × TextAt pool i units
-text_there pool i good (e, at, k) = text_of pool i e at (all_at (IsGoodEntry pool) pool i e good at) k
-
-class_of : (pool : List PoolEntry) (i : ℕ) (e : PoolEntry) → AreGood pool → slice_get pool i ≡ Some e → IsGoodEntry pool e → IsClassEntry e
-    → (units : List ℕ) × ClassAt pool i units
-class_of pool i (Entry.Class name) all at good k = let text = text_there pool name all good in (text.0, (name, at, text.1))
-class_of pool i _ all at good k = absurd k
-
-class_there : (pool : List PoolEntry) (i : ℕ) → AreGood pool → NamesEntry IsClassEntry pool i → (units : List ℕ) × ClassAt pool i units
-class_there pool i good (e, at, k) = class_of pool i e good at (all_at (IsGoodEntry pool) pool i e good at) k
 
 pair_of : (pool : List PoolEntry) (i : ℕ) (e : PoolEntry) → AreGood pool → slice_get pool i ≡ Some e → IsGoodEntry pool e → IsPairEntry e
     → (name : List ℕ) × (descriptor : List ℕ) × NameAndTypeAt pool i name descriptor

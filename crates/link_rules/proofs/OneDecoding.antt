@@ -1,28 +1,16 @@
 -- Two decodings of one code have the same opcodes and first operands.
-use Rattle.std.proofs.Common.{◌≡◌, ℕ, zero, suc, ◌+◌, ◌*◌, List, [], ◌∷◌, ◌++◌, length, take, drop, Some, refl, sym, ap, subst, ◌∙◌, append_assoc, length-append, arith}
+use Rattle.std.proofs.Common.{◌≡◌, ℕ, zero, suc, ◌+◌, ◌*◌, List, [], ◌∷◌, ◌++◌, length, take, Some, refl, sym, ap, subst, ◌∙◌, length-append, arith}
 use Rattle.std.specs.Prelude.{ℤ, pos, ◌+ℤ◌, ◌-ℤ◌, slice_get}
 use Rattle.std.specs.List.{flat_map}
 use Rattle.std.specs.Int.{w8, w32, cast_signed, from_be_bytes}
-use Rattle.std.proofs.lemmas.List.{drop_at, take_at}
 use Rattle.std.proofs.lemmas.Option.{none-some, same_Some}
+use Rattle.list_lemmas.proofs.EndsOfLists.{cancel, front_of, front_of_pairs, length_of_four, head_is, tail_is}
+use Rattle.list_lemmas.proofs.TestsAndOrders.{same_pos}
 use Rattle.jk_model.specs.declared.instructions.Instr.{Instr}
 use Rattle.jk_model.specs.ClassFile.{u4}
 use Rattle.jk_model.specs.Instructions.{AreInstrs, Format, IsInstr, IsLookupSwitch, IsTableSwitch, Means, WideFormat, WideMeans, format_of, pair_bytes, plain, short, signed_int, signed_short, target, wide_format_of}
+use Rattle.model_lemmas.proofs.PlacesOfInstrs.{some_bytes}
 use Rattle.byte_fields.specs.OneReading.{one_u4}
-
--- ---- Lists whose fronts are as long.
-
-pub cancel : (xs ys r s : List ℕ) → length xs ≡ length ys → xs ++ r ≡ ys ++ s → (xs ≡ ys) × (r ≡ s)
-cancel xs ys r s long e = (
-  sym (take_at xs r (length ys) long) ∙ ap (λ (w : List ℕ). take (length ys) w) e ∙ take_at ys s (length ys) refl,
-  sym (drop_at xs r (length ys) long) ∙ ap (λ (w : List ℕ). drop (length ys) w) e ∙ drop_at ys s (length ys) refl,
-)
-
-head_is : (x y : ℕ) (xs ys : List ℕ) → x ∷ xs ≡ y ∷ ys → x ≡ y
-head_is x y xs ys e = cc
-
-tail_is : (x y : ℕ) (xs ys : List ℕ) → x ∷ xs ≡ y ∷ ys → xs ≡ ys
-tail_is x y xs ys e = cc
 
 -- ---- Operands of a fixed length: which opcode they give, and which first operand.
 
@@ -128,13 +116,6 @@ wide_increment_read at op _ i h = absurd h
 
 -- ---- Switches.
 
--- what stands before the offsets, with what follows
-front_of : (f d l h o r : List ℕ) → (f ++ d ++ l ++ h ++ o) ++ r ≡ f ++ (d ++ (l ++ (h ++ (o ++ r))))
-front_of f d l h o r = simp append_assoc
-
-front_of_pairs : (f d n o r : List ℕ) → (f ++ d ++ n ++ o) ++ r ≡ f ++ (d ++ (n ++ (o ++ r)))
-front_of_pairs f d n o r = simp append_assoc
-
 long_offsets : (offsets : List ℕ) → length (flat_map u4 offsets) ≡ 4 * length offsets
 long_offsets [] = refl
 long_offsets (n ∷ more) = let rest = long_offsets more in omega (arith, length-append (u4 n) (flat_map u4 more), rest)
@@ -146,12 +127,6 @@ long_pairs (p ∷ more) =
 
 long_table : (f d l h o : List ℕ) → length (f ++ d ++ l ++ h ++ o) ≡ length f + length d + length l + length h + length o
 long_table f d l h o = omega (arith, length-append (f ++ d ++ l ++ h) o, length-append (f ++ d ++ l) h, length-append (f ++ d) l, length-append f d)
-
-long_lookup : (f d n o : List ℕ) → length (f ++ d ++ n ++ o) ≡ length f + length d + length n + length o
-long_lookup f d n o = omega (arith, length-append (f ++ d ++ n) o, length-append (f ++ d) n, length-append f d)
-
-same_pos : (m n : ℕ) → pos m ≡ pos n → m ≡ n
-same_pos m n e = cc
 
 both_tables : (at op : ℕ) (xs ys r s : List ℕ) (i j : Instr) → IsTableSwitch at op xs i → IsTableSwitch at op ys j → xs ++ r ≡ ys ++ s → Alike xs ys i j
 both_tables at op xs ys r s i j h k e =
@@ -201,8 +176,8 @@ both_lookups at op xs ys r s i j h k e =
         count.0,
         long_pairs h.pairs,
         long_pairs k.pairs,
-        long_lookup h.filling (u4 h.default) (u4 (length h.pairs)) (flat_map pair_bytes h.pairs),
-        long_lookup k.filling (u4 k.default) (u4 (length k.pairs)) (flat_map pair_bytes k.pairs),
+        length_of_four h.filling (u4 h.default) (u4 (length h.pairs)) (flat_map pair_bytes h.pairs),
+        length_of_four k.filling (u4 k.default) (u4 (length k.pairs)) (flat_map pair_bytes k.pairs),
       );
       op = ap (λ (w : Instr). w.op) h.says ∙ sym (ap (λ (w : Instr). w.op) k.says);
       a = ap (λ (w : Instr). w.a) h.says ∙ ap (λ (n : ℕ). target at (signed_int n)) default.0 ∙ sym (ap (λ (w : Instr). w.a) k.says);
@@ -276,12 +251,6 @@ both_instrs at (v ∷ xs) (w ∷ ys) r s i j h k e =
     record { long = omega (arith, alike.long); op = alike.op; a = alike.a }
 
 -- ---- One after the other.
-
-some_bytes : (at : ℕ) (front after : List ℕ) (i : Instr) → IsInstr at front i → front ++ after ≡ [] → ⊥
-some_bytes at [] after i h e = h
-some_bytes at (b ∷ front) after i h e =
-    let whole : b ∷ (front ++ after) ≡ [] = e in
-    absurd cc
 
 -- the instruction at the same place of the other decoding
 pub alike_at : (at : ℕ) (bytes : List ℕ) (us vs : List Instr) (k : ℕ) (u : Instr) → AreInstrs at bytes us → AreInstrs at bytes vs → slice_get us k ≡ Some u

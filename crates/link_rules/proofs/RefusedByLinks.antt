@@ -1,8 +1,9 @@
 -- An entry that leads to a class or a member that may not be accessed is one at which access is refused.
-use Rattle.std.proofs.Common.{◌≡◌, ◌≢◌, ℕ, zero, suc, ◌+◌, ◌^◌, ◌<◌, ◌≤◌, ◌⊎◌, inl, inr, Bool, true, false, ◌↔◌, IsTrue, List, [], ◌∷◌, Some, None, length, arith, refl, sym, ◌∙◌, ap, subst}
+use Rattle.std.proofs.Common.{◌≡◌, ◌≢◌, ℕ, ◌+◌, ◌^◌, ◌<◌, ◌≤◌, ◌⊎◌, inl, inr, Bool, true, false, ◌↔◌, IsTrue, List, Some, None, length, arith, refl, sym, ◌∙◌, ap, subst}
 use Rattle.std.specs.Prelude.{not, slice_get}
 use Rattle.std.proofs.lemmas.Bool.{cases_lt}
 use Rattle.std.proofs.lemmas.Option.{same_Some, slice_get_within}
+use Rattle.list_lemmas.proofs.ItemsByPlace.{item_there}
 use Rattle.jk_model.specs.declared.class_file.ClassFile.{ClassFile}
 use Rattle.jk_model.specs.declared.class_file.PoolEntry.{PoolEntry}
 use Rattle.jk_model.specs.declared.class_file.PoolEntry.TheVariants as Entry
@@ -25,13 +26,14 @@ use Rattle.jk_model_classes.specs.Lookups.{MayAccess, MayAccessClass}
 use Rattle.jk_model_classes.specs.Members.{ClassAt, Field, InterfaceMethod, MemberKind, Method, TextAt, reference}
 use Rattle.jk_model_classes.specs.References.{ClassEntryAt}
 use Rattle.jk_model_classes.specs.SystemRecords.{IsBaseFor}
+use Rattle.class_lemmas.proofs.ArraysHaveNoNames.{no_array, array_begins}
+use Rattle.class_lemmas.proofs.OneMember.{same_reference}
 use Rattle.jk_model_folders.specs.LinkedClasses.{AreLinksFor, IsEntryType, IsFieldLink, IsLinkFor, IsMethodLink}
 use Rattle.class_texts.proofs.OneText.{one_text}
 use Rattle.descriptors.proofs.NoTextBeginsAnother.{one_field}
 use Rattle.link_rules.specs.RefusedEntries.{IsFirstRefused, RefusesBase, RefusesLink}
 use Rattle.link_rules.proofs.MissingByLinks.{is_reference, no_ref}
-use Rattle.link_rules.proofs.NamesOfArrays.{array_begins, no_array}
-use Rattle.link_rules.proofs.OneMember.{one_field_found, one_method_found, same_reference}
+use Rattle.link_rules.proofs.OneMember.{one_field_found, one_method_found}
 
 -- an array's text is none of a class
 not_both : (units : List ℕ) (t : FieldType) → IsClassName units → IsFieldText units t → t.dims ≢ 0 → ⊥
@@ -259,11 +261,6 @@ module _ (classes : List ClassRecord) (self : ClassId) (links : List Link) where
 
 -- ---- What a walk says of the class file.
 
-some_item : {X : Type 0} (xs : List X) (k : ℕ) → k < length xs → (x : X) × (slice_get xs k ≡ Some x)
-some_item [] k lt = absurd (omega arith)
-some_item (x ∷ xs) zero lt = (x, refl)
-some_item (x ∷ xs) (suc k) lt = some_item xs k (omega arith)
-
 -- access is refused only at an entry of the pool
 refused_within : (s : LinkScope) (c : ClassFile) (i : ℕ) → IsAccessRefused s c (AtEntry i) → i < length c.pool
 refused_within s c i (inl (name, cls, (units, (n, at, text), which), means, denied)) = slice_get_within c.pool i (Entry.Class n) at
@@ -283,14 +280,14 @@ module _ (classes : List ClassRecord) (self : ClassId) (links : List Link) (s : 
   none_at : (n j : ℕ) → NoneRefused classes self links n → j < n → IsAccessRefused s c (AtEntry j) → ⊥
   none_at n j none low bad =
       let within = refused_within s c j bad in
-      let entry = some_item c.pool j within in
-      let link = some_item links j (omega (arith, within, h.as_many)) in
+      let entry = item_there c.pool j within in
+      let link = item_there links j (omega (arith, within, h.as_many)) in
       none j link.0 low link.1 (given_refusal link.0 ((link_refused s c j entry.0 link.0 entry.1 (h.each j entry.0 link.0 entry.1 link.1)).1 bad))
 
   pub refused_found : (i : ℕ) (link : Link) → slice_get links i ≡ Some link → RefusesLink classes self link → NoneRefused classes self links i
       → IsFirstRefused s c (Some i)
   refused_found i link at r none =
-      let entry = some_item c.pool i (omega (arith, slice_get_within links i link at, h.as_many)) in (
+      let entry = item_there c.pool i (omega (arith, slice_get_within links i link at, h.as_many)) in (
         (link_refused s c i entry.0 link entry.1 (h.each i entry.0 link entry.1 at)).0 (own_refusal link r),
         λ j low bad. none_at i j none low bad,
       )

@@ -1,7 +1,8 @@
 -- An instruction finds what the entry that it names leads to.
-use Rattle.std.proofs.Common.{◌≡◌, ◌≢◌, ℕ, zero, suc, ◌<◌, ◌⊎◌, inl, inr, Bool, ◌↔◌, IsTrue, List, [], ◌∷◌, length, arith, Some, refl, sym, ◌∙◌, ap, subst, pos}
+use Rattle.std.proofs.Common.{◌≡◌, ◌≢◌, ℕ, ◌⊎◌, inl, inr, Bool, ◌↔◌, IsTrue, List, arith, Some, refl, sym, ◌∙◌, ap, subst, pos}
 use Rattle.std.specs.Prelude.{slice_get}
 use Rattle.std.proofs.lemmas.Option.{same_Some, slice_get_within}
+use Rattle.list_lemmas.proofs.ItemsByPlace.{item_there}
 use Rattle.jk_model.specs.declared.class_file.ClassFile.{ClassFile}
 use Rattle.jk_model.specs.declared.class_file.PoolEntry.{PoolEntry}
 use Rattle.jk_model.specs.declared.class_file.PoolEntry.TheVariants as Entry
@@ -116,16 +117,11 @@ module _ (s : LinkScope) (c : ClassFile) (i : ℕ) where
         → LeadsWrong s.classes instr.op link ↔ (FindsWrongField s c instr ⊎ FindsWrongMethod s c instr)
     link_wrong link h = (leads_wrong link h, finds_wrong link h)
 
-pub some_entry : {X : Type 0} (xs : List X) (k : ℕ) → k < length xs → (x : X) × (slice_get xs k ≡ Some x)
-some_entry [] k lt = absurd (omega arith)
-some_entry (x ∷ xs) zero lt = (x, refl)
-some_entry (x ∷ xs) (suc k) lt = some_entry xs k (omega arith)
-
 pub wrong_by_link : (classes : List ClassRecord) (links : List Link) (instr : Instr) (i : ℕ) (link : Link) (wrong : Bool) → instr.a ≡ pos i
     → slice_get links i ≡ Some link → (IsTrue wrong ↔ LeadsWrong classes instr.op link) → (s : LinkScope) (c : ClassFile) → s.classes ≡ classes
     → AreLinksFor s c links → IsTrue wrong ↔ (FindsWrongField s c instr ⊎ FindsWrongMethod s c instr)
 wrong_by_link classes links instr i link wrong names there says s c same h =
-    let entry = some_entry c.pool i (omega (arith, slice_get_within links i link there, h.as_many)) in
+    let entry = item_there c.pool i (omega (arith, slice_get_within links i link there, h.as_many)) in
     let by = link_wrong s c i entry.0 entry.1 instr names link (h.each i entry.0 link entry.1 there) in
     let own : IsTrue wrong ↔ LeadsWrong s.classes instr.op link =
     subst (λ (w : List ClassRecord). IsTrue wrong ↔ LeadsWrong w instr.op link) (sym same) says in
@@ -135,11 +131,11 @@ pub no_link : (links : List Link) (instr : Instr) → ((i : ℕ) (link : Link) �
     → (s : LinkScope) (c : ClassFile) → AreLinksFor s c links → (FindsWrongField s c instr ⊎ FindsWrongMethod s c instr) → ⊥
 no_link links instr none s c h (inl (m, field, (i, names, f, is), wrong)) =
     let (a, b, at, target, rest) = f.is_there in
-    let link = some_entry links i (omega (arith, slice_get_within c.pool i (reference Field a b) at, h.as_many)) in
+    let link = item_there links i (omega (arith, slice_get_within c.pool i (reference Field a b) at, h.as_many)) in
     none i link.0 names link.1
 no_link links instr none s c h (inr (m, method, (i, names, f, is), wrong)) =
     let (a, b, at, target, rest) = f.is_there in
-    let link = some_entry links i (omega (arith, slice_get_within c.pool i (reference f.kind a b) at, h.as_many)) in
+    let link = item_there links i (omega (arith, slice_get_within c.pool i (reference f.kind a b) at, h.as_many)) in
     none i link.0 names link.1
 
 -- ---- A link to a member that isn't there.

@@ -3,6 +3,7 @@ use Rattle.std.proofs.Common.{◌≡◌, ℕ, ◌+◌, ◌<◌, ◌≤◌, inl, 
 use Rattle.std.specs.Global.{Vec}
 use Rattle.std.proofs.lemmas.Bool.{cases_lt}
 use Rattle.std.proofs.lemmas.Option.{same_Some, slice_get_within}
+use Rattle.list_lemmas.proofs.ItemsByPlace.{item_there}
 use Rattle.jk_model.specs.declared.class_file.ClassFile.{ClassFile}
 use Rattle.jk_model.specs.declared.class_file.PoolEntry.{PoolEntry}
 use Rattle.jk_model.specs.declared.class_file.PoolEntry.TheVariants.{Utf8}
@@ -15,7 +16,7 @@ use Rattle.class_files.specs.FolderClasses.{files_of}
 use Rattle.name_rules.specs.Graphs.{Rows}
 use Rattle.name_rules.specs.Marks.{Marks, MarksOf}
 use Rattle.class_files.specs.declared.folder_class.FolderClass.{FolderClass}
-use Rattle.name_rules.proofs.FolderGraph.{as_many_files, file_at, item_there}
+use Rattle.name_rules.proofs.FolderGraph.{as_many_files, file_at}
 use Rattle.name_rules.proofs.MarksInTurn.{marks_as, marks_then}
 
 marks_nothing : (P : ℕ → Type 0) (a : List Bool) → ((i : ℕ) → P i → ⊥) → Marks P a a

@@ -1,6 +1,7 @@
 -- The graph of a folder's class files says what stands over what, and how high each class stands.
 use Rattle.std.proofs.Common.{◌≡◌, ℕ, zero, suc, ◌<◌, inl, inr, List, [], ◌∷◌, length, Option, Some, None, slice_get, refl, sym, ◌∙◌, ap, subst, arith}
 use Rattle.std.proofs.lemmas.Option.{same_Some, slice_get_within}
+use Rattle.list_lemmas.proofs.ItemsByPlace.{item_there}
 use Rattle.jk_model.specs.declared.class_file.ClassFile.{ClassFile}
 use Rattle.jk_model.specs.declared.class_file.PoolEntry.{PoolEntry}
 use Rattle.jk_model.specs.declared.class_file.PoolEntry.TheVariants.{Class}
@@ -21,11 +22,6 @@ use Rattle.name_rules.specs.FolderNames.{AreOwnNames}
 use Rattle.name_rules.specs.Graphs.{AreHeights, Climb, HasEdge, HasNoRing, IsHeight, IsOrderOf, Path, Rows, edge, further}
 use Rattle.class_files.specs.declared.folder_class.FolderClass.{FolderClass}
 use Rattle.name_rules.proofs.EdgesOfRows.{edge_within}
-
-pub item_there : {X : Type 0} (xs : List X) (i : ℕ) → i < length xs → (x : X) × (slice_get xs i ≡ Some x)
-item_there [] i below = absurd (omega arith)
-item_there (x ∷ xs) zero below = (x, refl)
-item_there (x ∷ xs) (suc i) below = item_there xs i (omega arith)
 
 -- ---- Files of the folder have names.
 

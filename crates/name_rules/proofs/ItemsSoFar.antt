@@ -26,6 +26,3 @@ module _ {X : Type 0} (P : X → Type 0) (xs : List X) (k : ℕ) where
 
   pub some_before : HasItemBefore k P xs → HasItem P xs
   some_before (i, y, below, found, p) = (i, y, found, p)
-
-pub none_before : {X : Type 0} (P : X → Type 0) (xs : List X) → HasItemBefore 0 P xs → ⊥
-none_before P xs (i, y, below, found, p) = omega arith

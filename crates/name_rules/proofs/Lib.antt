@@ -1,7 +1,5 @@
 -- Lemmas on the names that class files say, on marks, and on graphs over places.
 mod BadParts
-mod ClassNamesDecided
-mod ClassesInDescriptors
 mod EdgesMarked
 mod EdgesOfRows
 mod FolderGraph

@@ -5,8 +5,9 @@ use Rattle.std.specs.Vec.{with_items}
 use Rattle.std.proofs.lemmas.List.{with_items_is}
 use Rattle.std.proofs.lemmas.Option.{get_or_from_slice_get}
 use Rattle.jk_model_classes.specs.Items.{HasItem, HasItemBefore}
+use Rattle.class_lemmas.proofs.SomeItem.{none_yet}
 use Rattle.name_rules.specs.Marks.{IsMarked, Marks, MarksOf}
-use Rattle.name_rules.proofs.ItemsSoFar.{all_before, before_new, before_old, before_split, none_before, some_before}
+use Rattle.name_rules.proofs.ItemsSoFar.{all_before, before_new, before_old, before_split, some_before}
 
 pub marks_then : (P Q R : ℕ → Type 0) (a b c : List Bool) → ((i : ℕ) → P i → R i) → ((i : ℕ) → Q i → R i) → ((i : ℕ) → R i → P i ⊎ Q i)
     → Marks P a b → Marks Q b c → Marks R a c
@@ -45,7 +46,7 @@ module _ {X : Type 0} (P : ℕ → X → Type 0) (xs : List X) where
   pub marks_none : (a : List Bool) → Marks (λ i. HasItemBefore 0 (P i) xs) a a
   marks_none a = record {
     as_many = refl;
-    at = λ i below. (λ m. inl m, λ h. elim h [ inl old ↦ old | inr early ↦ absurd (none_before (P i) xs early) ]);
+    at = λ i below. (λ m. inl m, λ h. elim h [ inl old ↦ old | inr early ↦ absurd (none_yet (P i) xs early) ]);
   }
 
   pub marks_more : (Q : ℕ → Type 0) (k : ℕ) (x : X) (a b c : List Bool) → slice_get xs k ≡ Some x → ((i : ℕ) → Q i → P i x) → ((i : ℕ) → P i x → Q i)

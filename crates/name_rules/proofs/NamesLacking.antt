@@ -18,14 +18,15 @@ use Rattle.jk_model_classes.specs.Members.{TextAt}
 use Rattle.jk_model_classes.specs.OneClassRules.{HasNoFault}
 use Rattle.jk_model_classes.specs.References.{FolderScope, IsDescriptorEntry, IsKnownName, IsOfClass, IsResultOfClass, Mentions, MissesClass, RefersAt}
 use Rattle.jk_model_classes.specs.Worlds.{NamedClass, class_named}
+use Rattle.model_lemmas.proofs.ClassNamesDecided.{class_or_not}
+use Rattle.class_lemmas.proofs.ArraysHaveNoNames.{array_begins}
+use Rattle.class_lemmas.proofs.ClassesInDescriptors.{is_array, field_mentions, method_mentions}
 use Rattle.class_table.proofs.ItemsByPlace.{slice_get-front, slice_get-last}
 use Rattle.class_texts.proofs.OneText.{one_text}
 use Rattle.name_rules.specs.FolderNames.{AreOwnNames}
 use Rattle.name_rules.specs.KnownNames.{AreLacking, DescriptorSays, IsEntryName, IsNamedBy, IsSaidBy, Lacks, LacksOne}
 use Rattle.name_rules.specs.Marks.{IsMarked}
 use Rattle.name_rules.specs.declared.names.Names.{Names}
-use Rattle.name_rules.proofs.ClassNamesDecided.{array_begins, class_or_not}
-use Rattle.name_rules.proofs.ClassesInDescriptors.{field_mentions, is_array, method_mentions}
 use Rattle.name_rules.proofs.ItemsSoFar.{before_split}
 
 abbrev pub Tells : Names → (List ℕ → Type 0) → Bool → Type 0

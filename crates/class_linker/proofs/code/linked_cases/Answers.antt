@@ -1,8 +1,9 @@
 -- One more case.
 use Rattle.std.proofs.Common.{arith}
 use Rattle.std.proofs.lemmas.Option.{slice_get-get_or}
+use Rattle.list_lemmas.proofs.ItemByItem.{zip_more}
 use Rattle.jk_model_folders.specs.LinkedClasses.{IsCaseFor}
-use Rattle.class_linker.proofs.ItemByItem.{along_all, zip_more}
+use Rattle.class_linker.proofs.ItemByItem.{along_all}
 use Rattle.class_linker.proofs.code.linked_cases.Goals as goal
 
 pub linked_case-requires-clause-leads : goal.linked_case-requires-clause-leads

@@ -1,9 +1,10 @@
 -- One more catch entry.
 use Rattle.std.proofs.Common.{List, arith, subst}
+use Rattle.list_lemmas.proofs.ItemByItem.{zip_more}
 use Rattle.jk_model.specs.declared.class_file.Handler.{Handler}
 use Rattle.jk_model_folders.specs.LinkedClasses.{GoAlong, IsCaughtFor}
 use Rattle.class_linker.specs.KnownCodes.{HasPlaces}
-use Rattle.class_linker.proofs.ItemByItem.{along_all, read_at, zip_more}
+use Rattle.class_linker.proofs.ItemByItem.{along_all, read_at}
 use Rattle.class_linker.proofs.code.linked_handlers.Goals as goal
 
 pub caught-requires-clause-places : goal.caught-requires-clause-places

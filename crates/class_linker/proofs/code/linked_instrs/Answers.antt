@@ -1,9 +1,10 @@
 -- One more instruction.
 use Rattle.std.proofs.Common.{arith, refl, subst, length}
 use Rattle.std.proofs.lemmas.Option.{slice_get_read}
+use Rattle.list_lemmas.proofs.ItemByItem.{zip_more}
 use Rattle.jk_model.specs.declared.instructions.Instr.{Instr}
 use Rattle.jk_model_folders.specs.LinkedClasses.{IsInstrFor}
-use Rattle.class_linker.proofs.ItemByItem.{along_all, zip_more}
+use Rattle.class_linker.proofs.ItemByItem.{along_all}
 use Rattle.class_linker.proofs.code.linked_instrs.Goals as goal
 
 pub linked_instr-requires-clause-leads : goal.linked_instr-requires-clause-leads

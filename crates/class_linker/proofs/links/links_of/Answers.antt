@@ -1,10 +1,11 @@
 -- One entry more, or all are linked.
 use Rattle.std.proofs.Common.{◌≡◌, List, Some, arith, subst}
 use Rattle.std.specs.Prelude.{slice_get}
+use Rattle.list_lemmas.proofs.ItemsByPlace.{item_read}
 use Rattle.jk_model.specs.declared.class_file.PoolEntry.{PoolEntry}
 use Rattle.class_linker.specs.LinkParts.{LeadsTo}
 use Rattle.class_linker.proofs.EntriesAreLinked.{all_linked}
-use Rattle.class_linker.proofs.ItemsInTurn.{item_at, zip_more}
+use Rattle.class_linker.proofs.ItemsInTurn.{zip_more}
 use Rattle.class_linker.proofs.links.links_of.Goals as goal
 
 pub loop-entry-preserved : goal.loop-entry-preserved
@@ -21,7 +22,7 @@ pub link_of-requires-clause-item : goal.link_of-requires-clause-item
 link_of-requires-clause-item c = (
   c.loop-entry.entry-index,
   subst (λ (w : List PoolEntry). slice_get w c.loop-entry.entry-index ≡ Some c.entry-item.result) c.requires.own
-      (item_at c.args.l.now.pool.now c.loop-entry.entry-index c.entry-item.result c.loop-entry-test.true c.entry-item.is),
+      (item_read c.args.l.now.pool.now c.loop-entry.entry-index c.entry-item.result c.loop-entry-test.true c.entry-item.is),
 )
 
 pub returns : goal.returns

@@ -1,13 +1,13 @@
 -- A method that isn't abstract runs the code of its Code.
 use Rattle.std.proofs.Common.{◌≡◌, List, ap, inr, refl, subst, sym, ◌∙◌, false}
 use Rattle.std.specs.Prelude.{not}
+use Rattle.list_lemmas.proofs.ItemsOfLists.{Contains-at}
 use Rattle.jk_model.specs.declared.class_file.Attribute.{Attribute}
 use Rattle.jk_model.specs.ClassFile.{CodeLayout}
 use Rattle.jk_model_classes.specs.ClassFlags.{ABSTRACT, has}
 use Rattle.jk_model_classes.specs.Items.{HasItem}
 use Rattle.jk_model_classes.specs.MemberAttributes.{IsCodeAttribute}
 use Rattle.class_linker.specs.KnownMembers.{HasBodies, HasSomeBody}
-use Rattle.class_linker.proofs.ItemsInTurn.{contained}
 use Rattle.class_linker.proofs.members.method_body.Goals as goal
 
 pub method_code-requires-clause-some : goal.method_code-requires-clause-some
@@ -42,7 +42,7 @@ returns c = λ s names.
         item.1,
         code,
         c.in_ok-linked.linked,
-        contained c.args.method.now.attributes item.0 item.1 item.2,
+        Contains-at c.args.method.now.attributes item.0 item.1 item.2,
         item.3.0,
         item.3.1,
         c.in_ok-linked.ensures s names,

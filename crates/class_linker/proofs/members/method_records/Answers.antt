@@ -1,9 +1,10 @@
 -- One more method.
 use Rattle.std.proofs.Common.{List, arith, subst}
+use Rattle.list_lemmas.proofs.ItemByItem.{zip_more}
 use Rattle.jk_model.specs.declared.class_file.MemberInfo.{MemberInfo}
 use Rattle.jk_model_folders.specs.LinkedClasses.{GoAlong, IsMethodFor}
 use Rattle.class_linker.proofs.GoodMembers.{good_method}
-use Rattle.class_linker.proofs.ItemByItem.{along_all, item_at, zip_more}
+use Rattle.class_linker.proofs.ItemByItem.{along_all, item_at}
 use Rattle.class_linker.proofs.members.method_records.Goals as goal
 
 pub method_record-requires-clause-good : goal.method_record-requires-clause-good

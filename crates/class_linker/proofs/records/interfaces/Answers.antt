@@ -1,9 +1,10 @@
 -- One more interface.
 use Rattle.std.proofs.Common.{ℕ, List, arith, subst}
+use Rattle.list_lemmas.proofs.ItemByItem.{zip_more}
 use Rattle.jk_model_classes.specs.ClassNames.{NamesClass}
 use Rattle.jk_model_folders.specs.LinkedClasses.{GoAlong, NamesClassAt}
 use Rattle.class_linker.proofs.GoodMembers.{names_interface}
-use Rattle.class_linker.proofs.ItemByItem.{along_all, read_at, zip_more}
+use Rattle.class_linker.proofs.ItemByItem.{along_all, read_at}
 use Rattle.class_linker.proofs.NamesOfScope.{class_for}
 use Rattle.class_linker.proofs.records.interfaces.Goals as goal
 

@@ -3,8 +3,9 @@ use Rattle.std.proofs.Common.{◌≡◌, ℕ, List, inl}
 use Rattle.jk_model.specs.declared.descriptors.Base.TheVariants.{Class}
 use Rattle.jk_model_classes.specs.References.{Mentions}
 use Rattle.jk_model_classes.specs.Worlds.{class_named}
+use Rattle.class_lemmas.proofs.ClassesInDescriptors.{field_mentions}
 use Rattle.class_linker.specs.KnownReferences.{Adds}
-use Rattle.class_linker.proofs.NumbersAdded.{adds_as, field_mentions, on_map}
+use Rattle.class_linker.proofs.NumbersAdded.{adds_as, on_map}
 use Rattle.class_linker.proofs.references.add_descriptor.Goals as goal
 
 pub returns-in-Ok : goal.returns-in-Ok

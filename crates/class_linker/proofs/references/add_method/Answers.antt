@@ -4,8 +4,9 @@ use Rattle.jk_model.specs.declared.descriptors.FieldType.{FieldType}
 use Rattle.jk_model_classes.specs.Items.{HasItem}
 use Rattle.jk_model_classes.specs.References.{IsOfClass, IsResultOfClass, Mentions}
 use Rattle.jk_model_classes.specs.Worlds.{class_named}
+use Rattle.class_lemmas.proofs.ClassesInDescriptors.{method_mentions}
 use Rattle.class_linker.specs.KnownReferences.{Adds}
-use Rattle.class_linker.proofs.NumbersAdded.{adds_then, method_mentions, on_map}
+use Rattle.class_linker.proofs.NumbersAdded.{adds_then, on_map}
 use Rattle.class_linker.proofs.references.add_method.Goals as goal
 
 pub returns-in_ok-add_types-in-Ok : goal.returns-in_ok-add_types-in-Ok

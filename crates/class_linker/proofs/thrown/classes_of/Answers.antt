@@ -3,7 +3,7 @@ use Rattle.std.proofs.Common.{arith}
 use Rattle.std.proofs.Math.ListN.{get_or}
 use Rattle.std.proofs.lemmas.Option.{slice_get-get_or}
 use Rattle.jk_model.specs.ClassFile.{IsClassEntry, NamesEntry}
-use Rattle.class_linker.proofs.ItemByItem.{all_at}
+use Rattle.jk_model.proofs.EachItem.{all_at}
 use Rattle.class_linker.proofs.ThrownInTurn.{thrown_more, thrown_all}
 use Rattle.class_linker.proofs.thrown.classes_of.Goals as goal
 

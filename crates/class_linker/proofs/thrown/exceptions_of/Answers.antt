@@ -1,7 +1,8 @@
 -- One is found, or none is there.
 use Rattle.std.proofs.Common.{arith}
+use Rattle.list_lemmas.proofs.ItemsByPlace.{item_read}
 use Rattle.jk_model_classes.specs.MemberAttributes.{IsExceptions}
-use Rattle.class_linker.proofs.ItemsInTurn.{none_yet, none_more, none_at_all, item_at}
+use Rattle.class_lemmas.proofs.SomeItem.{none_yet, none_more, none_at_all}
 use Rattle.class_linker.proofs.thrown.exceptions_of.Goals as goal
 
 pub loop-a-init : goal.loop-a-init
@@ -15,7 +16,7 @@ loop-a-preserved c =
 pub returns-then-spells : goal.returns-then-spells
 returns-then-spells c = (
   c.loop-a.a-index,
-  item_at c.args.attributes.now c.loop-a.a-index c.a-item.result c.loop-a-test.true c.a-item.is,
+  item_read c.args.attributes.now c.loop-a.a-index c.a-item.result c.loop-a-test.true c.a-item.is,
   c.spells.ensures.0 c.if-spells.true,
 )
 

@@ -1,9 +1,10 @@
 -- One method more, or all are done.
 use Rattle.std.proofs.Common.{◌≡◌, List, Some, arith, subst}
 use Rattle.std.specs.Prelude.{slice_get}
+use Rattle.list_lemmas.proofs.ItemsByPlace.{item_read}
 use Rattle.jk_model.specs.declared.class_file.MemberInfo.{MemberInfo}
 use Rattle.class_linker.specs.ThrownClasses.{AreClassesThrown}
-use Rattle.class_linker.proofs.ItemsInTurn.{item_at, zip_more}
+use Rattle.class_linker.proofs.ItemsInTurn.{zip_more}
 use Rattle.class_linker.proofs.ThrownInTurn.{all_thrown}
 use Rattle.class_linker.proofs.thrown.thrown_in.Goals as goal
 
@@ -11,7 +12,7 @@ pub thrown_by-requires-clause-own : goal.thrown_by-requires-clause-own
 thrown_by-requires-clause-own c = (
   c.loop-method.method-index,
   subst (λ (w : List MemberInfo). slice_get w c.loop-method.method-index ≡ Some c.method-item.result) c.as_slice-method-items.ensures
-      (item_at c.as_slice-method-items.result.now c.loop-method.method-index c.method-item.result c.loop-method-test.true c.method-item.is),
+      (item_read c.as_slice-method-items.result.now c.loop-method.method-index c.method-item.result c.loop-method-test.true c.method-item.is),
 )
 
 pub loop-method-preserved : goal.loop-method-preserved

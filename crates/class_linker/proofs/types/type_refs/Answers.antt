@@ -1,9 +1,9 @@
 -- One more type.
 use Rattle.std.proofs.Common.{arith, subst}
+use Rattle.list_lemmas.proofs.ItemByItem.{zip_more}
 use Rattle.jk_model.specs.declared.descriptors.FieldType.{FieldType}
 use Rattle.jk_model_classes.specs.SystemRecords.{IsTypeFor}
 use Rattle.jk_model_classes.specs.Worlds.{class_named}
-use Rattle.class_linker.proofs.ItemByItem.{zip_more}
 use Rattle.class_linker.proofs.types.type_refs.Goals as goal
 
 pub loop-t-preserved : goal.loop-t-preserved

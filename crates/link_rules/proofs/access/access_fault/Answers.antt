@@ -1,5 +1,6 @@
 -- The number is a method's where one puts to a final field of another class or makes what it may not, and an entry's otherwise.
 use Rattle.std.proofs.Common.{ℕ, List, Some, None, arith, refl, subst, sym}
+use Rattle.list_lemmas.proofs.ItemsByPlace.{item_read}
 use Rattle.jk_model.specs.declared.identifiers.ClassId.{ClassId}
 use Rattle.jk_model_classes.specs.declared.records.ClassRecord.{ClassRecord}
 use Rattle.jk_model_classes.specs.declared.records.MethodRecord.{MethodRecord}
@@ -8,7 +9,6 @@ use Rattle.jk_model_classes.specs.Worlds.{NamedClass, class_named}
 use Rattle.link_rules.specs.FinalMethods.{IsFirstPlace}
 use Rattle.link_rules.specs.LinkedInstrs.{BreaksAccess, HasLinkedInstr}
 use Rattle.link_rules.specs.LinkFaults.{IsLeastNumber}
-use Rattle.link_rules.proofs.ItemsInTurn.{item_at}
 use Rattle.link_rules.proofs.MadeByLinks.{access_member}
 use Rattle.link_rules.proofs.MethodsByRecord.{least_entry, least_member, nowhere, own_record, place_within}
 use Rattle.link_rules.proofs.RefusedByLinks.{refused_short}
@@ -22,7 +22,7 @@ pub method_number-requires : goal.method_number-requires
 method_number-requires c =
     let r = c.in_ok-r.r.now in
     let s = scope c.args.names.now c.args.t.now c.args.class in
-    let few = c.ordered.ensures.members c.args.class r (item_at c.args.t.now c.args.class.0 r c.in_ok-r.ensures.3.0 c.in_ok-r.ensures.1) in
+    let few = c.ordered.ensures.members c.args.class r (item_read c.args.t.now c.args.class.0 r c.in_ok-r.ensures.3.0 c.in_ok-r.ensures.1) in
     record {
       fields = few.0;
       methods = few.1;
@@ -45,7 +45,7 @@ returns-in-Some c =
     let r = c.in_ok-r.r.now in
     let s = scope c.args.names.now c.args.t.now c.args.class in
     let linked = c.requires.linked in
-    let at = item_at c.args.t.now c.args.class.0 r c.in_ok-r.ensures.3.0 c.in_ok-r.ensures.1 in
+    let at = item_read c.args.t.now c.args.class.0 r c.in_ok-r.ensures.3.0 c.in_ok-r.ensures.1 in
     let least = least_member (BreaksAccess s c.args.c.now) (access_told s c.args.c.now) s c.args.c.now linked.path linked.alone linked.home r
     (own_record s c.args.c.now c.args.links.now linked r at) (IsAccessRefused s c.args.c.now)
     (λ n. access_member s c.args.c.now c.args.links.now linked.links_are linked.path linked.alone n) c.in-Some.i
@@ -58,7 +58,7 @@ returns-in-Some-first_refused c =
     let r = c.in_ok-r.r.now in
     let s = scope c.args.names.now c.args.t.now c.args.class in
     let linked = c.requires.linked in
-    let at = item_at c.args.t.now c.args.class.0 r c.in_ok-r.ensures.3.0 c.in_ok-r.ensures.1 in
+    let at = item_read c.args.t.now c.args.class.0 r c.in_ok-r.ensures.3.0 c.in_ok-r.ensures.1 in
     let refused = c.in-Some-first_refused.ensures s c.args.c.now refl refl linked.links_are in
     least_entry (BreaksAccess s c.args.c.now) (access_told s c.args.c.now) s c.args.c.now linked.path linked.alone linked.home r
     (own_record s c.args.c.now c.args.links.now linked r at) (IsAccessRefused s c.args.c.now)
@@ -71,7 +71,7 @@ returns-in-None-first_refused c =
     let r = c.in_ok-r.r.now in
     let s = scope c.args.names.now c.args.t.now c.args.class in
     let linked = c.requires.linked in
-    let at = item_at c.args.t.now c.args.class.0 r c.in_ok-r.ensures.3.0 c.in_ok-r.ensures.1 in
+    let at = item_read c.args.t.now c.args.class.0 r c.in_ok-r.ensures.3.0 c.in_ok-r.ensures.1 in
     nowhere (BreaksAccess s c.args.c.now) (access_told s c.args.c.now) s c.args.c.now linked.path linked.alone linked.home r
     (own_record s c.args.c.now c.args.links.now linked r at) (IsAccessRefused s c.args.c.now)
     (λ n. access_member s c.args.c.now c.args.links.now linked.links_are linked.path linked.alone n)

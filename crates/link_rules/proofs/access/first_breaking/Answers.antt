@@ -1,7 +1,8 @@
 -- A method puts to a final field of another class or makes what it may not, or none does.
 use Rattle.std.proofs.Common.{arith}
+use Rattle.list_lemmas.proofs.ItemsByPlace.{item_read}
+use Rattle.class_lemmas.proofs.SomeItem.{none_yet, none_more, none_at_all}
 use Rattle.link_rules.specs.LinkedInstrs.{BreaksAccess, HasLinkedInstr}
-use Rattle.link_rules.proofs.ItemsInTurn.{item_at, none_at_all, none_more, none_yet}
 use Rattle.link_rules.proofs.access.first_breaking.Goals as goal
 
 pub loop-i-init : goal.loop-i-init
@@ -16,7 +17,7 @@ pub returns-then-breaks : goal.returns-then-breaks
 returns-then-breaks c = λ s same own h. (
   (
     c.index-methods-i.result,
-    item_at c.args.methods.now c.loop-i.i c.index-methods-i.result (omega arith) c.index-methods-i.is,
+    item_read c.args.methods.now c.loop-i.i c.index-methods-i.result (omega arith) c.index-methods-i.is,
     (c.breaks.ensures s same own h).0 c.if-breaks.true,
   ),
   c.loop-i.invariant s same own h,

@@ -1,7 +1,8 @@
 -- An instruction puts to a final field of another class or makes what it may not, or none does.
 use Rattle.std.proofs.Common.{refl, arith}
+use Rattle.list_lemmas.proofs.ItemsByPlace.{item_read}
+use Rattle.class_lemmas.proofs.SomeItem.{none_yet, none_more, none_at_all}
 use Rattle.link_rules.specs.LinkedInstrs.{BreaksAccess}
-use Rattle.link_rules.proofs.ItemsInTurn.{item_at, none_at_all, none_more, none_yet}
 use Rattle.link_rules.proofs.access.has_breaking.Goals as goal
 
 pub loop-i-init : goal.loop-i-init
@@ -17,7 +18,7 @@ returns-then-is_breaking c = λ s same own h. (
   λ t. (
     c.loop-i.i,
     c.index-instrs-i.result,
-    item_at c.args.instrs.now c.loop-i.i c.index-instrs-i.result (omega arith) c.index-instrs-i.is,
+    item_read c.args.instrs.now c.loop-i.i c.index-instrs-i.result (omega arith) c.index-instrs-i.is,
     (c.is_breaking.ensures s same own h).0 c.if-is_breaking.true,
   ),
   λ breaks. refl,

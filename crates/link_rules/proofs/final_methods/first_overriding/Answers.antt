@@ -1,8 +1,9 @@
 -- One is found, or none is there.
 use Rattle.std.proofs.Common.{arith}
+use Rattle.list_lemmas.proofs.ItemsByPlace.{item_read}
 use Rattle.jk_model_classes.specs.LinkRules.{OverridesFinal}
+use Rattle.class_lemmas.proofs.SomeItem.{none_yet, none_more, none_at_all}
 use Rattle.link_rules.specs.FinalMethods.{scope_of}
-use Rattle.link_rules.proofs.ItemsInTurn.{none_yet, none_more, none_at_all, item_at}
 use Rattle.link_rules.proofs.final_methods.first_overriding.Goals as goal
 
 pub loop-i-init : goal.loop-i-init
@@ -16,7 +17,7 @@ pub returns-then-overrides_final : goal.returns-then-overrides_final
 returns-then-overrides_final c = (
   (
     c.index-methods-i.result,
-    item_at c.args.methods.now c.loop-i.i c.index-methods-i.result (omega arith) c.index-methods-i.is,
+    item_read c.args.methods.now c.loop-i.i c.index-methods-i.result (omega arith) c.index-methods-i.is,
     c.overrides_final.ensures.0 c.if-overrides_final.true,
   ),
   c.loop-i.invariant,

@@ -1,7 +1,7 @@
 -- A method is a constructor, or none is.
 use Rattle.std.proofs.Common.{refl}
+use Rattle.class_lemmas.proofs.SomeItem.{none_at_all}
 use Rattle.link_rules.proofs.ClosedClasses.{IsInit, init_later, init_there}
-use Rattle.link_rules.proofs.ItemsInTurn.{none_at_all}
 use Rattle.link_rules.proofs.made_classes.has_init.Goals as goal
 
 pub returns-then-eq : goal.returns-then-eq

@@ -1,7 +1,8 @@
 -- An instruction finds a member of the wrong sort, or none does.
 use Rattle.std.proofs.Common.{refl, arith}
+use Rattle.list_lemmas.proofs.ItemsByPlace.{item_read}
+use Rattle.class_lemmas.proofs.SomeItem.{none_yet, none_more, none_at_all}
 use Rattle.link_rules.specs.LinkedInstrs.{FindsWrong}
-use Rattle.link_rules.proofs.ItemsInTurn.{item_at, none_at_all, none_more, none_yet}
 use Rattle.link_rules.proofs.members.has_wrong_instr.Goals as goal
 
 pub loop-i-init : goal.loop-i-init
@@ -17,7 +18,7 @@ returns-then-finds_wrong c = λ s file same h. (
   λ t. (
     c.loop-i.i,
     c.index-instrs-i.result,
-    item_at c.args.instrs.now c.loop-i.i c.index-instrs-i.result (omega arith) c.index-instrs-i.is,
+    item_read c.args.instrs.now c.loop-i.i c.index-instrs-i.result (omega arith) c.index-instrs-i.is,
     (c.finds_wrong.ensures s file same h).0 c.if-finds_wrong.true,
   ),
   λ wrong. refl,

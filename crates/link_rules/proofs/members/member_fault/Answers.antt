@@ -1,5 +1,6 @@
 -- The number is a method's where one finds a member of the wrong sort, and an entry's otherwise.
 use Rattle.std.proofs.Common.{ℕ, List, Some, None, arith, refl, subst, sym}
+use Rattle.list_lemmas.proofs.ItemsByPlace.{item_read}
 use Rattle.jk_model.specs.declared.identifiers.ClassId.{ClassId}
 use Rattle.jk_model_classes.specs.declared.records.ClassRecord.{ClassRecord}
 use Rattle.jk_model_classes.specs.declared.records.MethodRecord.{MethodRecord}
@@ -8,7 +9,6 @@ use Rattle.jk_model_classes.specs.Worlds.{NamedClass, class_named}
 use Rattle.link_rules.specs.FinalMethods.{IsFirstPlace}
 use Rattle.link_rules.specs.LinkedInstrs.{FindsWrong, HasLinkedInstr}
 use Rattle.link_rules.specs.LinkFaults.{IsLeastNumber}
-use Rattle.link_rules.proofs.ItemsInTurn.{item_at}
 use Rattle.link_rules.proofs.MethodsByRecord.{least_entry, least_member, nowhere, own_record, place_within}
 use Rattle.link_rules.proofs.MissingByLinks.{missing_within}
 use Rattle.link_rules.proofs.ToldByOperands.{wrong_told}
@@ -21,7 +21,7 @@ pub method_number-requires : goal.method_number-requires
 method_number-requires c =
     let r = c.in_ok-r.r.now in
     let s = scope c.args.names.now c.args.t.now c.args.class in
-    let few = c.ordered.ensures.members c.args.class r (item_at c.args.t.now c.args.class.0 r c.in_ok-r.ensures.3.0 c.in_ok-r.ensures.1) in
+    let few = c.ordered.ensures.members c.args.class r (item_read c.args.t.now c.args.class.0 r c.in_ok-r.ensures.3.0 c.in_ok-r.ensures.1) in
     record {
       fields = few.0;
       methods = few.1;
@@ -44,7 +44,7 @@ returns-in-Some c =
     let r = c.in_ok-r.r.now in
     let s = scope c.args.names.now c.args.t.now c.args.class in
     let linked = c.requires.linked in
-    let at = item_at c.args.t.now c.args.class.0 r c.in_ok-r.ensures.3.0 c.in_ok-r.ensures.1 in
+    let at = item_read c.args.t.now c.args.class.0 r c.in_ok-r.ensures.3.0 c.in_ok-r.ensures.1 in
     let least = least_member (FindsWrong s c.args.c.now) (wrong_told s c.args.c.now) s c.args.c.now linked.path linked.alone linked.home r
     (own_record s c.args.c.now c.args.links.now linked r at) (MissesMember s c.args.c.now) (λ n. (λ h. h, λ h. h)) c.in-Some.i
     (subst (λ (ms : List MethodRecord). IsFirstPlace (HasLinkedInstr (FindsWrong s c.args.c.now)) ms (Some c.in-Some.i)) c.as_slice.ensures
@@ -56,7 +56,7 @@ returns-in-Some-first_missing c =
     let r = c.in_ok-r.r.now in
     let s = scope c.args.names.now c.args.t.now c.args.class in
     let linked = c.requires.linked in
-    let at = item_at c.args.t.now c.args.class.0 r c.in_ok-r.ensures.3.0 c.in_ok-r.ensures.1 in
+    let at = item_read c.args.t.now c.args.class.0 r c.in_ok-r.ensures.3.0 c.in_ok-r.ensures.1 in
     let missing = c.in-Some-first_missing.ensures s refl linked.links_are in
     least_entry (FindsWrong s c.args.c.now) (wrong_told s c.args.c.now) s c.args.c.now linked.path linked.alone linked.home r
     (own_record s c.args.c.now c.args.links.now linked r at) (MissesMember s c.args.c.now) (λ n. (λ h. h, λ h. h)) c.in-Some-first_missing.i
@@ -68,7 +68,7 @@ returns-in-None-first_missing c =
     let r = c.in_ok-r.r.now in
     let s = scope c.args.names.now c.args.t.now c.args.class in
     let linked = c.requires.linked in
-    let at = item_at c.args.t.now c.args.class.0 r c.in_ok-r.ensures.3.0 c.in_ok-r.ensures.1 in
+    let at = item_read c.args.t.now c.args.class.0 r c.in_ok-r.ensures.3.0 c.in_ok-r.ensures.1 in
     nowhere (FindsWrong s c.args.c.now) (wrong_told s c.args.c.now) s c.args.c.now linked.path linked.alone linked.home r
     (own_record s c.args.c.now c.args.links.now linked r at) (MissesMember s c.args.c.now) (λ n. (λ h. h, λ h. h))
     (subst (λ (ms : List MethodRecord). IsFirstPlace (HasLinkedInstr (FindsWrong s c.args.c.now)) ms None) c.as_slice.ensures

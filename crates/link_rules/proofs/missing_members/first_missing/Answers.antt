@@ -1,6 +1,6 @@
 -- One more doesn't miss its member, or does.
 use Rattle.std.proofs.Common.{ap, arith, length}
-use Rattle.link_rules.proofs.ItemsInTurn.{item_at}
+use Rattle.list_lemmas.proofs.ItemsByPlace.{item_read}
 use Rattle.link_rules.proofs.MissingByLinks.{missing_found, none_missing_more, nothing_missing}
 use Rattle.link_rules.proofs.missing_members.first_missing.Goals as goal
 
@@ -17,8 +17,8 @@ loop-i-preserved c =
     let (s, same, h) = c.requires.links in
     none_missing_more c.args.t.now c.args.c.now c.as_slice-pool.result.now c.as_slice-links.result.now c.args.links.now c.loop-i.i c.index-pool-i.result
     c.index-links-i.result c.is_missing.result c.requires.good c.as_slice-pool.ensures c.as_slice-links.ensures
-    (item_at c.as_slice-pool.result.now c.loop-i.i c.index-pool-i.result (omega arith) c.index-pool-i.is)
-    (item_at c.as_slice-links.result.now c.loop-i.i c.index-links-i.result
+    (item_read c.as_slice-pool.result.now c.loop-i.i c.index-pool-i.result (omega arith) c.index-pool-i.is)
+    (item_read c.as_slice-links.result.now c.loop-i.i c.index-links-i.result
     (omega (arith, h.as_many, ap length c.as_slice-pool.ensures, ap length c.as_slice-links.ensures)) c.index-links-i.is)
     c.is_missing.ensures c.if-is_missing.false c.loop-i.invariant
 
@@ -27,8 +27,8 @@ returns-then-is_missing c =
     let (s, same, h) = c.requires.links in
     missing_found c.args.t.now c.args.c.now c.as_slice-pool.result.now c.as_slice-links.result.now c.args.links.now c.loop-i.i c.index-pool-i.result
     c.index-links-i.result c.is_missing.result c.requires.good c.as_slice-pool.ensures c.as_slice-links.ensures
-    (item_at c.as_slice-pool.result.now c.loop-i.i c.index-pool-i.result (omega arith) c.index-pool-i.is)
-    (item_at c.as_slice-links.result.now c.loop-i.i c.index-links-i.result
+    (item_read c.as_slice-pool.result.now c.loop-i.i c.index-pool-i.result (omega arith) c.index-pool-i.is)
+    (item_read c.as_slice-links.result.now c.loop-i.i c.index-links-i.result
     (omega (arith, h.as_many, ap length c.as_slice-pool.ensures, ap length c.as_slice-links.ensures)) c.index-links-i.is)
     c.is_missing.ensures c.if-is_missing.true c.loop-i.invariant
 

@@ -1,8 +1,8 @@
 -- One more isn't refused, or is.
 use Rattle.std.proofs.Common.{◌≡◌, List, Some, arith, subst, ap, length}
 use Rattle.std.specs.Prelude.{slice_get}
+use Rattle.list_lemmas.proofs.ItemsByPlace.{item_read}
 use Rattle.jk_model_classes.specs.declared.records.Link.{Link}
-use Rattle.link_rules.proofs.ItemsInTurn.{item_at}
 use Rattle.link_rules.proofs.RefusedByLinks.{none_refused_more, nothing_refused, refused_found}
 use Rattle.link_rules.proofs.refused_entries.first_refused.Goals as goal
 
@@ -13,14 +13,14 @@ pub loop-i-preserved : goal.loop-i-preserved
 loop-i-preserved c =
     none_refused_more c.args.t.now c.args.class c.args.links.now c.loop-i.i c.index-links-i.result
     (subst (λ (w : List Link). slice_get w c.loop-i.i ≡ Some c.index-links-i.result) c.as_slice-links.ensures
-    (item_at c.as_slice-links.result.now c.loop-i.i c.index-links-i.result (omega arith) c.index-links-i.is))
+    (item_read c.as_slice-links.result.now c.loop-i.i c.index-links-i.result (omega arith) c.index-links-i.is))
     (λ h. let t = c.is_refused.ensures.1 h in let f = c.if-is_refused.false in absurd cc) c.loop-i.invariant
 
 pub returns-then-is_refused : goal.returns-then-is_refused
 returns-then-is_refused c = λ s file same own h.
     refused_found c.args.t.now c.args.class c.args.links.now s file same own h c.loop-i.i c.index-links-i.result
     (subst (λ (w : List Link). slice_get w c.loop-i.i ≡ Some c.index-links-i.result) c.as_slice-links.ensures
-    (item_at c.as_slice-links.result.now c.loop-i.i c.index-links-i.result (omega arith) c.index-links-i.is))
+    (item_read c.as_slice-links.result.now c.loop-i.i c.index-links-i.result (omega arith) c.index-links-i.is))
     (c.is_refused.ensures.0 c.if-is_refused.true) c.loop-i.invariant
 
 pub returns : goal.returns

@@ -4,8 +4,8 @@ use Rattle.std.proofs.lemmas.Bool.{iff_false}
 use Rattle.jk_model.specs.declared.descriptors.FieldType.{FieldType}
 use Rattle.jk_model.specs.Descriptors.{IsFieldText}
 use Rattle.jk_model_classes.specs.References.{IsOfClass}
+use Rattle.class_lemmas.proofs.ArraysHaveNoNames.{no_array}
 use Rattle.name_rules.specs.KnownNames.{IsNamedBy}
-use Rattle.name_rules.proofs.ClassNamesDecided.{no_array}
 use Rattle.name_rules.proofs.NamesLacking.{Tells, array_tells, class_tells, ok_map}
 use Rattle.name_rules.proofs.mentions.name_lacks.Goals as goal
 
