@@ -1,9 +1,10 @@
 -- The class files of a folder are judged by themselves in turn.
 use Rattle.std.proofs.Common.{◌≡◌, ℕ, zero, suc, ◌+◌, ◌<◌, ◌^◌, List, [], ◌∷◌, length, Option, Some, None, slice_get, refl, sym, ap, subst, ◌∙◌, arith}
 use Rattle.std.specs.Prelude.{option_map}
-use Rattle.std.specs.List.{AllByRecursion, AllZip}
+use Rattle.std.specs.List.{AllZip}
 use Rattle.std.proofs.lemmas.List.{length-map}
 use Rattle.std.proofs.lemmas.Option.{same_Some, slice_get-map, slice_get_within}
+use Rattle.list_lemmas.proofs.ItemsOfLists.{each-by_place}
 use Rattle.jk_model.specs.declared.class_file.ClassFile.{ClassFile}
 use Rattle.jk_model.specs.declared.output.Rule.{Rule}
 use Rattle.jk_model.specs.declared.output.Rule.TheVariants.{C6, C7, C8, C9, C10, C11, C12, C13, C14, C15, C16, C17}
@@ -119,13 +120,9 @@ judged_below f cs rule i spot (file, c, at, of_c, breaks) = slice_get_within f.c
 
 -- ---- All class files.
 
-all_from_places : {X : Type 0} (P : X → Type 0) (xs : List X) → ((i : ℕ) (x : X) → slice_get xs i ≡ Some x → P x) → AllByRecursion P xs
-all_from_places P [] h = tt
-all_from_places P (x ∷ xs) h = (h 0 x refl, all_from_places P xs (λ i y at. h (suc i) y at))
-
 pub are_read_classes : (f : FolderFiles) (classes : List FolderClass) → AreFiles f → AllZip IsReadOf f.classes classes
     → NoneBroken one_class_rules (BreaksAlone f (files_of classes)) → AreReadClasses classes
-are_read_classes f classes files h none = all_from_places IsReadClass classes (λ i y at.
+are_read_classes f classes files h none = each-by_place IsReadClass classes (λ i y at.
     let own = zipped_at f.classes classes h i y at in
     record {
       writable = writable_class own.0.bytes y.file own.2.0 (short_file f i own.0 files own.1);

@@ -4,6 +4,8 @@ use Rattle.std.specs.Prelude.{option_map}
 use Rattle.std.proofs.lemmas.List.{length-map}
 use Rattle.std.proofs.lemmas.List.Elements.{All-contains, All-from_recursion}
 use Rattle.std.proofs.lemmas.Option.{same_Some, slice_get-map, slice_get_within, slice_get-get_or}
+use Rattle.list_lemmas.proofs.ItemsByPlace.{item_there}
+use Rattle.list_lemmas.proofs.ItemsOfLists.{Contains-at}
 use Rattle.jk_model.specs.declared.class_file.ClassFile.{ClassFile}
 use Rattle.jk_model.specs.declared.identifiers.ClassId.{ClassId}
 use Rattle.jk_model_classes.specs.declared.records.ClassRecord.{ClassRecord}
@@ -17,7 +19,6 @@ use Rattle.class_texts.specs.PoolTexts.{AreTextsOf}
 use Rattle.link_rules.specs.LinkFaults.{IsLeastNumber, IsLinked}
 use Rattle.placed_rules.specs.FirstFiles.{BreaksInFile}
 use Rattle.placed_rules.specs.PlacedFaults.{AreLinkedIn, class_at, scope_at}
-use Rattle.placed_rules.proofs.ItemsAt.{contained, item_there}
 
 -- ---- Files and their classes.
 
@@ -25,7 +26,7 @@ pub file_at : (fs : List FolderClass) (i : ℕ) (f : FolderClass) → slice_get 
 file_at fs i f at = slice_get-map (λ (x : FolderClass). x.file) fs i ∙ ap (option_map (λ (x : FolderClass). x.file)) at
 
 pub read_at : (fs : List FolderClass) → AreReadClasses fs → (i : ℕ) (f : FolderClass) → slice_get fs i ≡ Some f → IsReadClass f
-read_at fs read i f at = All-contains IsReadClass fs f (All-from_recursion IsReadClass fs read) (contained fs i f at)
+read_at fs read i f at = All-contains IsReadClass fs f (All-from_recursion IsReadClass fs read) (Contains-at fs i f at)
 
 pub file_within : (fs : List FolderClass) (order : List ℕ) → IsClassOrder (files_of fs) order → (k i : ℕ) → slice_get order k ≡ Some i → i < length fs
 file_within fs order ordered k i at =

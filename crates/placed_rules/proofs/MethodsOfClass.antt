@@ -1,8 +1,8 @@
 -- A rule on the code of methods is broken at the number of a method of the class.
-use Rattle.std.proofs.Common.{◌≡◌, ℕ, ◌+◌, ◌<◌, ◌≤◌, ◌*◌, ◌⊎◌, List, length, Option, Some, None, slice_get, inl, inr, refl, sym, ap, subst, ◌∙◌, arith}
+use Rattle.std.proofs.Common.{◌≡◌, ℕ, ◌+◌, ◌<◌, ◌≤◌, ◌*◌, List, length, Option, Some, None, slice_get, inl, inr, refl, sym, ap, subst, ◌∙◌, arith}
 use Rattle.std.specs.Prelude.{IfNone}
-use Rattle.std.proofs.lemmas.Bool.{cases_lt}
 use Rattle.std.proofs.lemmas.Option.{same_Some, none-some, slice_get_within}
+use Rattle.list_lemmas.proofs.TestsAndOrders.{less_or_same}
 use Rattle.jk_model.specs.declared.identifiers.ClassId.{ClassId}
 use Rattle.jk_model.specs.declared.identifiers.MemberId.{MemberId}
 use Rattle.jk_model_classes.specs.declared.records.Body.TheVariants.{Linked}
@@ -134,13 +134,6 @@ module _ (classes : List ClassRecord) (class : ClassId) where
 
 abbrev of_number : ℕ → ClassId
 of_number n = record { 0 = n }
-
-less_or_same : (i n : ℕ) → i < n + 1 → (i < n) ⊎ (i ≡ n)
-less_or_same i n less =
-    elim (cases_lt i n) [
-      | inl lower ↦ inl lower
-      | inr not_lower ↦ inr (omega (arith, less, not_lower))
-    ]
 
 pub typed_next : (classes : List ClassRecord) (class : ClassId) (n : ℕ) → AreTypedBefore classes class n → IsTypedAt classes (method_of class n)
     → AreTypedBefore classes class (n + 1)

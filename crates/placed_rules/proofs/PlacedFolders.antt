@@ -1,8 +1,9 @@
 -- The classes of a placed folder have the records of their files, with their links and without.
-use Rattle.std.proofs.Common.{◌≡◌, ℕ, suc, ◌+◌, List, [], ◌∷◌, ◌++◌, length, map, Some, slice_get, sym, ap, subst, ◌∙◌, arith, length-append}
+use Rattle.std.proofs.Common.{◌≡◌, ℕ, ◌+◌, List, length, map, Some, slice_get, sym, ap, subst, ◌∙◌, arith, length-append}
 use Rattle.std.specs.Prelude.{option_map}
 use Rattle.std.proofs.lemmas.List.{length-map}
 use Rattle.std.proofs.lemmas.Option.{same_Some, slice_get-map, slice_get_within}
+use Rattle.list_lemmas.proofs.ItemsByPlace.{slice_get-behind, item_there}
 use Rattle.jk_model.specs.declared.class_file.ClassFile.{ClassFile}
 use Rattle.jk_model.specs.declared.identifiers.ClassId.{ClassId}
 use Rattle.jk_model.specs.declared.identifiers.DomainId.{DomainId}
@@ -15,15 +16,6 @@ use Rattle.jk_model_classes.specs.Worlds.{NamedClass, WorldRecord}
 use Rattle.jk_model_folders.specs.FolderRules.{IsPlaced, PlacedFolder, link_scope}
 use Rattle.jk_model_folders.specs.LinkedClasses.{AreLinksFor, IsRecordFor, without_links}
 use Rattle.placed_rules.specs.PlacedFaults.{AreLinkedIn, AreRecorded, IsLinkedAt, class_at, scope_at}
-use Rattle.placed_rules.proofs.ItemsAt.{item_there}
-
-behind : {X : Type 0} (xs ys : List X) (k : ℕ) → slice_get (xs ++ ys) (length xs + k) ≡ slice_get ys k
-behind {X} [] ys k =
-    let none : 0 + k ≡ k = omega arith in
-    ap (λ (n : ℕ). slice_get ys n) none
-behind {X} (x ∷ xs) ys k =
-    let one : length (x ∷ xs) + k ≡ suc (length xs + k) = omega arith in
-    ap (λ (n : ℕ). slice_get (x ∷ xs ++ ys) n) one ∙ behind xs ys k
 
 -- no part of a record that the file gives is a link
 unlinked_record : (s : LinkScope) (home : DomainId) (c : ClassFile) (r : ClassRecord) → IsRecordFor s home c r → IsRecordFor s home c (without_links r)
@@ -53,7 +45,7 @@ module _ (w : WorldRecord) (lines : List ResolverLine) (cs : List ClassFile) (na
   its_record k i c at there =
       let r = added_at k i at in
       let known : slice_get p.classes (length w.classes + k) ≡ Some r.0 =
-      ap (λ (t : List ClassRecord). slice_get t (length w.classes + k)) h.classes ∙ behind w.classes h.added k ∙ r.1 in
+      ap (λ (t : List ClassRecord). slice_get t (length w.classes + k)) h.classes ∙ slice_get-behind w.classes h.added k ∙ r.1 in
       (link_scope p (class_at first k), p.home, r.0, known, (h.records k i c r.0 at there r.1).0)
 
   pub recorded_of : AreRecorded p.classes first p.order cs
@@ -73,7 +65,7 @@ module _ (w : WorldRecord) (lines : List ResolverLine) (cs : List ClassFile) (na
       let bare : slice_get (map without_links h.added) k ≡ Some (without_links r.0) =
       slice_get-map without_links h.added k ∙ ap (option_map without_links) r.1 in
       let known : slice_get p.unlinked (length w.classes + k) ≡ Some (without_links r.0) =
-      ap (λ (t : List ClassRecord). slice_get t (length w.classes + k)) h.unlinked ∙ behind w.classes (map without_links h.added) k ∙ bare in
+      ap (λ (t : List ClassRecord). slice_get t (length w.classes + k)) h.unlinked ∙ slice_get-behind w.classes (map without_links h.added) k ∙ bare in
       let of_record : slice_get links_of k ≡ Some r.0.links =
       slice_get-map (λ (x : ClassRecord). x.links) h.added k ∙ ap (option_map (λ (x : ClassRecord). x.links)) r.1 in
       let same : r.0.links ≡ own = same_Some r.0.links own (sym of_record ∙ of_k) in

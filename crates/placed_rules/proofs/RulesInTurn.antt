@@ -1,12 +1,12 @@
 -- The first rule that is broken is found rule by rule.
 use Rattle.std.proofs.Common.{◌≡◌, ℕ, zero, suc, ◌<◌, List, [], ◌∷◌, ◌++◌, length, Option, Some, None, slice_get, refl, sym, subst, arith}
 use Rattle.std.proofs.lemmas.Option.{same_Some}
+use Rattle.list_lemmas.proofs.ItemsOfLists.{Contains-at, place_of}
 use Rattle.jk_model.specs.declared.output.Rule.{Rule}
 use Rattle.jk_model_classes.specs.Items.{Spot, IsBefore, spot_number}
 use Rattle.jk_model_folders.specs.FolderRules.{BreaksAt, IsFirstBroken, NoneBroken}
 use Rattle.class_files.specs.declared.faults.FileFault.{FileFault}
 use Rattle.placed_rules.specs.FirstFiles.{IsFirstFault}
-use Rattle.placed_rules.proofs.ItemsAt.{contained, placed}
 use Rattle.std.proofs.lemmas.Option.{slice_get_within}
 
 -- ---- One rule.
@@ -43,7 +43,7 @@ module _ (Broken : BreaksAt) where
 
   pub none_broken : (rules : List Rule) → AreUnbroken Broken rules → NoneBroken rules Broken
   none_broken rules h rule i spot listed =
-      let at = placed rules rule listed in
+      let at = place_of rules rule listed in
       unbroken_at rules at.0 rule h at.1 i spot
 
   pub all_unbroken : (rules : List Rule) → ((rule : Rule) (k : ℕ) → slice_get rules k ≡ Some rule → IsUnbroken Broken rule) → AreUnbroken Broken rules
@@ -51,7 +51,7 @@ module _ (Broken : BreaksAt) where
   all_unbroken (x ∷ rules) h = (h x zero refl, all_unbroken rules (λ rule k at. h rule (suc k) at))
 
   pub unbroken_by : (rules : List Rule) → NoneBroken rules Broken → AreUnbroken Broken rules
-  unbroken_by rules none = all_unbroken rules (λ rule k at i spot broken. none rule i spot (contained rules k rule at) broken)
+  unbroken_by rules none = all_unbroken rules (λ rule k at i spot broken. none rule i spot (Contains-at rules k rule at) broken)
 
   listed_behind : (front : List Rule) (rule : Rule) (back : List Rule) → slice_get (front ++ rule ∷ back) (length front) ≡ Some rule
   listed_behind [] rule back = refl

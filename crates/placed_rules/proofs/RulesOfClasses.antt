@@ -1,5 +1,6 @@
 -- The rules C23 to C27 are read of a class and the number of a member.
 use Rattle.std.proofs.Common.{◌≡◌, ℕ, ◌+◌, List, length, Option, Some, slice_get, sym, ap, subst}
+use Rattle.list_lemmas.proofs.ItemsByPlace.{item_there}
 use Rattle.jk_model.specs.declared.class_file.ClassFile.{ClassFile}
 use Rattle.jk_model.specs.declared.identifiers.ClassId.{ClassId}
 use Rattle.jk_model.specs.declared.output.Rule.{Rule}
@@ -14,7 +15,6 @@ use Rattle.class_files.specs.declared.faults.FileFault.{FileFault}
 use Rattle.placed_rules.specs.Codes.{AtMember}
 use Rattle.placed_rules.specs.FirstFiles.{IsFirstFault}
 use Rattle.placed_rules.specs.PlacedFaults.{class_at}
-use Rattle.placed_rules.proofs.ItemsAt.{item_there}
 use Rattle.placed_rules.proofs.LinksInTurn.{numbered}
 use Rattle.placed_rules.proofs.PlacesDiffer.{places_differ}
 use Rattle.placed_rules.proofs.RulesInTurn.{IsRuleAnswer, rule_answer}

@@ -1,5 +1,6 @@
 -- The first class that breaks one of C25 to C27, by the order of paths, is that of the first file.
 use Rattle.std.proofs.Common.{◌≡◌, ℕ, ◌+◌, ◌-◌, ◌<◌, List, [], ◌∷◌, length, Some, slice_get, inl, inr, refl, sym, ap, subst, arith}
+use Rattle.list_lemmas.proofs.ItemsByPlace.{item_there}
 use Rattle.jk_model.specs.declared.class_file.ClassFile.{ClassFile}
 use Rattle.jk_model.specs.declared.identifiers.ClassId.{ClassId}
 use Rattle.jk_model.specs.declared.identifiers.DomainId.{DomainId}
@@ -17,7 +18,6 @@ use Rattle.jk_model_folders.specs.ClassOrder.{IsClassOrder}
 use Rattle.jk_model_folders.specs.FolderRules.{BreaksPlaced, IsFirstBroken, NoneBroken, PlacedFolder, placed_rules}
 use Rattle.placed_rules.specs.Codes.{AtMember}
 use Rattle.placed_rules.specs.PlacedFaults.{AreInPathOrder, AreRecorded, HasNoSharedFault, IsLinkedAs, IsSharedAs, IsSharedFault, class_at, earlier_rules, shared_rules}
-use Rattle.placed_rules.proofs.ItemsAt.{item_there}
 use Rattle.placed_rules.proofs.PlacesDiffer.{places_differ}
 use Rattle.placed_rules.proofs.RulesInTurn.{AreUnbroken, IsFirstOfRule, IsUnbroken, first_behind, none_broken, unbroken_by}
 use Rattle.placed_rules.proofs.RulesOfClasses.{IsReadBy, reads_exposed, reads_remotes, reads_statics}

@@ -1,34 +1,28 @@
 -- The linked code of a folder's class is as short as the code of its file.
-use Rattle.std.proofs.Common.{◌≡◌, ℕ, ◌+◌, ◌<◌, ◌≤◌, ◌^◌, List, [], ◌∷◌, length, inl, inr, sym, ap, subst, ◌∙◌, arith, length-append}
+use Rattle.std.proofs.Common.{◌≡◌, ℕ, ◌<◌, ◌^◌, List, [], ◌∷◌, length, inl, inr, sym, subst, ◌∙◌, arith}
 use Rattle.std.proofs.lemmas.Option.{same_Some, slice_get_within}
+use Rattle.list_lemmas.proofs.ItemsByPlace.{item_there}
 use Rattle.jk_model.specs.declared.class_file.ClassFile.{ClassFile}
 use Rattle.jk_model.specs.declared.class_file.MemberInfo.{MemberInfo}
 use Rattle.jk_model.specs.declared.identifiers.ClassId.{ClassId}
 use Rattle.jk_model.specs.declared.identifiers.DomainId.{DomainId}
 use Rattle.jk_model.specs.declared.instructions.Instr.{Instr}
-use Rattle.jk_model.specs.Instructions.{AreInstrs, IsInstr}
+use Rattle.jk_model.specs.Instructions.{IsInstr}
 use Rattle.jk_model_classes.specs.declared.records.Body.{Body}
 use Rattle.jk_model_classes.specs.declared.records.Body.TheVariants as Does
 use Rattle.jk_model_classes.specs.declared.records.ClassRecord.{ClassRecord}
 use Rattle.jk_model_classes.specs.declared.records.LinkedCode.{LinkedCode}
 use Rattle.jk_model_classes.specs.LinkRules.{LinkScope}
+use Rattle.model_lemmas.proofs.PlacesOfInstrs.{as_many}
 use Rattle.jk_model_folders.specs.ClassOrder.{IsClassOrder}
 use Rattle.jk_model_folders.specs.LinkedClasses.{IsBodyFor, IsRecordFor}
 use Rattle.placed_rules.specs.Codes.{AreShort, AreShortFrom}
 use Rattle.placed_rules.specs.PlacedFaults.{AreRecorded}
-use Rattle.placed_rules.proofs.ItemsAt.{item_there}
 
 -- an instruction has a byte
 begins : (at : ℕ) (bytes : List ℕ) (i : Instr) → IsInstr at bytes i → 0 < length bytes
 begins at [] i h = absurd h
 begins at (op ∷ operands) i h = omega arith
-
-decoded_short : (at : ℕ) (bytes : List ℕ) (instrs : List Instr) → AreInstrs at bytes instrs → length instrs ≤ length bytes
-decoded_short at bytes [] h = omega arith
-decoded_short at bytes (i ∷ instrs) (front, rest, is, cut, more) =
-    let own = begins at front i is in
-    let others = decoded_short (at + length front) rest instrs more in
-    omega (arith, own, others, ap (λ (xs : List ℕ). length xs) cut, length-append front rest)
 
 body_short : (s : LinkScope) (c : ClassFile) (info : MemberInfo) (flags : ℕ) (body : Body) (code : LinkedCode) → IsBodyFor s c info flags body
     → body ≡ Does.Linked code → length code.instrs < 2 ^ 16
@@ -38,7 +32,7 @@ body_short s c info flags body code (inl absent) is =
 body_short s c info flags body code (inr (concrete, (a, decoded, linked, has, of_code, layout, is_linked, body_is))) is =
     let both : Does.Linked linked ≡ Does.Linked code = sym body_is ∙ is in
     let same : linked ≡ code = cc in
-    let short = decoded_short 0 decoded.code is_linked.decoded is_linked.decodes in
+    let short = as_many 0 decoded.code is_linked.decoded is_linked.decodes in
     let as_many : length code.instrs ≡ length is_linked.decoded =
     subst (λ (x : LinkedCode). length x.instrs ≡ length is_linked.decoded) same is_linked.instrs.as_many in
     omega (arith, short, as_many, layout.code.1)
