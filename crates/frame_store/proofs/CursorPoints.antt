@@ -1,7 +1,9 @@
 -- The top frame of a segment, where a cursor or a look-up has it.
-use Rattle.std.proofs.Common.{◌≡◌, ◌*◌, ◌<◌, ◌-◌, ℕ, List, ◌∷◌, ◌++◌, [], length, arith, Option, Some, None, IsSome, is_some, nat_eq, slice_get, refl, sym, ap, subst, zero, suc, ◌∙◌}
+use Rattle.std.proofs.Common.{◌≡◌, ◌*◌, ◌<◌, ◌-◌, ℕ, List, ◌∷◌, ◌++◌, [], length, arith, Option, Some, None, IsSome, is_some, nat_eq, option_map, slice_get, refl, sym, ap, subst, zero, suc, ◌∙◌}
 use Rattle.std.specs.HashMap.{WritesThrough}
 use Rattle.std.proofs.lemmas.List.{length_push}
+use Rattle.std.proofs.lemmas.Option.{slice_get-map, slice_get_within}
+use Rattle.std.specs.Map.{values_of}
 use Rattle.jk_model.specs.declared.identifiers.SegmentNo.{SegmentNo}
 use Rattle.jk_model_frames.specs.Frames.{FrameState}
 use Rattle.indexmap.specs.IndexMap.{IndexMap, get, values, with_value_at, set_value_at}
@@ -16,13 +18,17 @@ use Rattle.frame_store.specs.TableMoves as table
 use Rattle.frame_store.specs.Builds.{length-build}
 use Rattle.frame_store.specs.SlotMoves.{IsLive}
 use Rattle.frame_store.specs.ChainMoves.{count, place}
-use Rattle.frame_store.specs.DomainMoves.{depth_of, frames_of, start_of, top_number, value_at, HasTop, IsSlot, IsTopOf, IsFrameNumber, Becomes}
+use Rattle.frame_store.specs.DomainMoves.{depth_of, frames_of, locals_at, start_of, top_number, value_at, HasTop, IsSlot, IsTopOf, IsFrameNumber, Becomes}
 use Rattle.frame_store.specs.StoreContents.{content_of, IsStore, IsFound, IsStanding, StandsAt}
 use Rattle.frame_store.specs.StoreIsContent.{stands}
-use Rattle.frame_store.specs.Cursors.{HasDomainAt, HasTopAt, IsTopAt, PointsAt}
+use Rattle.frame_store.specs.Cursors.{HasDomainAt, HasTopAt, HasValuesAt, IsTopAt, PointsAt}
 use Rattle.frame_store.proofs.StoreChanges.{same_some, found_top_is, get_here}
 use Rattle.frame_store.proofs.TopIsWritten.{is_top_frame}
 use Rattle.frame_store.proofs.WrittenAt.{read_at}
+
+-- where something stands at a place of a list of pairs
+pub second_at : {X : Type 0} (es : List (ℕ × X)) (i k : ℕ) (x : X) → slice_get es i ≡ Some (k, x) → Some x ≡ slice_get (values_of es) i
+second_at {X = X} es i k x e = sym (slice_get-map (λ (p : ℕ × X). p.1) es i ∙ ap (option_map (λ (p : ℕ × X). p.1)) e)
 
 -- where an option has a place
 pub some_place : (o : Option Place) → IsSome o → (p : Place) × (o ≡ Some p)
@@ -54,6 +60,19 @@ module _ {S : Type 0} (m : IndexMap ℕ DomainFrames S) (t : SegmentTable) (owed
   pub has_domain : HasDomainAt m at
   has_domain = (found_at.2.domain, stands_at)
 
+  pub within : at < length m.entries
+  within = slice_get_within m.entries at _ stands_at.entry
+
+  -- where the domain at the place is read from the map's entries
+  module _ (es : List (ℕ × DomainFrames)) (same : es ≡ m.entries) where
+    pub reads_within : at < length es
+    reads_within = omega (arith, within, ap (λ (q : List (ℕ × DomainFrames)). length q) same)
+
+    pub reads_at : (x : DomainFrames) → slice_get (values_of es) at ≡ Some x → (d : ℕ) (stands : StandsAt m d at) → x ≡ stands.domain
+    reads_at x e d stands =
+        let here = second_at m.entries at d stands.domain stands.entry in
+        same_some x stands.domain (sym e ∙ ap (λ (q : List (ℕ × DomainFrames)). slice_get (values_of q) at) same ∙ sym here)
+
   -- where a call reads the domain at the place
   module _ (x : DomainFrames) (reads : (d : ℕ) (stands : StandsAt m d at) → x ≡ stands.domain) where
     pub found_here : IsFound m t s.0 x found_at.1
@@ -75,7 +94,8 @@ module _ {S : Type 0} (m : IndexMap ℕ DomainFrames S) (t : SegmentTable) (owed
 -- ---- A cursor that has what is found.
 
 module _ {S : Type 0} (m : IndexMap ℕ DomainFrames S) (t : SegmentTable) (s : ℕ) (c : Cursor) (x : DomainFrames) (slot : ℕ) (f : IsFound m t s x slot)
-    (entry_is : slice_get m.entries c.domain ≡ Some (f.domain, x)) (top_is : IsTopOf x slot c.frame) (start_is : c.start ≡ start_of x c.frame) (place_is : table.place_in t s ≡ Some c.place) where
+    (entry_is : slice_get m.entries c.domain ≡ Some (f.domain, x)) (top_is : IsTopOf x slot c.frame)
+    (values_are : HasValuesAt x c) (place_is : table.place_in t s ≡ Some c.place) where
   module _ (z : DomainFrames) (i : ℕ) (g : IsFound m t s z i) where
     same_place : (let here : Place = record { domain = g.domain; slot = i } in let there : Place = record { domain = f.domain; slot = slot } in here ≡ there)
     same_place = same_some _ _ (sym g.at ∙ f.at)
@@ -95,25 +115,28 @@ module _ {S : Type 0} (m : IndexMap ℕ DomainFrames S) (t : SegmentTable) (s : 
         let There : DomainFrames → Type 0 = λ (w : DomainFrames). IsTopOf w i c.frame in
         subst There (sym same_frames) (subst Here (sym (ap (λ (q : Place). q.slot) same_place)) top_is)
 
-    start_at : c.start ≡ start_of z c.frame
-    start_at = start_is ∙ ap (λ (w : DomainFrames). start_of w c.frame) (sym same_frames)
+    values_at : HasValuesAt z c
+    values_at =
+        let P : DomainFrames → Type 0 = λ (w : DomainFrames). HasValuesAt w c in
+        subst P (sym same_frames) values_are
 
   pub points : PointsAt m t s c
-  points = record { place = place_is; top = record { in_table = ap is_some f.at; entry = entry_at; top = top_at }; start = start_at }
+  points = record { place = place_is; top = record { in_table = ap is_some f.at; entry = entry_at; top = top_at }; values = values_at }
 
 module _ {S : Type 0} (m : IndexMap ℕ DomainFrames S) (t : SegmentTable) (s at slot : ℕ) (k : HasTopAt m t s at slot) where
   abbrev pub place_stands : HasDomainAt m at
   place_stands = (k.found.domain, record { domain = k.domain; entry = k.entry; is = k.found.is })
 
   -- where a call reads the domain at the place
-  pub points_at : (c : Cursor) (x : DomainFrames) → x ≡ k.domain → c.domain ≡ at → c.frame ≡ top_number x slot → c.start ≡ start_of x c.frame
+  pub points_at : (c : Cursor) (x : DomainFrames) → x ≡ k.domain → c.domain ≡ at → c.frame ≡ top_number x slot → HasValuesAt x c
       → table.place_in t s ≡ Some c.place → PointsAt m t s c
-  points_at c x same here frame start place_is =
+  points_at c x same here frame values place_is =
       let z = k.domain in
+      let P : DomainFrames → Type 0 = λ (w : DomainFrames). HasValuesAt w c in
       points m t s c z slot k.found
       (ap (λ i. slice_get m.entries i) here ∙ k.entry)
       (record { has_top = k.has_top; is = frame ∙ ap (λ (w : DomainFrames). top_number w slot) same })
-      (start ∙ ap (λ (w : DomainFrames). start_of w c.frame) same) place_is
+      (subst P same values) place_is
 
 -- ---- After a write in the domain that leaves its chains as they are.
 
@@ -131,14 +154,26 @@ same_top x y i frame chunks frames top =
 module _ {S : Type 0} (m : IndexMap ℕ DomainFrames S) (t : SegmentTable) (owed : ℕ) (s : SegmentNo) (x y : DomainFrames) (slot : ℕ)
     (h : IsStore m t owed) (c : Cursor) (k : PointsAt m t s.0 c) (f : IsFound m t s.0 x slot)
     (wrote : WritesThrough nat_eq (nat_eq f.domain) m y (with_value_at m c.domain y))
-    (chunks : y.chunks ≡ x.chunks) (frames : y.frames ≡ x.frames) (parts : y.parts ≡ x.parts) where
+    (chunks : y.chunks ≡ x.chunks) (frames : y.frames ≡ x.frames) (parts : y.parts ≡ x.parts) (locals : locals_at y c.frame ≡ locals_at x c.frame) where
+  still_there : start_of x c.frame ≡ start_of y c.frame
+  still_there = ap (λ (q : Chains). 20 * place q c.frame 0) (sym parts)
+
+  still_has : HasValuesAt y c
+  still_has =
+      let was = k.values x slot f in
+      record {
+        start = was.start ∙ still_there;
+        base = omega (arith, was.base, still_there, locals);
+        room = omega (arith, was.room, locals);
+      }
+
   pub still_points : PointsAt (with_value_at m c.domain y) t s.0 c
   still_points =
       let n = with_value_at m c.domain y in
       let p : Place = record { domain = f.domain; slot = slot } in
       let g : IsFound n t s.0 y slot = record { domain = f.domain; at = f.at; is = get_here m n t owed s p x y h f.at f.is wrote } in
       points n t s.0 c y slot g (set_here m.entries c.domain f.domain x y (k.top.entry x slot f)) (same_top x y slot c.frame chunks frames (k.top.top x slot f))
-      (k.start x slot f ∙ ap (λ (q : Chains). 20 * place q c.frame 0) (sym parts)) k.place
+      still_has k.place
 
 -- ---- After a frame is pushed or popped in the domain.
 

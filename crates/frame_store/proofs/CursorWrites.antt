@@ -1,5 +1,5 @@
 -- What a write in the domain at the cursor makes of a store's content.
-use Rattle.std.proofs.Common.{◌≡◌, ℕ, ◌++◌, ◌∷◌, [], Some, None, nat_eq, slice_get, sym, ap, subst, ◌∙◌, List}
+use Rattle.std.proofs.Common.{◌≡◌, ℕ, ◌<◌, ◌++◌, ◌∷◌, [], length, Some, nat_eq, slice_get, sym, ap, subst, ◌∙◌, List}
 use Rattle.std.specs.HashMap.{WritesThrough}
 use Rattle.jk_model.specs.declared.identifiers.SegmentNo.{SegmentNo}
 use Rattle.jk_model.specs.declared.values.Value.{Value}
@@ -10,23 +10,24 @@ use Rattle.frame_store.specs.declared.domain_frames.DomainFrames.{DomainFrames}
 use Rattle.frame_store.specs.declared.segment_table.Place.{Place}
 use Rattle.frame_store.specs.declared.segment_table.SegmentTable.{SegmentTable}
 use Rattle.frame_store.specs.FrameContents.{FrameContent, TopFrame, SetsTop, TakesEntry}
-use Rattle.frame_store.specs.DomainMoves.{start_of, lower_of, top_of, value_at, IsFrameNumber, IsTopOf, Becomes, TakesTopEntry}
+use Rattle.frame_store.specs.DomainMoves.{locals_at, lower_of, top_of, value_at, IsFrameNumber, IsTopOf, Becomes, TakesTopEntry}
 use Rattle.frame_store.specs.StoreContents.{content_of, IsStore, IsFound}
-use Rattle.frame_store.specs.Cursors.{IsCursor, PointsAt}
+use Rattle.frame_store.specs.Cursors.{HasValuesAt, IsCursor, PointsAt}
 use Rattle.frame_store.proofs.StoreChanges.{found_top, found_top_is, store_kept}
 use Rattle.frame_store.proofs.StoreSteps.{steps_top}
-use Rattle.frame_store.proofs.WrittenAt.{never_none, written_at}
-use Rattle.frame_store.proofs.CursorPoints.{found_at, stands_at, found_read, frame_is, value_is, still_points}
+use Rattle.frame_store.proofs.WrittenAt.{written_at}
+use Rattle.frame_store.proofs.CursorPoints.{found_at, stands_at, found_read, frame_is, second_at, value_is, still_points, within}
 
 module _ {S : Type 0} (old : FrameContent) (m : IndexMap ℕ DomainFrames S) (t : SegmentTable) (owed : ℕ) (s : SegmentNo) (h : IsStore m t owed) (c : Cursor)
     (k : PointsAt m t s.0 c) (same : content_of m t ≡ old) where
   -- a domain is at the cursor
-  pub some_domain : None ≡ slice_get (values m) c.domain → ⊥
-  some_domain e =
-      let found = found_at m t owed s h c.domain c.frame k.top in
-      never_none m found.2.domain c.domain (stands_at m t owed s h c.domain c.frame k.top) e
+  pub at_domain : c.domain < length m.entries
+  at_domain = within m t owed s h c.domain c.frame k.top
 
-  module _ (x : DomainFrames) (read : Some x ≡ slice_get (values m) c.domain) where
+  module _ (x : DomainFrames) (d : ℕ) (reads : slice_get m.entries c.domain ≡ Some (d, x)) where
+    abbrev read : Some x ≡ slice_get (values m) c.domain
+    read = second_at m.entries c.domain d x reads
+
     abbrev slot : ℕ
     slot = (found_at m t owed s h c.domain c.frame k.top).1
 
@@ -45,8 +46,8 @@ module _ {S : Type 0} (old : FrameContent) (m : IndexMap ℕ DomainFrames S) (t 
     pub frame_at : IsFrameNumber x c.frame
     frame_at = frame_is m t owed s h c.domain c.frame k.top x slot found
 
-    pub start_at : c.start ≡ start_of x c.frame
-    start_at = k.start x slot found
+    pub values_at : HasValuesAt x c
+    values_at = k.values x slot found
 
     pub value_was : (f : FrameState) → TopFrame old s f → f ≡ value_at x c.frame
     value_was f top = value_is m t owed s h c.domain c.frame k.top x slot found f (still f top)
@@ -62,15 +63,18 @@ module _ {S : Type 0} (old : FrameContent) (m : IndexMap ℕ DomainFrames S) (t 
       abbrev SetsBy : (FrameState → FrameState) → Type 0
       SetsBy change = (i : ℕ) → IsTopOf x i c.frame → Becomes x y i (lower_of x i ++ change (top_of x i) ∷ []) x.used
 
+      abbrev SameLocals : Type 0
+      SameLocals = locals_at y c.frame ≡ locals_at x c.frame
+
       abbrev Stays : Type 0
       Stays = IsStore n t owed × IsCursor n t c
 
-      stays_by : (fs : List FrameState) → Becomes x y slot fs x.used → y.frames ≡ x.frames → y.parts ≡ x.parts → c.segment ≡ s.0 → Stays
-      stays_by fs b frames parts at =
+      stays_by : (fs : List FrameState) → Becomes x y slot fs x.used → y.frames ≡ x.frames → y.parts ≡ x.parts → SameLocals → c.segment ≡ s.0 → Stays
+      stays_by fs b frames parts locals at =
           let p : Place = record { domain = found.domain; slot = slot } in
           let P : ℕ → Type 0 = λ q. PointsAt n t q c in (
             store_kept m n t owed s p x y h found.at found.is wrote b.same_chunks b.same_slots,
-            λ _. subst P (sym at) (still_points m t owed s x y slot h c k found wrote b.same_chunks frames parts),
+            λ _. subst P (sym at) (still_points m t owed s x y slot h c k found wrote b.same_chunks frames parts locals),
           )
 
       sets_by : (f g : FrameState) → TopFrame old s f → Becomes x y slot (lower_of x slot ++ g ∷ []) x.used → SetsTop old (content_of n t) s g
@@ -79,8 +83,8 @@ module _ {S : Type 0} (old : FrameContent) (m : IndexMap ℕ DomainFrames S) (t 
           let P : FrameContent → Type 0 = λ q. SetsTop q (content_of n t) s g in
           subst P same (steps_top m n t owed s p x y h found.at found.is wrote (found_top m t owed s h x slot found f (still f top)) g b)
 
-      pub set_stays : (change : FrameState → FrameState) → SetsBy change → y.frames ≡ x.frames → y.parts ≡ x.parts → c.segment ≡ s.0 → Stays
-      set_stays change b frames parts at = stays_by (lower_of x slot ++ change (top_of x slot) ∷ []) (b slot top_is) frames parts at
+      pub set_stays : (change : FrameState → FrameState) → SetsBy change → y.frames ≡ x.frames → y.parts ≡ x.parts → SameLocals → c.segment ≡ s.0 → Stays
+      set_stays change b frames parts locals at = stays_by (lower_of x slot ++ change (top_of x slot) ∷ []) (b slot top_is) frames parts locals at
 
       pub sets : (change : FrameState → FrameState) → SetsBy change → (f : FrameState) → TopFrame old s f → SetsTop old (content_of n t) s (change f)
       sets change b f top =
@@ -91,8 +95,8 @@ module _ {S : Type 0} (old : FrameContent) (m : IndexMap ℕ DomainFrames S) (t 
       abbrev TakesOff : Value → Type 0
       TakesOff v = (i : ℕ) → IsTopOf x i c.frame → TakesTopEntry x y i v
 
-      pub taken_stays : (v : Value) → TakesOff v → y.frames ≡ x.frames → y.parts ≡ x.parts → c.segment ≡ s.0 → Stays
-      taken_stays v b frames parts at = stays_by _ (b slot top_is).2 frames parts at
+      pub taken_stays : (v : Value) → TakesOff v → y.frames ≡ x.frames → y.parts ≡ x.parts → SameLocals → c.segment ≡ s.0 → Stays
+      taken_stays v b frames parts locals at = stays_by _ (b slot top_is).2 frames parts locals at
 
       pub takes : (v : Value) → TakesOff v → (f : FrameState) → TopFrame old s f → TakesEntry old (content_of n t) s f v
       takes v b f top =

@@ -6,7 +6,7 @@ use Rattle.jk_model_frames.specs.Frames.{FrameState, called_frame, head_chunks, 
 use Rattle.frame_store.specs.declared.domain_frames.DomainFrames.{DomainFrames}
 use Rattle.frame_store.specs.ChainMoves.{count, place}
 use Rattle.frame_store.specs.SlotMoves.{IsLive, TakesSlot, GivesSlot}
-use Rattle.frame_store.specs.FrameBlocks.{frame_of, lowest_in, IsFramed}
+use Rattle.frame_store.specs.FrameBlocks.{frame_of, lowest_in, record_at, IsFramed}
 
 -- how many frames a segment has
 abbrev pub depth_of : DomainFrames → ℕ → ℕ
@@ -34,6 +34,10 @@ lower_of d i = lowest_in d.frames d.parts d.records.items d.values.items i (dept
 -- where the values of the frame of this number begin
 abbrev pub start_of : DomainFrames → ℕ → ℕ
 start_of d f = 20 * place d.parts f 0
+
+-- how many locals the frame of this number has, as its record says
+abbrev pub locals_at : DomainFrames → ℕ → ℕ
+locals_at d f = (record_at d.records.items f).head.max_locals
 
 -- a segment is in this slot
 abbrev pub IsSlot : DomainFrames → ℕ → Type 0

@@ -3,8 +3,8 @@
 use crate::segment_table::Place;
 
 /// Where the top frame of the segment that a store last touched is, so that a run of calls on one segment looks it up once:
-/// the segment's number and where it stands, the place of its domain in the map, the frame's number in the domain, and the
-/// place where the frame's values begin.
+/// the segment's number and where it stands, the place of its domain in the map, the frame's number in the domain, the
+/// places where the frame's values and the entries of its operand stack begin, and how many entries its lowest block has room for.
 /// Nothing of it has a meaning while it isn't set.
 #[derive(Clone, Copy)]
 pub(crate) struct Cursor {
@@ -14,6 +14,8 @@ pub(crate) struct Cursor {
     pub(crate) domain: usize,
     pub(crate) frame: usize,
     pub(crate) start: usize,
+    pub(crate) base: usize,
+    pub(crate) room: u16,
 }
 
 /// A cursor that isn't set.
@@ -24,4 +26,6 @@ pub(crate) const UNSET: Cursor = Cursor {
     domain: 0,
     frame: 0,
     start: 0,
+    base: 0,
+    room: 0,
 };

@@ -5,7 +5,10 @@ ghost use Rattle.jk_model_frames.specs.Frames.{as_locals};
 ghost use Rattle.frame_store.specs.FrameBlocks.{IsDomain};
 
 use crate::chains::Chains;
-use crate::frame_blocks::{FrameRecord, give_blocks, head_chunks, take_blocks, value_index};
+use crate::cursor::Cursor;
+use crate::frame_blocks::{
+    FrameRecord, entry_index, give_blocks, head_chunks, take_blocks, value_index,
+};
 use crate::slot_set::SlotSet;
 use jk_model::{ClassId, FrameHead, NoChunks, OutOfMemory, Value};
 use std::alloc::Global;
@@ -30,7 +33,8 @@ impl DomainFrames {
     ghost use Rattle.jk_model.specs.declared.values.Value.{Value as AValue};
     ghost use Rattle.jk_model_frames.specs.Frames.{FrameState as AFrame, called_frame, new_frame, head_chunks, frames_chunks};
     ghost use Rattle.frame_store.specs.ChainMoves.{MovesTop, place};
-    ghost use Rattle.frame_store.specs.DomainMoves.{MayGive, GivesTo, HasGiven, CallsOn, depth_of, frames_of, top_of, top_number, lower_of, start_of, value_at, IsSlot, HasTop, IsTopOf, IsFrameNumber, IsFresh, Opens, Becomes, Begins, Ends, TakesTopEntry};
+    ghost use Rattle.frame_store.specs.Cursors.{HasValuesAt};
+    ghost use Rattle.frame_store.specs.DomainMoves.{MayGive, GivesTo, HasGiven, CallsOn, depth_of, frames_of, top_of, top_number, locals_at, lower_of, start_of, value_at, IsSlot, HasTop, IsTopOf, IsFrameNumber, IsFresh, Opens, Becomes, Begins, Ends, TakesTopEntry};
 
     /// A domain without segments, which may use so many chunks.
     pub(crate) fn new(alloc: Global, chunks: u32) -> Result<DomainFrames, OutOfMemory>
@@ -188,7 +192,8 @@ impl DomainFrames {
     /// Where the values of a frame begin.
     pub(crate) fn start(&self, frame: usize) -> usize
         requires { IsFrameNumber self.now frame }
-        ensures { result ≡ start_of self.now frame }
+        ensures is { result ≡ start_of self.now frame }
+        ensures few { result < 5242880 }
     {
         20 * self.parts.at(frame, 0)
     }
@@ -229,6 +234,7 @@ impl DomainFrames {
         requires { IsFrameNumber self.old frame }
         ensures frames { self.new.frames ≡ self.old.frames }
         ensures parts { self.new.parts ≡ self.old.parts }
+        ensures locals { locals_at self.new frame ≡ locals_at self.old frame }
         ensures becomes { (slot : ℕ) → IsTopOf self.old slot frame → let f = top_of self.old slot in
             Becomes self.old self.new slot (lower_of self.old slot ++ record f { head = record f.head { at = at; need = need } } ∷ []) self.old.used }
     {
@@ -244,6 +250,7 @@ impl DomainFrames {
         requires there { i < length (value_at self.old frame).locals }
         ensures frames { self.new.frames ≡ self.old.frames }
         ensures parts { self.new.parts ≡ self.old.parts }
+        ensures locals { locals_at self.new frame ≡ locals_at self.old frame }
         ensures becomes { (slot : ℕ) → IsTopOf self.old slot frame → let f = top_of self.old slot in
             Becomes self.old self.new slot (lower_of self.old slot ++ record f { locals = slice_set f.locals i v } ∷ []) self.old.used }
     {
@@ -251,36 +258,42 @@ impl DomainFrames {
         self.values[index] = v;
     }
 
-    /// Pushes an entry on the operand stack of a top frame, whose values begin here.
-    pub(crate) fn push_value(&mut self, frame: usize, start: usize, v: Value)
-        requires frame { IsFrameNumber self.old frame }
-        requires start { start ≡ start_of self.old frame }
-        requires room { length (value_at self.old frame).stack < (value_at self.old frame).head.max_stack }
+    /// Pushes an entry on the operand stack of a top frame, at which the cursor is.
+    #[inline(always)]
+    pub(crate) fn push_value(&mut self, c: Cursor, v: Value)
+        requires frame { IsFrameNumber self.old c.frame }
+        requires values { HasValuesAt self.old c }
+        requires room { length (value_at self.old c.frame).stack < (value_at self.old c.frame).head.max_stack }
         ensures frames { self.new.frames ≡ self.old.frames }
         ensures parts { self.new.parts ≡ self.old.parts }
-        ensures becomes { (slot : ℕ) → IsTopOf self.old slot frame → let f = top_of self.old slot in
+        ensures locals { locals_at self.new c.frame ≡ locals_at self.old c.frame }
+        ensures becomes { (slot : ℕ) → IsTopOf self.old slot c.frame → let f = top_of self.old slot in
             Becomes self.old self.new slot (lower_of self.old slot ++ record f { stack = f.stack ++ v ∷ [] } ∷ []) self.old.used }
     {
-        let record = &mut self.records[frame];
-        let value = u32::from(record.head.max_locals) + u32::from(record.height);
-        record.height += 1;
-        let index = value_index(&self.parts, frame, start, value);
+        let record = &mut self.records[c.frame];
+        let height = record.height;
+        record.height = height + 1;
+        let locals = record.head.max_locals;
+        let index = entry_index(&self.parts, c.frame, c.base, c.room, locals, height);
         self.values[index] = v;
     }
 
-    /// Takes the top entry off the operand stack of a top frame, whose values begin here.
-    pub(crate) fn pop_value(&mut self, frame: usize, start: usize) -> Value
-        requires frame { IsFrameNumber self.old frame }
-        requires start { start ≡ start_of self.old frame }
-        requires some { 0 < length (value_at self.old frame).stack }
+    /// Takes the top entry off the operand stack of a top frame, at which the cursor is.
+    #[inline(always)]
+    pub(crate) fn pop_value(&mut self, c: Cursor) -> Value
+        requires frame { IsFrameNumber self.old c.frame }
+        requires values { HasValuesAt self.old c }
+        requires some { 0 < length (value_at self.old c.frame).stack }
         ensures frames { self.new.frames ≡ self.old.frames }
         ensures parts { self.new.parts ≡ self.old.parts }
-        ensures becomes { (slot : ℕ) → IsTopOf self.old slot frame → TakesTopEntry self.old self.new slot result }
+        ensures locals { locals_at self.new c.frame ≡ locals_at self.old c.frame }
+        ensures becomes { (slot : ℕ) → IsTopOf self.old slot c.frame → TakesTopEntry self.old self.new slot result }
     {
-        let record = &mut self.records[frame];
-        record.height -= 1;
-        let value = u32::from(record.head.max_locals) + u32::from(record.height);
-        let index = value_index(&self.parts, frame, start, value);
+        let record = &mut self.records[c.frame];
+        let height = record.height - 1;
+        record.height = height;
+        let locals = record.head.max_locals;
+        let index = entry_index(&self.parts, c.frame, c.base, c.room, locals, height);
         self.values[index]
     }
 

@@ -1,7 +1,7 @@
 //! The blocks of a frame: twenty values each, as many blocks as the frame costs chunks. A frame's blocks are a stack of
 //! chains whose nodes are the blocks, so each value is found in a logarithm of the frame's size.
 
-ghost use Rattle.std.specs.Prelude.{◌≡◌, ◌≢◌, ◌+◌, ◌*◌, ◌^◌, ◌<◌, ◌≤◌, length, slice_index_or};
+ghost use Rattle.std.specs.Prelude.{◌≡◌, ◌≢◌, ◌+◌, ◌-◌, ◌*◌, ◌^◌, ◌<◌, ◌≤◌, length, slice_index_or};
 ghost use Rattle.jk_model.specs.declared.values.Value.TheVariants.{Unset};
 ghost use Rattle.jk_model_frames.specs.Frames.{head_chunks};
 ghost use Rattle.frame_store.specs.ChainMoves.{count, place, nodes, stacks};
@@ -9,6 +9,9 @@ ghost use Rattle.frame_store.specs.FrameBlocks.{index_of, IsCleared, TakesBlocks
 
 use crate::chains::Chains;
 use jk_model::{FrameHead, Value};
+
+/// How many values a block has.
+pub(crate) const BLOCK: u16 = 20;
 
 /// A frame's head, and how many entries its operand stack has.
 #[derive(Clone, Copy)]
@@ -28,6 +31,7 @@ pub(crate) fn head_chunks(head: &FrameHead) -> u32
 }
 
 /// Where a value of a frame is, whose first value is here: most values are in its lowest block.
+#[inline(always)]
 pub(crate) fn value_index(parts: &Chains, frame: usize, start: usize, value: u32) -> usize
     requires there { frame < stacks parts.now }
     requires start { start ≡ 20 * place parts.now frame 0 }
@@ -39,6 +43,44 @@ pub(crate) fn value_index(parts: &Chains, frame: usize, start: usize, value: u32
     if value < 20 {
         return start + value as usize;
     }
+    far_index(parts, frame, value)
+}
+
+/// Where an entry of the operand stack of a frame is, whose lowest entry is here where the frame's lowest block, which has room
+/// for so many, has it: most entries are there.
+#[inline(always)]
+pub(crate) fn entry_index(
+    parts: &Chains,
+    frame: usize,
+    base: usize,
+    room: u16,
+    locals: u16,
+    entry: u16,
+) -> usize
+    requires there { frame < stacks parts.now }
+    requires base { base ≡ 20 * place parts.now frame 0 + locals }
+    requires room { room ≡ 20 - locals }
+    requires some { locals + entry < 20 * count parts.now frame }
+    requires few { nodes parts.now ≤ 262144 }
+    ensures index { result ≡ index_of parts.now frame (locals + entry) }
+    ensures within { result < 20 * nodes parts.now }
+{
+    if entry < room {
+        return base + usize::from(entry);
+    }
+    far_index(parts, frame, u32::from(locals) + u32::from(entry))
+}
+
+/// Where a value of a frame is, in whichever block.
+#[cold]
+#[inline(never)]
+fn far_index(parts: &Chains, frame: usize, value: u32) -> usize
+    requires there { frame < stacks parts.now }
+    requires some { value < 20 * count parts.now frame }
+    requires few { nodes parts.now ≤ 262144 }
+    ensures index { result ≡ index_of parts.now frame value }
+    ensures within { result < 20 * nodes parts.now }
+{
     let block = parts.at(frame, (value / 20) as usize);
     20 * block + (value % 20) as usize
 }

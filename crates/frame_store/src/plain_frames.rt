@@ -7,6 +7,7 @@ ghost use Rattle.frame_store.specs.Cursors.{IsCursor};
 
 use crate::cursor::{Cursor, UNSET};
 use crate::domain_frames::DomainFrames;
+use crate::frame_blocks::BLOCK;
 use crate::segment_table::{Place, SegmentTable};
 use crate::slot_set::SlotSet;
 use crate::store::FrameStore;
@@ -201,13 +202,17 @@ impl PlainFrames {
     {
         let x = self.at(place);
         let frame = x.top(p.slot);
+        let start = x.start(frame);
+        let locals = x.head(frame).max_locals;
         Cursor {
             set: true,
             segment: s.0,
             place: p,
             domain: place,
             frame,
-            start: x.start(frame),
+            start,
+            base: start + usize::from(locals),
+            room: BLOCK.saturating_sub(locals),
         }
     }
 
@@ -352,23 +357,21 @@ impl FrameStore for PlainFrames {
     #[inline(always)]
     fn head(&self, s: SegmentNo) -> FrameHead {
         let (domain, frame) = self.top(s);
-        self.at(domain).head(frame)
+        self.domains.as_slice()[domain].head(frame)
     }
 
     #[inline(always)]
     fn go(&mut self, s: SegmentNo, at: u32, need: Option<ClassId>) {
         self.touch(s);
-        match self.domains.get_index_mut(self.cursor.domain) {
-            Some(x) => x.go(self.cursor.frame, at, need),
-            None => unreachable!(),
-        }
+        let (_, x) = self.domains.pair_mut(self.cursor.domain);
+        x.go(self.cursor.frame, at, need);
     }
 
     #[inline(always)]
     fn local(&self, s: SegmentNo, i: u16) -> Value {
         if self.is_at(s) {
-            self.at(self.cursor.domain)
-                .local(self.cursor.frame, self.cursor.start, i)
+            let domains = self.domains.as_slice();
+            domains[self.cursor.domain].local(self.cursor.frame, self.cursor.start, i)
         } else {
             self.far_local(s, i)
         }
@@ -377,23 +380,21 @@ impl FrameStore for PlainFrames {
     #[inline(always)]
     fn set_local(&mut self, s: SegmentNo, i: u16, v: Value) {
         self.touch(s);
-        match self.domains.get_index_mut(self.cursor.domain) {
-            Some(x) => x.set_local(self.cursor.frame, self.cursor.start, i, v),
-            None => unreachable!(),
-        }
+        let (_, x) = self.domains.pair_mut(self.cursor.domain);
+        x.set_local(self.cursor.frame, self.cursor.start, i, v);
     }
 
     #[inline(always)]
     fn height(&self, s: SegmentNo) -> u16 {
         let (domain, frame) = self.top(s);
-        self.at(domain).height(frame)
+        self.domains.as_slice()[domain].height(frame)
     }
 
     #[inline(always)]
     fn peek(&self, s: SegmentNo, below: u16) -> Value {
         if self.is_at(s) {
-            let x = self.at(self.cursor.domain);
-            x.entry_below(self.cursor.frame, self.cursor.start, below)
+            let domains = self.domains.as_slice();
+            domains[self.cursor.domain].entry_below(self.cursor.frame, self.cursor.start, below)
         } else {
             self.far_peek(s, below)
         }
@@ -402,19 +403,15 @@ impl FrameStore for PlainFrames {
     #[inline(always)]
     fn push_value(&mut self, s: SegmentNo, v: Value) {
         self.touch(s);
-        match self.domains.get_index_mut(self.cursor.domain) {
-            Some(x) => x.push_value(self.cursor.frame, self.cursor.start, v),
-            None => unreachable!(),
-        }
+        let (_, x) = self.domains.pair_mut(self.cursor.domain);
+        x.push_value(self.cursor, v);
     }
 
     #[inline(always)]
     fn pop_value(&mut self, s: SegmentNo) -> Value {
         self.touch(s);
-        match self.domains.get_index_mut(self.cursor.domain) {
-            Some(x) => x.pop_value(self.cursor.frame, self.cursor.start),
-            None => unreachable!(),
-        }
+        let (_, x) = self.domains.pair_mut(self.cursor.domain);
+        x.pop_value(self.cursor)
     }
 
     fn close(&mut self, d: DomainId) {

@@ -23,7 +23,7 @@ entry-v-requires-clause-frame c = caller_is _ _ _ _ c.requires _ _ _ (c.loop-k.i
 
 pub entry-v-requires-clause-start : goal.entry-v-requires-clause-start
 entry-v-requires-clause-start c =
-    start_is _ _ _ _ c.requires _ _ _ (c.loop-k.invariant c.requires) c.args.caller c.start-low.result c.start-low.ensures
+    start_is _ _ _ _ c.requires _ _ _ (c.loop-k.invariant c.requires) c.args.caller c.start-low.result c.start-low.ensures.is
 
 pub entry-v-requires-clause-there : goal.entry-v-requires-clause-there
 entry-v-requires-clause-there c =
@@ -35,7 +35,7 @@ set_local-requires-clause-frame c = frame_is _ _ _ _ c.requires _ _ _ (c.loop-k.
 
 pub set_local-requires-clause-start : goal.set_local-requires-clause-start
 set_local-requires-clause-start c =
-    start_is _ _ _ _ c.requires _ _ _ (c.loop-k.invariant c.requires) c.args.frame c.start-start.result c.start-start.ensures
+    start_is _ _ _ _ c.requires _ _ _ (c.loop-k.invariant c.requires) c.args.frame c.start-start.result c.start-start.ensures.is
 
 pub set_local-requires-clause-there : goal.set_local-requires-clause-there
 set_local-requires-clause-there c = local_there _ _ _ _ c.requires _ _ _ (c.loop-k.invariant c.requires) c.loop-k-test.true

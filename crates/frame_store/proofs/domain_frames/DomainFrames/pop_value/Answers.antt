@@ -6,22 +6,14 @@ use Rattle.jk_model_frames.specs.Frames.{head_chunks}
 use Rattle.frame_store.specs.declared.frame_blocks.FrameRecord.{FrameRecord}
 use Rattle.frame_store.specs.FrameBlocks.{build, no_record, record_at, index_of, value_of, frame_of, lowest_in}
 use Rattle.frame_store.specs.DomainMoves.{depth_of, lower_of, value_at}
-use Rattle.frame_store.proofs.TopIsWritten.{record_lt, in_blocks, value_lt, values_few, write_top, write_others, other_records_of, record_keeps}
+use Rattle.frame_store.proofs.TopIsWritten.{record_lt, in_blocks, value_lt, write_top, write_others, other_records_of, record_keeps}
 use Rattle.frame_store.proofs.TopValues.{entry_is_off, entry_was_top, height_is}
 use Rattle.frame_store.proofs.domain_frames.DomainFrames.pop_value.Goals as goal
-
-pub overflow_add-value : goal.overflow_add-value
-overflow_add-value c =
-    let d = c.args.self.now in
-    let f = c.args.frame in
-    let is = c.requires.frame in
-    let read = get_or_read d.records.items _ _ (record_lt d f is) c.index_mut-record.ensures.value no_record in
-    omega (arith, c.from.ensures, c.from-2.ensures, ap (λ (r : FrameRecord). r.head.max_locals + r.height) read, values_few d f is)
 
 pub invariant_of-self : goal.invariant_of-self
 invariant_of-self c =
     let d = c.args.self.now in
-    let f = c.args.frame in
+    let f = c.args.c.frame in
     let is = c.requires.frame in
     let read = get_or_read d.records.items _ _ (record_lt d f is) c.index_mut-record.ensures.value no_record in
     let Q : FrameRecord → Type 0 = λ (x : FrameRecord). x.head.max_stack < 2 ^ 16 in
@@ -36,15 +28,15 @@ invariant_of-self c =
 pub returns-clause-becomes : goal.returns-clause-becomes
 returns-clause-becomes c =
     let d = c.args.self.now in
-    let f = c.args.frame in
+    let f = c.args.c.frame in
     let is = c.requires.frame in
     let read = get_or_read d.records.items _ _ (record_lt d f is) c.index_mut-record.ensures.value no_record in
     let r = record_at d.records.items f in
     let q = r.head.max_locals + (r.height - 1) in
     let some : 0 < r.height = omega (arith, c.requires.some, height_is d f is) in
-    let sum : c.from.result + c.from-2.result ≡ q =
-    omega (arith, c.from.ensures, c.from-2.ensures, ap (λ (x : FrameRecord). x.head.max_locals) read, ap (λ (x : FrameRecord). x.height) read) in
-    let at : c.value_index-index.result ≡ index_of d.parts f q = c.value_index-index.ensures.index ∙ ap (index_of d.parts f) sum in
+    let sum : c.index_mut-record.result.now.head.max_locals + (c.index_mut-record.result.now.height - 1) ≡ q =
+    omega (arith, ap (λ (x : FrameRecord). x.head.max_locals) read, ap (λ (x : FrameRecord). x.height) read) in
+    let at : c.entry_index-index.result ≡ index_of d.parts f q = c.entry_index-index.ensures.index ∙ ap (index_of d.parts f) sum in
     let lt = value_lt d f q is (in_blocks d f q is (omega (arith, is.framed.low))) in
     let value = get_or_read d.values.items _ _ (omega (arith, at)) c.index.ensures Unset in
     let v : c.index.result.now ≡ value_of d.parts d.values.items f q = value ∙ ap (λ k. get_or d.values.items k Unset) at in

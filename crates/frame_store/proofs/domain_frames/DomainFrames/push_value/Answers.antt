@@ -6,22 +6,14 @@ use Rattle.frame_store.specs.declared.frame_blocks.FrameRecord.{FrameRecord}
 use Rattle.frame_store.specs.ChainMoves.{count}
 use Rattle.frame_store.specs.FrameBlocks.{no_record, record_at, index_of, value_of, frame_of, lowest_in}
 use Rattle.frame_store.specs.DomainMoves.{depth_of, lower_of, value_at, IsFrameNumber}
-use Rattle.frame_store.proofs.TopIsWritten.{record_lt, in_blocks, values_few, write_top, write_others, other_records_of, other_value, record_keeps}
+use Rattle.frame_store.proofs.TopIsWritten.{record_lt, in_blocks, write_top, write_others, other_records_of, other_value, record_keeps}
 use Rattle.frame_store.proofs.TopValues.{entry_is_pushed, height_is}
 use Rattle.frame_store.proofs.domain_frames.DomainFrames.push_value.Goals as goal
-
-pub overflow_add-value : goal.overflow_add-value
-overflow_add-value c =
-    let d = c.args.self.now in
-    let f = c.args.frame in
-    let is = c.requires.frame in
-    let read = get_or_read d.records.items _ _ (record_lt d f is) c.index_mut-record.ensures.value no_record in
-    omega (arith, c.from.ensures, c.from-2.ensures, ap (λ (r : FrameRecord). r.head.max_locals + r.height) read, values_few d f is)
 
 pub overflow_add-record : goal.overflow_add-record
 overflow_add-record c =
     let d = c.args.self.now in
-    let f = c.args.frame in
+    let f = c.args.c.frame in
     let is = c.requires.frame in
     let read = get_or_read d.records.items _ _ (record_lt d f is) c.index_mut-record.ensures.value no_record in
     let room = c.requires.room in
@@ -30,7 +22,7 @@ overflow_add-record c =
 pub invariant_of-self : goal.invariant_of-self
 invariant_of-self c =
     let d = c.args.self.now in
-    let f = c.args.frame in
+    let f = c.args.c.frame in
     let is = c.requires.frame in
     let read = get_or_read d.records.items _ _ (record_lt d f is) c.index_mut-record.ensures.value no_record in
     let room = c.requires.room in
@@ -40,25 +32,25 @@ invariant_of-self c =
     record {
       ok =
           record_keeps d f (record c.index_mut-record.result.now { height = c.index_mut-record.result.now.height + 1 })
-          (set d.values.items c.value_index-index.result c.args.v)
-          (length-set d.values.items c.value_index-index.result c.args.v) is.within
+          (set d.values.items c.entry_index-index.result c.args.v)
+          (length-set d.values.items c.entry_index-index.result c.args.v) is.within
           (ap (λ (x : FrameRecord). head_chunks x.head) read) (omega (arith, room, height_is d f is)) (subst Q (sym read) is.framed.small);
     }
 
 pub returns-clause-becomes : goal.returns-clause-becomes
 returns-clause-becomes c =
     let d = c.args.self.now in
-    let f = c.args.frame in
+    let f = c.args.c.frame in
     let is = c.requires.frame in
     let read = get_or_read d.records.items _ _ (record_lt d f is) c.index_mut-record.ensures.value no_record in
     let r = record_at d.records.items f in
     let q = r.head.max_locals + r.height in
     let room = c.requires.room in
     let low : r.height < r.head.max_stack = omega (arith, room, height_is d f is) in
-    let sum : c.from.result + c.from-2.result ≡ q =
-    omega (arith, c.from.ensures, c.from-2.ensures, ap (λ (x : FrameRecord). x.head.max_locals) read, ap (λ (x : FrameRecord). x.height) read) in
-    let at : c.value_index-index.result ≡ index_of d.parts f q = c.value_index-index.ensures.index ∙ ap (index_of d.parts f) sum in
-    let values = set d.values.items c.value_index-index.result c.args.v in
+    let sum : c.index_mut-record.result.now.head.max_locals + c.index_mut-record.result.now.height ≡ q =
+    omega (arith, ap (λ (x : FrameRecord). x.head.max_locals) read, ap (λ (x : FrameRecord). x.height) read) in
+    let at : c.entry_index-index.result ≡ index_of d.parts f q = c.entry_index-index.ensures.index ∙ ap (index_of d.parts f) sum in
+    let values = set d.values.items c.entry_index-index.result c.args.v in
     let written : FrameRecord = record c.index_mut-record.result.now { height = c.index_mut-record.result.now.height + 1 } in
     let records = set d.records.items f written in
     let others : (g p : ℕ) → IsFrameNumber d g → g ≢ f → p < 20 * count d.parts g → value_of d.parts values g p ≡ value_of d.parts d.values.items g p =
@@ -66,7 +58,7 @@ returns-clause-becomes c =
     let R : ℕ → Type 0 = λ k. value_of d.parts (set d.values.items k c.args.v) g p ≡ value_of d.parts d.values.items g p in
     subst R (sym at) (other_value d f q g p c.args.v is g_is (in_blocks d f q is (omega arith)) p_lt (λ e. absurd (ne e))) in
     let pushed : frame_of d.parts records values f ≡ record (value_at d f) { stack = (value_at d f).stack ++ c.args.v ∷ [] } =
-    entry_is_pushed d f is c.value_index-index.result c.args.v c.index_mut-record.result.now read at low in
+    entry_is_pushed d f is c.entry_index-index.result c.args.v c.index_mut-record.result.now read at low in
     λ i top.
     let S : ℕ → Type 0 = λ k. lowest_in d.frames d.parts records values i (depth_of d i)
     ≡ lower_of d i ++ record (value_at d k) { stack = (value_at d k).stack ++ c.args.v ∷ [] } ∷ [] in

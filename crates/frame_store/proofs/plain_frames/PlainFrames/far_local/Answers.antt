@@ -25,7 +25,7 @@ local-requires-clause-start c =
     let st = c.args.self.now in
     let k = c.look_up-found.ensures.points in
     let x = c.at.result.now in
-    k.start x _ (found_here _ _ _ c.args.s st.ok _ _ k.top x c.at.ensures)
+    (k.values x _ (found_here _ _ _ c.args.s st.ok _ _ k.top x c.at.ensures)).start
 
 pub local-requires-clause-there : goal.local-requires-clause-there
 local-requires-clause-there c =

@@ -1,7 +1,7 @@
 -- An entry is taken off in the domain at the cursor.
 use Rattle.std.proofs.Common.{◌<◌, length, subst}
 use Rattle.jk_model_frames.specs.Frames.{FrameState}
-use Rattle.frame_store.proofs.CursorWrites.{some_domain, frame_at, start_at, value_was, taken_stays, takes}
+use Rattle.frame_store.proofs.CursorWrites.{at_domain, frame_at, values_at, value_was, taken_stays, takes}
 use Rattle.frame_store.proofs.plain_frames.PlainFramesFrameStore.pop_value.Goals as goal
 
 pub touch-requires : goal.touch-requires
@@ -11,20 +11,20 @@ pub pop_value-requires-clause-frame : goal.pop_value-requires-clause-frame
 pop_value-requires-clause-frame c =
     let st = c.touch.new.self in
     frame_at _ _ _ _ c.args.s st.ok st.cursor c.touch.ensures.points c.touch.ensures.same
-    c.in-Some.x.now c.in-Some.ensures.value
+    c.pair_mut-x.result.1.now c.pair_mut-x.result.0.now c.pair_mut-x.ensures.value
 
-pub pop_value-requires-clause-start : goal.pop_value-requires-clause-start
-pop_value-requires-clause-start c =
+pub pop_value-requires-clause-values : goal.pop_value-requires-clause-values
+pop_value-requires-clause-values c =
     let st = c.touch.new.self in
-    start_at _ _ _ _ c.args.s st.ok st.cursor c.touch.ensures.points c.touch.ensures.same
-    c.in-Some.x.now c.in-Some.ensures.value
+    values_at _ _ _ _ c.args.s st.ok st.cursor c.touch.ensures.points c.touch.ensures.same
+    c.pair_mut-x.result.1.now c.pair_mut-x.result.0.now c.pair_mut-x.ensures.value
 
 pub pop_value-requires-clause-some : goal.pop_value-requires-clause-some
 pop_value-requires-clause-some c =
     let st = c.touch.new.self in
     let P : FrameState → Type 0 = λ (g : FrameState). 0 < length g.stack in
     subst P (value_was _ _ _ _ c.args.s st.ok st.cursor c.touch.ensures.points c.touch.ensures.same
-    c.in-Some.x.now c.in-Some.ensures.value c.requires.0 c.requires.1) c.requires.2
+    c.pair_mut-x.result.1.now c.pair_mut-x.result.0.now c.pair_mut-x.ensures.value c.requires.0 c.requires.1) c.requires.2
 
 pub invariant_of-self : goal.invariant_of-self
 invariant_of-self c =
@@ -32,17 +32,18 @@ invariant_of-self c =
     let e = c.pop_value.ensures in
     let stays =
     taken_stays _ _ _ _ c.args.s st.ok st.cursor c.touch.ensures.points c.touch.ensures.same
-    c.in-Some.x.now c.in-Some.ensures.value c.pop_value.new.self c.get_index_mut.ensures.unique
-    c.pop_value.result e.becomes e.frames e.parts c.touch.ensures.at in
+    c.pair_mut-x.result.1.now c.pair_mut-x.result.0.now c.pair_mut-x.ensures.value c.pop_value.new.self c.pair_mut-x.ensures.unique
+    c.pop_value.result e.becomes e.frames e.parts e.locals c.touch.ensures.at in
     record { ok = stays.0; at = stays.1 }
 
-pub unreachable-requires : goal.unreachable-requires
-unreachable-requires c =
+pub pair_mut-x-requires : goal.pair_mut-x-requires
+pair_mut-x-requires c =
     let st = c.touch.new.self in
-    some_domain _ _ _ _ c.args.s st.ok st.cursor c.touch.ensures.points c.touch.ensures.same c.in-None.ensures.value
+    at_domain _ _ _ _ c.args.s st.ok st.cursor c.touch.ensures.points c.touch.ensures.same
 
 pub returns : goal.returns
 returns c =
     let st = c.touch.new.self in
     takes _ _ _ _ c.args.s st.ok st.cursor c.touch.ensures.points c.touch.ensures.same
-    c.in-Some.x.now c.in-Some.ensures.value c.pop_value.new.self c.get_index_mut.ensures.unique c.pop_value.result c.pop_value.ensures.becomes
+    c.pair_mut-x.result.1.now c.pair_mut-x.result.0.now c.pair_mut-x.ensures.value c.pop_value.new.self c.pair_mut-x.ensures.unique
+    c.pop_value.result c.pop_value.ensures.becomes
