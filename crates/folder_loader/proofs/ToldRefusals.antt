@@ -1,5 +1,5 @@
 -- A folder whose files aren't read is refused for that, and a refusal in a told tree is the first fault of the folder there.
-use Rattle.std.proofs.Common.{◌≡◌, ◌↔◌, ℕ, Bool, false, IsTrue, List, ◌++◌, Option, Some, subst, refl, sym, ◌∙◌}
+use Rattle.std.proofs.Common.{◌≡◌, ◌↔◌, ℕ, Bool, false, IsTrue, List, ◌++◌, Option, Some, None, subst, refl, sym, ◌∙◌}
 use Rattle.std.specs.Prelude.{Result, Err}
 use Rattle.std.specs.List.{AllByRecursion}
 use Rattle.std.proofs.lemmas.Bool.{false≢true}
@@ -7,9 +7,10 @@ use Rattle.jk_model.specs.declared.output.Place.{Place}
 use Rattle.jk_model.specs.declared.output.Rule.{Rule}
 use Rattle.jk_model.specs.declared.output.Place.TheVariants.{Whole}
 use Rattle.jk_model.specs.declared.output.Rule.TheVariants.{L1, L2, L5}
-use Rattle.jk_model.specs.Outside.{Ask, Tree, ◌/-◌}
+use Rattle.jk_model.specs.Outside.{Ask, FolderIsAbsent, Tree, ◌/-◌}
 use Rattle.jk_model_classes.specs.Worlds.{WorldRecord}
 use Rattle.jk_model_folders.specs.FolderRules.{IsFilesFault, IsFolderFault, IsLive}
+use Rattle.jk_model_folders.specs.FolderRules.IsFilesFault.{bad_line, class_file, not_offered}
 use Rattle.jk_model_folders.specs.FolderRules.IsFolderFault.{name_is_live as fault_live, no_folder as fault_none, too_large as fault_large, files as fault_files}
 use Rattle.jk_model_folders.specs.declared.files.FolderFiles.{FolderFiles}
 use Rattle.jk_model_folders.specs.FolderTrees.{AreFiles, AreToldFiles}
@@ -79,3 +80,31 @@ asks_of folder path old new is h = (h.0, h.1, subst (λ (x : List ℕ). AllByRec
 -- one answer has one refusal
 pub refused_by : {T : Type 0} (a b : LoadAnswer) → ◌≡◌ {A = Result T LoadAnswer} (Err a) (Err b) → a ≡ b
 refused_by a b e = cc
+
+-- ---- What is refused as a whole is refused for its name, or since its files weren't read.
+
+not_whole : (f : FolderFiles) (w : WorldRecord) (into : List ℕ) (rule : Rule) (place : Place) → IsFilesFault f w into rule place → place ≡ Whole → ⊥
+not_whole f w into rule place (bad_line n broken least) is = cc
+not_whole f w into rule place (not_offered lines k line says shares there broken least) is = cc
+not_whole f w into rule place (class_file lines r i number file good at broken) is = cc
+
+pub no_whole_refusal : {T : Type 0} (f : FolderFiles) (w : WorldRecord) (into : List ℕ) (result : Result T LoadAnswer) (rule : Rule)
+    → ((r : Rule) (p : Place) → result ≡ Err (Refused r p) → IsFilesFault f w into r p) → result ≡ Err (Refused rule Whole) → ⊥
+no_whole_refusal f w into result rule refused e = not_whole f w into rule Whole (refused rule Whole e) refl
+
+pub missed_by : (error : FolderError) (answer : LoadAnswer) → IsReadRefusal error answer → answer ≡ Refused L2 Whole → error ≡ Read.NoFolder
+missed_by Read.NoFolder answer h e = refl
+missed_by Read.TooLarge answer h e = let both = sym h ∙ e in absurd cc
+missed_by Read.ReadFault answer h e = let both = sym h ∙ e in absurd cc
+missed_by Read.OutOfMemory answer h e = let both = sym h ∙ e in absurd cc
+
+pub large_by : (error : FolderError) (answer : LoadAnswer) → IsReadRefusal error answer → answer ≡ Refused L5 Whole → error ≡ Read.TooLarge
+large_by Read.NoFolder answer h e = let both = sym h ∙ e in absurd cc
+large_by Read.TooLarge answer h e = refl
+large_by Read.ReadFault answer h e = let both = sym h ∙ e in absurd cc
+large_by Read.OutOfMemory answer h e = let both = sym h ∙ e in absurd cc
+
+-- a folder that is absent, told or not
+pub absent_told : (tree : Option Tree) (folder : List ℕ) (n n' : ℕ) → FolderIsAbsent tree folder n n' → IsAbsent tree folder
+absent_told None folder n n' h = tt
+absent_told (Some t) folder n n' h = h

@@ -1,13 +1,17 @@
 //! A folder by its name below a root.
 
-ghost use Rattle.std.specs.Prelude.{◌≡◌, ◌≢◌, ◌++◌, ◌↔◌, ◌⊎◌, IsTrue, IfOk, MatchResult, OnErr, Err, List, Some, string_bytes};
+ghost use Rattle.std.specs.Prelude.{◌≡◌, ◌≢◌, ◌+◌, ◌++◌, ◌↔◌, ◌⊎◌, IsTrue, IfOk, MatchResult, OnErr, Err, List, Some, string_bytes};
 ghost use Rattle.std.specs.List.{AllByRecursion};
 ghost use Rattle.jk_model.specs.declared.output.Place.{Place as APlace};
 ghost use Rattle.jk_model.specs.declared.output.Rule.{Rule as ARule};
-ghost use Rattle.jk_model.specs.Outside.{Ask, HasRisen, NeverFalls, Tree, ◌/-◌};
+ghost use Rattle.jk_model.specs.declared.output.Place.TheVariants as PlaceIs;
+ghost use Rattle.jk_model.specs.declared.output.Rule.TheVariants as RuleIs;
+ghost use Rattle.jk_model.specs.Outside.{Ask, FolderIsAbsent, HasRisen, ListOf, NeverFalls, Tree, ◌/-◌};
 ghost use Rattle.jk_model_folders.specs.FolderRules.{IsFolderFault, IsLive};
+ghost use Rattle.jk_model_folders.specs.FolderTrees.{MOST_ENTRIES, MOST_LEVELS};
 ghost use Rattle.jk_model_folders.specs.Loads.{MayLoad};
-ghost use Rattle.folder_reader.specs.FolderAnswers.{AsksWithin};
+ghost use Rattle.jk_outside.specs.Counts.{HasTaken};
+ghost use Rattle.folder_reader.specs.FolderAnswers.{AskedFor, AsksWithin};
 ghost use Rattle.folder_loader.specs.LinkedFolders.{AreTypedFrom};
 ghost use Rattle.folder_loader.specs.LoadAnswers.{HasLoaded, IsRefused, IsReadRefusal};
 
@@ -74,6 +78,17 @@ pub fn load<F: Files>(
     ensures only_refused { (t : Tree) (rule : ARule) (place : APlace) → F.tree files.old ≡ Some t
         → IsFolderFault t root.now world.old name.now rule place
         → MatchResult result (λ _. ⊥) (λ e. (e ≡ LoadAnswer.Refused rule place) ⊎ (e ≡ LoadAnswer.ReadFault) ⊎ (e ≡ LoadAnswer.OutOfMemory)) }
+    // L2 comes where the folder was asked for and isn't there: where no tree is told, a fault was counted.
+    ensures no_folder { result ≡ Err (LoadAnswer.Refused RuleIs.L2 PlaceIs.Whole)
+        → FolderIsAbsent (F.tree files.old) (root.now /- name.now) (F.faults files.old) (F.faults files.new) }
+    ensures missed { result ≡ Err (LoadAnswer.Refused RuleIs.L2 PlaceIs.Whole)
+        → AskedFor (F.asked files.old) (F.asked files.new) (ListOf (root.now /- name.now) MOST_ENTRIES) }
+    // L5 comes of files that tell no tree where more was taken than the least limit of L5 allows.
+    ensures large { result ≡ Err (LoadAnswer.Refused RuleIs.L5 PlaceIs.Whole)
+        → HasTaken (F.tree files.old) (MOST_LEVELS + 1) (F.taken files.old) (F.taken files.new) }
+    // The name of a live domain is refused by L1 alone, and nothing is asked for it.
+    ensures live { IsLive world.old name.now → result ≡ Err (LoadAnswer.Refused RuleIs.L1 PlaceIs.Whole) }
+    ensures live_asks { IsLive world.old name.now → F.asked files.new ≡ F.asked files.old }
     ensures read_fault { result ≡ Err LoadAnswer.ReadFault → HasRisen (F.faults files.old) (F.faults files.new) }
     // It is never answered before something was asked.
     ensures something { result ≡ Err LoadAnswer.ReadFault → F.asked files.new ≢ F.asked files.old }

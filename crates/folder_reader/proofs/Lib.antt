@@ -1,5 +1,6 @@
 -- What is known of the files of a folder, and of the walk that finds them.
 pub mod CallsInTurn
+pub mod CountsTaken
 pub mod ItemsOfLists
 pub mod NoMoreThanFound
 pub mod PathsInOrder

@@ -12,12 +12,12 @@ use Rattle.jk_model_folders.specs.FolderTrees.{MOST_ENTRIES, MOST_LEVELS}
 use Rattle.jk_model_folders.specs.declared.files.FolderFile.{FolderFile}
 use Rattle.folder_reader.specs.declared.found.Found.{Found}
 use Rattle.folder_reader.specs.Calls.{IsListing}
-use Rattle.folder_reader.specs.FolderAnswers.{IsAbsent, IsLarge}
+use Rattle.folder_reader.specs.FolderAnswers.{IsLarge}
 use Rattle.folder_reader.specs.Listings.{IsToRead}
 use Rattle.folder_reader.specs.Paths.{child_of, children, has_name, top, whole_path}
 use Rattle.folder_reader.specs.Walks.{IsPlace, IsToldWalk}
 use Rattle.folder_reader.proofs.WalkGoesOn.{place_at, walk_begins, walk_past_file, walk_past_folder}
-use Rattle.folder_reader.proofs.WholeWalk.{level_is_below, too_deep, too_many_entries, too_wide}
+use Rattle.folder_reader.proofs.WholeWalk.{too_deep, too_many_entries, too_wide}
 
 pub begins : (tree : Option Tree) (root : List ℕ) (found : List Found) → found ≡ top ∷ [] → IsToldWalk tree root found 0
 begins None root found is = tt
@@ -57,11 +57,9 @@ is_wide None root f k k' place folder long named = tt
 is_wide (Some t) root f k k' place folder long named = too_wide t root f k k' place folder long named
 
 -- the folder that is read is absent
-pub is_absent : (tree : Option Tree) (root : List ℕ) (f : Found) (n n' : ℕ) → IsPlace tree root f → f.level ≡ 0
-    → FolderIsAbsent tree (whole_path root f.path) n n' → IsAbsent tree root
-is_absent None root f n n' place zero absent = tt
-is_absent (Some t) root f n n' (inl is) zero absent = subst (λ (g : Found). t.folder (whole_path root g.path) ≡ None) is absent
-is_absent (Some t) root f n n' (inr b) zero absent = absurd (let low = level_is_below t root f.path f.level b.entry b.stands in omega (arith, low, zero))
+pub is_absent : (tree : Option Tree) (root : List ℕ) (f : Found) (n n' : ℕ) → f.path ≡ [] → FolderIsAbsent tree (whole_path root f.path) n n'
+    → FolderIsAbsent tree root n n'
+is_absent tree root f n n' is absent = subst (λ (p : List ℕ). FolderIsAbsent tree (whole_path root p) n n') is absent
 
 none_is_not_some : {X : Type 0} (o : Option X) → o ≡ None → IsSome o → ⊥
 none_is_not_some None e some = cc

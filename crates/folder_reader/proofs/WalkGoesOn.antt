@@ -85,6 +85,7 @@ children_are_found root f tree folder entries is l =
     subst (IsFound root) from.3 (record {
       utf8 = utf8_child f.path e.name is.utf8 (each_of _ entries e l.utf8 from.1);
       within = within_child root f.path e.name from.2 is.within;
+      top = λ none. absurd (omega (arith, none));
     }))
 
 -- ---- paths that differ

@@ -1,5 +1,5 @@
 -- Why a folder's files aren't answered, and what is asked of the files of the system for them.
-use Rattle.std.specs.Prelude.{◌≡◌, ◌≢◌, ℕ, ⊤, ◌⊎◌, List, [], ◌∷◌, Option, Some, None}
+use Rattle.std.specs.Prelude.{◌≡◌, ◌≢◌, ℕ, ⊤, ◌⊎◌, List, [], ◌∷◌, ◌++◌, Contains, Option, Some, None}
 use Rattle.std.specs.List.{AllByRecursion}
 use Rattle.jk_model.specs.Outside.{Ask, BytesOf, IsEntryName, ListOf, Tree, ◌/-◌}
 use Rattle.jk_outside.specs.EntryNames.{IsPlainName}
@@ -38,3 +38,7 @@ abbrev pub AsksWithin : List ℕ → Ask → Type 0
 AsksWithin root (ListOf path limit) = IsWithin root path × (limit ≡ MOST_ENTRIES)
 AsksWithin root (BytesOf path limit) =
     IsWithin root path × ((below : List ℕ) × (path ≡ root /- below) × Counts below) × (limit ≡ MAX_FILE)
+
+-- this was asked for
+abbrev pub AskedFor : List Ask → List Ask → Ask → Type 0
+AskedFor old new ask = (more : List Ask) × (new ≡ old ++ more) × Contains more ask

@@ -57,6 +57,11 @@ IsToldWalk (Some t) root found looked = IsWalk t root found looked
 pub record IsFound (root : List ℕ) (f : Found) : Type 0 where
   pub utf8 : IsUtf8 f.path
   pub within : IsWithin root (whole_path root f.path)
+  pub top : f.level ≡ 0 → f.path ≡ []
 
 abbrev pub AreFound : List ℕ → List Found → Type 0
 AreFound root found = AllByRecursion (IsFound root) found
+
+-- Each stands at most as many levels down as others were found before it.
+abbrev pub AreLevelled : List Found → Type 0
+AreLevelled found = (k : ℕ) (f : Found) → slice_get found k ≡ Some f → f.level ≤ k

@@ -1,9 +1,10 @@
 //! The class files among what was found, in the order of their paths, and `resolver.txt`.
 
-ghost use Rattle.std.specs.Prelude.{◌≡◌, ◌≢◌, ◌≤◌, ℕ, List, length, map, Contains, Err, IfOk, IsUtf8, Some, string_bytes, vec_len, bytes_eq, true, false, []};
+ghost use Rattle.std.specs.Prelude.{◌≡◌, ◌≢◌, ◌≤◌, ◌+◌, ℕ, List, length, map, Contains, Err, IfOk, IsUtf8, Some, string_bytes, vec_len, bytes_eq, true, false, []};
 ghost use Rattle.std.specs.List.{AllByRecursion, IsDistinct, list_any, filter};
 ghost use Rattle.jk_model.specs.Outside.{FileIs, HasRisen, Tree};
-ghost use Rattle.jk_model_folders.specs.FolderTrees.{MAX_FILE, RESOLVER};
+ghost use Rattle.jk_model_folders.specs.FolderTrees.{MAX_FILE, MOST_LEVELS, RESOLVER};
+ghost use Rattle.jk_outside.specs.Counts.{HasTaken};
 ghost use Rattle.folder_reader.specs.Calls.{HasFile, HasFolder, IsLongFile, Moves};
 ghost use Rattle.folder_reader.specs.FolderAnswers.{IsLarge};
 ghost use Rattle.folder_reader.specs.Listings.{AreRead, IsToRead};
@@ -84,8 +85,10 @@ fn read_class<F: Files>(
     ensures path { IfOk result (λ file. file.path ≡ path.now) }
     ensures bytes { IfOk result (λ file. FileIs (F.tree files.old) (whole_path root.now path.now) file.bytes) }
     ensures short { IfOk result (λ file. length file.bytes ≤ MAX_FILE) }
+    ensures counted { IfOk result (λ file. HasTaken (F.tree files.old) (length file.bytes) (F.taken files.old) (F.taken files.new)) }
     ensures no_folder { result ≢ Err Why.NoFolder }
     ensures too_large { result ≡ Err Why.TooLarge → IsLarge (F.tree files.old) root.now }
+    ensures large { result ≡ Err Why.TooLarge → HasTaken (F.tree files.old) (MOST_LEVELS + 1) (F.taken files.old) (F.taken files.new) }
     ensures read_fault { result ≡ Err Why.ReadFault → HasRisen (F.faults files.old) (F.faults files.new) }
     ensures something { result ≡ Err Why.ReadFault → F.asked files.new ≢ F.asked files.old }
     ensures calm { (t : Tree) → F.tree files.old ≡ Some t → result ≢ Err Why.ReadFault → F.faults files.new ≡ F.faults files.old }
@@ -110,6 +113,7 @@ pub(crate) fn read_classes<F: Files>(
     ensures read { IfOk result (λ classes. AreRead (F.tree files.old) root.now (map string_bytes paths.now) classes) }
     ensures no_folder { result ≢ Err Why.NoFolder }
     ensures too_large { result ≡ Err Why.TooLarge → IsLarge (F.tree files.old) root.now }
+    ensures large { result ≡ Err Why.TooLarge → HasTaken (F.tree files.old) (MOST_LEVELS + 1) (F.taken files.old) (F.taken files.new) }
     ensures read_fault { result ≡ Err Why.ReadFault → HasRisen (F.faults files.old) (F.faults files.new) }
     ensures something { result ≡ Err Why.ReadFault → F.asked files.new ≢ F.asked files.old }
     ensures calm { (t : Tree) → F.tree files.old ≡ Some t → result ≢ Err Why.ReadFault → F.faults files.new ≡ F.faults files.old }
@@ -142,6 +146,7 @@ pub(crate) fn read_resolver<F: Files>(
     ensures short { IfOk result (λ bytes. length bytes ≤ MAX_FILE) }
     ensures no_folder { result ≢ Err Why.NoFolder }
     ensures too_large { result ≡ Err Why.TooLarge → (list_any is_resolver found.now ≡ true) × IsLongFile (F.tree files.old) (whole_path root.now RESOLVER) }
+    ensures large { result ≡ Err Why.TooLarge → HasTaken (F.tree files.old) (MOST_LEVELS + 1) (F.taken files.old) (F.taken files.new) }
     ensures read_fault { result ≡ Err Why.ReadFault → HasRisen (F.faults files.old) (F.faults files.new) }
     ensures something { result ≡ Err Why.ReadFault → F.asked files.new ≢ F.asked files.old }
     ensures calm { (t : Tree) → F.tree files.old ≡ Some t → result ≢ Err Why.ReadFault → F.faults files.new ≡ F.faults files.old }

@@ -1,12 +1,13 @@
 //! One folder: the entries in it, and the bytes of a file.
 
-ghost use Rattle.std.specs.Prelude.{◌≡◌, ◌≢◌, ◌≤◌, ℕ, length, true, Err, IfOk, IsUtf8, Option, Some, List, take};
+ghost use Rattle.std.specs.Prelude.{◌≡◌, ◌≢◌, ◌≤◌, ◌+◌, ◌⊎◌, ◌++◌, ◌∷◌, [], ℕ, length, vec_len, true, Err, IfOk, IsUtf8, Option, Some, List, take};
 ghost use Rattle.std.specs.List.{AllByRecursion};
 ghost use Rattle.jk_model.specs.declared.entries.Entry.{Entry};
-ghost use Rattle.jk_model.specs.Outside.{AreNamed, FileIs, FolderIs, FolderIsAbsent, FolderIsLong, HasRisen, Tree};
-ghost use Rattle.jk_model_folders.specs.FolderTrees.{MAX_FILE, MOST_ENTRIES};
+ghost use Rattle.jk_model.specs.Outside.{AreNamed, FileIs, FolderIs, FolderIsAbsent, FolderIsLong, HasLongFolder, HasNoFolder, HasRisen, ListOf, Tree};
+ghost use Rattle.jk_model_folders.specs.FolderTrees.{MAX_FILE, MOST_ENTRIES, MOST_LEVELS};
+ghost use Rattle.jk_outside.specs.Counts.{HasTaken};
 ghost use Rattle.folder_reader.specs.Calls.{HasFile, IsListing, IsLongFile, Moves};
-ghost use Rattle.folder_reader.specs.FolderAnswers.{Counts, IsAbsent, IsLarge, IsWithin};
+ghost use Rattle.folder_reader.specs.FolderAnswers.{AskedFor, Counts, IsLarge, IsWithin};
 ghost use Rattle.folder_reader.specs.Paths.{child_of, children, has_name, is_dots, whole_path};
 ghost use Rattle.folder_reader.specs.Walks.{IsPlace};
 ghost use Rattle.folder_reader.specs.declared.reading.FolderError.TheVariants as Why;
@@ -28,6 +29,7 @@ const MOST_BYTES: u32 = 1_048_576;
 fn entries_of<F: Files>(files: &mut F, root: &str, folder: &str) -> Result<List<Entry>, FolderError>
     requires { IsWithin root.now folder.now }
     ensures listing { IfOk result (λ entries. IsListing (F.tree files.old) folder.now entries) }
+    ensures counted { IfOk result (λ entries. HasTaken (F.tree files.old) (length entries) (F.taken files.old) (F.taken files.new)) }
     ensures no_folder { result ≡ Err Why.NoFolder → FolderIsAbsent (F.tree files.old) folder.now (F.faults files.old) (F.faults files.new) }
     ensures too_large { result ≡ Err Why.TooLarge
         → FolderIsLong (F.tree files.old) folder.now MOST_ENTRIES (F.taken files.old) (F.taken files.new) }
@@ -35,6 +37,10 @@ fn entries_of<F: Files>(files: &mut F, root: &str, folder: &str) -> Result<List<
         → (entries : List Entry) → FolderIs (F.tree files.old) folder.now entries → AreNamed (F.tree files.old) entries }
     ensures read_fault { result ≡ Err Why.ReadFault → HasRisen (F.faults files.old) (F.faults files.new) }
     ensures something { F.asked files.new ≢ F.asked files.old }
+    ensures asked { F.asked files.new ≡ F.asked files.old ++ ListOf folder.now MOST_ENTRIES ∷ [] }
+    // It takes no memory itself: want of memory is no answer where the tree tells another.
+    ensures missing { HasNoFolder (F.tree files.old) folder.now → (result ≡ Err Why.NoFolder) ⊎ (result ≡ Err Why.ReadFault) }
+    ensures over { HasLongFolder (F.tree files.old) folder.now MOST_ENTRIES → (result ≡ Err Why.TooLarge) ⊎ (result ≡ Err Why.ReadFault) }
     ensures calm { (t : Tree) → F.tree files.old ≡ Some t → result ≢ Err Why.ReadFault → F.faults files.new ≡ F.faults files.old }
     ensures moves { Moves root.now (F.tree files.old) (F.tree files.new) (F.faults files.old) (F.faults files.new)
         (F.taken files.old) (F.taken files.new) (F.asked files.old) (F.asked files.new) }
@@ -102,11 +108,15 @@ pub(crate) fn below_of<F: Files>(
     requires within { IsWithin root.now (whole_path root.now above.now.path) }
     requires folder { above.now.folder ≡ true }
     requires shallow { above.now.level ≤ 16 }
+    requires top { above.now.level ≡ 0 → above.now.path ≡ [] }
     requires place { IsPlace (F.tree files.old) root.now above.now }
     ensures below { IfOk result (λ below. (entries : List Entry) × IsListing (F.tree files.old) (whole_path root.now above.now.path) entries
         × (below.items ≡ children above.now entries)) }
-    ensures no_folder { result ≡ Err Why.NoFolder → IsAbsent (F.tree files.old) root.now }
+    ensures counted { IfOk result (λ below. HasTaken (F.tree files.old) (vec_len below) (F.taken files.old) (F.taken files.new)) }
+    ensures no_folder { result ≡ Err Why.NoFolder → FolderIsAbsent (F.tree files.old) root.now (F.faults files.old) (F.faults files.new) }
+    ensures missed { result ≡ Err Why.NoFolder → AskedFor (F.asked files.old) (F.asked files.new) (ListOf root.now MOST_ENTRIES) }
     ensures too_large { result ≡ Err Why.TooLarge → IsLarge (F.tree files.old) root.now }
+    ensures large { result ≡ Err Why.TooLarge → HasTaken (F.tree files.old) (MOST_LEVELS + 1) (F.taken files.old) (F.taken files.new) }
     ensures read_fault { result ≡ Err Why.ReadFault → HasRisen (F.faults files.old) (F.faults files.new) }
     ensures something { result ≡ Err Why.ReadFault → F.asked files.new ≢ F.asked files.old }
     ensures calm { (t : Tree) → F.tree files.old ≡ Some t → result ≢ Err Why.ReadFault → F.faults files.new ≡ F.faults files.old }
@@ -133,8 +143,10 @@ pub(crate) fn read_file<F: Files>(
     requires there { HasFile (F.tree files.old) (whole_path root.now path.now) }
     ensures bytes { IfOk result (λ bytes. FileIs (F.tree files.old) (whole_path root.now path.now) bytes) }
     ensures short { IfOk result (λ bytes. length bytes ≤ MAX_FILE) }
+    ensures counted { IfOk result (λ bytes. HasTaken (F.tree files.old) (length bytes) (F.taken files.old) (F.taken files.new)) }
     ensures no_folder { result ≢ Err Why.NoFolder }
     ensures too_large { result ≡ Err Why.TooLarge → IsLongFile (F.tree files.old) (whole_path root.now path.now) }
+    ensures large { result ≡ Err Why.TooLarge → HasTaken (F.tree files.old) (MOST_LEVELS + 1) (F.taken files.old) (F.taken files.new) }
     ensures read_fault { result ≡ Err Why.ReadFault → HasRisen (F.faults files.old) (F.faults files.new) }
     ensures something { result ≡ Err Why.ReadFault → F.asked files.new ≢ F.asked files.old }
     ensures calm { (t : Tree) → F.tree files.old ≡ Some t → result ≢ Err Why.ReadFault → F.faults files.new ≡ F.faults files.old }

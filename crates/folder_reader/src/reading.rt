@@ -1,10 +1,11 @@
 //! The files of a folder that count.
 
-ghost use Rattle.std.specs.Prelude.{◌≡◌, ◌≢◌, ◌++◌, IfOk, Err, List, Some};
+ghost use Rattle.std.specs.Prelude.{◌≡◌, ◌≢◌, ◌+◌, ◌++◌, IfOk, Err, List, Some};
 ghost use Rattle.std.specs.List.{AllByRecursion};
-ghost use Rattle.jk_model.specs.Outside.{Ask, HasRisen, NeverFalls, Tree};
-ghost use Rattle.jk_model_folders.specs.FolderTrees.{AreFiles, AreToldFiles};
-ghost use Rattle.folder_reader.specs.FolderAnswers.{AsksWithin, IsAbsent, IsLarge};
+ghost use Rattle.jk_model.specs.Outside.{Ask, FolderIsAbsent, HasRisen, ListOf, NeverFalls, Tree};
+ghost use Rattle.jk_model_folders.specs.FolderTrees.{AreFiles, AreToldFiles, MOST_ENTRIES, MOST_LEVELS};
+ghost use Rattle.jk_outside.specs.Counts.{HasTaken};
+ghost use Rattle.folder_reader.specs.FolderAnswers.{AskedFor, AsksWithin, IsLarge};
 ghost use Rattle.folder_reader.specs.declared.reading.FolderError.TheVariants as Why;
 
 use crate::class_files::{read_classes, read_resolver, sorted_paths};
@@ -55,8 +56,12 @@ pub fn read_folder<F: Files>(
     ensures files { IfOk result (λ f. AreFiles f) }
     ensures told { IfOk result (λ f. AreToldFiles (F.tree files.old) root.now f) }
 
-    ensures no_folder { result ≡ Err Why.NoFolder → IsAbsent (F.tree files.old) root.now }
+    // A folder that is missed was asked for, and where no tree is told, a fault was counted.
+    ensures no_folder { result ≡ Err Why.NoFolder → FolderIsAbsent (F.tree files.old) root.now (F.faults files.old) (F.faults files.new) }
+    ensures missed { result ≡ Err Why.NoFolder → AskedFor (F.asked files.old) (F.asked files.new) (ListOf root.now MOST_ENTRIES) }
     ensures too_large { result ≡ Err Why.TooLarge → IsLarge (F.tree files.old) root.now }
+    // Of files that tell no tree more was taken than the least limit of L5 allows.
+    ensures large { result ≡ Err Why.TooLarge → HasTaken (F.tree files.old) (MOST_LEVELS + 1) (F.taken files.old) (F.taken files.new) }
     ensures read_fault { result ≡ Err Why.ReadFault → HasRisen (F.faults files.old) (F.faults files.new) }
     // It is never answered before something was asked.
     ensures something { result ≡ Err Why.ReadFault → F.asked files.new ≢ F.asked files.old }

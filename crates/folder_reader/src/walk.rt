@@ -1,11 +1,14 @@
 //! A walk over the folders below a folder, each after those that were found before it.
 
-ghost use Rattle.std.specs.Prelude.{◌≡◌, ◌≢◌, ◌+◌, ◌<◌, ◌≤◌, ◌∷◌, [], length, vec_len, Err, IfOk, OnOk, Some};
-ghost use Rattle.jk_model.specs.Outside.{HasRisen, Tree};
+ghost use Rattle.std.specs.Prelude.{◌≡◌, ◌≢◌, ◌+◌, ◌-◌, ◌<◌, ◌≤◌, ◌∷◌, [], length, slice_get, true, vec_len, Err, IfOk, OnOk, Some};
+ghost use Rattle.jk_model.specs.Outside.{FolderIsAbsent, HasRisen, ListOf, Tree};
+ghost use Rattle.jk_model_folders.specs.FolderTrees.{MOST_ENTRIES, MOST_LEVELS};
+ghost use Rattle.jk_outside.specs.Counts.{HasTaken};
+ghost use Rattle.folder_reader.specs.declared.found.Found.{Found as AFound};
 ghost use Rattle.folder_reader.specs.Calls.{Moves};
-ghost use Rattle.folder_reader.specs.FolderAnswers.{IsAbsent, IsLarge};
+ghost use Rattle.folder_reader.specs.FolderAnswers.{AskedFor, IsLarge};
 ghost use Rattle.folder_reader.specs.Paths.{top};
-ghost use Rattle.folder_reader.specs.Walks.{AreFound, IsToldWalk};
+ghost use Rattle.folder_reader.specs.Walks.{AreFound, AreLevelled, IsToldWalk};
 ghost use Rattle.folder_reader.specs.declared.reading.FolderError.TheVariants as Why;
 
 use crate::found::Found;
@@ -32,13 +35,21 @@ fn look_at<F: Files>(
     requires at { at < vec_len found.old }
     requires few { vec_len found.old ≤ 4097 }
     requires found { AreFound root.now found.old.items }
+    requires levels { AreLevelled found.old.items }
     requires walk { IsToldWalk (F.tree files.old) root.now found.old.items at }
     ensures few { OnOk result (vec_len found.new ≤ 4097) }
     ensures grows { OnOk result (vec_len found.old ≤ vec_len found.new) }
+    ensures counted { OnOk result (HasTaken (F.tree files.old) (vec_len found.new - vec_len found.old) (F.taken files.old) (F.taken files.new)) }
+    ensures levels { OnOk result (AreLevelled found.new.items) }
     ensures found { OnOk result (AreFound root.now found.new.items) }
     ensures walk { OnOk result (IsToldWalk (F.tree files.old) root.now found.new.items (at + 1)) }
-    ensures no_folder { result ≡ Err Why.NoFolder → IsAbsent (F.tree files.old) root.now }
+    // Too deep a folder is refused before anything is asked, and takes no memory.
+    ensures deep { (f : AFound) → slice_get found.old.items at ≡ Some f → f.folder ≡ true → MOST_LEVELS < f.level
+        → (result ≡ Err Why.TooLarge) × (F.asked files.new ≡ F.asked files.old) }
+    ensures no_folder { result ≡ Err Why.NoFolder → FolderIsAbsent (F.tree files.old) root.now (F.faults files.old) (F.faults files.new) }
+    ensures missed { result ≡ Err Why.NoFolder → AskedFor (F.asked files.old) (F.asked files.new) (ListOf root.now MOST_ENTRIES) }
     ensures too_large { result ≡ Err Why.TooLarge → IsLarge (F.tree files.old) root.now }
+    ensures large { result ≡ Err Why.TooLarge → HasTaken (F.tree files.old) (18 - vec_len found.old) (F.taken files.old) (F.taken files.new) }
     ensures read_fault { result ≡ Err Why.ReadFault → HasRisen (F.faults files.old) (F.faults files.new) }
     ensures something { result ≡ Err Why.ReadFault → F.asked files.new ≢ F.asked files.old }
     ensures calm { (t : Tree) → F.tree files.old ≡ Some t → result ≢ Err Why.ReadFault → F.faults files.new ≡ F.faults files.old }
@@ -83,10 +94,13 @@ pub(crate) fn found_below<F: Files>(
     root: &str,
 ) -> Result<Vec<Found>, FolderError>
     ensures few { IfOk result (λ found. vec_len found ≤ 4097) }
+    ensures counted { IfOk result (λ found. HasTaken (F.tree files.old) (vec_len found - 1) (F.taken files.old) (F.taken files.new)) }
     ensures found { IfOk result (λ found. AreFound root.now found.items) }
     ensures walk { IfOk result (λ found. IsToldWalk (F.tree files.old) root.now found.items (vec_len found)) }
-    ensures no_folder { result ≡ Err Why.NoFolder → IsAbsent (F.tree files.old) root.now }
+    ensures no_folder { result ≡ Err Why.NoFolder → FolderIsAbsent (F.tree files.old) root.now (F.faults files.old) (F.faults files.new) }
+    ensures missed { result ≡ Err Why.NoFolder → AskedFor (F.asked files.old) (F.asked files.new) (ListOf root.now MOST_ENTRIES) }
     ensures too_large { result ≡ Err Why.TooLarge → IsLarge (F.tree files.old) root.now }
+    ensures large { result ≡ Err Why.TooLarge → HasTaken (F.tree files.old) (MOST_LEVELS + 1) (F.taken files.old) (F.taken files.new) }
     ensures read_fault { result ≡ Err Why.ReadFault → HasRisen (F.faults files.old) (F.faults files.new) }
     ensures something { result ≡ Err Why.ReadFault → F.asked files.new ≢ F.asked files.old }
     ensures calm { (t : Tree) → F.tree files.old ≡ Some t → result ≢ Err Why.ReadFault → F.faults files.new ≡ F.faults files.old }

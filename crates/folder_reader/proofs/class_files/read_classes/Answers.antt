@@ -1,6 +1,7 @@
 -- One class file more is read, and is of those that make the folder too large.
 use Rattle.std.proofs.Common.{Some, sym, ap, ◌∙◌, arith}
 use Rattle.folder_reader.proofs.CallsInTurn.{asked_since, handed_on, moves_on}
+use Rattle.folder_reader.proofs.CountsTaken.{took_both, took_later}
 use Rattle.folder_reader.proofs.ToldOrNot.{file_is_read, path_get, to_read_at}
 use Rattle.folder_reader.proofs.WholeWalk.{read_more, sum_more, too_long_with}
 use Rattle.folder_reader.proofs.class_files.read_classes.Goals as goal
@@ -32,6 +33,8 @@ loop-path-preserved g c =
           (read_more _ c.args.root.now _ c.loop-path.path-index c.loop-path.classes c.in_ok-class.class c.loop-path.invariant.read at bytes
           c.in_ok-class.ensures.short (omega (arith, c.loop-path.invariant.sum, c.len-sum.ensures, c.if-sum-gt-MOST_CLASS_BYTES.false)));
       sum = rw c.in_ok-push.ensures.ok (omega (arith, whole, c.loop-path.invariant.sum, c.len-sum.ensures));
+      counted = took_both _ _ _ _ _ _ _ _ c.loop-path.invariant.moves.stays (omega (arith, c.len-sum.ensures)) c.in_ok-class.ensures.moves.taken
+          c.loop-path.invariant.counted c.in_ok-class.ensures.counted;
       moves = moves_on c.args.root.now _ _ _ _ _ _ _ _ _ _ _ _ c.loop-path.invariant.moves c.in_ok-class.ensures.moves;
       calm = λ t is. c.in_ok-class.ensures.calm t (c.loop-path.invariant.moves.stays ∙ is) (λ fault. cc) ∙ c.loop-path.invariant.calm t is;
     }
@@ -42,3 +45,15 @@ returns-in_err-class-clause-something g c = λ is.
     asked_since c.args.root.now _ _ _ _ _ _ _ _ _ _ _ _ c.loop-path.invariant.moves c.read_class.ensures.moves
     (c.read_class.ensures.something
     (handed_on r.result c.in_err-class.field-0.0 _ c.read_class.result r.ensures.1 is c.in_err-class.was))
+
+pub returns-in_err-class-clause-large : goal.returns-in_err-class-clause-large
+returns-in_err-class-clause-large g c = λ is.
+    let r = c.from_residual in
+    let before = c.loop-path.invariant.moves in
+    took_later _ _ 17 _ _ _ before.stays before.taken
+    (c.read_class.ensures.large (handed_on r.result c.in_err-class.field-0.0 _ c.read_class.result r.ensures.1 is c.in_err-class.was))
+
+pub returns-then-sum-gt-MOST_CLASS_BYTES-clause-large : goal.returns-then-sum-gt-MOST_CLASS_BYTES-clause-large
+returns-then-sum-gt-MOST_CLASS_BYTES-clause-large g c = λ _.
+    took_both _ _ _ _ 17 _ _ _ c.loop-path.invariant.moves.stays (omega (arith, c.len-sum.ensures, c.if-sum-gt-MOST_CLASS_BYTES.true))
+    c.in_ok-class.ensures.moves.taken c.loop-path.invariant.counted c.in_ok-class.ensures.counted

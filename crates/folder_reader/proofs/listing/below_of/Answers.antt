@@ -1,7 +1,8 @@
 -- A folder with too many entries makes the one that is read too large.
-use Rattle.std.proofs.Common.{Err, refl, sym, ap, ◌∙◌}
+use Rattle.std.proofs.Common.{Err, length, refl, sym, ap, ◌∙◌, arith}
 use Rattle.folder_reader.specs.Paths.{whole_path}
 use Rattle.folder_reader.proofs.CallsInTurn.{err_inner}
+use Rattle.folder_reader.proofs.CountsTaken.{few_children, took_fewer}
 use Rattle.folder_reader.proofs.ToldOrNot.{is_wide}
 use Rattle.folder_reader.proofs.listing.below_of.Goals as goal
 
@@ -12,3 +13,11 @@ returns-clause-too_large g c = λ is.
     let large = c.in-Err.is ∙ ap Err (sym c.in-Err.e-is ∙ same) in
     is_wide _ c.args.root.now c.args.above.now _ _ c.requires.place c.requires.folder
     (rw path at (c.entries_of.ensures.too_large large)) (rw path at (c.entries_of.ensures.long_named large))
+
+pub returns-in-Ok-clause-counted : goal.returns-in-Ok-clause-counted
+returns-in-Ok-clause-counted g c =
+    let below = c.in_ok-named_in-in-Ok.field-0 in
+    let listed = ap length c.as_slice-in-Ok.ensures in
+    let as_many = ap length c.in_ok-named_in-in-Ok.ensures in
+    let few = few_children c.args.above.now c.as_slice-in-Ok.result.now in
+    took_fewer _ _ _ _ _ (omega (arith, as_many, few, listed, below.ok.0)) c.in-Ok.ensures.counted

@@ -12,6 +12,7 @@ use Rattle.folder_reader.specs.Listings.{AreRead, IsToRead}
 use Rattle.folder_reader.specs.Paths.{class_paths, is_resolver, whole_path}
 use Rattle.folder_reader.specs.Walks.{IsFound, IsToldWalk}
 use Rattle.folder_reader.proofs.CallsInTurn.{asked_since, handed_on, moved, moved_back, moves_on}
+use Rattle.folder_reader.proofs.CountsTaken.{few_paths, took_fewer, took_later}
 use Rattle.folder_reader.proofs.WholeWalk.{are_files, are_told_files, folder_there, resolver_there, to_read_all, too_long_resolver, too_many_files}
 use Rattle.folder_reader.proofs.reading.read_folder.Goals as goal
 
@@ -103,3 +104,24 @@ returns-in_err-resolver-clause-something g c = λ is.
     asked_since c.args.root.now _ _ _ _ _ _ _ _ _ _ _ _ before c.read_resolver.ensures.moves
     (c.read_resolver.ensures.something
     (handed_on r.result c.in_err-resolver.field-0.0 _ c.read_resolver.result r.ensures.1 is c.in_err-resolver.was))
+
+pub returns-then-len-gt-MOST_FILES-clause-large : goal.returns-then-len-gt-MOST_FILES-clause-large
+returns-then-len-gt-MOST_FILES-clause-large g c = λ _.
+    let v = c.in_ok-found.found in let p = c.in_ok-paths.paths in
+    let few = few_paths p.items v.items c.in_ok-paths.ensures.apart
+    (λ path h. subst (λ (xs : List Found). Contains (class_paths xs) path) c.as_slice.ensures.value (c.in_ok-paths.ensures.only path h)) in
+    took_fewer _ _ 17 _ _ (omega (arith, few, c.if-len-gt-MOST_FILES.true, c.len.ensures, p.ok.0, v.ok.0)) c.in_ok-found.ensures.counted
+
+pub returns-in_err-classes-clause-large : goal.returns-in_err-classes-clause-large
+returns-in_err-classes-clause-large g c = λ is.
+    let r = c.from_residual-in_err-classes in
+    let before = c.in_ok-found.ensures.moves in
+    took_later _ _ 17 _ _ _ before.stays before.taken
+    (c.read_classes.ensures.large (handed_on r.result c.in_err-classes.field-0.0 _ c.read_classes.result r.ensures.1 is c.in_err-classes.was))
+
+pub returns-in_err-resolver-clause-large : goal.returns-in_err-resolver-clause-large
+returns-in_err-resolver-clause-large g c = λ is.
+    let r = c.from_residual-in_err-resolver in
+    let before = moves_on c.args.root.now _ _ _ _ _ _ _ _ _ _ _ _ c.in_ok-found.ensures.moves c.in_ok-classes.ensures.moves in
+    took_later _ _ 17 _ _ _ before.stays before.taken
+    (c.read_resolver.ensures.large (handed_on r.result c.in_err-resolver.field-0.0 _ c.read_resolver.result r.ensures.1 is c.in_err-resolver.was))
