@@ -1,6 +1,7 @@
 //! What the names of a domain mean.
 
 ghost use Rattle.std.specs.Prelude.{◌≡◌, ◌<◌, ◌==◌, ◌↔◌, ◌∷◌, ◌++◌, [], ℕ, true, IsTrue, if◌then◌else◌, MatchOption, IfOk, OnOk, OnErr, None, Some, length, nat_eq, option_map, slice_get};
+ghost use Rattle.jk_model.specs.declared.identifiers.ClassId.{ClassId as AClassId};
 ghost use Rattle.indexmap.specs.IndexSet.{contains, spare};
 ghost use Rattle.shared_values.specs.Fingerprints.{fingerprint_of};
 ghost use Rattle.jk_model_classes.specs.Worlds.{NamedClass, class_named, Gives, IsNamed};
@@ -62,6 +63,8 @@ impl NameTable {
     pub fn give(&mut self, name: &Text, class: ClassId) -> Result<bool, OutOfMemory>
         ensures given { IfOk result (λ given. Gives self.old name.now class given self.new) }
         ensures err { OnErr result (self.new ≡ self.old) }
+        // Of a name that means a class already it takes no memory.
+        ensures there { (other : AClassId) → class_named self.old name.now ≡ Some other → OnErr result ⊥ }
     {
         if let Some(other) = self.resolve_text(name) {
             return Ok(other == class);
