@@ -219,14 +219,18 @@ impl DomainFrames {
         self.values[value_index(&self.parts, frame, start, u32::from(locals) + u32::from(i))]
     }
 
-    /// An entry of the operand stack of a frame, whose values begin here, by how many entries are above it.
-    pub(crate) fn entry_below(&self, frame: usize, start: usize, above: u16) -> Value
-        requires frame { IsFrameNumber self.now frame }
-        requires start { start ≡ start_of self.now frame }
-        requires there { above < length (value_at self.now frame).stack }
-        ensures { let entries = (value_at self.now frame).stack in slice_get entries (length entries - 1 - above) ≡ Some result }
+    /// An entry of the operand stack of a frame, at which the cursor is, by how many entries are above it.
+    #[inline(always)]
+    pub(crate) fn entry_below(&self, c: Cursor, above: u16) -> Value
+        requires frame { IsFrameNumber self.now c.frame }
+        requires values { HasValuesAt self.now c }
+        requires there { above < length (value_at self.now c.frame).stack }
+        ensures { let entries = (value_at self.now c.frame).stack in slice_get entries (length entries - 1 - above) ≡ Some result }
     {
-        self.entry(frame, start, self.height(frame) - 1 - above)
+        let record = &self.records[c.frame];
+        let entry = record.height - 1 - above;
+        let locals = record.head.max_locals;
+        self.values[entry_index(&self.parts, c.frame, c.base, c.room, locals, entry)]
     }
 
     /// Sets where a top frame stands, and which class it needs.

@@ -271,8 +271,7 @@ impl PlainFrames {
             → slice_get f.stack (length f.stack - 1 - below) ≡ Some result }
     {
         let found = self.look_up(s);
-        self.at(found.domain)
-            .entry_below(found.frame, found.start, below)
+        self.at(found.domain).entry_below(found, below)
     }
 }
 
@@ -394,7 +393,7 @@ impl FrameStore for PlainFrames {
     fn peek(&self, s: SegmentNo, below: u16) -> Value {
         if self.is_at(s) {
             let domains = self.domains.as_slice();
-            domains[self.cursor.domain].entry_below(self.cursor.frame, self.cursor.start, below)
+            domains[self.cursor.domain].entry_below(self.cursor, below)
         } else {
             self.far_peek(s, below)
         }

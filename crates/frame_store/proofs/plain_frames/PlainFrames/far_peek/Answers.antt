@@ -20,12 +20,12 @@ entry_below-requires-clause-frame c =
     let x = c.at.result.now in
     frame_here _ _ _ c.args.s st.ok _ _ k.top x c.at.ensures
 
-pub entry_below-requires-clause-start : goal.entry_below-requires-clause-start
-entry_below-requires-clause-start c =
+pub entry_below-requires-clause-values : goal.entry_below-requires-clause-values
+entry_below-requires-clause-values c =
     let st = c.args.self.now in
     let k = c.look_up-found.ensures.points in
     let x = c.at.result.now in
-    (k.values x _ (found_here _ _ _ c.args.s st.ok _ _ k.top x c.at.ensures)).start
+    k.values x _ (found_here _ _ _ c.args.s st.ok _ _ k.top x c.at.ensures)
 
 pub entry_below-requires-clause-there : goal.entry_below-requires-clause-there
 entry_below-requires-clause-there c =

@@ -18,13 +18,13 @@ entry_below-requires-clause-frame c =
     let reads = reads_at _ _ _ c.args.s st.ok _ _ k.top c.as_slice-domains.result c.as_slice-domains.ensures.entries x c.index.ensures in
     frame_here _ _ _ c.args.s st.ok _ _ k.top x reads
 
-pub entry_below-requires-clause-start : goal.entry_below-requires-clause-start
-entry_below-requires-clause-start c =
+pub entry_below-requires-clause-values : goal.entry_below-requires-clause-values
+entry_below-requires-clause-values c =
     let st = c.args.self.now in
     let k = c.is_at.ensures.points c.if-is_at.true in
     let x = c.index.result.now in
     let reads = reads_at _ _ _ c.args.s st.ok _ _ k.top c.as_slice-domains.result c.as_slice-domains.ensures.entries x c.index.ensures in
-    (k.values x _ (found_here _ _ _ c.args.s st.ok _ _ k.top x reads)).start
+    k.values x _ (found_here _ _ _ c.args.s st.ok _ _ k.top x reads)
 
 pub entry_below-requires-clause-there : goal.entry_below-requires-clause-there
 entry_below-requires-clause-there c =
