@@ -9,5 +9,5 @@ mod NamesInTheMap
 mod OffersInOrder
 mod PlacesInLists
 mod ReachedClassesNamed
-mod SystemClassesAlone
+pub mod SystemClassesAlone
 mod WordsInTurn

@@ -9,8 +9,6 @@ mod live_names;
 mod name_table;
 mod offers;
 mod resolver;
-#[cfg(test)]
-mod tests;
 mod words;
 mod world;
 

@@ -7,6 +7,8 @@ mod class_table_tests;
 #[cfg(test)]
 mod class_texts_tests;
 #[cfg(test)]
+mod domain_resolver_tests;
+#[cfg(test)]
 mod handler_cover_tests;
 #[cfg(test)]
 mod member_index_tests;

@@ -8,8 +8,8 @@ ghost use Rattle.jk_model_classes.specs.SystemRecords.{AreSystemRecords};
 ghost use Rattle.jk_model_classes.specs.Worlds.{NamesClasses};
 ghost use Rattle.domain_resolver.specs.LiveDomains.{IsLiveLast};
 
-use super::*;
 use class_table::ClassTable;
+use domain_resolver::*;
 use jk_model::{Bytes, ClassId, DomainId, OutOfMemory};
 use shared_values::Text;
 use std::alloc::Global;
