@@ -202,6 +202,9 @@ fn a_class_is_read_again(rt: HostRuntime) -> Result<(), Fail> {
 /// The Code of the one method of a class `A`, whose lines are these.
 fn code_of(alloc: Global, lines: &str) -> Result<Code, Fail> {
     let text = format!(in alloc; "class 0 A B\nmethod 1 m ()V 3 4 X\n{lines}\nend")?;
+    if text.len() > LONG {
+        return Err(Fail::from("a text of some lines"));
+    }
     let bytes = assemble(alloc, text.as_bytes())?;
     let class = class_of(alloc, bytes.as_slice()).ok_or("a class")?;
     let method = class.methods.get(0).ok_or("a method")?;
