@@ -9,4 +9,3 @@ mod numbers;
 pub use errors::{EndsEarly, ReadError};
 pub use lists::{Field, U2, counted_of, many_of};
 pub use numbers::{bytes_of, long_block_of, pair_of, short_block_of, u1_of, u2_of, u4_of, u8_of};
-

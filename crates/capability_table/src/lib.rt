@@ -8,4 +8,3 @@ mod table;
 
 pub use jk_model::CapStatus;
 pub use table::{CapabilityTable, CapsError};
-

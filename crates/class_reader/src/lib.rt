@@ -8,4 +8,3 @@ mod sections;
 
 pub use class::{MAGIC, ReadRefusal, is_version, read_class};
 pub use code::{CodeRefusal, read_code};
-

@@ -17,4 +17,3 @@ pub use code::write_code;
 pub use lists::append_list;
 pub use numbers::{append_u2, append_u4};
 pub use parts::Part;
-

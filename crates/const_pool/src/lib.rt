@@ -9,4 +9,3 @@ mod tags;
 
 pub use judge::is_good_pool;
 pub use pool::{Pool, PoolError, read_pool};
-

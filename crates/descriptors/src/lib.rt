@@ -14,4 +14,3 @@ pub use argument_slots::slots;
 pub use error::DescriptorError;
 pub use fields::field_type;
 pub use methods::method_type;
-

@@ -7,4 +7,3 @@ mod runs;
 
 pub use jk_model::Extent;
 pub use map::ExtentMap;
-

@@ -1,5 +1,5 @@
-//! The opcodes by their mnemonics (the Java Virtual Machine Specification, second edition, chapter 6). Code and
-//! definitions name an opcode by its constant here; no other crate has a number for one. 0xba is no opcode.
+//! The opcodes by their mnemonics (the Java Virtual Machine Specification, second edition, chapter 6), for code and
+//! definitions alike. 0xba is no opcode.
 
 pub const NOP: u8 = 0x00;
 

@@ -7,4 +7,3 @@ mod units;
 
 pub use judge::bad_encoding;
 pub use units::{UnitsError, units_of};
-
