@@ -1,7 +1,8 @@
 //! Codes with as many catch entries as instructions.
 
-use crate::codes::{ALOAD, ASTORE, CodeWriter, ICONST, ISTORE, NOP, RETURN};
+use crate::codes::CodeWriter;
 use crate::typing::{judged_alone, own_name, reference, taking};
+use jk_model::opcodes::{ALOAD, ASTORE, ISTORE, NOP, RETURN, SIPUSH};
 use jk_model::{ClassId, List, OutOfMemory};
 use jk_model_classes::MethodRecord;
 use std::alloc::Global;
@@ -51,7 +52,7 @@ pub fn handlers(alloc: Global, size: u16, calls: bool) -> Option<usize> {
 fn put_store(code: &mut CodeWriter, number: u16) -> Result<(), OutOfMemory> {
     let local = number % STORED + 1;
     if number % 2 == 0 {
-        code.put(ICONST, 0)?;
+        code.put(SIPUSH, 0)?;
         code.put(ISTORE, local)
     } else {
         code.put(ALOAD, 0)?;

@@ -1,39 +1,11 @@
 //! Codes of methods, as they would be made of class files.
 
 use crate::records::{PUBLIC, Signature};
+use jk_model::opcodes::{ALOAD, ASTORE, LOOKUPSWITCH};
 use jk_model::{Instr, List, OutOfMemory, SwitchCase};
 use jk_model_classes::{Body, Caught, LinkedCode, MethodRecord};
 use shared_values::Text;
 use std::alloc::Global;
-
-/// Opcodes, in the long forms.
-pub const NOP: u8 = 0x00;
-
-pub const ICONST: u8 = 0x11;
-
-pub const ILOAD: u8 = 0x15;
-
-pub const ALOAD: u8 = 0x19;
-
-pub const AALOAD: u8 = 0x32;
-
-pub const ISTORE: u8 = 0x36;
-
-pub const ASTORE: u8 = 0x3a;
-
-pub const POP: u8 = 0x57;
-
-pub const IADD: u8 = 0x60;
-
-pub const IINC: u8 = 0x84;
-
-pub const IFEQ: u8 = 0x99;
-
-pub const GOTO: u8 = 0xa7;
-
-const LOOKUPSWITCH: u8 = 0xab;
-
-pub const RETURN: u8 = 0xb1;
 
 /// Flag of a member: static.
 const STATIC: u16 = 0x0008;

@@ -1,10 +1,11 @@
 //! Codes in which each instruction is gone over once or so: straight ones, ones of many leaders, and small ones.
 
-use crate::codes::{CodeWriter, GOTO, IADD, ICONST, IFEQ, IINC, ILOAD, ISTORE, NOP, POP, RETURN};
+use crate::codes::CodeWriter;
 use crate::names::name;
 use crate::records::Signature;
 use crate::typing::{judged, judged_alone, own_name};
 use domain_resolver::World;
+use jk_model::opcodes::{GOTO, IADD, IFEQ, IINC, ILOAD, ISTORE, NOP, POP, RETURN, SIPUSH};
 use jk_model::{List, OutOfMemory};
 use jk_model_classes::MethodRecord;
 use shared_values::Text;
@@ -14,7 +15,7 @@ use std::alloc::Global;
 const LOCALS: u16 = 60;
 
 /// What is written over and over in straight code.
-const LINE: [u8; 7] = [NOP, ICONST, ICONST, ICONST, POP, POP, POP];
+const LINE: [u8; 7] = [NOP, SIPUSH, SIPUSH, SIPUSH, POP, POP, POP];
 
 /// A method of so many instructions without jumps.
 fn straight_method(alloc: Global, size: u16) -> Result<MethodRecord, OutOfMemory> {
@@ -35,7 +36,7 @@ pub fn straight(alloc: Global, size: u16, calls: bool) -> Option<usize> {
 fn method_of_leaders(alloc: Global, size: u16) -> Result<MethodRecord, OutOfMemory> {
     let mut code = CodeWriter::new(alloc, LOCALS, 1);
     for _ in 0..size {
-        code.put(ICONST, 0)?;
+        code.put(SIPUSH, 0)?;
         code.put(IFEQ, code.place().saturating_add(1))?;
     }
     code.put(RETURN, 0)?;
@@ -58,7 +59,7 @@ fn method_of_blocks(alloc: Global, size: u16) -> Result<MethodRecord, OutOfMemor
     let mut code = CodeWriter::new(alloc, LOCALS, 1);
     code.put(GOTO, block(size.saturating_sub(1)))?;
     for i in 0..size {
-        code.put(ICONST, 0)?;
+        code.put(SIPUSH, 0)?;
         code.put(ISTORE, i % LOCALS)?;
         match i.checked_sub(1) {
             Some(before) => code.put(GOTO, block(before))?,
@@ -80,7 +81,7 @@ fn small_method(
     number: u16,
 ) -> Result<MethodRecord, OutOfMemory> {
     let mut code = CodeWriter::new(alloc, 2, 2);
-    code.put_all(&[ICONST, ISTORE, ILOAD, ILOAD, IADD])?;
+    code.put_all(&[SIPUSH, ISTORE, ILOAD, ILOAD, IADD])?;
     code.put(IFEQ, 7)?;
     code.put_all(&[IINC, RETURN])?;
     code.method(signature, Text::new(alloc, &name(1, number))?)

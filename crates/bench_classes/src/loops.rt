@@ -1,11 +1,12 @@
 //! Codes in which locals rise: loops that are gone over as often as they do, and joins of classes far from one another.
 
-use crate::codes::{AALOAD, ALOAD, ASTORE, CodeWriter, GOTO, ICONST, NOP, RETURN};
+use crate::codes::CodeWriter;
 use crate::names::name;
 use crate::records::{CLASS, OBJECT, class_record};
 use crate::typing::{judged, judged_alone, own_name, reference, taking};
 use crate::worlds::{after, put};
 use domain_resolver::World;
+use jk_model::opcodes::{AALOAD, ALOAD, ASTORE, GOTO, NOP, RETURN, SIPUSH};
 use jk_model::{ClassId, List, OutOfMemory};
 use jk_model_classes::{MethodRecord, TypeRef};
 use std::alloc::Global;
@@ -87,7 +88,7 @@ fn write_ring(code: &mut CodeWriter, size: u16) -> Result<u16, OutOfMemory> {
     for local in 1..size {
         code.move_local(local, local - 1)?;
     }
-    code.put_all(&[ICONST, AALOAD])?;
+    code.put_all(&[SIPUSH, AALOAD])?;
     code.put(ASTORE, size.saturating_sub(1))?;
     code.put(GOTO, top)?;
     Ok(top)
@@ -117,7 +118,7 @@ fn method_of_leaders(alloc: Global, size: u16) -> Result<MethodRecord, OutOfMemo
     let mut code = CodeWriter::new(alloc, size, 3);
     let top = write_ring(&mut code, size)?;
     let end = code.place();
-    code.put(ICONST, 0)?;
+    code.put(SIPUSH, 0)?;
     code.put_switch(top, end)?;
     code.put(RETURN, 0)?;
     taking_array(alloc, code)
@@ -149,7 +150,7 @@ fn method_of_joins(
 ) -> Result<MethodRecord, OutOfMemory> {
     let mut code = CodeWriter::new(alloc, JOINED + 1, 1);
     let first = 2 + 2 * JOINED;
-    code.put(ICONST, 0)?;
+    code.put(SIPUSH, 0)?;
     code.put_switch(first, first + PLACES)?;
     for local in 1..=JOINED {
         code.move_local(0, local)?;

@@ -4,6 +4,7 @@ use Rattle.std.proofs.Common.{◌≡◌, ℕ, IsTrue, List, [], ◌∷◌, Optio
 use Rattle.std.specs.Prelude.{option_map}
 use Rattle.std.specs.Option.{option_map_or}
 use Rattle.std.proofs.lemmas.Option.{same_Some}
+use Rattle.jk_model.specs.Flags.{has, INTERFACE}
 use Rattle.jk_model.specs.declared.identifiers.ClassId.{ClassId}
 use Rattle.jk_model.specs.declared.identifiers.MemberId.{MemberId}
 use Rattle.jk_model_classes.specs.declared.records.ClassRecord.{ClassRecord}
@@ -11,7 +12,6 @@ use Rattle.jk_model_classes.specs.declared.records.FieldRecord.{FieldRecord}
 use Rattle.jk_model_classes.specs.declared.records.MethodRecord.{MethodRecord}
 use Rattle.jk_model_classes.specs.declared.records.Member.{Member}
 use Rattle.jk_model_classes.specs.declared.records.Member.TheVariants.{Field, Method}
-use Rattle.jk_model_classes.specs.ClassFlags.{has, INTERFACE}
 use Rattle.jk_model_classes.specs.Classes.{record_of, parents_of, listed_interfaces, is_interface_record, IsInterface}
 use Rattle.class_growth.specs.OtherLinks.{without_links}
 use Rattle.jk_model_classes.specs.Lookups.{FieldIs, MethodIs, FlagsAre, AreInOnePackage, IsPackageOf, class_of}

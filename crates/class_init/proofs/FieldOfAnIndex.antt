@@ -15,11 +15,11 @@ use Rattle.std.proofs.lemmas.List.Elements.{filter-append}
 use Rattle.std.proofs.lemmas.List.Sorted.{searchable_from_sorted}
 use Rattle.std.proofs.lemmas.Map.Lookups.{exact_unsigned}
 use Rattle.std.proofs.lemmas.Option.{slice_get_within, slice_get-get_or, get_or_from_slice_get, same_Some}
+use Rattle.jk_model.specs.Flags.{has}
 use Rattle.list_lemmas.proofs.ItemsByPlace.{old_or_last, comes_from, mapped_at}
 use Rattle.jk_model.specs.declared.values.Value.{Value}
 use Rattle.jk_model.specs.declared.values.Value.TheVariants as Held
 use Rattle.jk_model_classes.specs.declared.records.FieldRecord.{FieldRecord}
-use Rattle.jk_model_classes.specs.ClassFlags.{has}
 use Rattle.jk_model_domains.specs.OwnStates.{StaticField, with_field, is_static_field}
 use Rattle.class_init.specs.declared.statics.FieldSlot.{FieldSlot}
 use Rattle.class_init.specs.Statics.{static_field, IsRising, IsIndexAt, LacksIndex, with_values, first_static, statics_from}

@@ -1,7 +1,7 @@
 //! The static fields of a class as they begin.
 
 ghost use Rattle.std.specs.Prelude.{◌≡◌, ◌≤◌, IfOk, length, map};
-ghost use Rattle.jk_model_classes.specs.ClassFlags.{STATIC, has};
+ghost use Rattle.jk_model.specs.Flags.{STATIC, has};
 ghost use Rattle.jk_model_domains.specs.OwnStates.{first_statics, first_value, zero_of};
 ghost use Rattle.class_init.specs.Statics.{statics_from};
 

@@ -9,7 +9,7 @@ use Rattle.jk_model.specs.declared.descriptors.Base.{Base}
 use Rattle.jk_model.specs.declared.descriptors.Base.TheVariants.{Byte, Char, Double, Float, Int, Long, Short, Bool as Boolean, Class}
 use Rattle.jk_model.specs.ClassFile.{IsGoodEntry, IsUtf8Entry}
 use Rattle.jk_model.proofs.EachItem.{all_at}
-use Rattle.jk_model_classes.specs.ClassFlags.{STATIC, has}
+use Rattle.jk_model.specs.Flags.{STATIC, has}
 use Rattle.jk_model_classes.specs.MemberAttributes.{HasBadConstant, IsConstantOf}
 use Rattle.jk_model_classes.specs.Worlds.{NamedClass}
 use Rattle.class_linker.specs.KnownConstants.{HasNoBadConstant, HasTextOf, IsConstantKind}

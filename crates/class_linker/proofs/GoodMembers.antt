@@ -15,7 +15,8 @@ use Rattle.jk_model.specs.declared.descriptors.MethodType.{MethodType}
 use Rattle.jk_model.specs.declared.output.Rule.TheVariants.{C7, C8, C9, C10, C11, C12, C13, C15}
 use Rattle.jk_model.specs.ClassFile.{CodeLayout}
 use Rattle.jk_model.specs.Descriptors.{IsFieldText, IsMethodText, base_text}
-use Rattle.jk_model_classes.specs.ClassFlags.{MethodFlags, NATIVE, ABSTRACT, has}
+use Rattle.jk_model.specs.Flags.{NATIVE, ABSTRACT, has}
+use Rattle.jk_model_classes.specs.ClassFlags.{MethodFlags}
 use Rattle.jk_model_classes.specs.ClassNames.{BeginsArray, NamesClass}
 use Rattle.jk_model_classes.specs.Items.{HasItem, Member, Entry}
 use Rattle.jk_model_classes.specs.MemberAttributes.{IsCodeAttribute}

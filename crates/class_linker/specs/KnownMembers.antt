@@ -6,7 +6,8 @@ use Rattle.jk_model.specs.declared.class_file.MemberInfo.{MemberInfo}
 use Rattle.jk_model.specs.declared.class_file.Attribute.{Attribute}
 use Rattle.jk_model.specs.declared.class_file.Code.{Code}
 use Rattle.jk_model.specs.ClassFile.{CodeLayout}
-use Rattle.jk_model_classes.specs.ClassFlags.{ABSTRACT, MethodFlags, has}
+use Rattle.jk_model.specs.Flags.{ABSTRACT, has}
+use Rattle.jk_model_classes.specs.ClassFlags.{MethodFlags}
 use Rattle.jk_model_classes.specs.Items.{HasItem}
 use Rattle.jk_model_classes.specs.MemberAttributes.{HasBadConstant, IsCodeAttribute}
 use Rattle.class_linker.specs.KnownCodes.{IsGoodCode}

@@ -6,10 +6,10 @@ use Rattle.std.proofs.lemmas.List.{take-append-le}
 use Rattle.std.proofs.lemmas.List.Sums.{sum_by-append}
 use Rattle.std.proofs.lemmas.Option.{same_Some}
 use Rattle.std.proofs.Math.Seq.{take-append-add}
+use Rattle.jk_model.specs.Flags.{has}
 use Rattle.jk_model.specs.declared.identifiers.ClassId.{ClassId}
 use Rattle.jk_model.specs.declared.identifiers.MemberId.{MemberId}
 use Rattle.jk_model_classes.specs.declared.records.FieldRecord.{FieldRecord}
-use Rattle.jk_model_classes.specs.ClassFlags.{has}
 use Rattle.jk_model_classes.specs.Layouts.{InstanceField, instance_fields, up_to_32_bits, words_of}
 use Rattle.class_table.specs.declared.entry.Entry.{Entry}
 use Rattle.class_table.specs.declared.entry.OwnField.{OwnField}

@@ -7,9 +7,9 @@ use Rattle.std.proofs.lemmas.List.Elements.{filter-append}
 use Rattle.std.proofs.lemmas.List.Sums.{sum_by-append, sum_by-cons}
 use Rattle.std.proofs.lemmas.List.FromFn.{length-enumerate_from}
 use Rattle.std.proofs.Math.Seq.{take-append_seam}
+use Rattle.jk_model.specs.Flags.{has}
 use Rattle.jk_model.specs.declared.identifiers.ClassId.{ClassId}
 use Rattle.jk_model_classes.specs.declared.records.FieldRecord.{FieldRecord}
-use Rattle.jk_model_classes.specs.ClassFlags.{has}
 use Rattle.jk_model_classes.specs.Layouts.{InstanceField, is_instance_field, type_words, words_of}
 use Rattle.class_table.specs.declared.entry.OwnField.{OwnField}
 use Rattle.class_table.specs.declared.entry.OwnPlaces.{OwnPlaces}

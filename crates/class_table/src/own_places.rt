@@ -1,9 +1,9 @@
 //! Where the instance fields of a class stand, worked out of its fields.
 
 ghost use Rattle.std.specs.Prelude.{◌≡◌, ◌+◌, ◌<◌, ◌≤◌, ◌++◌, ◌∷◌, [], List, length, not, if◌then◌else◌, IfOk, OnOk};
+ghost use Rattle.jk_model.specs.Flags.{STATIC, has};
 ghost use Rattle.jk_model.specs.declared.identifiers.ClassId.{ClassId};
 ghost use Rattle.jk_model_classes.specs.declared.records.FieldRecord.{FieldRecord};
-ghost use Rattle.jk_model_classes.specs.ClassFlags.{STATIC, has};
 ghost use Rattle.jk_model_classes.specs.Layouts.{type_words};
 ghost use Rattle.class_table.specs.Entries.{AreOwnPlaces};
 

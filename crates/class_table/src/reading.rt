@@ -1,8 +1,8 @@
 //! What the entries of a table answer about one class.
 
 ghost use Rattle.std.specs.Prelude.{◌≡◌, ◌+◌, ◌-◌, ◌^◌, ◌≤◌, ◌↔◌, Contains, Some, IfNone, IfSome, IsTrue, length, min, option_map, slice_get};
+ghost use Rattle.jk_model.specs.Flags.{STATIC, has};
 ghost use Rattle.jk_model_classes.specs.declared.records.FieldRecord.{FieldRecord};
-ghost use Rattle.jk_model_classes.specs.ClassFlags.{STATIC, has};
 ghost use Rattle.jk_model_classes.specs.Classes.{HasClass, Implements, IsInterface, field_walk, firsts, with_interfaces};
 ghost use Rattle.jk_model_classes.specs.Layouts.{InstanceField, cost_of, instance_fields};
 ghost use Rattle.jk_model_classes.specs.Lookups.{FieldIs, FindsFrom, IsFieldOf, IsMethodOf};

@@ -2,10 +2,10 @@
 
 ghost use Rattle.std.specs.Prelude.{◌≡◌, ◌+◌, ◌-◌, ◌^◌, ◌<◌, ◌≤◌, ◌↔◌, ◌++◌, ◌∷◌, [], Some, IfOk, IfNone, IfSome, IsTrue, OnErr, OnOk, length, option_map, slice_get, take};
 ghost use Rattle.std.specs.Slice.{IsItemAt};
+ghost use Rattle.jk_model.specs.Flags.{STATIC, has};
 ghost use Rattle.jk_model.specs.declared.identifiers.ClassId.{ClassId as AClassId};
 ghost use Rattle.jk_model_classes.specs.declared.records.ClassRecord.{ClassRecord as AClass};
 ghost use Rattle.jk_model_classes.specs.declared.records.FieldRecord.{FieldRecord};
-ghost use Rattle.jk_model_classes.specs.ClassFlags.{STATIC, has};
 ghost use Rattle.jk_model_classes.specs.Classes.{AreOrdered, GetsLinks, HasClass, Implements, IsSubclass, StandsAbove, field_walk, firsts, record_of, with_interfaces};
 ghost use Rattle.jk_model_classes.specs.Layouts.{InstanceField, cost_of, instance_fields, layout_of};
 ghost use Rattle.jk_model_classes.specs.Lookups.{FieldIs, FindsFrom, IsFieldOf, IsMethodOf};

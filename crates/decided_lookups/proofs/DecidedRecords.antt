@@ -4,6 +4,7 @@ use Rattle.std.proofs.Common.{◌≡◌, ◌≢◌, ℕ, ◌⊎◌, inl, inr, Is
 use Rattle.std.specs.Prelude.{⊤, not, slice_get}
 use Rattle.std.specs.List.{AllByRecursion}
 use Rattle.std.proofs.lemmas.Option.{none-some, same_Some}
+use Rattle.jk_model.specs.Flags.{has, ABSTRACT, INTERFACE, PRIVATE, PROTECTED, PUBLIC, STATIC}
 use Rattle.jk_model.specs.declared.descriptors.MethodType.{MethodType}
 use Rattle.jk_model.specs.declared.identifiers.ClassId.{ClassId}
 use Rattle.jk_model.specs.declared.identifiers.MemberId.{MemberId}
@@ -14,7 +15,6 @@ use Rattle.jk_model_classes.specs.declared.records.Member.TheVariants.{Field, Me
 use Rattle.jk_model_classes.specs.declared.records.MethodRecord.{MethodRecord}
 use Rattle.jk_model_classes.specs.declared.records.TypeRef.{TypeRef}
 use Rattle.jk_model_classes.specs.Classes.{record_of, superclasses, own_interfaces, Implements, IsInterface, IsSubclass}
-use Rattle.jk_model_classes.specs.ClassFlags.{has, ABSTRACT, INTERFACE, PRIVATE, PROTECTED, PUBLIC, STATIC}
 use Rattle.jk_model_classes.specs.Lookups.{AllowsFrom, AreInOnePackage, FieldIs, IsAbstract, IsFieldOf, IsMethodOf, IsOverriddenIn, IsPackageOf, IsUnmarked, MayAccess, MayAccessClass, MethodIs, RunsFor}
 use Rattle.member_lookup.proofs.OnePackage.{package-unique}
 use Rattle.decided_lookups.specs.Decisions.{IsDecided}

@@ -10,12 +10,12 @@ use Rattle.jk_model.specs.declared.identifiers.ClassId.{ClassId}
 use Rattle.jk_model.specs.declared.identifiers.MemberId.{MemberId}
 use Rattle.jk_model.specs.SystemTable.{SystemClass, system_classes}
 use Rattle.jk_model.proofs.EachItem.{all_weaker}
+use Rattle.jk_model.specs.Flags.{has, INTERFACE}
 use Rattle.jk_model_classes.specs.declared.records.BaseRef.{BaseRef}
 use Rattle.jk_model_classes.specs.declared.records.BaseRef.TheVariants as Base
 use Rattle.jk_model_classes.specs.declared.records.ClassRecord.{ClassRecord}
 use Rattle.jk_model_classes.specs.declared.records.TypeRef.{TypeRef}
 use Rattle.jk_model_classes.specs.Classes.{record_of, superclasses, AreOrdered, IsInterface, OBJECT, is_interface_record}
-use Rattle.jk_model_classes.specs.ClassFlags.{has, INTERFACE}
 use Rattle.jk_model_classes.specs.SystemRecords.{AreSystemRecords}
 use Rattle.jk_model_typing.specs.declared.frames.FrameType.{FrameType}
 use Rattle.jk_model_typing.specs.declared.frames.VType.{VType}

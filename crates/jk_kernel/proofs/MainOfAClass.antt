@@ -8,9 +8,9 @@ use Rattle.jk_model.specs.declared.descriptors.MethodType.{MethodType}
 use Rattle.jk_model.specs.declared.identifiers.ClassId.{ClassId}
 use Rattle.jk_model.specs.declared.identifiers.MemberId.{MemberId}
 use Rattle.jk_model.specs.Descriptors.{IsMethodText}
+use Rattle.jk_model.specs.Flags.{has, PUBLIC, STATIC}
 use Rattle.jk_model_classes.specs.declared.records.LinkedCode.{LinkedCode}
 use Rattle.jk_model_classes.specs.declared.records.MethodRecord.{MethodRecord}
-use Rattle.jk_model_classes.specs.ClassFlags.{has, PUBLIC, STATIC}
 use Rattle.jk_model_classes.specs.Classes.{method_walk}
 use Rattle.jk_model_classes.specs.Lookups.{FindsMethod, IsFirstOn, IsMethodOf, MethodIs}
 use Rattle.jk_model_typing.specs.declared.frames.FrameType.{FrameType}

@@ -4,12 +4,14 @@ use Rattle.std.specs.Prelude.{◌==◌, ◌&&◌, ◌||◌, not}
 use Rattle.std.specs.Option.{option_map_or}
 use Rattle.std.proofs.lemmas.Bool.{cases_Bool}
 use Rattle.std.proofs.lemmas.Option.{same_Some, slice_get_within}
+use Rattle.jk_model.specs.Flags.{ABSTRACT, NATIVE, has}
 use Rattle.jk_model.specs.declared.class_file.MemberInfo.{MemberInfo}
 use Rattle.jk_model.specs.declared.identifiers.ClassId.{ClassId}
 use Rattle.jk_model.specs.declared.identifiers.MemberId.{MemberId}
 use Rattle.jk_model.specs.declared.instructions.Instr.{Instr}
 use Rattle.jk_model.specs.declared.output.Rule.TheVariants.{C15, C19}
 use Rattle.jk_model.specs.SystemTable.{SystemClass, system_classes}
+use Rattle.jk_model.specs.declared.opcodes.TheConstants.{INVOKEINTERFACE, INVOKESPECIAL}
 use Rattle.jk_model_classes.specs.declared.records.Body.TheVariants as Does
 use Rattle.jk_model_classes.specs.declared.records.ClassRecord.{ClassRecord}
 use Rattle.jk_model_classes.specs.declared.records.Link.{Link}
@@ -19,11 +21,11 @@ use Rattle.jk_model_classes.specs.declared.records.MethodRecord.{MethodRecord}
 use Rattle.jk_model_classes.specs.declared.sharing.Offer.{Offer}
 use Rattle.jk_model_classes.specs.declared.sharing.Stub.{Stub}
 use Rattle.jk_model_classes.specs.Classes.{record_of}
-use Rattle.jk_model_classes.specs.ClassFlags.{ABSTRACT, MethodFlags, NATIVE, has}
+use Rattle.jk_model_classes.specs.ClassFlags.{MethodFlags}
 use Rattle.jk_model_classes.specs.Items.{HasItem, Member}
 use Rattle.jk_model_classes.specs.LinkRules.{LinkScope}
 use Rattle.jk_model_classes.specs.Lookups.{MethodIs}
-use Rattle.jk_model_classes.specs.MemberCode.{CallsInit, HasCode, HasInstr, INVOKEINTERFACE, INVOKESPECIAL, is_call, is_field_access, is_jump, is_switch}
+use Rattle.jk_model_classes.specs.MemberCode.{CallsInit, HasCode, HasInstr, is_call, is_field_access, is_jump, is_switch}
 use Rattle.jk_model_classes.specs.Members.{CLINIT, INIT, ReferenceAt}
 use Rattle.jk_model_classes.specs.OneClassRules.{one_class_rules}
 use Rattle.jk_model_classes.specs.References.{IsClosedNamed}

@@ -13,6 +13,7 @@ use Rattle.jk_model.specs.declared.descriptors.FieldType.{FieldType}
 use Rattle.jk_model.specs.declared.identifiers.ClassId.{ClassId}
 use Rattle.jk_model.specs.declared.output.Rule.TheVariants.{C9}
 use Rattle.jk_model.specs.Descriptors.{IsFieldText}
+use Rattle.jk_model.specs.Flags.{has, STATIC}
 use Rattle.jk_model_classes.specs.declared.records.BaseRef.{BaseRef}
 use Rattle.jk_model_classes.specs.declared.records.BaseRef.TheVariants as Ref
 use Rattle.jk_model_classes.specs.declared.records.ClassRecord.{ClassRecord}
@@ -22,7 +23,6 @@ use Rattle.jk_model_classes.specs.declared.records.Link.TheVariants as To
 use Rattle.jk_model_classes.specs.declared.records.TypeRef.{TypeRef}
 use Rattle.jk_model_classes.specs.declared.sharing.Offer.{Offer}
 use Rattle.jk_model_classes.specs.declared.sharing.Stub.{Stub}
-use Rattle.jk_model_classes.specs.ClassFlags.{has, STATIC}
 use Rattle.jk_model_classes.specs.Items.{Member}
 use Rattle.jk_model_classes.specs.MemberAttributes.{HasBadConstant, IsConstant, IsConstantOf, IsConstantValue}
 use Rattle.jk_model_classes.specs.OneClassRules.{one_class_rules}

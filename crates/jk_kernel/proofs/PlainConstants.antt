@@ -3,6 +3,7 @@ use Rattle.std.proofs.Common.{◌≡◌, ℕ, ◌+◌, ◌-◌, ◌≤◌, inl, 
 use Rattle.std.specs.Prelude.{IsTrue}
 use Rattle.std.proofs.lemmas.Bool.{cases_lt}
 use Rattle.std.proofs.lemmas.Option.{slice_get_within}
+use Rattle.jk_model.specs.Flags.{has, STATIC}
 use Rattle.jk_model.specs.declared.class_file.MemberInfo.{MemberInfo}
 use Rattle.jk_model.specs.declared.class_file.PoolEntry.{PoolEntry}
 use Rattle.jk_model.specs.declared.identifiers.ClassId.{ClassId}
@@ -14,7 +15,6 @@ use Rattle.jk_model_classes.specs.declared.records.Link.TheVariants as To
 use Rattle.jk_model_classes.specs.declared.records.TypeRef.{TypeRef}
 use Rattle.jk_model_classes.specs.declared.sharing.Offer.{Offer}
 use Rattle.jk_model_classes.specs.declared.sharing.Stub.{Stub}
-use Rattle.jk_model_classes.specs.ClassFlags.{has, STATIC}
 use Rattle.jk_model_classes.specs.Classes.{record_of}
 use Rattle.jk_model_classes.specs.SystemRecords.{AreSystemRecords}
 use Rattle.jk_model_classes.specs.Worlds.{NamedClass, WorldRecord}

@@ -12,13 +12,13 @@ use Rattle.jk_model.specs.declared.descriptors.FieldType.{FieldType}
 use Rattle.jk_model.specs.declared.descriptors.MethodType.{MethodType}
 use Rattle.jk_model.specs.declared.identifiers.ClassId.{ClassId}
 use Rattle.jk_model.specs.Descriptors.{IsClassName, IsMethodText, IsNameUnit}
+use Rattle.jk_model.specs.Flags.{has, INTERFACE}
 use Rattle.jk_model.specs.SystemTable.{SystemClass, SystemMethod, parent_number, system_classes}
 use Rattle.jk_model_classes.specs.declared.records.BaseRef.{BaseRef}
 use Rattle.jk_model_classes.specs.declared.records.BaseRef.TheVariants as Base
 use Rattle.jk_model_classes.specs.declared.records.ClassRecord.{ClassRecord}
 use Rattle.jk_model_classes.specs.declared.records.MethodRecord.{MethodRecord}
 use Rattle.jk_model_classes.specs.declared.records.TypeRef.{TypeRef}
-use Rattle.jk_model_classes.specs.ClassFlags.{has, INTERFACE}
 use Rattle.jk_model_classes.specs.Classes.{AreOrdered, is_interface_record, parents_of, record_of}
 use Rattle.jk_model_classes.specs.SystemRecords.{AreSystemRecords, AreTypesFor, IsBaseFor, system_meaning}
 use Rattle.jk_model_typing.specs.FrameTypes.{RefFits, STRING, array_type, erased_class}

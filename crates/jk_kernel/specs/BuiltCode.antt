@@ -1,9 +1,11 @@
 -- Which classes run so far. A folder that breaks no rule and has a class of another form is refused as not built yet.
 use Rattle.std.specs.Prelude.{◌≡◌, ◌≢◌, ℕ, ◌^◌, ◌≤◌, ◌⊎◌, IsTrue, ℤ, List, [], ◌∷◌, ◌++◌, length, Contains, Some, codes, bytes_eq}
 use Rattle.std.specs.List.{AllByRecursion, IsDistinct}
+use Rattle.jk_model.specs.Flags.{has, STATIC}
 use Rattle.jk_model.specs.declared.identifiers.ClassId.{ClassId}
 use Rattle.jk_model.specs.declared.identifiers.MemberId.{MemberId}
 use Rattle.jk_model.specs.declared.instructions.Instr.{Instr}
+use Rattle.jk_model.specs.declared.opcodes.TheConstants.{NOP, LCONST_0, SIPUSH, LDC_W, LDC2_W, LLOAD, ISTORE, LSTORE, POP, I2L, L2I, I2B, LCMP, IFEQ, IF_ICMPLE, GOTO, TABLESWITCH, LRETURN, RETURN, GETSTATIC, INVOKEVIRTUAL, INVOKESTATIC}
 use Rattle.jk_model_classes.specs.declared.records.Body.TheVariants.{Linked}
 use Rattle.jk_model_classes.specs.declared.records.ClassRecord.{ClassRecord}
 use Rattle.jk_model_classes.specs.declared.records.FieldRecord.{FieldRecord}
@@ -11,7 +13,6 @@ use Rattle.jk_model_classes.specs.declared.records.Link.TheVariants as To
 use Rattle.jk_model_classes.specs.declared.records.LinkedCode.{LinkedCode}
 use Rattle.jk_model_classes.specs.declared.records.MethodRecord.{MethodRecord}
 use Rattle.jk_model_classes.specs.Classes.{record_of}
-use Rattle.jk_model_classes.specs.ClassFlags.{has, STATIC}
 use Rattle.jk_model_classes.specs.Items.{HasItem}
 use Rattle.jk_model_classes.specs.Members.{CLINIT, INIT}
 use Rattle.jk_model_classes.specs.SharedRules.{IsOfFolder}
@@ -27,27 +28,27 @@ use Rattle.jk_model_machine.specs.Executions.{IsSystemOut, NamesField, NamesMeth
 -- that compare numbers; goto; the switches, ireturn, lreturn; return
 abbrev pub built_opcodes : List (ℕ × ℕ)
 built_opcodes =
-    (0x00, 0x00) ∷ (0x09, 0x09) ∷ (0x11, 0x11) ∷ (0x14, 0x16) ∷ (0x36, 0x37) ∷ (0x57, 0x85) ∷ (0x88, 0x88)
-    ∷ (0x91, 0x94) ∷ (0x99, 0xa4) ∷ (0xa7, 0xa7) ∷ (0xaa, 0xad) ∷ (0xb1, 0xb1) ∷ []
+    (NOP, NOP) ∷ (LCONST_0, LCONST_0) ∷ (SIPUSH, SIPUSH) ∷ (LDC2_W, LLOAD) ∷ (ISTORE, LSTORE) ∷ (POP, I2L) ∷ (L2I, L2I)
+    ∷ (I2B, LCMP) ∷ (IFEQ, IF_ICMPLE) ∷ (GOTO, GOTO) ∷ (TABLESWITCH, LRETURN) ∷ (RETURN, RETURN) ∷ []
 
 -- ldc of an int or a text
 abbrev pub LoadsBuiltConstant : CodeScope → Instr → Type 0
 LoadsBuiltConstant s i =
-    (i.op ≡ 0x13) × (((n : ℤ) × LeadsToLink s i (To.Int n)) ⊎ ((text : List ℕ) × LeadsToLink s i (To.Text text)))
+    (i.op ≡ LDC_W) × (((n : ℤ) × LeadsToLink s i (To.Int n)) ⊎ ((text : List ℕ) × LeadsToLink s i (To.Text text)))
 
 -- getstatic of System.out
 abbrev pub GetsSystemOut : CodeScope → Instr → Type 0
-GetsSystemOut s i = (i.op ≡ 0xb2) × ((m : MemberId) × (field : FieldRecord) × NamesField s i m field × IsSystemOut s m)
+GetsSystemOut s i = (i.op ≡ GETSTATIC) × ((m : MemberId) × (field : FieldRecord) × NamesField s i m field × IsSystemOut s m)
 
 -- invokevirtual of a `println` of java/io/PrintStream
 abbrev pub CallsPrintln : CodeScope → Instr → Type 0
 CallsPrintln s i =
-    (i.op ≡ 0xb6) × ((m : MemberId) × (method : MethodRecord) × NamesMethod s i m method × (m.class ≡ PRINT_STREAM) × (method.name ≡ codes "println"))
+    (i.op ≡ INVOKEVIRTUAL) × ((m : MemberId) × (method : MethodRecord) × NamesMethod s i m method × (m.class ≡ PRINT_STREAM) × (method.name ≡ codes "println"))
 
 -- invokestatic of a method with code, which was found in a class that the domain's names mean
 abbrev pub CallsBuiltStatic : List NamedClass → CodeScope → Instr → Type 0
 CallsBuiltStatic table s i =
-    (i.op ≡ 0xb8) × ((m : MemberId) × (method : MethodRecord) × (code : LinkedCode) × NamesMethod s i m method × (method.body ≡ Linked code)
+    (i.op ≡ INVOKESTATIC) × ((m : MemberId) × (method : MethodRecord) × (code : LinkedCode) × NamesMethod s i m method × (method.body ≡ Linked code)
     × IsNamed table m.class)
 
 abbrev pub IsBuiltInstr : List NamedClass → CodeScope → Instr → Type 0

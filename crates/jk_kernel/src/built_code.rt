@@ -9,16 +9,18 @@ ghost use Rattle.type_rows.specs.CodeViews.{scope_of};
 ghost use Rattle.jk_kernel.specs.BuiltCode.{AreBuilt, CallsBuiltStatic, CallsPrintln, GetsSystemOut, HasConstantText, IsBuiltClass, IsBuiltCode, IsBuiltInstr, IsBuiltMethod, IsOfPackageJk, LoadsBuiltConstant, built_opcodes};
 ghost use Rattle.jk_kernel.specs.BuiltParts.{BeginsWithJk, HasCode, IsOfSystem, IsPrintlnOf, IsSystemField, RunsAt};
 
-use crate::places::{GETSTATIC, INVOKESTATIC, INVOKEVIRTUAL, LDC, StandsAt, link_of};
+use crate::places::{StandsAt, link_of};
 use crate::system_classes::PRINT_STREAM;
 use class_table::ClassTable;
 use domain_resolver::NameTable;
-use jk_model::{ClassId, Instr, MemberId};
+use jk_model::opcodes::{
+    GETSTATIC, GOTO, I2B, I2L, IF_ICMPLE, IFEQ, INVOKESTATIC, INVOKEVIRTUAL, ISTORE, L2I, LCMP,
+    LCONST_0, LDC_W, LDC2_W, LLOAD, LRETURN, LSTORE, NOP, POP, RETURN, SIPUSH, TABLESWITCH,
+};
+use jk_model::{AccessFlags, ClassId, Instr, MemberId, has};
 use jk_model_classes::{Body, ClassRecord, FieldRecord, Link, MethodRecord};
 use member_lookup::{field_record, method_record};
 use type_rows::CodeView;
-
-const STATIC: u16 = 0x0008;
 
 const INIT: [u16; 6] = [0x3c, 0x69, 0x6e, 0x69, 0x74, 0x3e];
 
@@ -83,7 +85,7 @@ fn have_no_constant_texts(fields: &[FieldRecord]) -> bool
 fn has_constant_text(field: &FieldRecord) -> bool
     ensures { IsTrue result ↔ HasConstantText field.now }
 {
-    field.flags & STATIC == STATIC && matches!(&field.constant, Link::Text(_))
+    has(field.flags, AccessFlags::STATIC) && matches!(&field.constant, Link::Text(_))
 }
 
 /// Whether no class of these has a name that begins with `jk/`.
@@ -174,17 +176,17 @@ fn is_built_opcode(op: u8) -> bool
 {
     matches!(
         op,
-        0x00 | 0x09
-            | 0x11
-            | 0x14..=0x16
-            | 0x36..=0x37
-            | 0x57..=0x85
-            | 0x88
-            | 0x91..=0x94
-            | 0x99..=0xa4
-            | 0xa7
-            | 0xaa..=0xad
-            | 0xb1
+        NOP | LCONST_0
+            | SIPUSH
+            | LDC2_W..=LLOAD
+            | ISTORE..=LSTORE
+            | POP..=I2L
+            | L2I
+            | I2B..=LCMP
+            | IFEQ..=IF_ICMPLE
+            | GOTO
+            | TABLESWITCH..=LRETURN
+            | RETURN
     )
 }
 
@@ -192,7 +194,7 @@ fn is_built_opcode(op: u8) -> bool
 fn loads_built_constant(at: &StandsAt<'_>) -> bool
     ensures { IsTrue result ↔ LoadsBuiltConstant (scope_of at.now.code) at.now.instr.now }
 {
-    if at.instr.op != LDC {
+    if at.instr.op != LDC_W {
         return false;
     }
     match link_of(at) {

@@ -7,16 +7,18 @@ ghost use Rattle.jk_model_domains.specs.NumberRows.{IsOfNumbers};
 ghost use Rattle.type_rows.specs.CodeViews.{scope_of};
 ghost use Rattle.type_rows.specs.Operands.{IsLink};
 ghost use Rattle.jk_kernel.specs.Executing.{ExecutesSo, MayExecute};
+ghost use Rattle.jk_model.specs.declared.opcodes.TheConstants.{INVOKESTATIC};
 
 use crate::calls::call;
 use crate::domain_parts::DomainPart;
 use crate::happened::Happened;
 use crate::known_objects::{get_out, load_text};
-use crate::places::{GETSTATIC, INVOKESTATIC, INVOKEVIRTUAL, LDC, StandsAt, method_of, text_of};
+use crate::places::{StandsAt, method_of, text_of};
 use crate::println::call_println;
 use crate::stepping::{Runs, follow};
 use domain_resolver::World;
 use frame_store::FrameStore;
+use jk_model::opcodes::{GETSTATIC, INVOKESTATIC, INVOKEVIRTUAL, LDC_W};
 use jk_model::{FrameHead, MemberId};
 use number_laws::laws::returned_values_fit;
 
@@ -33,7 +35,7 @@ pub(crate) fn execute<F: FrameStore>(
     ensures { ExecutesSo (F.content frames.old) (F.content frames.new) w.now d.old d.new r head.now (scope_of at.now.code) at.now.instr.now result }
 {
     match at.instr.op {
-        LDC => match text_of(at) {
+        LDC_W => match text_of(at) {
             Some(text) => load_text(w, d, frames, r, head, at, text),
             None => do_numbers(w, d, frames, r, head, at),
         },
@@ -55,7 +57,7 @@ fn call_static<F: FrameStore>(
     m: MemberId,
 ) -> Happened
     requires may { MayExecute (F.content frames.old) w.now d.old r head.now (scope_of at.now.code) at.now.instr.now }
-    requires op { at.now.instr.now.op ≡ 0xb8 }
+    requires op { at.now.instr.now.op ≡ INVOKESTATIC }
     requires link { (c : AClassId) × IsLink (scope_of at.now.code) at.now.instr.now (To.Method c m) }
     ensures { ExecutesSo (F.content frames.old) (F.content frames.new) w.now d.old d.new r head.now (scope_of at.now.code) at.now.instr.now result }
 {

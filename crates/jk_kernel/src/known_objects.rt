@@ -11,6 +11,7 @@ ghost use Rattle.jk_kernel.specs.declared.happened.Happened.TheVariants as Came;
 ghost use Rattle.jk_kernel.specs.Executing.{ExecutesSo, MayExecute};
 ghost use Rattle.jk_kernel.specs.Returning.{TopCanResume};
 ghost use Rattle.jk_kernel.specs.SegmentFrames.{GetsFrames, Holds};
+ghost use Rattle.jk_model.specs.declared.opcodes.TheConstants.{LDC_W, GETSTATIC};
 
 use crate::calls::resume;
 use crate::domain_parts::DomainPart;
@@ -33,7 +34,7 @@ pub(crate) fn load_text<F: FrameStore>(
     text: &Text,
 ) -> Happened
     requires may { MayExecute (F.content frames.old) w.now d.old r head.now (scope_of at.now.code) at.now.instr.now }
-    requires op { at.now.instr.now.op ≡ 0x13 }
+    requires op { at.now.instr.now.op ≡ LDC_W }
     requires link { IsLink (scope_of at.now.code) at.now.instr.now (To.Text text.now) }
     ensures { ExecutesSo (F.content frames.old) (F.content frames.new) w.now d.old d.new r head.now (scope_of at.now.code) at.now.instr.now result }
 {
@@ -53,7 +54,7 @@ pub(crate) fn get_out<F: FrameStore>(
     at: &StandsAt<'_>,
 ) -> Happened
     requires may { MayExecute (F.content frames.old) w.now d.old r head.now (scope_of at.now.code) at.now.instr.now }
-    requires op { at.now.instr.now.op ≡ 0xb2 }
+    requires op { at.now.instr.now.op ≡ GETSTATIC }
     ensures { ExecutesSo (F.content frames.old) (F.content frames.new) w.now d.old d.new r head.now (scope_of at.now.code) at.now.instr.now result }
 {
     goes_on_with(frames, r.segment, Value::Obj(d.own.out()))

@@ -13,35 +13,13 @@ ghost use Rattle.jk_kernel.specs.StandsAt.{StandsIn};
 ghost use Rattle.jk_kernel.specs.StaysInFrame.{StaysInFrame};
 
 use class_table::ClassTable;
+use jk_model::opcodes::{
+    GETSTATIC, IDIV, INVOKESTATIC, IREM, IRETURN, LDC_W, LDIV, LREM, NEW, PUTSTATIC,
+};
 use jk_model::{ClassId, FrameHead, Instr, MemberId};
 use jk_model_classes::{BaseRef, Link, TypeRef};
 use shared_values::Text;
 use type_rows::CodeView;
-
-/// The instructions that need a class: getstatic, putstatic, invokestatic and new.
-pub(crate) const GETSTATIC: u8 = 0xb2;
-
-const PUTSTATIC: u8 = 0xb3;
-
-pub(crate) const INVOKEVIRTUAL: u8 = 0xb6;
-
-pub(crate) const INVOKESTATIC: u8 = 0xb8;
-
-const NEW: u8 = 0xbb;
-
-pub(crate) const LDC: u8 = 0x13;
-
-/// The divisions and remainders of ints and longs, which raise an exception where the divisor is 0.
-const IDIV: u8 = 0x6c;
-
-const LDIV: u8 = 0x6d;
-
-const IREM: u8 = 0x70;
-
-const LREM: u8 = 0x71;
-
-/// The first of the returns. Before it stand constants, locals, the operand stack, arithmetic, jumps and switches.
-const IRETURN: u8 = 0xac;
 
 /// The instruction at which a frame stands, with what its method's code is judged in.
 #[derive(Clone, Copy)]
@@ -181,7 +159,7 @@ pub(crate) fn stays_in_frame(at: &StandsAt<'_>) -> bool
     ensures { result ≡ true → StaysInFrame (scope_of at.now.code) at.now.instr.now }
 {
     match at.instr.op {
-        LDC => match text_of(at) {
+        LDC_W => match text_of(at) {
             Some(_) => false,
             None => true,
         },

@@ -16,6 +16,7 @@ ghost use Rattle.jk_kernel.specs.KernelStates.{heap_of};
 ghost use Rattle.jk_kernel.specs.LocalSteps.{ReadsSo};
 ghost use Rattle.jk_kernel.specs.Saying.{HasSaidOnTop, HasSoMany, SaysSo, StreamIsNull};
 ghost use Rattle.jk_kernel.specs.SegmentFrames.{GetsFrames};
+ghost use Rattle.jk_model.specs.declared.opcodes.TheConstants.{INVOKEVIRTUAL};
 
 use crate::calls::resume;
 use crate::domain_parts::DomainPart;
@@ -42,7 +43,7 @@ pub(crate) fn call_println<F: FrameStore>(
     m: MemberId,
 ) -> Happened
     requires may { MayExecute (F.content frames.old) w.now d.old r head.now (scope_of at.now.code) at.now.instr.now }
-    requires op { at.now.instr.now.op ≡ 0xb6 }
+    requires op { at.now.instr.now.op ≡ INVOKEVIRTUAL }
     requires link { (c : AClassId) × IsLink (scope_of at.now.code) at.now.instr.now (To.Method c m) }
     ensures { ExecutesSo (F.content frames.old) (F.content frames.new) w.now d.old d.new r head.now (scope_of at.now.code) at.now.instr.now result }
 {

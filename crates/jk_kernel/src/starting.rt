@@ -2,11 +2,11 @@
 
 ghost use Rattle.std.specs.Prelude.{◌≡◌, ◌+◌, ◌≤◌, ◌<◌, ◌-◌, ◌^◌, ◌&&◌, ◌∷◌, suc, [], length, take, List as AList, None, Some, Err, IfOk, IfErr, OnOk, OnErr, MatchOption, codes};
 ghost use Rattle.jk_model.specs.Descriptors.{IsMethodText};
+ghost use Rattle.jk_model.specs.Flags.{has, PUBLIC, STATIC};
 ghost use Rattle.jk_model.specs.declared.output.Line.{Line};
 ghost use Rattle.jk_model.specs.declared.output.Line.TheVariants as Says;
 ghost use Rattle.jk_model.specs.Outside.{Appends, AppendsPart, HasRisen, NeverFalls};
 ghost use Rattle.jk_model.specs.Output.{text_of};
-ghost use Rattle.jk_model_classes.specs.ClassFlags.{has, PUBLIC, STATIC};
 ghost use Rattle.jk_model_classes.specs.Worlds.{DomainRecord, class_named, domain_of};
 ghost use Rattle.jk_model_frames.specs.Frames.{head_chunks};
 ghost use Rattle.jk_model_machine.specs.Machine.{started_in};
@@ -23,17 +23,14 @@ use descriptors::{DescriptorError, method_type};
 use domain_resolver::World;
 use frame_store::FrameStore;
 use jk_model::{
-    Bytes, ClassId, DomainId, FrameHead, MethodType, OutOfMemory, SegmentNo, ThreadNo, Value,
+    AccessFlags, Bytes, ClassId, DomainId, FrameHead, MethodType, OutOfMemory, SegmentNo, ThreadNo,
+    Value, has,
 };
 use jk_outside::{LineRef, Sink, SinkFailed, print_line};
 use member_lookup::find_method;
 use std::alloc::Global;
 use std::collections::BTreeMap;
 use type_rows::CodeView;
-
-const PUBLIC: u16 = 0x0001;
-
-const STATIC: u16 = 0x0008;
 
 const MAIN: [u16; 4] = [0x6d, 0x61, 0x69, 0x6e];
 
@@ -230,42 +227,5 @@ fn widen(bytes: &[u8], units: &mut [u16])
 fn is_open(flags: u16) -> bool
     ensures { result ≡ (has flags PUBLIC && has flags STATIC) }
 {
-    has(flags, PUBLIC) && has(flags, STATIC)
-}
-
-/// Whether a flag is set.
-fn has(flags: u16, flag: u16) -> bool
-    ensures { result ≡ has flags flag }
-{
-    flags & flag == flag
-}
-
-/// Puts a thread with this first frame into the map, and its segment into the store. The frame's first local is null. Without memory
-/// all is as before.
-fn begin_thread<F: FrameStore>(
-    d: &mut DomainPart,
-    threads: &mut BTreeMap<u32, ThreadPart>,
-    frames: &mut F,
-    thread: u32,
-    part: ThreadPart,
-    head: FrameHead,
-) -> Result<(), OutOfMemory>
-    requires admitted { IsAdmitted (F.content frames.old) part.domain }
-    requires new { (F.content frames.old).segment part.segment ≡ None }
-    requires room { 1 + head_chunks head ≤ free_chunks (F.content frames.old) part.domain }
-    requires local { 1 ≤ head.max_locals }
-    requires counted { d.old.started < 2 ^ 32 - 1 }
-    ensures ok { OnOk result (BeginsThread (F.content frames.old) (F.content frames.new) d.old d.new threads.old.entries threads.new.entries
-        thread part head) }
-    ensures err { OnErr result ((F.content frames.new ≡ F.content frames.old) × (d.new ≡ d.old)
-        × (threads.new.entries ≡ threads.old.entries)) }
-{
-    let _before = threads.insert(thread, part)?;
-    match frames.begin(part.domain, part.segment, head) {
-        Ok(()) => {}
-        Err(_) => unreachable!(),
-    }
-    frames.set_local(part.segment, 0, Value::Null);
-    d.started += 1;
-    Ok(())
+    has(flags, AccessFlags::PUBLIC) && has(flags, AccessFlags::STATIC)
 }

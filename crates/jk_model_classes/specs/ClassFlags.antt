@@ -1,48 +1,10 @@
--- Flags of classes and members (the Java Virtual Machine Specification, 4.1, 4.5, 4.6), and the rule C6 on them.
+-- What flags of classes and members may stand together (the Java Virtual Machine Specification, 4.1, 4.5, 4.6): the rule C6.
 use Rattle.std.specs.Prelude.{◌≡◌, ℕ, ◌⊎◌, ◌&&◌, ◌||◌, ◌==◌, Bool, not, IsTrue, bit_and}
+use Rattle.jk_model.specs.Flags.{has, PUBLIC, PRIVATE, PROTECTED, STATIC, FINAL, SYNCHRONIZED, VOLATILE, NATIVE, INTERFACE, ABSTRACT, STRICT}
 use Rattle.jk_model.specs.declared.class_file.ClassFile.{ClassFile}
 use Rattle.jk_model.specs.declared.class_file.MemberInfo.{MemberInfo}
 use Rattle.jk_model_classes.specs.Items.{FieldAt, MethodAt, Spot, Member, Entry}
 use Rattle.jk_model_classes.specs.Members.{IsInit, IsClinit}
-
-abbrev pub PUBLIC : ℕ
-PUBLIC = 0x0001
-
-abbrev pub PRIVATE : ℕ
-PRIVATE = 0x0002
-
-abbrev pub PROTECTED : ℕ
-PROTECTED = 0x0004
-
-abbrev pub STATIC : ℕ
-STATIC = 0x0008
-
-abbrev pub FINAL : ℕ
-FINAL = 0x0010
-
--- of a method; of a class the same bit is ACC_SUPER, which counts as set
-abbrev pub SYNCHRONIZED : ℕ
-SYNCHRONIZED = 0x0020
-
--- of a field
-abbrev pub VOLATILE : ℕ
-VOLATILE = 0x0040
-
-abbrev pub NATIVE : ℕ
-NATIVE = 0x0100
-
-abbrev pub INTERFACE : ℕ
-INTERFACE = 0x0200
-
-abbrev pub ABSTRACT : ℕ
-ABSTRACT = 0x0400
-
-abbrev pub STRICT : ℕ
-STRICT = 0x0800
-
--- the flag is set; bits that have no name here are ignored
-abbrev pub has : ℕ → ℕ → Bool
-has flags flag = bit_and flags flag == flag
 
 -- The flags that count of a method: `<clinit>` counts as static without other flags.
 abbrev pub MethodFlags : ClassFile → MemberInfo → ℕ → Type 0

@@ -4,10 +4,10 @@
 use Rattle.std.specs.Prelude.{◌≡◌, ℕ, zero, suc, ◌+◌, ◌<◌, ⊤, Bool, false, IsTrue, List, [], ◌∷◌, ◌++◌, length, flat_map, Contains, Option, Some, None, slice_get, slice_set, not, filter, ◌==◌, if◌then◌else◌}
 use Rattle.std.specs.List.{AllByRecursion}
 use Rattle.std.specs.Option.{option_map_or}
+use Rattle.jk_model.specs.Flags.{has, INTERFACE}
 use Rattle.jk_model.specs.declared.identifiers.ClassId.{ClassId}
 use Rattle.jk_model_classes.specs.declared.records.ClassRecord.{ClassRecord}
 use Rattle.jk_model_classes.specs.declared.records.Link.{Link}
-use Rattle.jk_model_classes.specs.ClassFlags.{has, INTERFACE}
 
 -- ---- The parts of a record, by the class's number: nothing of a number that no class has.
 

@@ -10,17 +10,18 @@ use Rattle.jk_model.specs.declared.descriptors.MethodType.{MethodType}
 use Rattle.jk_model.specs.declared.identifiers.ClassId.{ClassId}
 use Rattle.jk_model.specs.declared.identifiers.MemberId.{MemberId}
 use Rattle.jk_model.specs.Descriptors.{IsFieldText, IsMethodText}
+use Rattle.jk_model.specs.Flags.{has, STATIC, FINAL, INTERFACE, ABSTRACT}
 use Rattle.jk_model.specs.SystemTable.{SystemClass, system_classes}
+use Rattle.jk_model.specs.declared.opcodes.TheConstants.{GETSTATIC, PUTSTATIC, GETFIELD, PUTFIELD, INVOKEVIRTUAL, INVOKESPECIAL, INVOKESTATIC, INVOKEINTERFACE, NEW}
 use Rattle.jk_model_classes.specs.declared.records.ClassRecord.{ClassRecord}
 use Rattle.jk_model_classes.specs.declared.records.FieldRecord.{FieldRecord}
 use Rattle.jk_model_classes.specs.declared.records.MethodRecord.{MethodRecord}
 use Rattle.jk_model_classes.specs.declared.records.TypeRef.{TypeRef}
 use Rattle.jk_model_classes.specs.declared.records.Member.TheVariants as Found
 use Rattle.jk_model_classes.specs.Classes.{record_of, IsInterface, IsSubclass}
-use Rattle.jk_model_classes.specs.ClassFlags.{has, STATIC, FINAL, INTERFACE, ABSTRACT}
 use Rattle.jk_model_classes.specs.Items.{HasItem, Spot, Member, Entry}
 use Rattle.jk_model_classes.specs.Lookups.{FieldIs, MethodIs, FindsField, FindsMethod, MayAccess, MayAccessClass, IsOverriddenIn}
-use Rattle.jk_model_classes.specs.MemberCode.{HasCode, HasInstr, INVOKESPECIAL, INVOKEINTERFACE, NEW}
+use Rattle.jk_model_classes.specs.MemberCode.{HasCode, HasInstr}
 use Rattle.jk_model_classes.specs.Members.{ClassAt, NameAndTypeAt, MemberKind, Field, Method, InterfaceMethod, reference, INIT}
 use Rattle.jk_model_classes.specs.References.{ClassEntryAt}
 use Rattle.jk_model_classes.specs.SystemRecords.{IsTypeFor}
@@ -89,21 +90,18 @@ UsesMethod s c instr m method = (i : ℕ) × (instr.a ≡ pos i) × FindsMethodA
 
 -- getstatic and putstatic; getfield and putfield
 abbrev pub is_static_access : ℕ → Bool
-is_static_access op = op == 0xb2 || op == 0xb3
+is_static_access op = op == GETSTATIC || op == PUTSTATIC
 
 abbrev pub is_instance_access : ℕ → Bool
-is_instance_access op = op == 0xb4 || op == 0xb5
+is_instance_access op = op == GETFIELD || op == PUTFIELD
 
 -- putstatic and putfield
 abbrev pub is_put : ℕ → Bool
-is_put op = op == 0xb3 || op == 0xb5
-
-abbrev pub INVOKESTATIC : ℕ
-INVOKESTATIC = 0xb8
+is_put op = op == PUTSTATIC || op == PUTFIELD
 
 -- invokevirtual, invokespecial, invokeinterface
 abbrev pub is_instance_call : ℕ → Bool
-is_instance_call op = op == 0xb6 || op == INVOKESPECIAL || op == INVOKEINTERFACE
+is_instance_call op = op == INVOKEVIRTUAL || op == INVOKESPECIAL || op == INVOKEINTERFACE
 
 -- ---- C20.
 

@@ -2,6 +2,7 @@
 -- 5.4.3, 5.4.4 and 6, invokevirtual).
 use Rattle.std.specs.Prelude.{◌≡◌, ◌≢◌, ℕ, ◌<◌, ◌≤◌, ◌⊎◌, ◌++◌, ◌∷◌, [], not, IsTrue, List, Contains, Option, Some, None, slice_get, MatchOption}
 use Rattle.std.specs.List.{AllByRecursion}
+use Rattle.jk_model.specs.Flags.{has, PUBLIC, PRIVATE, PROTECTED, STATIC, ABSTRACT}
 use Rattle.jk_model.specs.declared.descriptors.MethodType.{MethodType}
 use Rattle.jk_model.specs.declared.identifiers.ClassId.{ClassId}
 use Rattle.jk_model.specs.declared.identifiers.MemberId.{MemberId}
@@ -12,7 +13,6 @@ use Rattle.jk_model_classes.specs.declared.records.TypeRef.{TypeRef}
 use Rattle.jk_model_classes.specs.declared.records.Member.{Member}
 use Rattle.jk_model_classes.specs.declared.records.Member.TheVariants.{Field, Method}
 use Rattle.jk_model_classes.specs.Classes.{record_of, IsInterface, IsSubclass, superclasses, field_walk, method_walk}
-use Rattle.jk_model_classes.specs.ClassFlags.{has, PUBLIC, PRIVATE, PROTECTED, STATIC, ABSTRACT}
 use Rattle.jk_model_classes.specs.Items.{HasItemBefore}
 
 -- ---- Members of classes.

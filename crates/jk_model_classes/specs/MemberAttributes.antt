@@ -12,7 +12,8 @@ use Rattle.jk_model.specs.declared.descriptors.Base.{Base}
 use Rattle.jk_model.specs.declared.descriptors.Base.TheVariants.{Byte, Char, Int, Long, Short, Bool as Boolean, Class}
 use Rattle.jk_model.specs.ClassFile.{u2, IsU2, interfaces_bytes, AreInterfaces, NamesEntry, IsUtf8Entry, IsClassEntry, CodeLayout}
 use Rattle.jk_model.specs.Descriptors.{IsFieldText}
-use Rattle.jk_model_classes.specs.ClassFlags.{MethodFlags, STATIC, NATIVE, ABSTRACT, has}
+use Rattle.jk_model.specs.Flags.{STATIC, NATIVE, ABSTRACT, has}
+use Rattle.jk_model_classes.specs.ClassFlags.{MethodFlags}
 use Rattle.jk_model_classes.specs.Items.{HasItem, HasTwoItems, FieldAt, MethodAt, Spot, Member, Entry}
 use Rattle.jk_model_classes.specs.Members.{TextAt, IsCalled}
 

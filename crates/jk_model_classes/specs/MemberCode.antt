@@ -14,8 +14,10 @@ use Rattle.jk_model.specs.declared.descriptors.FieldType.{FieldType}
 use Rattle.jk_model.specs.declared.descriptors.MethodType.{MethodType}
 use Rattle.jk_model.specs.ClassFile.{NamesEntry, IsClassEntry, CodeLayout}
 use Rattle.jk_model.specs.Descriptors.{IsFieldText, IsMethodText, method_slots}
+use Rattle.jk_model.specs.Flags.{STATIC, SYNCHRONIZED, NATIVE, ABSTRACT, has}
 use Rattle.jk_model.specs.Instructions.{Decodes, Fault, IllegalOpcode, BadSwitch, BadOperand, FloatOpcode, Subroutine, Monitor, HasFault, IsCutAt}
-use Rattle.jk_model_classes.specs.ClassFlags.{MethodFlags, STATIC, SYNCHRONIZED, NATIVE, ABSTRACT, has}
+use Rattle.jk_model.specs.declared.opcodes.TheConstants.{LDC_W, LDC2_W, ILOAD, LLOAD, ALOAD, ISTORE, LSTORE, ASTORE, IINC, IFEQ, GOTO, TABLESWITCH, LOOKUPSWITCH, GETSTATIC, PUTFIELD, INVOKEVIRTUAL, INVOKESPECIAL, INVOKESTATIC, INVOKEINTERFACE, NEW, ANEWARRAY, CHECKCAST, INSTANCEOF, MULTIANEWARRAY, IFNULL, IFNONNULL}
+use Rattle.jk_model_classes.specs.ClassFlags.{MethodFlags}
 use Rattle.jk_model_classes.specs.ClassNames.{HasText, NamesClass, BeginsArray}
 use Rattle.jk_model_classes.specs.Items.{HasItem, MethodAt, Spot, Member, Entry}
 use Rattle.jk_model_classes.specs.MemberAttributes.{IsCodeAttribute}
@@ -49,13 +51,6 @@ HasCode P c n = (code : Code) × CodeAt c n code × P code
 abbrev pub UsesEntry : (PoolEntry → Type 0) → List PoolEntry → Instr → Type 0
 UsesEntry kind pool instr = (i : ℕ) × (instr.a ≡ pos i) × NamesEntry kind pool i
 
--- ldc and ldc_w, and ldc2_w
-abbrev pub LDC : ℕ
-LDC = 0x13
-
-abbrev pub LDC2 : ℕ
-LDC2 = 0x14
-
 -- ---- C10, as far as code goes: an opcode of float or double, or a constant of them.
 
 abbrev pub IsFloatEntry : PoolEntry → Type 0
@@ -68,7 +63,7 @@ IsDoubleEntry _ = ⊥
 
 abbrev pub LoadsFloat : List PoolEntry → Instr → Type 0
 LoadsFloat pool instr =
-    ((instr.op ≡ LDC) × UsesEntry IsFloatEntry pool instr) ⊎ ((instr.op ≡ LDC2) × UsesEntry IsDoubleEntry pool instr)
+    ((instr.op ≡ LDC_W) × UsesEntry IsFloatEntry pool instr) ⊎ ((instr.op ≡ LDC2_W) × UsesEntry IsDoubleEntry pool instr)
 
 abbrev pub UsesFloat : ClassFile → Spot → Type 0
 UsesFloat c (Member n) =
@@ -96,7 +91,7 @@ IsNative c (Member n) = HasMethodFlag NATIVE c n
 IsNative c (Entry i) = ⊥
 
 abbrev pub LoadsClass : ClassFile → Spot → Type 0
-LoadsClass c (Member n) = HasCode (HasInstr (λ instr. (instr.op ≡ LDC) × UsesEntry IsClassEntry c.pool instr)) c n
+LoadsClass c (Member n) = HasCode (HasInstr (λ instr. (instr.op ≡ LDC_W) × UsesEntry IsClassEntry c.pool instr)) c n
 LoadsClass c (Entry i) = ⊥
 
 -- ---- C15. What decoding refuses.
@@ -113,11 +108,11 @@ BeginsAt code place = HasInstr (λ instr. pos instr.at ≡ place) code
 
 -- ifeq to goto, ifnull and ifnonnull
 abbrev pub is_jump : ℕ → Bool
-is_jump op = (nat_le 0x99 op && nat_le op 0xa7) || op == 0xc6 || op == 0xc7
+is_jump op = (nat_le IFEQ op && nat_le op GOTO) || op == IFNULL || op == IFNONNULL
 
 -- tableswitch and lookupswitch
 abbrev pub is_switch : ℕ → Bool
-is_switch op = op == 0xaa || op == 0xab
+is_switch op = op == TABLESWITCH || op == LOOKUPSWITCH
 
 -- the instruction may go on at this place, other than by going on to the next
 abbrev pub LeadsTo : Instr → ℤ → Type 0
@@ -163,30 +158,15 @@ IsInterfaceMethodEntry _ = ⊥
 
 -- getstatic, putstatic, getfield, putfield
 abbrev pub is_field_access : ℕ → Bool
-is_field_access op = nat_le 0xb2 op && nat_le op 0xb5
+is_field_access op = nat_le GETSTATIC op && nat_le op PUTFIELD
 
 -- invokevirtual, invokespecial, invokestatic
 abbrev pub is_call : ℕ → Bool
-is_call op = nat_le 0xb6 op && nat_le op 0xb8
-
-abbrev pub INVOKESPECIAL : ℕ
-INVOKESPECIAL = 0xb7
-
-abbrev pub INVOKEINTERFACE : ℕ
-INVOKEINTERFACE = 0xb9
-
-abbrev pub NEW : ℕ
-NEW = 0xbb
-
-abbrev pub ANEWARRAY : ℕ
-ANEWARRAY = 0xbd
-
-abbrev pub MULTIANEWARRAY : ℕ
-MULTIANEWARRAY = 0xc5
+is_call op = nat_le INVOKEVIRTUAL op && nat_le op INVOKESTATIC
 
 -- new, anewarray, checkcast, instanceof, multianewarray
 abbrev pub is_of_class : ℕ → Bool
-is_of_class op = op == NEW || op == ANEWARRAY || op == 0xc0 || op == 0xc1 || op == MULTIANEWARRAY
+is_of_class op = op == NEW || op == ANEWARRAY || op == CHECKCAST || op == INSTANCEOF || op == MULTIANEWARRAY
 
 -- the entry that the instruction names is missing, or of another kind than it needs
 abbrev pub NeedsEntry : (PoolEntry → Type 0) → List PoolEntry → Instr → Type 0
@@ -194,8 +174,8 @@ NeedsEntry kind pool instr = UsesEntry kind pool instr → ⊥
 
 abbrev pub HasBadEntry : List PoolEntry → Instr → Type 0
 HasBadEntry pool instr =
-    ((instr.op ≡ LDC) × NeedsEntry IsConstantEntry pool instr)
-    ⊎ ((instr.op ≡ LDC2) × NeedsEntry IsLongEntry pool instr)
+    ((instr.op ≡ LDC_W) × NeedsEntry IsConstantEntry pool instr)
+    ⊎ ((instr.op ≡ LDC2_W) × NeedsEntry IsLongEntry pool instr)
     ⊎ (IsTrue (is_field_access instr.op) × NeedsEntry IsFieldEntry pool instr)
     ⊎ (IsTrue (is_call instr.op) × NeedsEntry IsMethodEntry pool instr)
     ⊎ ((instr.op ≡ INVOKEINTERFACE) × NeedsEntry IsInterfaceMethodEntry pool instr)
@@ -205,11 +185,11 @@ HasBadEntry pool instr =
 
 -- iload, aload, istore, astore, iinc
 abbrev pub is_of_local : ℕ → Bool
-is_of_local op = op == 0x15 || op == 0x19 || op == 0x36 || op == 0x3a || op == 0x84
+is_of_local op = op == ILOAD || op == ALOAD || op == ISTORE || op == ASTORE || op == IINC
 
 -- lload, lstore
 abbrev pub is_of_long_local : ℕ → Bool
-is_of_long_local op = op == 0x16 || op == 0x37
+is_of_long_local op = op == LLOAD || op == LSTORE
 
 -- its local, or a long's second half, isn't one of so many locals
 abbrev pub HasBadLocal : ℕ → Instr → Type 0

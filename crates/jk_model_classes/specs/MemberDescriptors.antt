@@ -7,7 +7,8 @@ use Rattle.jk_model.specs.declared.descriptors.Base.TheVariants.{Float, Double}
 use Rattle.jk_model.specs.declared.descriptors.FieldType.{FieldType}
 use Rattle.jk_model.specs.declared.descriptors.MethodType.{MethodType}
 use Rattle.jk_model.specs.Descriptors.{IsFieldText, IsFieldDescriptor, IsMethodText, method_slots}
-use Rattle.jk_model_classes.specs.ClassFlags.{MethodFlags, STATIC, has}
+use Rattle.jk_model.specs.Flags.{STATIC, has}
+use Rattle.jk_model_classes.specs.ClassFlags.{MethodFlags}
 use Rattle.jk_model_classes.specs.ClassNames.{HasText}
 use Rattle.jk_model_classes.specs.Items.{HasItem, FieldAt, MethodAt, Spot, Member, Entry}
 use Rattle.jk_model_classes.specs.Members.{TextAt, ClassAt, MemberKind, Field, Method, InterfaceMethod, ReferenceAt, IsInit, IsClinit, INIT}

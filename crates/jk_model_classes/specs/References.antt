@@ -10,10 +10,10 @@ use Rattle.jk_model.specs.declared.descriptors.FieldType.{FieldType}
 use Rattle.jk_model.specs.declared.descriptors.MethodType.{MethodType}
 use Rattle.jk_model.specs.declared.identifiers.ClassId.{ClassId}
 use Rattle.jk_model.specs.Descriptors.{IsClassName, IsFieldText, IsMethodText}
+use Rattle.jk_model.specs.Flags.{has, FINAL, INTERFACE}
 use Rattle.jk_model.specs.SystemTable.{SystemClass, system_classes}
 use Rattle.jk_model_classes.specs.declared.records.ClassRecord.{ClassRecord}
 use Rattle.jk_model_classes.specs.Classes.{record_of}
-use Rattle.jk_model_classes.specs.ClassFlags.{has, FINAL, INTERFACE}
 use Rattle.jk_model_classes.specs.Items.{HasItem, Spot, Member, Entry}
 use Rattle.jk_model_classes.specs.Members.{TextAt, ClassAt}
 use Rattle.jk_model_classes.specs.Worlds.{NamedClass, class_named}

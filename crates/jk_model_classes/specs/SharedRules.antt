@@ -2,6 +2,7 @@
 -- world whose classes from `first` on are those of the folder that is loaded. Of the classes that break a rule the one
 -- counts whose file comes first, files being in the order of their paths.
 use Rattle.std.specs.Prelude.{◌≡◌, ◌≢◌, ℕ, ◌+◌, ◌-◌, ◌<◌, ◌≤◌, ◌⊎◌, ◌&&◌, IsTrue, List, ◌∷◌, ◌++◌, length, map, sum_by, take, drop, Contains, Option, Some, None, slice_get, codes, nat_le, nat_lt, if◌then◌else◌, MatchOption}
+use Rattle.jk_model.specs.Flags.{has, STATIC}
 use Rattle.jk_model.specs.declared.identifiers.ClassId.{ClassId}
 use Rattle.jk_model.specs.declared.identifiers.DomainId.{DomainId}
 use Rattle.jk_model.specs.declared.output.Rule.{Rule}
@@ -12,7 +13,6 @@ use Rattle.jk_model_classes.specs.declared.records.MethodRecord.{MethodRecord}
 use Rattle.jk_model_classes.specs.declared.sharing.ClassFault.{ClassFault}
 use Rattle.jk_model_classes.specs.declared.sharing.Offer.{Offer}
 use Rattle.jk_model_classes.specs.Classes.{record_of, listed_interfaces, IsInterface}
-use Rattle.jk_model_classes.specs.ClassFlags.{has, STATIC}
 use Rattle.jk_model_classes.specs.Items.{HasItem}
 use Rattle.jk_model_classes.specs.Lookups.{FieldIs, MethodIs}
 use Rattle.jk_model_classes.specs.Members.{CLINIT}

@@ -7,6 +7,7 @@ use Rattle.std.specs.Ordering.{int_eq}
 use Rattle.jk_model.specs.declared.identifiers.ClassId.{ClassId}
 use Rattle.jk_model.specs.declared.instructions.Instr.{Instr}
 use Rattle.jk_model.specs.declared.instructions.SwitchCase.{SwitchCase}
+use Rattle.jk_model.specs.declared.opcodes.TheConstants.{NOP, ACONST_NULL, LCONST_0, SIPUSH, LDC_W, LDC2_W, ILOAD, LLOAD, ALOAD, ISTORE, LSTORE, ASTORE, POP, POP2, DUP, DUP_X1, DUP_X2, DUP2, DUP2_X1, DUP2_X2, SWAP, IADD, LADD, ISUB, LSUB, IMUL, LMUL, IDIV, LDIV, IREM, LREM, INEG, LNEG, ISHL, LSHL, ISHR, LSHR, IUSHR, LUSHR, IAND, LAND, IOR, LOR, IXOR, LXOR, IINC, I2L, L2I, I2B, I2C, I2S, LCMP, IFEQ, IF_ICMPEQ, IF_ACMPEQ, IF_ACMPNE, GOTO, TABLESWITCH, IRETURN, LRETURN, ARETURN, RETURN, IFNULL, IFNONNULL}
 use Rattle.jk_model.specs.declared.steps.After.{After}
 use Rattle.jk_model.specs.declared.steps.After.TheVariants as Next
 use Rattle.jk_model.specs.declared.steps.Raise.TheVariants.{Fresh}
@@ -42,30 +43,30 @@ shift_zeros_long x k = cast_signed w64 (cast_unsigned w64 x / 2 ^ k)
 -- of two ints: iadd, isub, imul, iand, ior, ixor, ishl, ishr, iushr
 abbrev pub int_operations : List (ℕ × IntOperation)
 int_operations =
-    (0x60, int_wrapping_add w32) ∷ (0x64, int_wrapping_sub w32) ∷ (0x68, int_wrapping_mul w32)
-    ∷ (0x7e, int_bit_and w32) ∷ (0x80, int_bit_or w32) ∷ (0x82, int_bit_xor w32)
-    ∷ (0x78, λ x n. int_shl w32 x (distance 32 n)) ∷ (0x7a, λ x n. int_shr x (distance 32 n))
-    ∷ (0x7c, λ x n. shift_zeros x (distance 32 n)) ∷ []
+    (IADD, int_wrapping_add w32) ∷ (ISUB, int_wrapping_sub w32) ∷ (IMUL, int_wrapping_mul w32)
+    ∷ (IAND, int_bit_and w32) ∷ (IOR, int_bit_or w32) ∷ (IXOR, int_bit_xor w32)
+    ∷ (ISHL, λ x n. int_shl w32 x (distance 32 n)) ∷ (ISHR, λ x n. int_shr x (distance 32 n))
+    ∷ (IUSHR, λ x n. shift_zeros x (distance 32 n)) ∷ []
 
 -- idiv and irem, where the divisor isn't 0: the quotient is rounded towards 0, and the remainder has the sign of the dividend
 abbrev pub int_divisions : List (ℕ × IntOperation)
-int_divisions = (0x6c, int_wrapping_div w32) ∷ (0x70, int_rem) ∷ []
+int_divisions = (IDIV, int_wrapping_div w32) ∷ (IREM, int_rem) ∷ []
 
 -- of two longs: ladd, lsub, lmul, land, lor, lxor
 abbrev pub long_operations : List (ℕ × IntOperation)
 long_operations =
-    (0x61, int_wrapping_add w64) ∷ (0x65, int_wrapping_sub w64) ∷ (0x69, int_wrapping_mul w64)
-    ∷ (0x7f, int_bit_and w64) ∷ (0x81, int_bit_or w64) ∷ (0x83, int_bit_xor w64) ∷ []
+    (LADD, int_wrapping_add w64) ∷ (LSUB, int_wrapping_sub w64) ∷ (LMUL, int_wrapping_mul w64)
+    ∷ (LAND, int_bit_and w64) ∷ (LOR, int_bit_or w64) ∷ (LXOR, int_bit_xor w64) ∷ []
 
 -- ldiv and lrem
 abbrev pub long_divisions : List (ℕ × IntOperation)
-long_divisions = (0x6d, int_wrapping_div w64) ∷ (0x71, int_rem) ∷ []
+long_divisions = (LDIV, int_wrapping_div w64) ∷ (LREM, int_rem) ∷ []
 
 -- of a long and a distance: lshl, lshr, lushr
 abbrev pub long_shifts : List (ℕ × IntOperation)
 long_shifts =
-    (0x79, λ x n. int_shl w64 x (distance 64 n)) ∷ (0x7b, λ x n. int_shr x (distance 64 n))
-    ∷ (0x7d, λ x n. shift_zeros_long x (distance 64 n)) ∷ []
+    (LSHL, λ x n. int_shl w64 x (distance 64 n)) ∷ (LSHR, λ x n. int_shr x (distance 64 n))
+    ∷ (LUSHR, λ x n. shift_zeros_long x (distance 64 n)) ∷ []
 
 -- lcmp: -1, 0 or 1
 abbrev pub compared : ℤ → ℤ → ℤ
@@ -74,14 +75,14 @@ compared x y = if int_lt x y then negsuc 0 else (if int_lt y x then pos 1 else p
 -- of one value: ineg, lneg; i2l, l2i; i2b, i2c, i2s, which keep the lowest bits
 abbrev pub IsConversion : ℕ → Value → Value → Type 0
 IsConversion op (Int x) w =
-    ((op ≡ 0x74) × (w ≡ Int (int_wrapping_neg w32 x)))
-    ⊎ ((op ≡ 0x85) × (w ≡ Long x))
-    ⊎ ((op ≡ 0x91) × (w ≡ Int (int_wrap w8 x)))
-    ⊎ ((op ≡ 0x92) × (w ≡ Int (int_rem_euclid x (pos 65536))))
-    ⊎ ((op ≡ 0x93) × (w ≡ Int (int_wrap w16 x)))
+    ((op ≡ INEG) × (w ≡ Int (int_wrapping_neg w32 x)))
+    ⊎ ((op ≡ I2L) × (w ≡ Long x))
+    ⊎ ((op ≡ I2B) × (w ≡ Int (int_wrap w8 x)))
+    ⊎ ((op ≡ I2C) × (w ≡ Int (int_rem_euclid x (pos 65536))))
+    ⊎ ((op ≡ I2S) × (w ≡ Int (int_wrap w16 x)))
 IsConversion op (Long x) w =
-    ((op ≡ 0x75) × (w ≡ Long (int_wrapping_neg w64 x)))
-    ⊎ ((op ≡ 0x88) × (w ≡ Int (int_wrap w32 x)))
+    ((op ≡ LNEG) × (w ≡ Long (int_wrapping_neg w64 x)))
+    ⊎ ((op ≡ L2I) × (w ≡ Int (int_wrap w32 x)))
 IsConversion op v w = ⊥
 
 -- ---- The operand stack. A long takes two slots.
@@ -95,24 +96,24 @@ values_slots vs = sum_by value_slots vs
 
 -- pop, pop2: how many slots they take off
 abbrev pub drops : List (ℕ × ℕ)
-drops = (0x57, 1) ∷ (0x58, 2) ∷ []
+drops = (POP, 1) ∷ (POP2, 2) ∷ []
 
 -- dup, dup_x1, dup_x2, dup2, dup2_x1, dup2_x2: the topmost slots, as many as the second number says, are put once more
 -- below those before them, as many as the first says
 abbrev pub copies : List (ℕ × (ℕ × ℕ))
-copies = (0x59, (0, 1)) ∷ (0x5a, (1, 1)) ∷ (0x5b, (2, 1)) ∷ (0x5c, (0, 2)) ∷ (0x5d, (1, 2)) ∷ (0x5e, (2, 2)) ∷ []
+copies = (DUP, (0, 1)) ∷ (DUP_X1, (1, 1)) ∷ (DUP_X2, (2, 1)) ∷ (DUP2, (0, 2)) ∷ (DUP2_X1, (1, 2)) ∷ (DUP2_X2, (2, 2)) ∷ []
 
 -- ---- What instructions make of the entries that they take, the last of them from the top, where nothing else changes.
 
 -- nop; aconst_null, the constants of int and long, ldc of an int, ldc2_w
 abbrev pub Pushes : CodeScope → Instr → List Value → Type 0
 Pushes s i pushed =
-    ((i.op ≡ 0x00) × (pushed ≡ []))
-    ⊎ ((i.op ≡ 0x01) × (pushed ≡ Null ∷ []))
-    ⊎ ((i.op ≡ 0x11) × (pushed ≡ Int i.a ∷ []))
-    ⊎ ((i.op ≡ 0x09) × (pushed ≡ Long i.a ∷ []))
-    ⊎ ((i.op ≡ 0x13) × ((n : ℤ) × LeadsToLink s i (To.Int n) × (pushed ≡ Int n ∷ [])))
-    ⊎ ((i.op ≡ 0x14) × ((n : ℤ) × LeadsToLink s i (To.Long n) × (pushed ≡ Long n ∷ [])))
+    ((i.op ≡ NOP) × (pushed ≡ []))
+    ⊎ ((i.op ≡ ACONST_NULL) × (pushed ≡ Null ∷ []))
+    ⊎ ((i.op ≡ SIPUSH) × (pushed ≡ Int i.a ∷ []))
+    ⊎ ((i.op ≡ LCONST_0) × (pushed ≡ Long i.a ∷ []))
+    ⊎ ((i.op ≡ LDC_W) × ((n : ℤ) × LeadsToLink s i (To.Int n) × (pushed ≡ Int n ∷ [])))
+    ⊎ ((i.op ≡ LDC2_W) × ((n : ℤ) × LeadsToLink s i (To.Long n) × (pushed ≡ Long n ∷ [])))
 
 abbrev pub Moves : ℕ → List Value → List Value → Type 0
 Moves op taken pushed =
@@ -121,7 +122,7 @@ Moves op taken pushed =
     × (values_slots skipped ≡ below) × (values_slots copied ≡ top) × (taken ≡ skipped ++ copied)
     × (pushed ≡ copied ++ skipped ++ copied))
     -- swap
-    ⊎ ((op ≡ 0x5f) × ((v : Value) × (w : Value) × (value_slots v ≡ 1) × (value_slots w ≡ 1) × (taken ≡ v ∷ w ∷ [])
+    ⊎ ((op ≡ SWAP) × ((v : Value) × (w : Value) × (value_slots v ≡ 1) × (value_slots w ≡ 1) × (taken ≡ v ∷ w ∷ [])
     × (pushed ≡ w ∷ v ∷ [])))
 
 abbrev pub Calculates : ℕ → List Value → List Value → Type 0
@@ -134,7 +135,7 @@ Calculates op taken pushed =
     ⊎ ((f : IntOperation) × (x : ℤ) × (y : ℤ) × HasRow long_divisions op f × (y ≢ pos 0) × (taken ≡ Long x ∷ Long y ∷ [])
     × (pushed ≡ Long (f x y) ∷ []))
     ⊎ ((f : IntOperation) × (x : ℤ) × (n : ℤ) × HasRow long_shifts op f × (taken ≡ Long x ∷ Int n ∷ []) × (pushed ≡ Long (f x n) ∷ []))
-    ⊎ ((x : ℤ) × (y : ℤ) × (op ≡ 0x94) × (taken ≡ Long x ∷ Long y ∷ []) × (pushed ≡ Int (compared x y) ∷ []))
+    ⊎ ((x : ℤ) × (y : ℤ) × (op ≡ LCMP) × (taken ≡ Long x ∷ Long y ∷ []) × (pushed ≡ Int (compared x y) ∷ []))
     ⊎ ((v : Value) × (w : Value) × IsConversion op v w × (taken ≡ v ∷ []) × (pushed ≡ w ∷ []))
 
 abbrev pub Exchanges : CodeScope → Instr → List Value → List Value → Type 0
@@ -144,11 +145,11 @@ Exchanges s i taken pushed = ((taken ≡ []) × Pushes s i pushed) ⊎ Moves i.o
 
 -- iload, lload, aload
 abbrev pub is_load : ℕ → Bool
-is_load op = op == 0x15 || op == 0x16 || op == 0x19
+is_load op = op == ILOAD || op == LLOAD || op == ALOAD
 
 -- istore, lstore, astore
 abbrev pub is_store_of_top : ℕ → Bool
-is_store_of_top op = op == 0x36 || op == 0x37 || op == 0x3a
+is_store_of_top op = op == ISTORE || op == LSTORE || op == ASTORE
 
 -- a value put into a local; the local after a long is unset then
 abbrev pub with_value : List Value → ℕ → Value → List Value
@@ -163,7 +164,7 @@ UsesLocal i f g =
     ⊎ ((n : ℕ) × (v : Value) × (below : List Value) × IsTrue (is_store_of_top i.op) × (i.a ≡ pos n) × (f.stack ≡ below ++ v ∷ [])
     × (g ≡ record f { locals = with_value f.locals n v; stack = below }))
     -- iinc
-    ⊎ ((n : ℕ) × (x : ℤ) × (i.op ≡ 0x84) × (i.a ≡ pos n) × (slice_get f.locals n ≡ Some (Int x))
+    ⊎ ((n : ℕ) × (x : ℤ) × (i.op ≡ IINC) × (i.a ≡ pos n) × (slice_get f.locals n ≡ Some (Int x))
     × (g ≡ record f { locals = slice_set f.locals n (Int (int_wrapping_add w32 x i.b)) }))
 
 -- ---- Jumps.
@@ -187,18 +188,18 @@ is_null v = is_same_reference v Null
 -- what a jump takes off the stack, and whether it jumps
 abbrev pub Decides : ℕ → List Value → Bool → Type 0
 Decides op taken holds =
-    ((place : ℕ) × (test : ℤ → ℤ → Bool) × (x : ℤ) × HasRow comparisons place test × (op ≡ 0x99 + place) × (taken ≡ Int x ∷ [])
+    ((place : ℕ) × (test : ℤ → ℤ → Bool) × (x : ℤ) × HasRow comparisons place test × (op ≡ IFEQ + place) × (taken ≡ Int x ∷ [])
     × (holds ≡ test x (pos 0)))
-    ⊎ ((place : ℕ) × (test : ℤ → ℤ → Bool) × (x : ℤ) × (y : ℤ) × HasRow comparisons place test × (op ≡ 0x9f + place)
+    ⊎ ((place : ℕ) × (test : ℤ → ℤ → Bool) × (x : ℤ) × (y : ℤ) × HasRow comparisons place test × (op ≡ IF_ICMPEQ + place)
     × (taken ≡ Int x ∷ Int y ∷ []) × (holds ≡ test x y))
     -- if_acmpeq, if_acmpne
-    ⊎ ((v : Value) × (w : Value) × (op ≡ 0xa5) × (taken ≡ v ∷ w ∷ []) × (holds ≡ is_same_reference v w))
-    ⊎ ((v : Value) × (w : Value) × (op ≡ 0xa6) × (taken ≡ v ∷ w ∷ []) × (holds ≡ not (is_same_reference v w)))
+    ⊎ ((v : Value) × (w : Value) × (op ≡ IF_ACMPEQ) × (taken ≡ v ∷ w ∷ []) × (holds ≡ is_same_reference v w))
+    ⊎ ((v : Value) × (w : Value) × (op ≡ IF_ACMPNE) × (taken ≡ v ∷ w ∷ []) × (holds ≡ not (is_same_reference v w)))
     -- ifnull, ifnonnull
-    ⊎ ((v : Value) × (op ≡ 0xc6) × (taken ≡ v ∷ []) × (holds ≡ is_null v))
-    ⊎ ((v : Value) × (op ≡ 0xc7) × (taken ≡ v ∷ []) × (holds ≡ not (is_null v)))
+    ⊎ ((v : Value) × (op ≡ IFNULL) × (taken ≡ v ∷ []) × (holds ≡ is_null v))
+    ⊎ ((v : Value) × (op ≡ IFNONNULL) × (taken ≡ v ∷ []) × (holds ≡ not (is_null v)))
     -- goto
-    ⊎ ((op ≡ 0xa7) × (taken ≡ []) × (holds ≡ true))
+    ⊎ ((op ≡ GOTO) × (taken ≡ []) × (holds ≡ true))
 
 -- where a switch goes on at a key: at the first case with it, or else at its default
 abbrev pub switch_target : Instr → ℤ → ℤ
@@ -233,7 +234,7 @@ DividesByZero op taken =
 
 -- ireturn, lreturn, areturn
 abbrev pub is_return_of_value : ℕ → Bool
-is_return_of_value op = op == 0xac || op == 0xad || op == 0xb0
+is_return_of_value op = op == IRETURN || op == LRETURN || op == ARETURN
 
 pub data NumberRow (s : CodeScope) (place : ℕ) (i : Instr) (f g : FrameState) : After → Type 0 where
   exchanges : (taken pushed : List Value) → Exchanges s i taken pushed → Replaces f g taken pushed
@@ -247,7 +248,7 @@ pub data NumberRow (s : CodeScope) (place : ℕ) (i : Instr) (f g : FrameState) 
   divides_by_zero : (taken : List Value) → DividesByZero i.op taken → IsOnTop f taken → g ≡ f
       → NumberRow s place i f g (Next.Raise (Fresh ARITHMETIC_EXCEPTION))
   returns : (v : Value) → IsTrue (is_return_of_value i.op) → Replaces f g (v ∷ []) [] → NumberRow s place i f g (Next.Return (Some v))
-  returns_nothing : i.op ≡ 0xb1 → g ≡ f → NumberRow s place i f g (Next.Return None)
+  returns_nothing : i.op ≡ RETURN → g ≡ f → NumberRow s place i f g (Next.Return None)
 
 -- ---- Which instructions these are.
 
@@ -255,11 +256,11 @@ pub data NumberRow (s : CodeScope) (place : ℕ) (i : Instr) (f g : FrameState) 
 -- l2i; i2b to lcmp; the jumps; the switches, ireturn, lreturn; areturn, return; ifnull, ifnonnull
 abbrev pub number_opcodes : List (ℕ × ℕ)
 number_opcodes =
-    (0x00, 0x01) ∷ (0x09, 0x09) ∷ (0x11, 0x11) ∷ (0x14, 0x16) ∷ (0x19, 0x19) ∷ (0x36, 0x37) ∷ (0x3a, 0x3a) ∷ (0x57, 0x85) ∷ (0x88, 0x88)
-    ∷ (0x91, 0x94) ∷ (0x99, 0xa7) ∷ (0xaa, 0xad) ∷ (0xb0, 0xb1) ∷ (0xc6, 0xc7) ∷ []
+    (NOP, ACONST_NULL) ∷ (LCONST_0, LCONST_0) ∷ (SIPUSH, SIPUSH) ∷ (LDC2_W, LLOAD) ∷ (ALOAD, ALOAD) ∷ (ISTORE, LSTORE) ∷ (ASTORE, ASTORE)
+    ∷ (POP, I2L) ∷ (L2I, L2I) ∷ (I2B, LCMP) ∷ (IFEQ, GOTO) ∷ (TABLESWITCH, LRETURN) ∷ (ARETURN, RETURN) ∷ (IFNULL, IFNONNULL) ∷ []
 
 -- the instruction is one of these, or an ldc of an int
 abbrev pub IsOfNumbers : CodeScope → Instr → Type 0
 IsOfNumbers s i =
     HasItem (λ (r : ℕ × ℕ). (r.0 ≤ i.op) × (i.op ≤ r.1)) number_opcodes
-    ⊎ ((i.op ≡ 0x13) × ((n : ℤ) × LeadsToLink s i (To.Int n)))
+    ⊎ ((i.op ≡ LDC_W) × ((n : ℤ) × LeadsToLink s i (To.Int n)))

@@ -16,6 +16,7 @@ use Rattle.jk_model.specs.declared.instructions.Instr.{Instr}
 use Rattle.jk_model.specs.declared.instructions.SwitchCase.{SwitchCase}
 use Rattle.jk_model.specs.ClassFile.{u2, AreInterfaces, CodeLayout, interfaces_bytes}
 use Rattle.jk_model.specs.Descriptors.{IsClassName, IsFieldText, IsMethodText}
+use Rattle.jk_model.specs.Flags.{has, ABSTRACT, STATIC}
 use Rattle.jk_model.specs.Instructions.{Decodes}
 use Rattle.jk_model_classes.specs.declared.records.BaseRef.{BaseRef}
 use Rattle.jk_model_classes.specs.declared.records.BaseRef.TheVariants as Base
@@ -29,7 +30,7 @@ use Rattle.jk_model_classes.specs.declared.records.Link.TheVariants as To
 use Rattle.jk_model_classes.specs.declared.records.LinkedCode.{LinkedCode}
 use Rattle.jk_model_classes.specs.declared.records.MethodRecord.{MethodRecord}
 use Rattle.jk_model_classes.specs.declared.records.TypeRef.{TypeRef}
-use Rattle.jk_model_classes.specs.ClassFlags.{has, MethodFlags, ABSTRACT, STATIC}
+use Rattle.jk_model_classes.specs.ClassFlags.{MethodFlags}
 use Rattle.jk_model_classes.specs.ClassNames.{HasText}
 use Rattle.jk_model_classes.specs.LinkRules.{LinkScope, FindsFieldAt, FindsMethodAt}
 use Rattle.jk_model_classes.specs.MemberAttributes.{IsCodeAttribute, IsConstantValue, IsExceptions}

@@ -6,6 +6,7 @@ use Rattle.jk_model.specs.declared.frames.FrameHead.{FrameHead}
 use Rattle.jk_model.specs.declared.identifiers.ClassId.{ClassId}
 use Rattle.jk_model.specs.declared.identifiers.MemberId.{MemberId}
 use Rattle.jk_model.specs.declared.instructions.Instr.{Instr}
+use Rattle.jk_model.specs.declared.opcodes.TheConstants.{LDC_W, GETSTATIC, PUTSTATIC, INVOKEVIRTUAL, INVOKESTATIC}
 use Rattle.jk_model.specs.declared.steps.After.{After}
 use Rattle.jk_model.specs.declared.steps.After.TheVariants as Next
 use Rattle.jk_model.specs.declared.steps.Raise.{Raise}
@@ -62,7 +63,7 @@ IsOutcome _ outcome = ⊥
 -- ---- Literals: ldc of a text, whose object stands in the heap.
 
 pub record LoadsText (s : CodeScope) (i : Instr) (w new : Working) (outcome : Outcome) : Type 0 where
-  pub op : i.op ≡ 0x13
+  pub op : i.op ≡ LDC_W
   pub text : List ℕ
   pub names : LeadsToLink s i (To.Text text)
   pub object : ℕ
@@ -86,7 +87,7 @@ IsStaticValue s own m v =
     (IsSystemOut s m × (v ≡ Held.Obj own.out)) ⊎ ((IsSystemOut s m → ⊥) × (static_of own m ≡ Some v))
 
 pub record GetsStatic (s : CodeScope) (i : Instr) (w new : Working) (outcome : Outcome) : Type 0 where
-  pub op : i.op ≡ 0xb2
+  pub op : i.op ≡ GETSTATIC
   pub member : MemberId
   pub field : FieldRecord
   pub names : NamesField s i member field
@@ -114,7 +115,7 @@ stored t (Held.Int n) = Held.Int (stored_int t n)
 stored t v = v
 
 pub record PutsStatic (s : CodeScope) (i : Instr) (w new : Working) (outcome : Outcome) : Type 0 where
-  pub op : i.op ≡ 0xb3
+  pub op : i.op ≡ PUTSTATIC
   pub member : MemberId
   pub field : FieldRecord
   pub names : NamesField s i member field
@@ -147,7 +148,7 @@ pub record IsCalledFrame (m : MemberId) (code : LinkedCode) (given : List Value)
   pub stack : f.stack ≡ []
 
 pub record CallsStatic (s : CodeScope) (free : ℕ) (i : Instr) (w new : Working) (outcome : Outcome) : Type 0 where
-  pub op : i.op ≡ 0xb8
+  pub op : i.op ≡ INVOKESTATIC
   pub member : MemberId
   pub method : MethodRecord
   pub names : NamesMethod s i member method
@@ -201,7 +202,7 @@ abbrev pub NULL_POINTER_EXCEPTION : ClassId
 NULL_POINTER_EXCEPTION = record { 0 = 26 }
 
 pub record PrintsLine (s : CodeScope) (i : Instr) (w new : Working) (outcome : Outcome) : Type 0 where
-  pub op : i.op ≡ 0xb6
+  pub op : i.op ≡ INVOKEVIRTUAL
   pub member : MemberId
   pub method : MethodRecord
   pub names : NamesMethod s i member method

@@ -5,6 +5,7 @@ use Rattle.jk_model.specs.declared.frames.FrameHead.{FrameHead}
 use Rattle.jk_model.specs.declared.identifiers.ClassId.{ClassId}
 use Rattle.jk_model.specs.declared.identifiers.MemberId.{MemberId}
 use Rattle.jk_model.specs.declared.instructions.Instr.{Instr}
+use Rattle.jk_model.specs.declared.opcodes.TheConstants.{GETSTATIC, PUTSTATIC, INVOKESTATIC, NEW}
 use Rattle.jk_model_classes.specs.declared.records.Body.TheVariants as Does
 use Rattle.jk_model_classes.specs.declared.records.ClassRecord.{ClassRecord}
 use Rattle.jk_model_classes.specs.declared.records.Link.TheVariants as To
@@ -21,9 +22,9 @@ use Rattle.jk_model_frames.specs.Frames.{FrameState}
 -- getstatic and putstatic need the class of the field found, invokestatic that of the method found, and new its class
 abbrev pub InstrNeeds : CodeScope → Instr → ClassId → Type 0
 InstrNeeds s i class =
-    (((i.op ≡ 0xb2) ⊎ (i.op ≡ 0xb3)) × ((c : ClassId) × (m : MemberId) × LeadsToLink s i (To.Field c m) × (class ≡ m.class)))
-    ⊎ ((i.op ≡ 0xb8) × ((c : ClassId) × (m : MemberId) × LeadsToLink s i (To.Method c m) × (class ≡ m.class)))
-    ⊎ ((i.op ≡ 0xbb) × NamesClass s i class)
+    (((i.op ≡ GETSTATIC) ⊎ (i.op ≡ PUTSTATIC)) × ((c : ClassId) × (m : MemberId) × LeadsToLink s i (To.Field c m) × (class ≡ m.class)))
+    ⊎ ((i.op ≡ INVOKESTATIC) × ((c : ClassId) × (m : MemberId) × LeadsToLink s i (To.Method c m) × (class ≡ m.class)))
+    ⊎ ((i.op ≡ NEW) × NamesClass s i class)
 
 -- The code that a frame runs, and the instruction at which it stands.
 pub record RunsCode (classes : List ClassRecord) (f : FrameState) : Type 0 where

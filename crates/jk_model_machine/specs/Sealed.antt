@@ -7,6 +7,7 @@ use Rattle.jk_model.specs.declared.identifiers.MemberId.{MemberId}
 use Rattle.jk_model.specs.declared.identifiers.ThreadNo.{ThreadNo}
 use Rattle.jk_model.specs.declared.instructions.Instr.{Instr}
 use Rattle.jk_model.specs.declared.identifiers.DomainId.{DomainId}
+use Rattle.jk_model.specs.declared.opcodes.TheConstants.{INVOKESTATIC}
 use Rattle.jk_model.specs.declared.values.Value.{Value}
 use Rattle.jk_model.specs.declared.values.Value.TheVariants.{Obj, Cap}
 use Rattle.jk_model_classes.specs.declared.records.ClassRecord.{ClassRecord}
@@ -108,7 +109,7 @@ pub record FitsAtCall (classes : List ClassRecord) (heap : List NamedObject) (f 
   pub instr : Instr
   pub is_instr : slice_get typing.scope.code.instrs f.head.at ≡ Some instr
   -- invokestatic, the one call of a method with code so far
-  pub is_call : instr.op ≡ 0xb8
+  pub is_call : instr.op ≡ INVOKESTATIC
   pub called : MethodRecord
   pub names : NamesMethod typing.scope instr member called
   pub after : FrameType

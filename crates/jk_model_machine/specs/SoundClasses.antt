@@ -1,16 +1,17 @@
 -- What holds of the classes and the names of a machine whose folders were all accepted.
 use Rattle.std.specs.Prelude.{◌≡◌, ℕ, IsTrue, List, [], length, take, Contains, Option, Some, None, slice_get}
 use Rattle.std.specs.List.{AllByRecursion}
+use Rattle.jk_model.specs.Flags.{has, STATIC}
 use Rattle.jk_model.specs.declared.identifiers.ClassId.{ClassId}
 use Rattle.jk_model.specs.declared.identifiers.MemberId.{MemberId}
 use Rattle.jk_model.specs.declared.instructions.Instr.{Instr}
 use Rattle.jk_model.specs.SystemTable.{system_classes}
+use Rattle.jk_model.specs.declared.opcodes.TheConstants.{GETSTATIC, INVOKESTATIC}
 use Rattle.jk_model_classes.specs.declared.records.ClassRecord.{ClassRecord}
 use Rattle.jk_model_classes.specs.declared.records.FieldRecord.{FieldRecord}
 use Rattle.jk_model_classes.specs.declared.records.Link.TheVariants as To
 use Rattle.jk_model_classes.specs.declared.records.MethodRecord.{MethodRecord}
 use Rattle.jk_model_classes.specs.declared.records.TypeRef.{TypeRef}
-use Rattle.jk_model_classes.specs.ClassFlags.{has, STATIC}
 use Rattle.jk_model_classes.specs.Classes.{AreOrdered, record_of}
 use Rattle.jk_model_classes.specs.Lookups.{MethodIs}
 use Rattle.jk_model_classes.specs.Members.{CLINIT}
@@ -50,10 +51,10 @@ pub record AreSoundClasses (classes : List ClassRecord) (domains : List DomainSt
   pub typed : (m : MemberId) (s : CodeScope) → IsScopeOf classes m s → (frames : List (Option FrameType)) × IsVerified classes m frames
   -- what invokestatic calls is static
   pub statics : (m member : MemberId) (s : CodeScope) (i : Instr) (method : MethodRecord) → IsScopeOf classes m s
-      → Contains s.code.instrs i → i.op ≡ 0xb8 → NamesMethod s i member method → IsTrue (is_static method)
+      → Contains s.code.instrs i → i.op ≡ INVOKESTATIC → NamesMethod s i member method → IsTrue (is_static method)
   -- what getstatic reads is a static field
   pub static_fields : (m member : MemberId) (s : CodeScope) (i : Instr) (field : FieldRecord) → IsScopeOf classes m s
-      → Contains s.code.instrs i → i.op ≡ 0xb2 → NamesField s i member field → IsTrue (has field.flags STATIC)
+      → Contains s.code.instrs i → i.op ≡ GETSTATIC → NamesField s i member field → IsTrue (has field.flags STATIC)
   -- the initialiser of a class is static, and takes and answers nothing
   pub initialisers : (m : MemberId) (s : CodeScope) → IsScopeOf classes m s → s.method.name ≡ CLINIT
       → IsTrue (is_static s.method) × (s.method.params ≡ []) × (s.method.result ≡ None)

@@ -8,10 +8,10 @@ use Rattle.jk_model.specs.declared.output.Line.{Line}
 use Rattle.jk_model.specs.declared.output.Line.TheVariants.{Started, StartRefused}
 use Rattle.jk_model.specs.declared.values.Value.TheVariants as Held
 use Rattle.jk_model.specs.Descriptors.{IsMethodText}
+use Rattle.jk_model.specs.Flags.{has, PUBLIC, STATIC}
 use Rattle.jk_model_classes.specs.declared.records.Body.TheVariants as Does
 use Rattle.jk_model_classes.specs.declared.records.LinkedCode.{LinkedCode}
 use Rattle.jk_model_classes.specs.declared.records.MethodRecord.{MethodRecord}
-use Rattle.jk_model_classes.specs.ClassFlags.{has, PUBLIC, STATIC}
 use Rattle.jk_model_classes.specs.Lookups.{FindsMethod, MethodIs}
 use Rattle.jk_model_classes.specs.Worlds.{class_named}
 use Rattle.jk_model_frames.specs.Frames.{FrameState, head_chunks}

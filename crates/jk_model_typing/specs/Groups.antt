@@ -5,6 +5,7 @@ use Rattle.jk_model_classes.specs.declared.records.BaseRef.{BaseRef}
 use Rattle.jk_model_classes.specs.declared.records.BaseRef.TheVariants as Base
 use Rattle.jk_model.specs.declared.identifiers.ClassId.{ClassId}
 use Rattle.jk_model.specs.declared.identifiers.MemberId.{MemberId}
+use Rattle.jk_model.specs.declared.opcodes.TheConstants.{NOP, ACONST_NULL, LCONST_0, SIPUSH, LDC_W, LDC2_W, ILOAD, LLOAD, ALOAD, IALOAD, LALOAD, AALOAD, BALOAD, CALOAD, SALOAD, ISTORE, LSTORE, ASTORE, IASTORE, LASTORE, AASTORE, BASTORE, CASTORE, SASTORE, POP, POP2, DUP, DUP_X1, DUP_X2, DUP2, DUP2_X1, DUP2_X2, SWAP, IADD, LADD, ISUB, LSUB, IMUL, LMUL, IDIV, LDIV, IREM, LREM, INEG, LNEG, ISHL, LSHL, ISHR, LSHR, IUSHR, LUSHR, IAND, LAND, IOR, LOR, IXOR, LXOR, IINC, I2L, L2I, I2B, I2S, LCMP, IFEQ, IFLE, IF_ICMPEQ, IF_ICMPLE, IF_ACMPEQ, IF_ACMPNE, GOTO, TABLESWITCH, LOOKUPSWITCH, IRETURN, LRETURN, ARETURN, RETURN, GETSTATIC, PUTSTATIC, GETFIELD, PUTFIELD, INVOKEVIRTUAL, INVOKESPECIAL, INVOKESTATIC, INVOKEINTERFACE, NEW, NEWARRAY, ANEWARRAY, ARRAYLENGTH, ATHROW, CHECKCAST, INSTANCEOF, MULTIANEWARRAY, IFNULL, IFNONNULL}
 use Rattle.jk_model_typing.specs.declared.frames.VType.{VType}
 use Rattle.jk_model_typing.specs.declared.frames.VType.TheVariants.{Int, Long, Null, Ref}
 use Rattle.jk_model_typing.specs.declared.frames.Demand.{Demand}
@@ -102,112 +103,112 @@ stores array v = takes (array ∷ int ∷ v ∷ []) []
 abbrev pub groups : List (Row Group)
 groups =
     -- nop; aconst_null; lconst_0 and lconst_1; the constants of int
-    row 0x00 0x00 (takes [] [])
-    ∷ row 0x01 0x01 (takes [] (Null ∷ []))
-    ∷ row 0x09 0x09 (takes [] (Long ∷ []))
-    ∷ row 0x11 0x11 (takes [] (Int ∷ []))
+    row NOP NOP (takes [] [])
+    ∷ row ACONST_NULL ACONST_NULL (takes [] (Null ∷ []))
+    ∷ row LCONST_0 LCONST_0 (takes [] (Long ∷ []))
+    ∷ row SIPUSH SIPUSH (takes [] (Int ∷ []))
     -- ldc and ldc_w; ldc2_w
-    ∷ row 0x13 0x13 LoadsConstant
-    ∷ row 0x14 0x14 LoadsLong
+    ∷ row LDC_W LDC_W LoadsConstant
+    ∷ row LDC2_W LDC2_W LoadsLong
     -- iload, lload, aload
-    ∷ row 0x15 0x15 (LoadsLocal int)
-    ∷ row 0x16 0x16 (LoadsLocal long)
-    ∷ row 0x19 0x19 (LoadsLocal AnyReference)
+    ∷ row ILOAD ILOAD (LoadsLocal int)
+    ∷ row LLOAD LLOAD (LoadsLocal long)
+    ∷ row ALOAD ALOAD (LoadsLocal AnyReference)
     -- iaload, laload, aaload, baload, caload, saload
-    ∷ row 0x2e 0x2e (loads (numbers Base.Int) Int)
-    ∷ row 0x2f 0x2f (loads (numbers Base.Long) Long)
-    ∷ row 0x32 0x32 (Always LoadsElement)
-    ∷ row 0x33 0x33 (loads bytes Int)
-    ∷ row 0x34 0x34 (loads (numbers Base.Char) Int)
-    ∷ row 0x35 0x35 (loads (numbers Base.Short) Int)
+    ∷ row IALOAD IALOAD (loads (numbers Base.Int) Int)
+    ∷ row LALOAD LALOAD (loads (numbers Base.Long) Long)
+    ∷ row AALOAD AALOAD (Always LoadsElement)
+    ∷ row BALOAD BALOAD (loads bytes Int)
+    ∷ row CALOAD CALOAD (loads (numbers Base.Char) Int)
+    ∷ row SALOAD SALOAD (loads (numbers Base.Short) Int)
     -- istore, lstore, astore
-    ∷ row 0x36 0x36 (StoresLocal int)
-    ∷ row 0x37 0x37 (StoresLocal long)
-    ∷ row 0x3a 0x3a (StoresLocal AnyReference)
+    ∷ row ISTORE ISTORE (StoresLocal int)
+    ∷ row LSTORE LSTORE (StoresLocal long)
+    ∷ row ASTORE ASTORE (StoresLocal AnyReference)
     -- iastore, lastore, aastore, bastore, castore, sastore
-    ∷ row 0x4f 0x4f (stores (numbers Base.Int) int)
-    ∷ row 0x50 0x50 (stores (numbers Base.Long) long)
-    ∷ row 0x53 0x53 (stores ReferenceArray Reference)
-    ∷ row 0x54 0x54 (stores bytes int)
-    ∷ row 0x55 0x55 (stores (numbers Base.Char) int)
-    ∷ row 0x56 0x56 (stores (numbers Base.Short) int)
+    ∷ row IASTORE IASTORE (stores (numbers Base.Int) int)
+    ∷ row LASTORE LASTORE (stores (numbers Base.Long) long)
+    ∷ row AASTORE AASTORE (stores ReferenceArray Reference)
+    ∷ row BASTORE BASTORE (stores bytes int)
+    ∷ row CASTORE CASTORE (stores (numbers Base.Char) int)
+    ∷ row SASTORE SASTORE (stores (numbers Base.Short) int)
     -- pop, pop2
-    ∷ row 0x57 0x57 (Always (Drops 1))
-    ∷ row 0x58 0x58 (Always (Drops 2))
+    ∷ row POP POP (Always (Drops 1))
+    ∷ row POP2 POP2 (Always (Drops 2))
     -- dup, dup_x1, dup_x2, dup2, dup2_x1, dup2_x2, swap
-    ∷ row 0x59 0x59 (Always (Copies 0 1))
-    ∷ row 0x5a 0x5a (Always (Copies 1 1))
-    ∷ row 0x5b 0x5b (Always (Copies 2 1))
-    ∷ row 0x5c 0x5c (Always (Copies 0 2))
-    ∷ row 0x5d 0x5d (Always (Copies 1 2))
-    ∷ row 0x5e 0x5e (Always (Copies 2 2))
-    ∷ row 0x5f 0x5f (Always Swaps)
+    ∷ row DUP DUP (Always (Copies 0 1))
+    ∷ row DUP_X1 DUP_X1 (Always (Copies 1 1))
+    ∷ row DUP_X2 DUP_X2 (Always (Copies 2 1))
+    ∷ row DUP2 DUP2 (Always (Copies 0 2))
+    ∷ row DUP2_X1 DUP2_X1 (Always (Copies 1 2))
+    ∷ row DUP2_X2 DUP2_X2 (Always (Copies 2 2))
+    ∷ row SWAP SWAP (Always Swaps)
     -- iadd and ladd, and so sub, mul, div, rem; ineg, lneg
-    ∷ row 0x60 0x60 (takes (int ∷ int ∷ []) (Int ∷ []))
-    ∷ row 0x61 0x61 (takes (long ∷ long ∷ []) (Long ∷ []))
-    ∷ row 0x64 0x64 (takes (int ∷ int ∷ []) (Int ∷ []))
-    ∷ row 0x65 0x65 (takes (long ∷ long ∷ []) (Long ∷ []))
-    ∷ row 0x68 0x68 (takes (int ∷ int ∷ []) (Int ∷ []))
-    ∷ row 0x69 0x69 (takes (long ∷ long ∷ []) (Long ∷ []))
-    ∷ row 0x6c 0x6c (takes (int ∷ int ∷ []) (Int ∷ []))
-    ∷ row 0x6d 0x6d (takes (long ∷ long ∷ []) (Long ∷ []))
-    ∷ row 0x70 0x70 (takes (int ∷ int ∷ []) (Int ∷ []))
-    ∷ row 0x71 0x71 (takes (long ∷ long ∷ []) (Long ∷ []))
-    ∷ row 0x74 0x74 (takes (int ∷ []) (Int ∷ []))
-    ∷ row 0x75 0x75 (takes (long ∷ []) (Long ∷ []))
+    ∷ row IADD IADD (takes (int ∷ int ∷ []) (Int ∷ []))
+    ∷ row LADD LADD (takes (long ∷ long ∷ []) (Long ∷ []))
+    ∷ row ISUB ISUB (takes (int ∷ int ∷ []) (Int ∷ []))
+    ∷ row LSUB LSUB (takes (long ∷ long ∷ []) (Long ∷ []))
+    ∷ row IMUL IMUL (takes (int ∷ int ∷ []) (Int ∷ []))
+    ∷ row LMUL LMUL (takes (long ∷ long ∷ []) (Long ∷ []))
+    ∷ row IDIV IDIV (takes (int ∷ int ∷ []) (Int ∷ []))
+    ∷ row LDIV LDIV (takes (long ∷ long ∷ []) (Long ∷ []))
+    ∷ row IREM IREM (takes (int ∷ int ∷ []) (Int ∷ []))
+    ∷ row LREM LREM (takes (long ∷ long ∷ []) (Long ∷ []))
+    ∷ row INEG INEG (takes (int ∷ []) (Int ∷ []))
+    ∷ row LNEG LNEG (takes (long ∷ []) (Long ∷ []))
     -- ishl and lshl, whose distance is an int, and so ishr, lshr, iushr, lushr
-    ∷ row 0x78 0x78 (takes (int ∷ int ∷ []) (Int ∷ []))
-    ∷ row 0x79 0x79 (takes (long ∷ int ∷ []) (Long ∷ []))
-    ∷ row 0x7a 0x7a (takes (int ∷ int ∷ []) (Int ∷ []))
-    ∷ row 0x7b 0x7b (takes (long ∷ int ∷ []) (Long ∷ []))
-    ∷ row 0x7c 0x7c (takes (int ∷ int ∷ []) (Int ∷ []))
-    ∷ row 0x7d 0x7d (takes (long ∷ int ∷ []) (Long ∷ []))
+    ∷ row ISHL ISHL (takes (int ∷ int ∷ []) (Int ∷ []))
+    ∷ row LSHL LSHL (takes (long ∷ int ∷ []) (Long ∷ []))
+    ∷ row ISHR ISHR (takes (int ∷ int ∷ []) (Int ∷ []))
+    ∷ row LSHR LSHR (takes (long ∷ int ∷ []) (Long ∷ []))
+    ∷ row IUSHR IUSHR (takes (int ∷ int ∷ []) (Int ∷ []))
+    ∷ row LUSHR LUSHR (takes (long ∷ int ∷ []) (Long ∷ []))
     -- iand and land, and so or, xor
-    ∷ row 0x7e 0x7e (takes (int ∷ int ∷ []) (Int ∷ []))
-    ∷ row 0x7f 0x7f (takes (long ∷ long ∷ []) (Long ∷ []))
-    ∷ row 0x80 0x80 (takes (int ∷ int ∷ []) (Int ∷ []))
-    ∷ row 0x81 0x81 (takes (long ∷ long ∷ []) (Long ∷ []))
-    ∷ row 0x82 0x82 (takes (int ∷ int ∷ []) (Int ∷ []))
-    ∷ row 0x83 0x83 (takes (long ∷ long ∷ []) (Long ∷ []))
+    ∷ row IAND IAND (takes (int ∷ int ∷ []) (Int ∷ []))
+    ∷ row LAND LAND (takes (long ∷ long ∷ []) (Long ∷ []))
+    ∷ row IOR IOR (takes (int ∷ int ∷ []) (Int ∷ []))
+    ∷ row LOR LOR (takes (long ∷ long ∷ []) (Long ∷ []))
+    ∷ row IXOR IXOR (takes (int ∷ int ∷ []) (Int ∷ []))
+    ∷ row LXOR LXOR (takes (long ∷ long ∷ []) (Long ∷ []))
     -- iinc; i2l, l2i; i2b, i2c, i2s; lcmp
-    ∷ row 0x84 0x84 IncrementsLocal
-    ∷ row 0x85 0x85 (takes (int ∷ []) (Long ∷ []))
-    ∷ row 0x88 0x88 (takes (long ∷ []) (Int ∷ []))
-    ∷ row 0x91 0x93 (takes (int ∷ []) (Int ∷ []))
-    ∷ row 0x94 0x94 (takes (long ∷ long ∷ []) (Int ∷ []))
+    ∷ row IINC IINC IncrementsLocal
+    ∷ row I2L I2L (takes (int ∷ []) (Long ∷ []))
+    ∷ row L2I L2I (takes (long ∷ []) (Int ∷ []))
+    ∷ row I2B I2S (takes (int ∷ []) (Int ∷ []))
+    ∷ row LCMP LCMP (takes (long ∷ long ∷ []) (Int ∷ []))
     -- ifeq to ifle; if_icmpeq to if_icmple; if_acmpeq and if_acmpne; goto
-    ∷ row 0x99 0x9e (takes (int ∷ []) [])
-    ∷ row 0x9f 0xa4 (takes (int ∷ int ∷ []) [])
-    ∷ row 0xa5 0xa6 (takes (AnyReference ∷ AnyReference ∷ []) [])
-    ∷ row 0xa7 0xa7 (takes [] [])
+    ∷ row IFEQ IFLE (takes (int ∷ []) [])
+    ∷ row IF_ICMPEQ IF_ICMPLE (takes (int ∷ int ∷ []) [])
+    ∷ row IF_ACMPEQ IF_ACMPNE (takes (AnyReference ∷ AnyReference ∷ []) [])
+    ∷ row GOTO GOTO (takes [] [])
     -- tableswitch, lookupswitch
-    ∷ row 0xaa 0xab (takes (int ∷ []) [])
+    ∷ row TABLESWITCH LOOKUPSWITCH (takes (int ∷ []) [])
     -- ireturn, lreturn, areturn, return
-    ∷ row 0xac 0xac ReturnsInt
-    ∷ row 0xad 0xad ReturnsLong
-    ∷ row 0xb0 0xb0 ReturnsReference
-    ∷ row 0xb1 0xb1 ReturnsNothing
+    ∷ row IRETURN IRETURN ReturnsInt
+    ∷ row LRETURN LRETURN ReturnsLong
+    ∷ row ARETURN ARETURN ReturnsReference
+    ∷ row RETURN RETURN ReturnsNothing
     -- getstatic, putstatic, getfield, putfield
-    ∷ row 0xb2 0xb2 GetsStatic
-    ∷ row 0xb3 0xb3 PutsStatic
-    ∷ row 0xb4 0xb4 GetsField
-    ∷ row 0xb5 0xb5 PutsField
+    ∷ row GETSTATIC GETSTATIC GetsStatic
+    ∷ row PUTSTATIC PUTSTATIC PutsStatic
+    ∷ row GETFIELD GETFIELD GetsField
+    ∷ row PUTFIELD PUTFIELD PutsField
     -- invokevirtual, invokespecial, invokestatic, invokeinterface
-    ∷ row 0xb6 0xb6 CallsVirtual
-    ∷ row 0xb7 0xb7 CallsSpecial
-    ∷ row 0xb8 0xb8 CallsStatic
-    ∷ row 0xb9 0xb9 CallsInterface
+    ∷ row INVOKEVIRTUAL INVOKEVIRTUAL CallsVirtual
+    ∷ row INVOKESPECIAL INVOKESPECIAL CallsSpecial
+    ∷ row INVOKESTATIC INVOKESTATIC CallsStatic
+    ∷ row INVOKEINTERFACE INVOKEINTERFACE CallsInterface
     -- new; newarray; anewarray; arraylength; athrow; checkcast; instanceof; multianewarray
-    ∷ row 0xbb 0xbb MakesObject
-    ∷ row 0xbc 0xbc MakesNumbers
-    ∷ row 0xbd 0xbd MakesArray
-    ∷ row 0xbe 0xbe (takes (Array ∷ []) (Int ∷ []))
-    ∷ row 0xbf 0xbf (takes (Fitting throwable ∷ []) [])
-    ∷ row 0xc0 0xc0 Casts
-    ∷ row 0xc1 0xc1 Tests
-    ∷ row 0xc5 0xc5 MakesArrays
+    ∷ row NEW NEW MakesObject
+    ∷ row NEWARRAY NEWARRAY MakesNumbers
+    ∷ row ANEWARRAY ANEWARRAY MakesArray
+    ∷ row ARRAYLENGTH ARRAYLENGTH (takes (Array ∷ []) (Int ∷ []))
+    ∷ row ATHROW ATHROW (takes (Fitting throwable ∷ []) [])
+    ∷ row CHECKCAST CHECKCAST Casts
+    ∷ row INSTANCEOF INSTANCEOF Tests
+    ∷ row MULTIANEWARRAY MULTIANEWARRAY MakesArrays
     -- ifnull, ifnonnull
-    ∷ row 0xc6 0xc7 (takes (AnyReference ∷ []) [])
+    ∷ row IFNULL IFNONNULL (takes (AnyReference ∷ []) [])
     ∷ []
 
 abbrev pub group_of : ℕ → Group

@@ -1,9 +1,11 @@
 -- What each instruction asks of the frame before it, and which frame it leaves: the typing of instructions.
 use Rattle.std.specs.Prelude.{◌≡◌, ◌≢◌, ℕ, zero, suc, ◌+◌, ◌-◌, ◌<◌, ◌≤◌, ◌⊎◌, ⊤, ◌==◌, Bool, false, not, pos, ℤ, IsTrue, List, [], ◌∷◌, ◌++◌, length, map, replicate, Contains, Some, None, slice_get, slice_set, if◌then◌else◌}
 use Rattle.std.specs.Option.{option_map_or}
+use Rattle.jk_model.specs.Flags.{has, PROTECTED, STATIC}
 use Rattle.jk_model.specs.declared.identifiers.ClassId.{ClassId}
 use Rattle.jk_model.specs.declared.identifiers.MemberId.{MemberId}
 use Rattle.jk_model.specs.declared.instructions.Instr.{Instr}
+use Rattle.jk_model.specs.declared.opcodes.TheConstants.{NEW}
 use Rattle.jk_model_classes.specs.declared.records.BaseRef.{BaseRef}
 use Rattle.jk_model_classes.specs.declared.records.BaseRef.TheVariants as Base
 use Rattle.jk_model_classes.specs.declared.records.ClassRecord.{ClassRecord}
@@ -14,9 +16,7 @@ use Rattle.jk_model_classes.specs.declared.records.Member.TheVariants.{Field, Me
 use Rattle.jk_model_classes.specs.declared.records.MethodRecord.{MethodRecord}
 use Rattle.jk_model_classes.specs.declared.records.TypeRef.{TypeRef}
 use Rattle.jk_model_classes.specs.Classes.{record_of, IsSubclass}
-use Rattle.jk_model_classes.specs.ClassFlags.{has, PROTECTED, STATIC}
 use Rattle.jk_model_classes.specs.Lookups.{AreInOnePackage, FieldIs, MethodIs, FlagsAre, class_of}
-use Rattle.jk_model_classes.specs.MemberCode.{NEW}
 use Rattle.jk_model_classes.specs.Members.{INIT}
 use Rattle.jk_model_typing.specs.declared.frames.VType.{VType}
 use Rattle.jk_model_typing.specs.declared.frames.VType.TheVariants.{Unusable, Int, Long, Null, Ref, Fresh, FreshThis}

@@ -3,6 +3,7 @@ use Rattle.std.specs.Prelude.{◌≡◌, ℕ, ◌+◌, ◌*◌, ◌-◌, ◌<◌
 use Rattle.jk_model.specs.declared.identifiers.ClassId.{ClassId}
 use Rattle.jk_model.specs.declared.identifiers.MemberId.{MemberId}
 use Rattle.jk_model.specs.declared.instructions.Instr.{Instr}
+use Rattle.jk_model.specs.declared.opcodes.TheConstants.{ISTORE, LSTORE, ASTORE, IINC, GOTO, IRETURN, RETURN, ATHROW}
 use Rattle.jk_model_classes.specs.declared.records.Body.TheVariants.{Linked}
 use Rattle.jk_model_classes.specs.declared.records.Caught.{Caught}
 use Rattle.jk_model_classes.specs.declared.records.ClassRecord.{ClassRecord}
@@ -21,7 +22,7 @@ use Rattle.jk_model_typing.specs.Scopes.{CodeScope, IsScopeOf, own_receiver, par
 
 -- goto, the switches, the returns, athrow: control doesn't go on to the next instruction
 abbrev pub leaves_line : ℕ → Bool
-leaves_line op = op == 0xa7 || is_switch op || (nat_le 0xac op && nat_le op 0xb1) || op == 0xbf
+leaves_line op = op == GOTO || is_switch op || (nat_le IRETURN op && nat_le op RETURN) || op == ATHROW
 
 -- control may go on here after the instruction at this place: at the next one, at a jump's target, at a switch's cases and
 -- default
@@ -33,7 +34,7 @@ Covers h place = (h.start ≤ place) × (place < h.end)
 
 -- istore, lstore, astore, iinc
 abbrev pub is_store : ℕ → Bool
-is_store op = op == 0x36 || op == 0x37 || op == 0x3a || op == 0x84
+is_store op = op == ISTORE || op == LSTORE || op == ASTORE || op == IINC
 
 -- what a handler has on the stack
 abbrev pub caught_value : CodeScope → Caught → VType

@@ -13,6 +13,7 @@ use Rattle.jk_model.specs.declared.instructions.Instr.{Instr}
 use Rattle.jk_model.specs.declared.output.Rule.TheVariants.{C15}
 use Rattle.jk_model.specs.Descriptors.{IsClassName, IsFieldText}
 use Rattle.jk_model.specs.Instructions.{Decodes}
+use Rattle.jk_model.specs.declared.opcodes.TheConstants.{NEW}
 use Rattle.jk_model_classes.specs.declared.records.BaseRef.TheVariants as Base
 use Rattle.jk_model_classes.specs.declared.records.ClassRecord.{ClassRecord}
 use Rattle.jk_model_classes.specs.declared.records.Link.{Link}
@@ -20,7 +21,7 @@ use Rattle.jk_model_classes.specs.declared.records.Link.TheVariants as To
 use Rattle.jk_model_classes.specs.declared.records.TypeRef.{TypeRef}
 use Rattle.jk_model_classes.specs.Items.{Member}
 use Rattle.jk_model_classes.specs.LinkRules.{IsAccessRefused, LinkScope, MakesWhatItMayNot, PutsFinal}
-use Rattle.jk_model_classes.specs.MemberCode.{CodeAt, HasCode, HasInstr, NEW}
+use Rattle.jk_model_classes.specs.MemberCode.{CodeAt, HasCode, HasInstr}
 use Rattle.jk_model_classes.specs.Members.{ClassAt, TextAt}
 use Rattle.jk_model_classes.specs.OneClassRules.{HasNoFault}
 use Rattle.class_lemmas.proofs.ArraysHaveNoNames.{no_array, array_begins}

@@ -14,13 +14,14 @@ use Rattle.jk_model.specs.declared.identifiers.DomainId.{DomainId}
 use Rattle.jk_model.specs.declared.instructions.Instr.{Instr}
 use Rattle.jk_model.specs.declared.output.Rule.TheVariants.{C13, C9}
 use Rattle.jk_model.specs.ClassFile.{CodeLayout, attributes_bytes, handlers_bytes, u2, u4}
+use Rattle.jk_model.specs.Flags.{ABSTRACT, NATIVE, has}
 use Rattle.jk_model.specs.Instructions.{Decodes}
 use Rattle.jk_model_classes.specs.declared.records.Body.{Body}
 use Rattle.jk_model_classes.specs.declared.records.ClassRecord.{ClassRecord}
 use Rattle.jk_model_classes.specs.declared.records.Link.{Link}
 use Rattle.jk_model_classes.specs.declared.records.MethodRecord.{MethodRecord}
 use Rattle.jk_model_classes.specs.Classes.{record_of}
-use Rattle.jk_model_classes.specs.ClassFlags.{ABSTRACT, MethodFlags, NATIVE, has}
+use Rattle.jk_model_classes.specs.ClassFlags.{MethodFlags}
 use Rattle.jk_model_classes.specs.Items.{Entry, HasItem, HasTwoItems, IsBefore, Member, MethodAt, Spot}
 use Rattle.jk_model_classes.specs.LinkRules.{LinkScope}
 use Rattle.jk_model_classes.specs.MemberAttributes.{IsCodeAttribute}

@@ -5,8 +5,9 @@ use Rattle.std.proofs.lemmas.Bool.{eqb-true, or_cases}
 use Rattle.jk_model.specs.declared.class_file.ClassFile.{ClassFile}
 use Rattle.jk_model.specs.declared.instructions.Instr.{Instr}
 use Rattle.jk_model.specs.Instructions.{plain}
-use Rattle.jk_model_classes.specs.LinkRules.{INVOKESTATIC, LinkScope}
-use Rattle.jk_model_classes.specs.MemberCode.{INVOKEINTERFACE, INVOKESPECIAL, NEW, is_jump, is_switch}
+use Rattle.jk_model.specs.declared.opcodes.TheConstants.{INVOKEINTERFACE, INVOKESPECIAL, NEW, INVOKESTATIC}
+use Rattle.jk_model_classes.specs.LinkRules.{LinkScope}
+use Rattle.jk_model_classes.specs.MemberCode.{is_jump, is_switch}
 use Rattle.link_rules.specs.LinkedInstrs.{BreaksAccess, FindsWrong}
 use Rattle.link_rules.proofs.MethodsByRecord.{IsTold}
 

@@ -1,11 +1,11 @@
 -- Puts to final fields, by what the entry that an instruction names leads to.
 use Rattle.std.specs.Prelude.{◌≢◌, ℕ, IsTrue, List}
+use Rattle.jk_model.specs.Flags.{has, FINAL}
 use Rattle.jk_model.specs.declared.identifiers.ClassId.{ClassId}
 use Rattle.jk_model_classes.specs.declared.records.ClassRecord.{ClassRecord}
 use Rattle.jk_model_classes.specs.declared.records.FieldRecord.{FieldRecord}
 use Rattle.jk_model_classes.specs.declared.records.Link.{Link}
 use Rattle.jk_model_classes.specs.declared.records.Link.TheVariants as To
-use Rattle.jk_model_classes.specs.ClassFlags.{has, FINAL}
 use Rattle.jk_model_classes.specs.LinkRules.{is_put}
 use Rattle.jk_model_classes.specs.Lookups.{FieldIs}
 

@@ -6,6 +6,8 @@ use Rattle.jk_model.specs.declared.class_file.PoolEntry.TheVariants as Entry
 use Rattle.jk_model.specs.declared.identifiers.ClassId.{ClassId}
 use Rattle.jk_model.specs.declared.instructions.Instr.{Instr}
 use Rattle.jk_model.specs.Descriptors.{IsClassName}
+use Rattle.jk_model.specs.Flags.{has, ABSTRACT, INTERFACE}
+use Rattle.jk_model.specs.declared.opcodes.TheConstants.{NEW}
 use Rattle.jk_model_classes.specs.declared.records.BaseRef.TheVariants as Base
 use Rattle.jk_model_classes.specs.declared.records.Body.{Body}
 use Rattle.jk_model_classes.specs.declared.records.Body.TheVariants as Does
@@ -14,10 +16,8 @@ use Rattle.jk_model_classes.specs.declared.records.Link.{Link}
 use Rattle.jk_model_classes.specs.declared.records.Link.TheVariants as To
 use Rattle.jk_model_classes.specs.declared.records.MethodRecord.{MethodRecord}
 use Rattle.jk_model_classes.specs.Classes.{record_of}
-use Rattle.jk_model_classes.specs.ClassFlags.{has, ABSTRACT, INTERFACE}
 use Rattle.jk_model_classes.specs.Items.{HasItem}
 use Rattle.jk_model_classes.specs.LinkRules.{FindsWrongField, FindsWrongMethod, HasNoConstructor, LinkScope, PutsFinal}
-use Rattle.jk_model_classes.specs.MemberCode.{NEW}
 use Rattle.jk_model_classes.specs.Members.{ClassAt}
 
 -- the body has an instruction that is so

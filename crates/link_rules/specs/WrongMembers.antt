@@ -1,14 +1,14 @@
 -- C20 at an instruction, by what the entry that it names leads to.
 use Rattle.std.specs.Prelude.{◌≡◌, ℕ, ◌⊎◌, not, IsTrue, List}
+use Rattle.jk_model.specs.Flags.{has, ABSTRACT, STATIC}
+use Rattle.jk_model.specs.declared.opcodes.TheConstants.{INVOKESPECIAL, INVOKESTATIC}
 use Rattle.jk_model_classes.specs.declared.records.ClassRecord.{ClassRecord}
 use Rattle.jk_model_classes.specs.declared.records.FieldRecord.{FieldRecord}
 use Rattle.jk_model_classes.specs.declared.records.Link.{Link}
 use Rattle.jk_model_classes.specs.declared.records.Link.TheVariants as To
 use Rattle.jk_model_classes.specs.declared.records.MethodRecord.{MethodRecord}
-use Rattle.jk_model_classes.specs.ClassFlags.{has, ABSTRACT, STATIC}
-use Rattle.jk_model_classes.specs.LinkRules.{INVOKESTATIC, is_instance_access, is_instance_call, is_static_access}
+use Rattle.jk_model_classes.specs.LinkRules.{is_instance_access, is_instance_call, is_static_access}
 use Rattle.jk_model_classes.specs.Lookups.{FieldIs, MethodIs}
-use Rattle.jk_model_classes.specs.MemberCode.{INVOKESPECIAL}
 
 -- a field with these flags is of the wrong sort for the instruction
 abbrev pub IsWrongField : ℕ → ℕ → Type 0

@@ -1,8 +1,8 @@
 //! C21 at an instruction: puts to final fields outside their class.
 
 ghost use Rattle.std.specs.Prelude.{◌≡◌, ◌↔◌, IsTrue};
+ghost use Rattle.jk_model.specs.Flags.{FINAL, has};
 ghost use Rattle.jk_model.specs.declared.class_file.ClassFile.{ClassFile as AClassFile};
-ghost use Rattle.jk_model_classes.specs.ClassFlags.{FINAL, has};
 ghost use Rattle.jk_model_classes.specs.LinkRules.{LinkScope, PutsFinal, is_put};
 ghost use Rattle.jk_model_folders.specs.LinkedClasses.{AreLinksFor};
 ghost use Rattle.link_rules.specs.FinalFields.{LeadsFinal};

@@ -1,11 +1,11 @@
 -- Words for the contracts of private functions.
 use Rattle.std.specs.Prelude.{◌≡◌, ℕ, IsTrue, List, Some, not}
+use Rattle.jk_model.specs.Flags.{has, PUBLIC, STATIC}
 use Rattle.jk_model.specs.declared.identifiers.ClassId.{ClassId}
 use Rattle.jk_model.specs.declared.identifiers.MemberId.{MemberId}
 use Rattle.jk_model_classes.specs.declared.records.ClassRecord.{ClassRecord}
 use Rattle.jk_model_classes.specs.declared.records.MethodRecord.{MethodRecord}
 use Rattle.jk_model_classes.specs.Classes.{record_of}
-use Rattle.jk_model_classes.specs.ClassFlags.{has, PUBLIC, STATIC}
 use Rattle.jk_model_classes.specs.Lookups.{MethodIs, IsPackageOf}
 
 -- there is such a class, and it is public

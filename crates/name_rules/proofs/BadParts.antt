@@ -8,12 +8,12 @@ use Rattle.std.proofs.lemmas.List.{with_items_is}
 use Rattle.std.proofs.lemmas.List.Quantifiers.{position-Some}
 use Rattle.std.proofs.lemmas.Option.{get_or_from_slice_get, same_Some, slice_get_within}
 use Rattle.std.proofs.lemmas.Slice.Eq.{bytes_eq-Decides}
+use Rattle.jk_model.specs.Flags.{has, INTERFACE}
 use Rattle.jk_model.specs.declared.class_file.ClassFile.{ClassFile}
 use Rattle.jk_model.specs.declared.class_file.PoolEntry.{PoolEntry}
 use Rattle.jk_model.specs.declared.class_file.PoolEntry.TheVariants.{Utf8}
 use Rattle.jk_model.specs.declared.identifiers.ClassId.{ClassId}
 use Rattle.jk_model.specs.SystemTable.{SystemClass, interface_without_members, number_named, system_classes}
-use Rattle.jk_model_classes.specs.ClassFlags.{has, INTERFACE}
 use Rattle.jk_model_classes.specs.Items.{HasItem, Spot, Member, Entry}
 use Rattle.jk_model_classes.specs.Members.{ClassAt, TextAt}
 use Rattle.jk_model_classes.specs.References.{FlagsOfNamed, FolderScope, HasBadHierarchy, HasBadInterface, HasBadParent, IsCalledClass, IsClosedNamed}

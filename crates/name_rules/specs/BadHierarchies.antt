@@ -1,9 +1,9 @@
 -- The parts of C19 that are judged of one class file.
 use Rattle.std.specs.Prelude.{◌≡◌, ◌≢◌, ℕ, ◌⊎◌, ◌↔◌, List, Option, Some, IsTrue, not, codes}
+use Rattle.jk_model.specs.Flags.{has, FINAL, INTERFACE}
 use Rattle.jk_model.specs.declared.class_file.ClassFile.{ClassFile}
 use Rattle.jk_model.specs.declared.identifiers.ClassId.{ClassId}
 use Rattle.jk_model_classes.specs.declared.records.ClassRecord.{ClassRecord}
-use Rattle.jk_model_classes.specs.ClassFlags.{has, FINAL, INTERFACE}
 use Rattle.jk_model_classes.specs.Classes.{record_of}
 use Rattle.jk_model_classes.specs.Members.{TextAt}
 use Rattle.jk_model_classes.specs.References.{FlagsOfNamed, FolderScope, HasBadInterface, HasBadParent, IsClosedNamed}

@@ -2,12 +2,12 @@
 
 use crate::cases::{Case, expect_case, expect_result, in_locals, loads};
 use crate::methods::Op;
-use crate::opcodes::{
+use jk_model::Value::{Int, Long};
+use jk_model::opcodes::{
     I2B, I2C, I2L, I2S, IADD, IAND, IDIV, IMUL, INEG, IOR, IREM, IRETURN, ISHL, ISHR, ISUB, IUSHR,
     IXOR, L2I, LADD, LAND, LCMP, LDIV, LMUL, LNEG, LOR, LREM, LRETURN, LSHL, LSHR, LSUB, LUSHR,
     LXOR,
 };
-use jk_model::Value::{Int, Long};
 use jk_model::{After, ClassId, Raise, Value};
 use std::alloc::Global;
 use std::process::Abort;

@@ -1,8 +1,8 @@
 //! Methods with what they are to come to.
 
 use crate::methods::Op;
-use crate::opcodes::{ALOAD, ARETURN, ILOAD, IRETURN, LLOAD, LRETURN};
 use crate::running::run;
+use jk_model::opcodes::{ALOAD, ARETURN, ILOAD, IRETURN, LLOAD, LRETURN};
 use jk_model::{After, List, OutOfMemory, Value};
 use std::alloc::Global;
 use std::process::Abort;

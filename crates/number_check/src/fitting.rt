@@ -11,7 +11,10 @@ ghost use Rattle.number_ops.specs.Operands.{keys_of};
 ghost use Rattle.number_ops.specs.Parts.{is_in};
 ghost use Rattle.number_check.specs.RunFrames.{HEAP};
 
-use crate::opcodes::LDC;
+use jk_model::opcodes::{
+    ACONST_NULL, ALOAD, ARETURN, ASTORE, GOTO, I2B, I2L, IFEQ, IFNONNULL, IFNULL, ISTORE, L2I,
+    LCMP, LCONST_0, LDC_W, LDC2_W, LLOAD, LRETURN, LSTORE, NOP, POP, RETURN, SIPUSH, TABLESWITCH,
+};
 use jk_model::{ClassId, Instr, SwitchCase, Value};
 use jk_model_classes::{BaseRef, Link, TypeRef};
 use jk_model_typing::VType;
@@ -79,20 +82,20 @@ fn is_number_opcode(op: u8) -> bool
     ensures { IsTrue result → IsTrue (is_in number_opcodes op) }
 {
     match op {
-        0x00..=0x01 => true,
-        0x09 => true,
-        0x11 => true,
-        0x14..=0x16 => true,
-        0x19 => true,
-        0x36..=0x37 => true,
-        0x3a => true,
-        0x57..=0x85 => true,
-        0x88 => true,
-        0x91..=0x94 => true,
-        0x99..=0xa7 => true,
-        0xaa..=0xad => true,
-        0xb0..=0xb1 => true,
-        0xc6..=0xc7 => true,
+        NOP..=ACONST_NULL => true,
+        LCONST_0 => true,
+        SIPUSH => true,
+        LDC2_W..=LLOAD => true,
+        ALOAD => true,
+        ISTORE..=LSTORE => true,
+        ASTORE => true,
+        POP..=I2L => true,
+        L2I => true,
+        I2B..=LCMP => true,
+        IFEQ..=GOTO => true,
+        TABLESWITCH..=LRETURN => true,
+        ARETURN..=RETURN => true,
+        IFNULL..=IFNONNULL => true,
         _ => false,
     }
 }
@@ -111,7 +114,7 @@ fn leads_to_int(links: &[Link], i: &Instr) -> bool
 pub(crate) fn is_of_numbers(links: &[Link], i: &Instr) -> bool
     ensures { IsTrue result → (s : CodeScope) → s.links ≡ links.now → IsOfNumbers s i.now }
 {
-    is_number_opcode(i.op) || (i.op == LDC && leads_to_int(links, i))
+    is_number_opcode(i.op) || (i.op == LDC_W && leads_to_int(links, i))
 }
 
 /// Whether each key is above the one before it.

@@ -2,14 +2,14 @@
 
 use crate::cases::{Case, expect_cases, expect_value, in_locals, loads, operand};
 use crate::methods::Op::{self, Do, Increment, With};
-use crate::opcodes::{
-    GOTO, IADD, IF_ICMPEQ, IF_ICMPGE, IF_ICMPGT, IF_ICMPLE, IF_ICMPLT, IF_ICMPNE, IFEQ, IFGE, IFGT,
-    IFLE, IFLT, IFNE, ILOAD, IREM, IRETURN, ISTORE, LCMP, LCONST, LLOAD, LMUL, LRETURN, LSTORE,
-    LSUB, SIPUSH,
-};
 use jk_model::After::Return;
 use jk_model::Value;
 use jk_model::Value::{Int, Long, Unset};
+use jk_model::opcodes::{
+    GOTO, IADD, IF_ICMPEQ, IF_ICMPGE, IF_ICMPGT, IF_ICMPLE, IF_ICMPLT, IF_ICMPNE, IFEQ, IFGE, IFGT,
+    IFLE, IFLT, IFNE, ILOAD, IREM, IRETURN, ISTORE, LCMP, LCONST_0, LLOAD, LMUL, LRETURN, LSTORE,
+    LSUB, SIPUSH,
+};
 use std::alloc::Global;
 use std::process::Abort;
 use std::test::Fail;
@@ -139,10 +139,10 @@ const LOOPS: &[Case] = &[
     // the product of the numbers from the argument down to 1
     Case {
         code: &[
-            With(LCONST, 1),
+            With(LCONST_0, 1),
             With(LSTORE, 2),
             With(LLOAD, 0),
-            With(LCONST, 0),
+            With(LCONST_0, 0),
             Do(LCMP),
             With(IFLE, 15),
             With(LLOAD, 2),
@@ -150,7 +150,7 @@ const LOOPS: &[Case] = &[
             Do(LMUL),
             With(LSTORE, 2),
             With(LLOAD, 0),
-            With(LCONST, 1),
+            With(LCONST_0, 1),
             Do(LSUB),
             With(LSTORE, 0),
             With(GOTO, 2),

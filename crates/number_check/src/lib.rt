@@ -15,7 +15,6 @@ mod local_tests;
 #[cfg(test)]
 mod methods;
 #[cfg(test)]
-mod opcodes;
 #[cfg(test)]
 mod reference_tests;
 #[cfg(test)]

@@ -2,13 +2,13 @@
 
 use crate::cases::{Case, expect_cases};
 use crate::methods::Op::{Do, Increment, With};
-use crate::opcodes::{
-    ACONST_NULL, ALOAD, ARETURN, ASTORE, ILOAD, IRETURN, ISTORE, LCONST, LDC, LDC2, LLOAD, LRETURN,
-    LSTORE, RETURN, SIPUSH,
-};
 use jk_model::After::Return;
 use jk_model::CapId;
 use jk_model::Value::{Cap, Int, Long, Null, Obj, Unset};
+use jk_model::opcodes::{
+    ACONST_NULL, ALOAD, ARETURN, ASTORE, ILOAD, IRETURN, ISTORE, LCONST_0, LDC_W, LDC2_W, LLOAD,
+    LRETURN, LSTORE, RETURN, SIPUSH,
+};
 use std::test::Fail;
 
 /// Methods that push constants. The pool of their class has ints at 1 and 4, and longs at 2 and 5.
@@ -28,7 +28,7 @@ const CONSTANTS: &[Case] = &[
         stack: &[Int(-32_768)],
     },
     Case {
-        code: &[With(LCONST, 1), With(LCONST, 0), Do(LRETURN)],
+        code: &[With(LCONST_0, 1), With(LCONST_0, 0), Do(LRETURN)],
         begins: &[],
         after: Return(Some(Long(0))),
         locals: &[],
@@ -42,14 +42,14 @@ const CONSTANTS: &[Case] = &[
         stack: &[Null],
     },
     Case {
-        code: &[With(LDC, 1), With(LDC, 4), Do(IRETURN)],
+        code: &[With(LDC_W, 1), With(LDC_W, 4), Do(IRETURN)],
         begins: &[],
         after: Return(Some(Int(65_536))),
         locals: &[],
         stack: &[Int(i32::MIN)],
     },
     Case {
-        code: &[With(LDC2, 2), With(LDC2, 5), Do(LRETURN)],
+        code: &[With(LDC2_W, 2), With(LDC2_W, 5), Do(LRETURN)],
         begins: &[],
         after: Return(Some(Long(-5_000_000_000))),
         locals: &[],
@@ -98,7 +98,12 @@ const LOCALS: &[Case] = &[
         stack: &[Long(5)],
     },
     Case {
-        code: &[With(LDC2, 5), With(LSTORE, 0), With(LLOAD, 0), Do(LRETURN)],
+        code: &[
+            With(LDC2_W, 5),
+            With(LSTORE, 0),
+            With(LLOAD, 0),
+            Do(LRETURN),
+        ],
         begins: &[Unset, Unset],
         after: Return(Some(Long(-5_000_000_000))),
         locals: &[Long(-5_000_000_000), Unset],

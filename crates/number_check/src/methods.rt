@@ -3,8 +3,8 @@
 ghost use Rattle.std.specs.Prelude.{◌<◌, length};
 
 use crate::fitting::{CAPABILITY, OBJECT};
-use crate::opcodes::{ARETURN, IINC, IRETURN, LRETURN};
 use domain_resolver::World;
+use jk_model::opcodes::{ARETURN, IINC, IRETURN, LRETURN};
 use jk_model::{
     ClassId, DomainId, Instr, List, MemberId, MethodType, OutOfMemory, SwitchCase, Value,
 };

@@ -3,8 +3,8 @@
 use crate::cases::expect_value;
 use crate::jump_tests::expect_jump;
 use crate::methods::Op::{Do, With};
-use crate::opcodes::{ACONST_NULL, ALOAD, ARETURN, IF_ACMPEQ, IF_ACMPNE, IFNONNULL, IFNULL};
 use jk_model::Value::{Cap, Null, Obj};
+use jk_model::opcodes::{ACONST_NULL, ALOAD, ARETURN, IF_ACMPEQ, IF_ACMPNE, IFNONNULL, IFNULL};
 use jk_model::{CapId, Value};
 use std::test::Fail;
 

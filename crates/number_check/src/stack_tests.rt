@@ -2,8 +2,10 @@
 
 use crate::cases::{Case, expect_case, in_locals, loads};
 use crate::methods::Op;
-use crate::opcodes::{DUP, DUP_X1, DUP_X2, DUP2, DUP2_X1, DUP2_X2, NOP, POP, POP2, RETURN, SWAP};
 use jk_model::Value::{Int, Long, Null, Obj};
+use jk_model::opcodes::{
+    DUP, DUP_X1, DUP_X2, DUP2, DUP2_X1, DUP2_X2, NOP, POP, POP2, RETURN, SWAP,
+};
 use jk_model::{After, Value};
 use std::alloc::Global;
 use std::process::Abort;

@@ -2,8 +2,8 @@
 
 use crate::cases::expect_value;
 use crate::methods::Op::{Do, Switch, With};
-use crate::opcodes::{ILOAD, IRETURN, LOOKUPSWITCH, SIPUSH, TABLESWITCH};
 use jk_model::Value::Int;
+use jk_model::opcodes::{ILOAD, IRETURN, LOOKUPSWITCH, SIPUSH, TABLESWITCH};
 use std::alloc::Global;
 use std::process::Abort;
 use std::test::Fail;

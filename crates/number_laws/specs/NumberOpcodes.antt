@@ -1,5 +1,6 @@
 -- Which instructions on numbers do what.
 use Rattle.std.specs.Prelude.{ℕ, ◌==◌, ◌||◌, Bool, false, List, [], ◌∷◌}
+use Rattle.jk_model.specs.declared.opcodes.TheConstants.{ACONST_NULL, LCONST_0, SIPUSH, LDC_W, LDC2_W, ILOAD, LLOAD, ALOAD, ISTORE, LSTORE, ASTORE, POP, POP2, DUP, DUP_X1, DUP_X2, DUP2, DUP2_X1, DUP2_X2, SWAP, IADD, LADD, ISUB, LSUB, IMUL, LMUL, IDIV, LDIV, IREM, LREM, INEG, LNEG, ISHL, LSHL, ISHR, LSHR, IUSHR, LUSHR, IAND, LAND, IOR, LOR, IXOR, LXOR, I2L, L2I, I2B, I2C, I2S, IFEQ, IFNE, IFLT, IFGE, IFGT, IFLE, IF_ICMPEQ, IF_ICMPNE, IF_ICMPLT, IF_ICMPGE, IF_ICMPGT, IF_ICMPLE, TABLESWITCH, LOOKUPSWITCH, IRETURN, LRETURN, ARETURN}
 
 abbrev pub is_among : List ℕ → ℕ → Bool
 is_among [] op = false
@@ -7,60 +8,60 @@ is_among (k ∷ ks) op = op == k || is_among ks op
 
 -- aconst_null, the constants of int and long, ldc, ldc2_w
 abbrev pub constant_opcodes : List ℕ
-constant_opcodes = 0x01 ∷ 0x09 ∷ 0x11 ∷ 0x13 ∷ 0x14 ∷ []
+constant_opcodes = ACONST_NULL ∷ LCONST_0 ∷ SIPUSH ∷ LDC_W ∷ LDC2_W ∷ []
 
 -- iadd, isub, imul, ishl, ishr, iushr, iand, ior, ixor
 abbrev pub int_opcodes : List ℕ
-int_opcodes = 0x60 ∷ 0x64 ∷ 0x68 ∷ 0x78 ∷ 0x7a ∷ 0x7c ∷ 0x7e ∷ 0x80 ∷ 0x82 ∷ []
+int_opcodes = IADD ∷ ISUB ∷ IMUL ∷ ISHL ∷ ISHR ∷ IUSHR ∷ IAND ∷ IOR ∷ IXOR ∷ []
 
 -- idiv, irem
 abbrev pub int_division_opcodes : List ℕ
-int_division_opcodes = 0x6c ∷ 0x70 ∷ []
+int_division_opcodes = IDIV ∷ IREM ∷ []
 
 -- ladd, lsub, lmul, land, lor, lxor
 abbrev pub long_opcodes : List ℕ
-long_opcodes = 0x61 ∷ 0x65 ∷ 0x69 ∷ 0x7f ∷ 0x81 ∷ 0x83 ∷ []
+long_opcodes = LADD ∷ LSUB ∷ LMUL ∷ LAND ∷ LOR ∷ LXOR ∷ []
 
 -- ldiv, lrem
 abbrev pub long_division_opcodes : List ℕ
-long_division_opcodes = 0x6d ∷ 0x71 ∷ []
+long_division_opcodes = LDIV ∷ LREM ∷ []
 
 -- lshl, lshr, lushr
 abbrev pub long_shift_opcodes : List ℕ
-long_shift_opcodes = 0x79 ∷ 0x7b ∷ 0x7d ∷ []
+long_shift_opcodes = LSHL ∷ LSHR ∷ LUSHR ∷ []
 
 -- ineg, i2l, i2b, i2c, i2s
 abbrev pub int_conversion_opcodes : List ℕ
-int_conversion_opcodes = 0x74 ∷ 0x85 ∷ 0x91 ∷ 0x92 ∷ 0x93 ∷ []
+int_conversion_opcodes = INEG ∷ I2L ∷ I2B ∷ I2C ∷ I2S ∷ []
 
 -- lneg, l2i
 abbrev pub long_conversion_opcodes : List ℕ
-long_conversion_opcodes = 0x75 ∷ 0x88 ∷ []
+long_conversion_opcodes = LNEG ∷ L2I ∷ []
 
 -- pop, pop2, the forms of dup, swap
 abbrev pub moving_opcodes : List ℕ
-moving_opcodes = 0x57 ∷ 0x58 ∷ 0x59 ∷ 0x5a ∷ 0x5b ∷ 0x5c ∷ 0x5d ∷ 0x5e ∷ 0x5f ∷ []
+moving_opcodes = POP ∷ POP2 ∷ DUP ∷ DUP_X1 ∷ DUP_X2 ∷ DUP2 ∷ DUP2_X1 ∷ DUP2_X2 ∷ SWAP ∷ []
 
 -- iload, lload, aload
 abbrev pub load_opcodes : List ℕ
-load_opcodes = 0x15 ∷ 0x16 ∷ 0x19 ∷ []
+load_opcodes = ILOAD ∷ LLOAD ∷ ALOAD ∷ []
 
 -- istore, lstore, astore
 abbrev pub store_opcodes : List ℕ
-store_opcodes = 0x36 ∷ 0x37 ∷ 0x3a ∷ []
+store_opcodes = ISTORE ∷ LSTORE ∷ ASTORE ∷ []
 
 -- ifeq, ifne, iflt, ifge, ifgt, ifle
 abbrev pub zero_jump_opcodes : List ℕ
-zero_jump_opcodes = 0x99 ∷ 0x9a ∷ 0x9b ∷ 0x9c ∷ 0x9d ∷ 0x9e ∷ []
+zero_jump_opcodes = IFEQ ∷ IFNE ∷ IFLT ∷ IFGE ∷ IFGT ∷ IFLE ∷ []
 
 -- the same of two ints
 abbrev pub int_jump_opcodes : List ℕ
-int_jump_opcodes = 0x9f ∷ 0xa0 ∷ 0xa1 ∷ 0xa2 ∷ 0xa3 ∷ 0xa4 ∷ []
+int_jump_opcodes = IF_ICMPEQ ∷ IF_ICMPNE ∷ IF_ICMPLT ∷ IF_ICMPGE ∷ IF_ICMPGT ∷ IF_ICMPLE ∷ []
 
 -- tableswitch, lookupswitch
 abbrev pub switch_opcodes : List ℕ
-switch_opcodes = 0xaa ∷ 0xab ∷ []
+switch_opcodes = TABLESWITCH ∷ LOOKUPSWITCH ∷ []
 
 -- ireturn, lreturn, areturn
 abbrev pub value_return_opcodes : List ℕ
-value_return_opcodes = 0xac ∷ 0xad ∷ 0xb0 ∷ []
+value_return_opcodes = IRETURN ∷ LRETURN ∷ ARETURN ∷ []

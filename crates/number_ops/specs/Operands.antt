@@ -8,6 +8,7 @@ use Rattle.jk_model.specs.declared.values.Value.TheVariants as Held
 use Rattle.jk_model_typing.specs.declared.frames.VType.TheVariants.{Int, Long}
 use Rattle.jk_model.specs.declared.instructions.SwitchCase.{SwitchCase}
 use Rattle.jk_model.specs.declared.identifiers.MemberId.{MemberId}
+use Rattle.jk_model.specs.declared.opcodes.TheConstants.{LDC_W, LDC2_W}
 use Rattle.jk_model_classes.specs.declared.records.ClassRecord.{ClassRecord}
 use Rattle.jk_model_classes.specs.declared.records.Link.TheVariants as To
 use Rattle.jk_model_typing.specs.Scopes.{CodeScope, IsScopeOf, LeadsToLink}
@@ -72,8 +73,8 @@ pub record HasConstant (classes : List ClassRecord) (method : Option MemberId) (
   pub method_is : method ≡ Some member
   pub scope : CodeScope
   pub scope_is : IsScopeOf classes member scope
-  pub int : i.op ≡ 0x13 → (n : ℤ) × LeadsToLink scope i (To.Int n)
-  pub long : i.op ≡ 0x14 → (n : ℤ) × LeadsToLink scope i (To.Long n)
+  pub int : i.op ≡ LDC_W → (n : ℤ) × LeadsToLink scope i (To.Int n)
+  pub long : i.op ≡ LDC2_W → (n : ℤ) × LeadsToLink scope i (To.Long n)
 
 -- the value of a constant of the pool to which the instruction's operand leads
 abbrev pub IsLinked : CodeScope → Instr → Value → Type 0

@@ -1,5 +1,6 @@
 //! Arithmetic, conversions and comparisons that push what they find.
 
+ghost use Rattle.jk_model.specs.declared.opcodes.TheConstants.{LCMP};
 ghost use Rattle.std.specs.Prelude.{◌≡◌, ◌≢◌, ℤ, ℕ, ◌<◌, ◌∷◌, [], IsTrue, MatchBool, pos, List};
 ghost use Rattle.jk_model_typing.specs.Groups.{group_of};
 ghost use Rattle.jk_model.specs.declared.values.Value.TheVariants.{Int, Long};
@@ -12,6 +13,10 @@ ghost use Rattle.number_ops.specs.TopChanges.{OnTop, OnTopWithRoom, Turns};
 use crate::entries::{pop_int, pop_long, push, top_int, top_long};
 use crate::parts::Arithmetic;
 use frame_store::FrameStore;
+use jk_model::opcodes::{
+    I2B, I2C, I2L, I2S, IADD, IAND, IDIV, IMUL, INEG, IOR, IREM, ISHL, ISHR, ISUB, IUSHR, IXOR,
+    L2I, LADD, LAND, LDIV, LMUL, LNEG, LOR, LREM, LSHL, LSHR, LSUB, LUSHR, LXOR,
+};
 use jk_model::{Instr, SegmentNo, Value};
 
 /// How far an int is shifted.
@@ -36,15 +41,15 @@ fn int_operation(op: u8, x: i32, y: i32) -> i32
     ensures { (f : ℤ → ℤ → ℤ) × HasRow int_operations op f × (result ≡ f x y) }
 {
     match op {
-        0x60 => x.wrapping_add(y),
-        0x64 => x.wrapping_sub(y),
-        0x68 => x.wrapping_mul(y),
-        0x78 => x << distance(y),
-        0x7a => x.wrapping_shr(distance(y)),
-        0x7c => (x.cast_unsigned() >> distance(y)).cast_signed(),
-        0x7e => x & y,
-        0x80 => x | y,
-        0x82 => x ^ y,
+        IADD => x.wrapping_add(y),
+        ISUB => x.wrapping_sub(y),
+        IMUL => x.wrapping_mul(y),
+        ISHL => x << distance(y),
+        ISHR => x.wrapping_shr(distance(y)),
+        IUSHR => (x.cast_unsigned() >> distance(y)).cast_signed(),
+        IAND => x & y,
+        IOR => x | y,
+        IXOR => x ^ y,
         _ => unreachable!(),
     }
 }
@@ -55,12 +60,12 @@ fn long_operation(op: u8, x: i64, y: i64) -> i64
     ensures { (f : ℤ → ℤ → ℤ) × HasRow long_operations op f × (result ≡ f x y) }
 {
     match op {
-        0x61 => x.wrapping_add(y),
-        0x65 => x.wrapping_sub(y),
-        0x69 => x.wrapping_mul(y),
-        0x7f => x & y,
-        0x81 => x | y,
-        0x83 => x ^ y,
+        LADD => x.wrapping_add(y),
+        LSUB => x.wrapping_sub(y),
+        LMUL => x.wrapping_mul(y),
+        LAND => x & y,
+        LOR => x | y,
+        LXOR => x ^ y,
         _ => unreachable!(),
     }
 }
@@ -71,9 +76,9 @@ fn long_shift(op: u8, x: i64, n: i32) -> i64
     ensures { (f : ℤ → ℤ → ℤ) × HasRow long_shifts op f × (result ≡ f x n) }
 {
     match op {
-        0x79 => x << long_distance(n),
-        0x7b => x.wrapping_shr(long_distance(n)),
-        0x7d => (x.cast_unsigned() >> long_distance(n)).cast_signed(),
+        LSHL => x << long_distance(n),
+        LSHR => x.wrapping_shr(long_distance(n)),
+        LUSHR => (x.cast_unsigned() >> long_distance(n)).cast_signed(),
         _ => unreachable!(),
     }
 }
@@ -85,8 +90,8 @@ fn int_division(op: u8, x: i32, y: i32) -> i32
     ensures { (f : ℤ → ℤ → ℤ) × HasRow int_divisions op f × (result ≡ f x y) }
 {
     match op {
-        0x6c => x.wrapping_div(y),
-        0x70 => x.wrapping_rem(y),
+        IDIV => x.wrapping_div(y),
+        IREM => x.wrapping_rem(y),
         _ => unreachable!(),
     }
 }
@@ -98,8 +103,8 @@ fn long_division(op: u8, x: i64, y: i64) -> i64
     ensures { (f : ℤ → ℤ → ℤ) × HasRow long_divisions op f × (result ≡ f x y) }
 {
     match op {
-        0x6d => x.wrapping_div(y),
-        0x71 => x.wrapping_rem(y),
+        LDIV => x.wrapping_div(y),
+        LREM => x.wrapping_rem(y),
         _ => unreachable!(),
     }
 }
@@ -123,11 +128,11 @@ fn converted_int(op: u8, x: i32) -> Value
     ensures { IsConversion op (Int x) result }
 {
     match op {
-        0x74 => Value::Int(x.wrapping_neg()),
-        0x85 => Value::Long(i64::from(x)),
-        0x91 => Value::Int(i32::from((x.rem_euclid(256) as u8).cast_signed())),
-        0x92 => Value::Int(x.rem_euclid(65536)),
-        0x93 => Value::Int(i32::from((x.rem_euclid(65536) as u16).cast_signed())),
+        INEG => Value::Int(x.wrapping_neg()),
+        I2L => Value::Long(i64::from(x)),
+        I2B => Value::Int(i32::from((x.rem_euclid(256) as u8).cast_signed())),
+        I2C => Value::Int(x.rem_euclid(65536)),
+        I2S => Value::Int(i32::from((x.rem_euclid(65536) as u16).cast_signed())),
         _ => unreachable!(),
     }
 }
@@ -138,8 +143,8 @@ fn converted_long(op: u8, x: i64) -> Value
     ensures { IsConversion op (Long x) result }
 {
     match op {
-        0x75 => Value::Long(x.wrapping_neg()),
-        0x88 => Value::Int((x.rem_euclid(0x1_0000_0000) as u32).cast_signed()),
+        LNEG => Value::Long(x.wrapping_neg()),
+        L2I => Value::Int((x.rem_euclid(0x1_0000_0000) as u32).cast_signed()),
         _ => unreachable!(),
     }
 }
@@ -180,7 +185,7 @@ fn shift_long<F: FrameStore>(frames: &mut F, s: SegmentNo, op: u8)
 /// Takes two longs, and pushes how they compare.
 fn compare_longs<F: FrameStore>(frames: &mut F, s: SegmentNo)
     requires { (x : ℤ) × (y : ℤ) × OnTopWithRoom (F.content frames.old) s (Long x ∷ Long y ∷ []) 1 }
-    ensures { Calculated (F.content frames.old) (F.content frames.new) s 0x94 }
+    ensures { Calculated (F.content frames.old) (F.content frames.new) s LCMP }
 {
     let y = pop_long(frames, s);
     let x = pop_long(frames, s);

@@ -10,6 +10,7 @@ ghost use Rattle.type_rows.specs.CodeViews.{scope_of};
 ghost use Rattle.type_rows.specs.Operands.{HasNoLink, IsLink};
 
 use domain_resolver::World;
+use jk_model::opcodes::{ACONST_NULL, LCONST_0, LDC_W, LDC2_W, SIPUSH};
 use jk_model::{Instr, MemberId, Value};
 use jk_model_classes::Link;
 use type_rows::CodeView;
@@ -70,11 +71,11 @@ pub(crate) fn constant(w: &World, method: Option<MemberId>, i: &Instr) -> Value
     ensures { (m : AMember) (scope : CodeScope) → method ≡ Some m → IsScopeOf w.now.classes m scope → Pushes scope i.now (result ∷ []) }
 {
     match i.op {
-        0x01 => Value::Null,
-        0x09 => Value::Long(i64::from(i.a)),
-        0x11 => Value::Int(i.a),
-        0x13 => linked(w, method, i),
-        0x14 => linked(w, method, i),
+        ACONST_NULL => Value::Null,
+        LCONST_0 => Value::Long(i64::from(i.a)),
+        SIPUSH => Value::Int(i.a),
+        LDC_W => linked(w, method, i),
+        LDC2_W => linked(w, method, i),
         _ => unreachable!(),
     }
 }

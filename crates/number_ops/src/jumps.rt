@@ -5,6 +5,7 @@ ghost use Rattle.jk_model.specs.declared.values.Value.{Value as AValue};
 ghost use Rattle.jk_model.specs.declared.values.Value.TheVariants.{Int};
 ghost use Rattle.jk_model_domains.specs.NumberRows.{HasRow, comparisons, is_same_reference};
 ghost use Rattle.frame_store.specs.FrameContents.{HasTop};
+ghost use Rattle.jk_model.specs.declared.opcodes.TheConstants.{IFEQ, IF_ICMPEQ, IF_ACMPEQ};
 ghost use Rattle.jk_model_typing.specs.Groups.{group_of};
 ghost use Rattle.number_ops.specs.Operands.{Decided, Finds};
 ghost use Rattle.number_laws.specs.NumberOpcodes.{is_among};
@@ -14,6 +15,7 @@ ghost use Rattle.number_ops.specs.TopChanges.{OnTop, Turns};
 use crate::entries::{pop, pop_int};
 use crate::parts::Jump;
 use frame_store::FrameStore;
+use jk_model::opcodes::{IF_ICMPEQ, IFEQ};
 use jk_model::{Instr, SegmentNo, Value};
 
 /// A target, as a place.
@@ -53,25 +55,25 @@ fn is_same_reference(v: Value, w: Value) -> bool
 
 /// Takes an int, and compares it with 0.
 fn compare_with_zero<F: FrameStore>(frames: &mut F, s: SegmentNo, op: u8) -> bool
-    requires first { 0x99 ≤ op }
-    requires last { op < 0x9f }
+    requires first { IFEQ ≤ op }
+    requires last { op < IF_ICMPEQ }
     requires finds { (x : ℤ) × OnTop (F.content frames.old) s (Int x ∷ []) }
     ensures { Decided (F.content frames.old) (F.content frames.new) s op result }
 {
     let x = pop_int(frames, s);
-    compares(op - 0x99, x, 0)
+    compares(op - IFEQ, x, 0)
 }
 
 /// Takes two ints, and compares them.
 fn compare_ints<F: FrameStore>(frames: &mut F, s: SegmentNo, op: u8) -> bool
-    requires first { 0x9f ≤ op }
-    requires last { op < 0xa5 }
+    requires first { IF_ICMPEQ ≤ op }
+    requires last { op < IF_ACMPEQ }
     requires finds { (x : ℤ) × (y : ℤ) × OnTop (F.content frames.old) s (Int x ∷ Int y ∷ []) }
     ensures { Decided (F.content frames.old) (F.content frames.new) s op result }
 {
     let y = pop_int(frames, s);
     let x = pop_int(frames, s);
-    compares(op - 0x9f, x, y)
+    compares(op - IF_ICMPEQ, x, y)
 }
 
 /// Takes two references, and says whether they are the same.

@@ -1,5 +1,6 @@
 //! Loads and stores of locals, and iinc.
 
+ghost use Rattle.jk_model.specs.declared.opcodes.TheConstants.{IINC};
 ghost use Rattle.std.specs.Prelude.{◌≡◌, ℕ, ℤ, ◌+◌, ◌<◌, ◌≤◌, ◌∷◌, [], IsTrue, length, pos};
 ghost use Rattle.jk_model.specs.declared.values.Value.{Value as AValue};
 ghost use Rattle.jk_model.specs.declared.values.Value.TheVariants.{Int};
@@ -48,7 +49,7 @@ pub(crate) fn store<F: FrameStore>(frames: &mut F, s: SegmentNo, max_locals: u16
 
 /// Adds a constant to a local.
 pub(crate) fn increment<F: FrameStore>(frames: &mut F, s: SegmentNo, max_locals: u16, i: &Instr)
-    requires op { i.now.op ≡ 0x84 }
+    requires op { i.now.op ≡ IINC }
     requires most { HasAtMostLocals (F.content frames.old) s max_locals }
     requires finds { (n : ℕ) × (x : ℤ) × (i.now.a ≡ pos n) × HasInLocal (F.content frames.old) s n (Int x) }
     ensures { Uses (F.content frames.old) (F.content frames.new) s i.now }

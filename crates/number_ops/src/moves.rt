@@ -1,5 +1,6 @@
 //! What moves entries of the operand stack: pop, pop2, swap and the forms of dup.
 
+ghost use Rattle.jk_model.specs.declared.opcodes.TheConstants.{SWAP};
 ghost use Rattle.std.specs.Prelude.{◌≡◌, ◌≤◌, ◌∷◌, ◌++◌, [], IsTrue, length};
 ghost use Rattle.std.specs.Prelude.{List as AList};
 ghost use Rattle.jk_model.specs.declared.values.Value.{Value as AValue};
@@ -12,6 +13,7 @@ ghost use Rattle.number_ops.specs.TopChanges.{OnTop, OnTopWithRoom, Turns};
 
 use crate::entries::{pop, push};
 use frame_store::FrameStore;
+use jk_model::opcodes::{DUP, DUP_X1, DUP_X2, DUP2, DUP2_X1, DUP2_X2, POP, POP2, SWAP};
 use jk_model::{Instr, SegmentNo, Value};
 
 /// Entries that were taken off the stack together: at most two slots. The last one was on top.
@@ -82,7 +84,7 @@ fn copy<F: FrameStore>(frames: &mut F, s: SegmentNo, below: u8, top: u8)
 /// Exchanges the two topmost entries.
 fn swap<F: FrameStore>(frames: &mut F, s: SegmentNo)
     requires { (v : AValue) × (w : AValue) × (value_slots v ≡ 1) × (value_slots w ≡ 1) × OnTopWithRoom (F.content frames.old) s (v ∷ w ∷ []) 2 }
-    ensures { Moved (F.content frames.old) (F.content frames.new) s 0x5f }
+    ensures { Moved (F.content frames.old) (F.content frames.new) s SWAP }
 {
     let w = pop(frames, s);
     let v = pop(frames, s);
@@ -97,19 +99,19 @@ pub(crate) fn move_entries<F: FrameStore>(frames: &mut F, s: SegmentNo, i: &Inst
     ensures { Moved (F.content frames.old) (F.content frames.new) s i.now.op }
 {
     match i.op {
-        0x57 => {
+        POP => {
             take_slots(frames, s, 1);
         }
-        0x58 => {
+        POP2 => {
             take_slots(frames, s, 2);
         }
-        0x59 => copy(frames, s, 0, 1),
-        0x5a => copy(frames, s, 1, 1),
-        0x5b => copy(frames, s, 2, 1),
-        0x5c => copy(frames, s, 0, 2),
-        0x5d => copy(frames, s, 1, 2),
-        0x5e => copy(frames, s, 2, 2),
-        0x5f => swap(frames, s),
+        DUP => copy(frames, s, 0, 1),
+        DUP_X1 => copy(frames, s, 1, 1),
+        DUP_X2 => copy(frames, s, 2, 1),
+        DUP2 => copy(frames, s, 0, 2),
+        DUP2_X1 => copy(frames, s, 1, 2),
+        DUP2_X2 => copy(frames, s, 2, 2),
+        SWAP => swap(frames, s),
         _ => unreachable!(),
     }
 }

@@ -3,6 +3,14 @@
 ghost use Rattle.std.specs.Prelude.{◌≡◌, IsTrue};
 ghost use Rattle.number_ops.specs.Parts.{is_part, jump_part, local_part, number_part, part_at};
 
+use jk_model::opcodes::{
+    ACONST_NULL, ALOAD, ARETURN, ASTORE, GOTO, I2B, I2C, I2L, I2S, IADD, IAND, IDIV, IF_ACMPEQ,
+    IF_ACMPNE, IF_ICMPEQ, IF_ICMPLE, IFEQ, IFLE, IFNONNULL, IFNULL, IINC, ILOAD, IMUL, INEG, IOR,
+    IREM, IRETURN, ISHL, ISHR, ISTORE, ISUB, IUSHR, IXOR, L2I, LADD, LAND, LCMP, LCONST_0, LDC_W,
+    LDC2_W, LDIV, LLOAD, LMUL, LNEG, LOOKUPSWITCH, LOR, LREM, LRETURN, LSHL, LSHR, LSTORE, LSUB,
+    LUSHR, LXOR, NOP, POP, RETURN, SIPUSH, SWAP, TABLESWITCH,
+};
+
 /// Instructions of arithmetic.
 #[derive(Clone, Copy)]
 pub(crate) enum Arithmetic {
@@ -59,10 +67,10 @@ fn part_at(op: u8) -> Part
     ensures { result ≡ part_at op }
 {
     match op {
-        0x00..=0x3a => local_part(op),
-        0x57..=0x5f => Part::Move,
-        0x60..=0x94 => number_part(op),
-        0x99..=0xc7 => jump_part(op),
+        NOP..=ASTORE => local_part(op),
+        POP..=SWAP => Part::Move,
+        IADD..=LCMP => number_part(op),
+        IFEQ..=IFNONNULL => jump_part(op),
         _ => Part::Other,
     }
 }
@@ -73,10 +81,10 @@ fn local_part(op: u8) -> Part
     ensures { result ≡ local_part op }
 {
     match op {
-        0x00 => Part::Nothing,
-        0x01 | 0x09 | 0x11 | 0x13 | 0x14 => Part::Constant,
-        0x15 | 0x16 | 0x19 => Part::Load,
-        0x36 | 0x37 | 0x3a => Part::Store,
+        NOP => Part::Nothing,
+        ACONST_NULL | LCONST_0 | SIPUSH | LDC_W | LDC2_W => Part::Constant,
+        ILOAD | LLOAD | ALOAD => Part::Load,
+        ISTORE | LSTORE | ASTORE => Part::Store,
         _ => Part::Other,
     }
 }
@@ -87,17 +95,17 @@ fn number_part(op: u8) -> Part
     ensures { result ≡ number_part op }
 {
     match op {
-        0x60 | 0x64 | 0x68 | 0x78 | 0x7a | 0x7c | 0x7e | 0x80 | 0x82 => {
+        IADD | ISUB | IMUL | ISHL | ISHR | IUSHR | IAND | IOR | IXOR => {
             Part::Calculate(Arithmetic::Ints)
         }
-        0x6c | 0x70 => Part::Calculate(Arithmetic::IntDivision),
-        0x61 | 0x65 | 0x69 | 0x7f | 0x81 | 0x83 => Part::Calculate(Arithmetic::Longs),
-        0x6d | 0x71 => Part::Calculate(Arithmetic::LongDivision),
-        0x79 | 0x7b | 0x7d => Part::Calculate(Arithmetic::LongShift),
-        0x74 | 0x85 | 0x91 | 0x92 | 0x93 => Part::Calculate(Arithmetic::IntConversion),
-        0x75 | 0x88 => Part::Calculate(Arithmetic::LongConversion),
-        0x94 => Part::Calculate(Arithmetic::LongComparison),
-        0x84 => Part::Increment,
+        IDIV | IREM => Part::Calculate(Arithmetic::IntDivision),
+        LADD | LSUB | LMUL | LAND | LOR | LXOR => Part::Calculate(Arithmetic::Longs),
+        LDIV | LREM => Part::Calculate(Arithmetic::LongDivision),
+        LSHL | LSHR | LUSHR => Part::Calculate(Arithmetic::LongShift),
+        INEG | I2L | I2B | I2C | I2S => Part::Calculate(Arithmetic::IntConversion),
+        LNEG | L2I => Part::Calculate(Arithmetic::LongConversion),
+        LCMP => Part::Calculate(Arithmetic::LongComparison),
+        IINC => Part::Increment,
         _ => Part::Other,
     }
 }
@@ -108,16 +116,16 @@ fn jump_part(op: u8) -> Part
     ensures { result ≡ jump_part op }
 {
     match op {
-        0x99..=0x9e => Part::Decide(Jump::Zero),
-        0x9f..=0xa4 => Part::Decide(Jump::Ints),
-        0xa5 => Part::Decide(Jump::Same),
-        0xa6 => Part::Decide(Jump::Different),
-        0xa7 => Part::Decide(Jump::Always),
-        0xaa | 0xab => Part::Switch,
-        0xac | 0xad | 0xb0 => Part::ReturnValue,
-        0xb1 => Part::ReturnNothing,
-        0xc6 => Part::Decide(Jump::Null),
-        0xc7 => Part::Decide(Jump::NotNull),
+        IFEQ..=IFLE => Part::Decide(Jump::Zero),
+        IF_ICMPEQ..=IF_ICMPLE => Part::Decide(Jump::Ints),
+        IF_ACMPEQ => Part::Decide(Jump::Same),
+        IF_ACMPNE => Part::Decide(Jump::Different),
+        GOTO => Part::Decide(Jump::Always),
+        TABLESWITCH | LOOKUPSWITCH => Part::Switch,
+        IRETURN | LRETURN | ARETURN => Part::ReturnValue,
+        RETURN => Part::ReturnNothing,
+        IFNULL => Part::Decide(Jump::Null),
+        IFNONNULL => Part::Decide(Jump::NotNull),
         _ => Part::Other,
     }
 }

@@ -8,7 +8,8 @@ use Rattle.jk_model.specs.declared.class_file.ClassFile.{ClassFile}
 use Rattle.jk_model.specs.declared.class_file.MemberInfo.{MemberInfo}
 use Rattle.jk_model.specs.declared.class_file.PoolEntry.{PoolEntry}
 use Rattle.jk_model.specs.ClassFile.{u2, IsU2, AreInterfaces, interfaces_bytes}
-use Rattle.jk_model_classes.specs.ClassFlags.{MethodFlags, has, ABSTRACT, NATIVE, STATIC}
+use Rattle.jk_model.specs.Flags.{has, ABSTRACT, NATIVE, STATIC}
+use Rattle.jk_model_classes.specs.ClassFlags.{MethodFlags}
 use Rattle.jk_model_classes.specs.Items.{HasTwoItems, Member, Spot}
 use Rattle.jk_model_classes.specs.MemberAttributes.{HasBadAttribute, IsCodeAttribute, IsConstantValue, IsExceptions}
 use Rattle.jk_model_classes.specs.MemberCode.{IsNative}

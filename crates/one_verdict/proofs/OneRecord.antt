@@ -17,6 +17,7 @@ use Rattle.jk_model.specs.declared.identifiers.DomainId.{DomainId}
 use Rattle.jk_model.specs.declared.instructions.Instr.{Instr}
 use Rattle.jk_model.specs.declared.instructions.SwitchCase.{SwitchCase}
 use Rattle.jk_model.specs.ClassFile.{CodeLayout}
+use Rattle.jk_model.specs.Flags.{has, ABSTRACT}
 use Rattle.jk_model.specs.Instructions.{Decodes}
 use Rattle.jk_model_classes.specs.declared.records.Body.{Body}
 use Rattle.jk_model_classes.specs.declared.records.Caught.{Caught}
@@ -26,7 +27,7 @@ use Rattle.jk_model_classes.specs.declared.records.Link.{Link}
 use Rattle.jk_model_classes.specs.declared.records.LinkedCode.{LinkedCode}
 use Rattle.jk_model_classes.specs.declared.records.MethodRecord.{MethodRecord}
 use Rattle.jk_model_classes.specs.declared.records.TypeRef.{TypeRef}
-use Rattle.jk_model_classes.specs.ClassFlags.{MethodFlags, has, ABSTRACT}
+use Rattle.jk_model_classes.specs.ClassFlags.{MethodFlags}
 use Rattle.jk_model_classes.specs.LinkRules.{LinkScope}
 use Rattle.jk_model_classes.specs.MemberCode.{is_jump, is_switch}
 use Rattle.jk_model_classes.specs.SystemRecords.{AreTypesFor, IsResultFor, IsTypeFor}

@@ -2,6 +2,7 @@
 use Rattle.std.proofs.Common.{◌≡◌, ℕ, zero, suc, ◌+◌, ◌-◌, ◌≤◌, ◌&&◌, inl, inr, Bool, true, false, IsTrue, List, [], ◌∷◌, replicate, find, Contains, Option, Some, None, option_map, slice_get, bytes_eq, codes, refl, sym, ap, subst, ◌∙◌}
 use Rattle.std.specs.List.{AllByRecursion}
 use Rattle.std.proofs.lemmas.Option.{none-some, same_Some}
+use Rattle.jk_model.specs.Flags.{PUBLIC, STATIC, has}
 use Rattle.jk_model.specs.declared.descriptors.MethodType.{MethodType}
 use Rattle.jk_model.specs.declared.frames.FrameHead.{FrameHead}
 use Rattle.jk_model.specs.declared.identifiers.ClassId.{ClassId}
@@ -10,7 +11,6 @@ use Rattle.jk_model.specs.declared.output.Line.{Line}
 use Rattle.jk_model.specs.declared.values.Value.TheVariants as Held
 use Rattle.jk_model_classes.specs.declared.records.LinkedCode.{LinkedCode}
 use Rattle.jk_model_classes.specs.declared.records.MethodRecord.{MethodRecord}
-use Rattle.jk_model_classes.specs.ClassFlags.{PUBLIC, STATIC, has}
 use Rattle.jk_model_classes.specs.Classes.{method_walk}
 use Rattle.jk_model_classes.specs.Lookups.{IsFirstOn, IsMethodOf}
 use Rattle.jk_model_classes.specs.SystemRecords.{AreTypesFor}

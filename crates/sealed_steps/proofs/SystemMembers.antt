@@ -12,13 +12,13 @@ use Rattle.jk_model.specs.declared.descriptors.Base.TheVariants as Said
 use Rattle.jk_model.specs.declared.descriptors.FieldType.{FieldType}
 use Rattle.jk_model.specs.declared.identifiers.ClassId.{ClassId}
 use Rattle.jk_model.specs.Descriptors.{IsFieldText, base_text, field_text, result_text}
+use Rattle.jk_model.specs.Flags.{has, INTERFACE, STATIC}
 use Rattle.jk_model.specs.SystemTable.{SystemClass, SystemField, SystemMethod, system_classes}
 use Rattle.jk_model_classes.specs.declared.records.BaseRef.TheVariants as Base
 use Rattle.jk_model_classes.specs.declared.records.ClassRecord.{ClassRecord}
 use Rattle.jk_model_classes.specs.declared.records.FieldRecord.{FieldRecord}
 use Rattle.jk_model_classes.specs.declared.records.MethodRecord.{MethodRecord}
 use Rattle.jk_model_classes.specs.declared.records.TypeRef.{TypeRef}
-use Rattle.jk_model_classes.specs.ClassFlags.{has, INTERFACE, STATIC}
 use Rattle.jk_model_classes.specs.Classes.{is_interface_record, record_of}
 use Rattle.jk_model_classes.specs.SystemRecords.{AreSystemRecords, IsBaseFor, IsResultFor, IsSystemField, IsSystemRecord, IsTypeFor, system_meaning}
 use Rattle.jk_model_typing.specs.FrameTypes.{erased_class}

@@ -2,10 +2,10 @@
 use Rattle.std.proofs.Common.{◌≡◌, ℕ, ◌+◌, ◌≤◌, inl, inr, false, true, List, [], length, Option, Some, None, refl, sym, ◌∙◌, ap, subst, slice_get, arith}
 use Rattle.std.specs.Option.{option_map_or}
 use Rattle.std.proofs.lemmas.Option.{same_Some, slice_get_within}
+use Rattle.jk_model.specs.Flags.{has, INTERFACE}
 use Rattle.jk_model.specs.declared.identifiers.ClassId.{ClassId}
 use Rattle.jk_model_classes.specs.declared.records.ClassRecord.{ClassRecord}
 use Rattle.jk_model_classes.specs.Classes.{record_of, listed_interfaces}
-use Rattle.jk_model_classes.specs.ClassFlags.{has, INTERFACE}
 use Rattle.jk_model_classes.specs.Items.{HasItem}
 use Rattle.jk_model_classes.specs.SharedRules.{BreaksC27, IsOfFolder, methods_before}
 use Rattle.jk_model_classes.specs.Stubs.{ImplementsRemote}

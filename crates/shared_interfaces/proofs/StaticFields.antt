@@ -2,12 +2,12 @@
 use Rattle.std.proofs.Common.{◌≡◌, ℕ, ◌+◌, ◌<◌, ◌≤◌, inl, inr, false, true, List, length, Some, None, refl, sym, ◌∙◌, ap, subst, slice_get, Contains, Option, arith}
 use Rattle.std.proofs.lemmas.Bool.{cases_lt}
 use Rattle.std.proofs.lemmas.Option.{same_Some, slice_get_within}
+use Rattle.jk_model.specs.Flags.{has, STATIC}
 use Rattle.jk_model.specs.declared.identifiers.ClassId.{ClassId}
 use Rattle.jk_model_classes.specs.declared.records.ClassRecord.{ClassRecord}
 use Rattle.jk_model_classes.specs.declared.records.FieldRecord.{FieldRecord}
 use Rattle.jk_model_classes.specs.declared.sharing.Offer.{Offer}
 use Rattle.jk_model_classes.specs.Classes.{record_of}
-use Rattle.jk_model_classes.specs.ClassFlags.{has, STATIC}
 use Rattle.jk_model_classes.specs.SharedRules.{BreaksC25}
 use Rattle.shared_interfaces.specs.Earliest.{IsLeast}
 use Rattle.shared_interfaces.specs.Shapes.{IsStaticAt}

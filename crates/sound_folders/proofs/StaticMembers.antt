@@ -3,6 +3,7 @@ use Rattle.std.proofs.Common.{◌≡◌, ℕ, pos, ◌+◌, ◌⊎◌, inl, inr,
 use Rattle.std.specs.Prelude.{◌&&◌, ◌||◌, not}
 use Rattle.std.proofs.lemmas.Bool.{cases_Bool}
 use Rattle.std.proofs.lemmas.Option.{slice_get_within}
+use Rattle.jk_model.specs.Flags.{ABSTRACT, NATIVE, STATIC, has}
 use Rattle.jk_model.specs.declared.class_file.MemberInfo.{MemberInfo}
 use Rattle.jk_model.specs.declared.identifiers.ClassId.{ClassId}
 use Rattle.jk_model.specs.declared.identifiers.MemberId.{MemberId}
@@ -16,7 +17,7 @@ use Rattle.jk_model_classes.specs.declared.records.LinkedCode.{LinkedCode}
 use Rattle.jk_model_classes.specs.declared.records.MethodRecord.{MethodRecord}
 use Rattle.jk_model_classes.specs.declared.sharing.Offer.{Offer}
 use Rattle.jk_model_classes.specs.declared.sharing.Stub.{Stub}
-use Rattle.jk_model_classes.specs.ClassFlags.{ABSTRACT, MethodFlags, NATIVE, STATIC, has}
+use Rattle.jk_model_classes.specs.ClassFlags.{MethodFlags}
 use Rattle.jk_model_classes.specs.Items.{Member}
 use Rattle.jk_model_classes.specs.LinkRules.{FindsWrongField, FindsWrongMethod, LinkScope, is_static_access}
 use Rattle.jk_model_classes.specs.Lookups.{FieldIs, MethodIs}

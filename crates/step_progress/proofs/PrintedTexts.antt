@@ -14,12 +14,12 @@ use Rattle.jk_model.specs.declared.identifiers.ClassId.{ClassId}
 use Rattle.jk_model.specs.declared.values.Value.{Value}
 use Rattle.jk_model.specs.declared.values.Value.TheVariants as Held
 use Rattle.jk_model.specs.Descriptors.{IsClassName, IsMethodText, IsNameUnit}
+use Rattle.jk_model.specs.Flags.{has, INTERFACE}
 use Rattle.jk_model.specs.SystemTable.{SystemClass, SystemMethod, system_classes}
 use Rattle.jk_model_classes.specs.declared.records.BaseRef.TheVariants as Base
 use Rattle.jk_model_classes.specs.declared.records.ClassRecord.{ClassRecord}
 use Rattle.jk_model_classes.specs.declared.records.MethodRecord.{MethodRecord}
 use Rattle.jk_model_classes.specs.declared.records.TypeRef.{TypeRef}
-use Rattle.jk_model_classes.specs.ClassFlags.{has, INTERFACE}
 use Rattle.jk_model_classes.specs.Classes.{AreOrdered, IsSubclass, OBJECT, is_interface_record, parents_of, record_of}
 use Rattle.jk_model_classes.specs.SystemRecords.{AreSystemRecords, AreTypesFor, IsBaseFor, system_meaning}
 use Rattle.jk_model_classes.specs.Worlds.{NamedClass}

@@ -3,6 +3,7 @@ use Rattle.std.specs.Prelude.{◌≡◌, ◌≢◌, ℕ, ◌≤◌, ◌⊎◌, L
 use Rattle.jk_model.specs.declared.identifiers.ClassId.{ClassId}
 use Rattle.jk_model.specs.declared.identifiers.MemberId.{MemberId}
 use Rattle.jk_model.specs.declared.instructions.Instr.{Instr}
+use Rattle.jk_model.specs.declared.opcodes.TheConstants.{LDC_W, GETSTATIC, INVOKEVIRTUAL, INVOKESTATIC}
 use Rattle.jk_model_classes.specs.declared.records.Body.TheVariants.{Linked}
 use Rattle.jk_model_classes.specs.declared.records.ClassRecord.{ClassRecord}
 use Rattle.jk_model_classes.specs.declared.records.FieldRecord.{FieldRecord}
@@ -26,21 +27,21 @@ use Rattle.jk_model_machine.specs.Machine.{DomainState, Inside, Machine, Segment
 
 -- ldc of a text
 abbrev pub LoadsLiteral : CodeScope → Instr → Type 0
-LoadsLiteral s i = (i.op ≡ 0x13) × ((text : List ℕ) × LeadsToLink s i (To.Text text))
+LoadsLiteral s i = (i.op ≡ LDC_W) × ((text : List ℕ) × LeadsToLink s i (To.Text text))
 
 -- getstatic of System.out
 abbrev pub ReadsSystemOut : CodeScope → Instr → Type 0
-ReadsSystemOut s i = (i.op ≡ 0xb2) × ((m : MemberId) × (field : FieldRecord) × NamesField s i m field × IsSystemOut s m)
+ReadsSystemOut s i = (i.op ≡ GETSTATIC) × ((m : MemberId) × (field : FieldRecord) × NamesField s i m field × IsSystemOut s m)
 
 -- invokevirtual of a `println` of java/io/PrintStream
 abbrev pub CallsPrintln : CodeScope → Instr → Type 0
 CallsPrintln s i =
-    (i.op ≡ 0xb6) × ((m : MemberId) × (method : MethodRecord) × NamesMethod s i m method × (m.class ≡ PRINT_STREAM) × (method.name ≡ codes "println"))
+    (i.op ≡ INVOKEVIRTUAL) × ((m : MemberId) × (method : MethodRecord) × NamesMethod s i m method × (m.class ≡ PRINT_STREAM) × (method.name ≡ codes "println"))
 
 -- invokestatic of a method with code, which is no constructor
 abbrev pub CallsCode : CodeScope → Instr → Type 0
 CallsCode s i =
-    (i.op ≡ 0xb8) × ((m : MemberId) × (method : MethodRecord) × (code : LinkedCode) × NamesMethod s i m method × (method.body ≡ Linked code)
+    (i.op ≡ INVOKESTATIC) × ((m : MemberId) × (method : MethodRecord) × (code : LinkedCode) × NamesMethod s i m method × (method.body ≡ Linked code)
     × (method.name ≢ INIT))
 
 abbrev pub IsBuiltInstr : CodeScope → Instr → Type 0

@@ -4,12 +4,12 @@ use Rattle.std.specs.Prelude.{codes, option_map, option_and_then}
 use Rattle.std.specs.List.{enumerate_from}
 use Rattle.std.specs.Option.{option_map_or}
 use Rattle.std.proofs.lemmas.Option.{same_Some}
+use Rattle.jk_model.specs.Flags.{has, STATIC}
 use Rattle.jk_model.specs.declared.identifiers.ClassId.{ClassId}
 use Rattle.jk_model.specs.SystemTable.{SystemClass, SystemField, parent_number, system_classes}
 use Rattle.jk_model_classes.specs.declared.records.ClassRecord.{ClassRecord}
 use Rattle.jk_model_classes.specs.declared.records.FieldRecord.{FieldRecord}
 use Rattle.jk_model_classes.specs.declared.records.TypeRef.{TypeRef}
-use Rattle.jk_model_classes.specs.ClassFlags.{has, STATIC}
 use Rattle.jk_model_classes.specs.Classes.{record_of, parents_of, AreOrdered, IsSubclass}
 use Rattle.jk_model_classes.specs.Layouts.{InstanceField, instance_fields, is_instance_field, own_fields, type_words}
 use Rattle.jk_model_classes.specs.Stubs.{IsSystemNamed}

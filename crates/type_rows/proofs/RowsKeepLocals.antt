@@ -6,7 +6,7 @@ use Rattle.std.proofs.lemmas.Bool.Decides.{eqb_tells}
 use Rattle.std.proofs.lemmas.Bool.{eqb-true, leb-true, false≢true}
 use Rattle.jk_model.specs.declared.instructions.Instr.{Instr}
 use Rattle.jk_model.specs.Instructions.{Row as TableRow, format_among}
-use Rattle.jk_model_classes.specs.MemberCode.{NEW, INVOKESPECIAL}
+use Rattle.jk_model.specs.declared.opcodes.TheConstants.{NEW, INVOKESPECIAL}
 use Rattle.jk_model_typing.specs.declared.frames.Demand.{Demand}
 use Rattle.jk_model_typing.specs.declared.frames.Demand.TheVariants.{AnyReference}
 use Rattle.jk_model_typing.specs.declared.frames.FrameType.{FrameType}

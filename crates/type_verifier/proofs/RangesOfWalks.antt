@@ -4,8 +4,9 @@ use Rattle.std.proofs.Common.{◌≡◌, ◌≢◌, ℕ, suc, ◌<◌, ◌⊎◌
 use Rattle.std.proofs.lemmas.Bool.{cases_eq, false≢true}
 use Rattle.std.proofs.lemmas.Option.{same_Some, slice_get_cases, slice_get_within}
 use Rattle.jk_model.specs.declared.instructions.Instr.{Instr}
+use Rattle.jk_model.specs.declared.opcodes.TheConstants.{NEW, INVOKESPECIAL}
 use Rattle.jk_model_classes.specs.Classes.{AreOrdered}
-use Rattle.jk_model_classes.specs.MemberCode.{LeadsTo, NEW, INVOKESPECIAL}
+use Rattle.jk_model_classes.specs.MemberCode.{LeadsTo}
 use Rattle.jk_model_typing.specs.declared.frames.VType.{VType}
 use Rattle.jk_model_typing.specs.declared.frames.FrameType.{FrameType}
 use Rattle.jk_model_typing.specs.Rows.{Row}

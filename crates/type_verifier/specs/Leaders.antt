@@ -2,9 +2,10 @@
 -- the locals there but by stores, and the same catch entries cover both. So its frame is what the line before leaves.
 use Rattle.std.specs.Prelude.{◌≡◌, ℕ, suc, ◌<◌, ◌⊎◌, ◌↔◌, Bool, true, pos, List, length, Contains, Some, slice_get}
 use Rattle.jk_model.specs.declared.instructions.Instr.{Instr}
+use Rattle.jk_model.specs.declared.opcodes.TheConstants.{NEW, INVOKESPECIAL}
 use Rattle.jk_model_classes.specs.declared.records.Caught.{Caught}
 use Rattle.jk_model_classes.specs.declared.records.LinkedCode.{LinkedCode}
-use Rattle.jk_model_classes.specs.MemberCode.{LeadsTo, NEW, INVOKESPECIAL}
+use Rattle.jk_model_classes.specs.MemberCode.{LeadsTo}
 use Rattle.jk_model_typing.specs.Typing.{Covers}
 
 abbrev pub Leads : List Bool → ℕ → Type 0

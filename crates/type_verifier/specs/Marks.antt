@@ -1,8 +1,9 @@
 -- Marks of leaders while they are made: they only grow, and say which instructions and catch entries were looked at.
 use Rattle.std.specs.Prelude.{◌≡◌, ℕ, suc, ◌<◌, ◌⊎◌, Bool, pos, List, length}
 use Rattle.jk_model.specs.declared.instructions.Instr.{Instr}
+use Rattle.jk_model.specs.declared.opcodes.TheConstants.{NEW, INVOKESPECIAL}
 use Rattle.jk_model_classes.specs.declared.records.Caught.{Caught}
-use Rattle.jk_model_classes.specs.MemberCode.{LeadsTo, NEW, INVOKESPECIAL}
+use Rattle.jk_model_classes.specs.MemberCode.{LeadsTo}
 use Rattle.type_verifier.specs.Leaders.{Leads}
 
 -- as many places, and what was marked still is

@@ -1,7 +1,7 @@
 -- Ranges of locals: what is noted of them for places, and which locals may differ after an instruction.
 use Rattle.std.specs.Prelude.{◌≡◌, ◌≢◌, ℕ, suc, ◌+◌, ◌<◌, ◌≤◌, ◌⊎◌, pos, IsTrue, List, length, min, Some, slice_get}
 use Rattle.jk_model.specs.declared.instructions.Instr.{Instr}
-use Rattle.jk_model_classes.specs.MemberCode.{NEW, INVOKESPECIAL}
+use Rattle.jk_model.specs.declared.opcodes.TheConstants.{NEW, INVOKESPECIAL}
 use Rattle.jk_model_typing.specs.declared.frames.FrameType.{FrameType}
 use Rattle.jk_model_typing.specs.Scopes.{CodeScope}
 use Rattle.jk_model_typing.specs.Typing.{is_store}

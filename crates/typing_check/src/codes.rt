@@ -2,6 +2,7 @@
 
 use crate::classes::LinkError;
 use crate::scope::Scope;
+use jk_model::opcodes::{GOTO, IFEQ, IFNONNULL, IFNULL, LOOKUPSWITCH, TABLESWITCH};
 use jk_model::{Code, Handler, Instr, List, OutOfMemory, SwitchCase};
 use jk_model_classes::{Caught, LinkedCode};
 use jk_opcodes::{CodeError, decode};
@@ -81,7 +82,10 @@ fn target_at(places: &Places, target: i32) -> i32 {
 
 /// Whether the first operand is where a jump or a switch leads.
 fn leads(op: u8) -> bool {
-    matches!(op, 0x99..=0xa7 | 0xaa | 0xab | 0xc6 | 0xc7)
+    matches!(
+        op,
+        IFEQ..=GOTO | TABLESWITCH | LOOKUPSWITCH | IFNULL | IFNONNULL
+    )
 }
 
 /// The cases of a switch.

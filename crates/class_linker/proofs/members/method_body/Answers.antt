@@ -4,7 +4,7 @@ use Rattle.std.specs.Prelude.{not}
 use Rattle.list_lemmas.proofs.ItemsOfLists.{Contains-at}
 use Rattle.jk_model.specs.declared.class_file.Attribute.{Attribute}
 use Rattle.jk_model.specs.ClassFile.{CodeLayout}
-use Rattle.jk_model_classes.specs.ClassFlags.{ABSTRACT, has}
+use Rattle.jk_model.specs.Flags.{ABSTRACT, has}
 use Rattle.jk_model_classes.specs.Items.{HasItem}
 use Rattle.jk_model_classes.specs.MemberAttributes.{IsCodeAttribute}
 use Rattle.class_linker.specs.KnownMembers.{HasBodies, HasSomeBody}

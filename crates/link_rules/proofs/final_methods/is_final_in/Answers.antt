@@ -1,7 +1,7 @@
 -- The method has one record.
 use Rattle.std.proofs.Common.{◌≡◌, IsTrue, true, false, sym, ◌∙◌, subst}
+use Rattle.jk_model.specs.Flags.{has, FINAL}
 use Rattle.jk_model_classes.specs.declared.records.MethodRecord.{MethodRecord}
-use Rattle.jk_model_classes.specs.ClassFlags.{has, FINAL}
 use Rattle.member_lookup.proofs.OneRecord.{one-method}
 use Rattle.link_rules.proofs.final_methods.is_final_in.Goals as goal
 

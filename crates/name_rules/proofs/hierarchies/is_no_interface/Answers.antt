@@ -1,6 +1,6 @@
 -- The test of the flags is that of the class.
 use Rattle.std.proofs.Common.{◌↔◌, ℕ, Bool, IsTrue, not, subst, sym}
-use Rattle.jk_model_classes.specs.ClassFlags.{has, INTERFACE}
+use Rattle.jk_model.specs.Flags.{has, INTERFACE}
 use Rattle.jk_model_classes.specs.References.{FlagsOfNamed}
 use Rattle.name_rules.specs.BadHierarchies.{folder_scope}
 use Rattle.name_rules.proofs.BadParts.{none_test, some_test}

@@ -1,6 +1,6 @@
 -- The tests of the flags are those of the class.
 use Rattle.std.proofs.Common.{◌≡◌, ◌⊎◌, ◌∙◌, inl, inr, ℕ, true, false, IsTrue, sym}
-use Rattle.jk_model_classes.specs.ClassFlags.{has, FINAL, INTERFACE}
+use Rattle.jk_model.specs.Flags.{has, FINAL, INTERFACE}
 use Rattle.jk_model_classes.specs.References.{FlagsOfNamed}
 use Rattle.name_rules.specs.BadHierarchies.{folder_scope}
 use Rattle.name_rules.proofs.BadParts.{none_test, some_test}
