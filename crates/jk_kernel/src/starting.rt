@@ -229,3 +229,33 @@ fn is_open(flags: u16) -> bool
 {
     has(flags, AccessFlags::PUBLIC) && has(flags, AccessFlags::STATIC)
 }
+
+/// Puts a thread with this first frame into the map, and its segment into the store. The frame's first local is null. Without memory
+/// all is as before.
+fn begin_thread<F: FrameStore>(
+    d: &mut DomainPart,
+    threads: &mut BTreeMap<u32, ThreadPart>,
+    frames: &mut F,
+    thread: u32,
+    part: ThreadPart,
+    head: FrameHead,
+) -> Result<(), OutOfMemory>
+    requires admitted { IsAdmitted (F.content frames.old) part.domain }
+    requires new { (F.content frames.old).segment part.segment ≡ None }
+    requires room { 1 + head_chunks head ≤ free_chunks (F.content frames.old) part.domain }
+    requires local { 1 ≤ head.max_locals }
+    requires counted { d.old.started < 2 ^ 32 - 1 }
+    ensures ok { OnOk result (BeginsThread (F.content frames.old) (F.content frames.new) d.old d.new threads.old.entries threads.new.entries
+        thread part head) }
+    ensures err { OnErr result ((F.content frames.new ≡ F.content frames.old) × (d.new ≡ d.old)
+        × (threads.new.entries ≡ threads.old.entries)) }
+{
+    let _before = threads.insert(thread, part)?;
+    match frames.begin(part.domain, part.segment, head) {
+        Ok(()) => {}
+        Err(_) => unreachable!(),
+    }
+    frames.set_local(part.segment, 0, Value::Null);
+    d.started += 1;
+    Ok(())
+}
