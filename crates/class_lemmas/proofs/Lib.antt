@@ -4,5 +4,9 @@ pub mod ClassesBelow
 pub mod ClassesInDescriptors
 pub mod CodeOfMethods
 pub mod EntriesAreGood
+pub mod LinksToMembers
+pub mod LowerClassesDecide
+pub mod NamesOfTables
 pub mod OneMember
+pub mod ReachedByReferences
 pub mod SomeItem

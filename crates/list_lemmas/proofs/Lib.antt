@@ -1,7 +1,9 @@
 -- Lemmas on std's words that several crates cite.
 pub mod EndsOfLists
 pub mod FirstByTest
+pub mod FoundItems
 pub mod ItemByItem
 pub mod ItemsByPlace
 pub mod ItemsOfLists
+pub mod LastItems
 pub mod TestsAndOrders

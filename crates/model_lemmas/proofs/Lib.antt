@@ -1,6 +1,8 @@
 -- Lemmas on the definitions of jk_model that several crates cite.
+pub mod ClassesInLists
 pub mod ClassNamesDecided
 pub mod LinesInTurn
+pub mod NamesByTest
 pub mod PartsAreShort
 pub mod PlacesOfInstrs
 pub mod SameNumbers
