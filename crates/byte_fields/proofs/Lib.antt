@@ -1,2 +1,3 @@
 pub mod GivenIsLaidOut
 pub mod OneAfterAnother
+pub mod OneListRead

@@ -8,5 +8,9 @@ pub mod LinksToMembers
 pub mod LowerClassesDecide
 pub mod NamesOfTables
 pub mod OneMember
+pub mod OneRecord
+pub mod OneReference
+pub mod OneText
+pub mod PathsInOrder
 pub mod ReachedByReferences
 pub mod SomeItem

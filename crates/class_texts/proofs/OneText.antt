@@ -4,7 +4,7 @@ use Rattle.jk_model.specs.declared.class_file.PoolEntry.{PoolEntry}
 use Rattle.jk_model.specs.declared.class_file.PoolEntry.TheVariants.{Utf8, Class}
 use Rattle.jk_model.specs.Text.{Spells}
 use Rattle.jk_model_classes.specs.Members.{TextAt, ClassAt}
-use Rattle.unit_text.proofs.OneReading.{one_reading}
+use Rattle.model_lemmas.proofs.OneReading.{one_reading}
 
 pub one_text : (pool : List PoolEntry) (i : ℕ) (us vs : List ℕ) → TextAt pool i us → TextAt pool i vs → us ≡ vs
 one_text pool i us vs (bytes, e, h) (bytes2, e2, k) =

@@ -8,7 +8,7 @@ use Rattle.jk_model.specs.declared.class_file.PoolEntry.TheVariants.{Utf8, Class
 use Rattle.jk_model.specs.ClassFile.{IsGoodEntry}
 use Rattle.jk_model.specs.Text.{Spells}
 use Rattle.jk_model_classes.specs.Members.{TextAt, ClassAt}
-use Rattle.unit_text.proofs.OneReading.{one_reading}
+use Rattle.model_lemmas.proofs.OneReading.{one_reading}
 use Rattle.class_texts.specs.EntryTexts.{IsText, IsTextOf}
 use Rattle.class_texts.specs.PoolTexts.{AreTextsOf}
 

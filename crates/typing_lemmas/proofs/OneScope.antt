@@ -1,5 +1,5 @@
 -- A method's code is judged in one scope, a method with code has one, and an operand leads to one link.
-use Rattle.std.proofs.Common.{◌≡◌, ℕ, zero, suc, List, Some, slice_get, refl, sym, subst, ap, ◌∙◌}
+use Rattle.std.proofs.Common.{◌≡◌, ℕ, List, Some, slice_get, refl, sym, subst, ap, ◌∙◌}
 use Rattle.std.proofs.lemmas.Option.{same_Some}
 use Rattle.list_lemmas.proofs.TestsAndOrders.{same_pos}
 use Rattle.jk_model.specs.declared.identifiers.ClassId.{ClassId}
@@ -13,11 +13,7 @@ use Rattle.jk_model_classes.specs.declared.records.MethodRecord.{MethodRecord}
 use Rattle.jk_model_classes.specs.Lookups.{MethodIs}
 use Rattle.jk_model_typing.specs.Scopes.{CodeScope, IsScopeOf, LeadsToLink}
 use Rattle.class_lemmas.proofs.CodeOfMethods.{same_code}
-
-pub one-method : (classes : List ClassRecord) (m : MemberId) (a b : MethodRecord) → MethodIs classes m a → MethodIs classes m b → a ≡ b
-one-method classes m a b of_a of_b =
-    let class : of_a.0 ≡ of_b.0 = same_Some of_a.0 of_b.0 (sym of_a.1 ∙ of_b.1) in
-    same_Some a b (sym of_a.2 ∙ ap (λ (r : ClassRecord). slice_get r.methods m.index) class ∙ of_b.2)
+use Rattle.class_lemmas.proofs.OneRecord.{one_method}
 
 pub one-scope : (classes : List ClassRecord) (m : MemberId) (s t : CodeScope) → IsScopeOf classes m s → IsScopeOf classes m t → s ≡ t
 one-scope classes m s t a b =
@@ -26,7 +22,7 @@ one-scope classes m s t a b =
     let class : a.class ≡ b.class = same_Some a.class b.class (sym a.class_is ∙ b.class_is) in
     let links : s.links ≡ t.links = a.links ∙ ap (λ (c : ClassRecord). c.links) class ∙ sym b.links in
     let method : s.method ≡ t.method =
-    one-method classes m s.method t.method (a.class, a.class_is, a.method) (b.class, b.class_is, b.method) in
+    one_method classes m s.method t.method (a.class, a.class_is, a.method) (b.class, b.class_is, b.method) in
     let code : s.code ≡ t.code = same_code s.code t.code (sym a.body ∙ ap (λ (r : MethodRecord). r.body) method ∙ b.body) in
     λ j. record { classes = all j; self = self j; links = links j; method = method j; code = code j }
 

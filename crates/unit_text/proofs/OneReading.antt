@@ -1,7 +1,8 @@
--- Bytes have one reading as the encodings of units, one after the other, and stop being a text at one place.
+-- Bytes that are read unit after unit, and the one place at which they stop being a text.
 use Rattle.std.proofs.Common.{◌≡◌, ℕ, ◌+◌, ◌-◌, ◌*◌, ◌<◌, ◌≤◌, ◌⊎◌, inl, inr, List, [], ◌∷◌, ◌++◌, length, refl, sym, ◌∙◌, ap, arith, length-append, take, drop, slice_index_or, append-nil, append_assoc, Result, Ok, Err, MatchResult}
 use Rattle.std.proofs.lemmas.List.{take_all}
 use Rattle.jk_model.specs.Text.{IsUnit, Spells, BeginsWithUnit, IsBadEncoding}
+use Rattle.model_lemmas.proofs.OneReading.{encoding_some, one_reading, same_encoding}
 use Rattle.unit_text.specs.declared.units.UnitsError.{UnitsError}
 use Rattle.unit_text.specs.declared.units.UnitsError.TheVariants.{BadForm, OutOfMemory}
 use Rattle.unit_text.specs.Encodings.{BeginsWith, BeginsNoUnit}
@@ -33,76 +34,6 @@ at_bad_encoding bytes rest units (front, e, h) some never =
 
 -- ---- There is one reading.
 
--- no encoding is the beginning of another
-pub record Same (f g : List ℕ) (u v : ℕ) (r s : List ℕ) : Type 0 where
-  pub unit : u ≡ v
-  pub long : length f ≡ length g
-  pub rests : r ≡ s
-
-pub same_encoding : (f g : List ℕ) (u v : ℕ) (r s : List ℕ) → IsUnit f u → IsUnit g v → f ++ r ≡ g ++ s → Same f g u v r s
-same_encoding [] g u v r s hf hg e = absurd hf
-same_encoding (a ∷ []) [] u v r s hf hg e = absurd hg
-same_encoding (a ∷ []) (b ∷ []) u v r s hf hg e =
-    let whole : a ∷ r ≡ b ∷ s = e in
-    let first : a ≡ b = cc in
-    record { unit = omega (arith, hf.2, hg.2, first); long = refl; rests = cc }
-same_encoding (a ∷ []) (b ∷ b2 ∷ []) u v r s hf hg e =
-    let whole : a ∷ r ≡ b ∷ b2 ∷ s = e in
-    let first : a ≡ b = cc in
-    absurd (omega (arith, hf.1, hg.0, first))
-same_encoding (a ∷ []) (b ∷ b2 ∷ b3 ∷ []) u v r s hf hg e =
-    let whole : a ∷ r ≡ b ∷ b2 ∷ b3 ∷ s = e in
-    let first : a ≡ b = cc in
-    absurd (omega (arith, hf.1, hg.0, first))
-same_encoding (a ∷ []) (b ∷ b2 ∷ b3 ∷ b4 ∷ more) u v r s hf hg e = absurd hg
-same_encoding (a ∷ a2 ∷ []) [] u v r s hf hg e = absurd hg
-same_encoding (a ∷ a2 ∷ []) (b ∷ []) u v r s hf hg e =
-    let whole : a ∷ a2 ∷ r ≡ b ∷ s = e in
-    let first : a ≡ b = cc in
-    absurd (omega (arith, hf.0, hg.1, first))
-same_encoding (a ∷ a2 ∷ []) (b ∷ b2 ∷ []) u v r s hf hg e =
-    let whole : a ∷ a2 ∷ r ≡ b ∷ b2 ∷ s = e in
-    let first : a ≡ b = cc in
-    let second : a2 ≡ b2 = cc in
-    record { unit = omega (arith, hf.4, hg.4, first, second); long = refl; rests = cc }
-same_encoding (a ∷ a2 ∷ []) (b ∷ b2 ∷ b3 ∷ []) u v r s hf hg e =
-    let whole : a ∷ a2 ∷ r ≡ b ∷ b2 ∷ b3 ∷ s = e in
-    let first : a ≡ b = cc in
-    absurd (omega (arith, hf.1, hg.0, first))
-same_encoding (a ∷ a2 ∷ []) (b ∷ b2 ∷ b3 ∷ b4 ∷ more) u v r s hf hg e = absurd hg
-same_encoding (a ∷ a2 ∷ a3 ∷ []) [] u v r s hf hg e = absurd hg
-same_encoding (a ∷ a2 ∷ a3 ∷ []) (b ∷ []) u v r s hf hg e =
-    let whole : a ∷ a2 ∷ a3 ∷ r ≡ b ∷ s = e in
-    let first : a ≡ b = cc in
-    absurd (omega (arith, hf.0, hg.1, first))
-same_encoding (a ∷ a2 ∷ a3 ∷ []) (b ∷ b2 ∷ []) u v r s hf hg e =
-    let whole : a ∷ a2 ∷ a3 ∷ r ≡ b ∷ b2 ∷ s = e in
-    let first : a ≡ b = cc in
-    absurd (omega (arith, hf.0, hg.1, first))
-same_encoding (a ∷ a2 ∷ a3 ∷ []) (b ∷ b2 ∷ b3 ∷ []) u v r s hf hg e =
-    let whole : a ∷ a2 ∷ a3 ∷ r ≡ b ∷ b2 ∷ b3 ∷ s = e in
-    let first : a ≡ b = cc in
-    let second : a2 ≡ b2 = cc in
-    let third : a3 ≡ b3 = cc in
-    record { unit = omega (arith, hf.6, hg.6, first, second, third); long = refl; rests = cc }
-same_encoding (a ∷ a2 ∷ a3 ∷ []) (b ∷ b2 ∷ b3 ∷ b4 ∷ more) u v r s hf hg e = absurd hg
-same_encoding (a ∷ a2 ∷ a3 ∷ a4 ∷ more) g u v r s hf hg e = absurd hf
-
-some_bytes : (encoding after : List ℕ) (u : ℕ) → IsUnit encoding u → encoding ++ after ≡ [] → ⊥
-some_bytes [] after u h e = h
-some_bytes (a ∷ encoding) after u h e =
-    let whole : a ∷ (encoding ++ after) ≡ [] = e in
-    absurd cc
-
-pub one_reading : (bytes us vs : List ℕ) → Spells bytes us → Spells bytes vs → us ≡ vs
-one_reading bytes [] [] h k = refl
-one_reading bytes [] (v ∷ vs) h (g, s, one, e, others) = absurd (some_bytes g s v one (sym e ∙ h))
-one_reading bytes (u ∷ us) [] (f, r, one, e, others) k = absurd (some_bytes f r u one (sym e ∙ k))
-one_reading bytes (u ∷ us) (v ∷ vs) (f, r, hf, ef, hr) (g, s, hg, eg, hs) =
-    let same = same_encoding f g u v r s hf hg (sym ef ∙ eg) in
-    let others : us ≡ vs = one_reading r us vs hr (rw same.rests hs) in
-    rw (same.unit, others) refl
-
 -- bytes that stop being a text have no reading
 no_reading : (front rest us bytes vs : List ℕ) → Spells front us → bytes ≡ front ++ rest → (rest ≡ [] → ⊥) → (BeginsWithUnit rest → ⊥) → Spells bytes vs → ⊥
 no_reading front rest [] bytes [] h e some never k =
@@ -113,7 +44,7 @@ no_reading front rest [] bytes (v ∷ vs) h e some never (g, s, hg, eg, hs) =
     never (g, v, s, hg, whole)
 no_reading front rest (u ∷ us) bytes [] (f, r, hf, ef, hr) e some never k =
     let whole : bytes ≡ f ++ (r ++ rest) = e ∙ rw ef (append_assoc f r rest) in
-    some_bytes f (r ++ rest) u hf (sym whole ∙ k)
+    encoding_some f (r ++ rest) u hf (sym whole ∙ k)
 no_reading front rest (u ∷ us) bytes (v ∷ vs) (f, r, hf, ef, hr) e some never (g, s, hg, eg, hs) =
     let whole : bytes ≡ f ++ (r ++ rest) = e ∙ rw ef (append_assoc f r rest) in
     let same = same_encoding f g u v (r ++ rest) s hf hg (sym whole ∙ eg) in
