@@ -1,82 +1,18 @@
 -- The name of a class is what a walk over its units comes to the end of, and the walk stops where no name goes on.
 use Rattle.std.proofs.Common.{◌≡◌, ◌≢◌, ℕ, ◌+◌, ◌<◌, ◌≤◌, ◌⊎◌, inl, inr, Bool, true, false, List, [], ◌∷◌, ◌++◌, length, refl, sym, ◌∙◌, ap, arith, Ok, Err, take, drop, get_or, subst, append-nil, append_assoc}
 use Rattle.std.proofs.lemmas.List.{take_more, drop_more, take_all, take-append-drop, length-drop, nil_from_length}
-use Rattle.std.specs.List.{AllByRecursion, join_with_byte}
-use Rattle.jk_model.specs.Descriptors.{IsNameUnit, IsName, IsClassName}
+use Rattle.std.specs.List.{AllByRecursion}
+use Rattle.jk_model.specs.Descriptors.{IsNameUnit, IsClassName}
+use Rattle.model_lemmas.proofs.ClassNamesDecided.{class_walks, walks_class, Walks}
 use Rattle.descriptors.specs.Stops.{StartsAs, IsStuck}
 use Rattle.descriptors.specs.Names.{IsStep, IsNameText, IsNameLength}
 use Rattle.descriptors.specs.declared.names.Step.TheVariants.{Stop}
 use Rattle.descriptors.proofs.PartStopsTheWhole.{first_of}
 
--- the units go on to the end of a class's name, where one of its names starts or within one
-abbrev pub Walks : Bool → List ℕ → Type 0
-Walks start [] = start ≡ false
-Walks start (u ∷ us) = (IsNameUnit u × Walks false us) ⊎ ((start ≡ false) × (u ≡ 47) × Walks true us)
-
 -- the same up to a `;`, whatever follows it
 abbrev pub Closes : Bool → List ℕ → Type 0
 Closes start [] = ⊥
 Closes start (u ∷ us) = (IsNameUnit u × Closes false us) ⊎ (((start ≡ false) × (u ≡ 47) × Closes true us) ⊎ ((start ≡ false) × (u ≡ 59)))
-
--- ---- A class's name is walked.
-
-walks_on : (name rest : List ℕ) → AllByRecursion IsNameUnit name → Walks false rest → Walks false (name ++ rest)
-walks_on [] rest h w = w
-walks_on (u ∷ name) rest h w = inl (h.0, walks_on name rest h.1 w)
-
-walks_name : (name rest : List ℕ) → IsName name → Walks false rest → Walks true (name ++ rest)
-walks_name [] rest h w = absurd (h.0 refl)
-walks_name (u ∷ name) rest h w = inl (h.1.0, walks_on name rest h.1.1 w)
-
-walks_names : (name : List ℕ) (names : List (List ℕ)) → IsName name → AllByRecursion IsName names → Walks true (join_with_byte 47 (name ∷ names))
-walks_names name [] h hs = rw (append-nil name) at (walks_name name [] h refl)
-walks_names name (next ∷ names) h hs = walks_name name (47 ∷ join_with_byte 47 (next ∷ names)) h (inr (refl, refl, walks_names next names hs.0 hs.1))
-
-pub class_walks : (units : List ℕ) → IsClassName units → Walks true units
-class_walks units ([], some, all, e) = absurd (some refl)
-class_walks units (name ∷ names, some, all, e) = rw e (walks_names name names all.0 all.1)
-
--- ---- What is walked is a class's name.
-
-record Reached (start : Bool) (units : List ℕ) : Type 0 where
-  first : List ℕ
-  names : List (List ℕ)
-  first_is : AllByRecursion IsNameUnit first
-  names_are : AllByRecursion IsName names
-  joined : units ≡ join_with_byte 47 (first ∷ names)
-  some : start ≡ true → first ≢ []
-
-join_more : (u : ℕ) (first : List ℕ) (names : List (List ℕ)) → join_with_byte 47 ((u ∷ first) ∷ names) ≡ u ∷ join_with_byte 47 (first ∷ names)
-join_more u first [] = refl
-join_more u first (next ∷ names) = refl
-
-reached : (start : Bool) (units : List ℕ) → Walks start units → Reached start units
-reached start [] w = record { first = []; names = []; first_is = tt; names_are = tt; joined = refl; some = λ e. absurd cc }
-reached start (u ∷ us) (inl (own, w)) =
-    let on = reached false us w in
-    record {
-      first = u ∷ on.first;
-      names = on.names;
-      first_is = (own, on.first_is);
-      names_are = on.names_are;
-      joined = rw on.joined (sym (join_more u on.first on.names));
-      some = λ e none. absurd cc;
-    }
-reached start (u ∷ us) (inr (within, slash, w)) =
-    let on = reached true us w in
-    record {
-      first = [];
-      names = on.first ∷ on.names;
-      first_is = tt;
-      names_are = ((on.some refl, on.first_is), on.names_are);
-      joined = rw (slash, on.joined) refl;
-      some = λ e none. absurd cc;
-    }
-
-pub walks_class : (units : List ℕ) → Walks true units → IsClassName units
-walks_class units w =
-    let on = reached true units w in
-    (on.first ∷ on.names, λ e. absurd cc, ((on.some refl, on.first_is), on.names_are), on.joined)
 
 -- ---- A class's name and its `;`, and other units after them.
 

@@ -6,11 +6,10 @@ use Rattle.jk_model.specs.declared.descriptors.Base.{Base}
 use Rattle.jk_model.specs.declared.descriptors.Base.TheVariants.{Byte, Char, Double, Float, Int, Long, Short, Bool as Boolean, Class}
 use Rattle.jk_model.specs.declared.descriptors.FieldType.{FieldType}
 use Rattle.jk_model.specs.declared.descriptors.MethodType.{MethodType}
-use Rattle.jk_model.specs.Descriptors.{IsBase, base_text, IsFieldType, field_text, IsFieldText, IsResult, result_text, IsMethodText}
+use Rattle.jk_model.specs.Descriptors.{IsBase, base_text, IsFieldType, field_text, IsFieldText, IsResult, result_text, IsMethodText, IsFieldDescriptor, IsMethodDescriptor}
 use Rattle.descriptors.specs.Stops.{StartsAs, IsStuck}
 use Rattle.descriptors.specs.Names.{IsNameText}
 use Rattle.descriptors.specs.PartTexts.{IsBaseText, IsParamsText, IsResultText, IsNoLetter}
-use Rattle.jk_model.specs.Descriptors.{IsFieldDescriptor, IsMethodDescriptor}
 use Rattle.jk_model.proofs.EachItem.{all_push}
 use Rattle.jk_model.proofs.EmptyByLength.{length_from_not_nil}
 use Rattle.descriptors.proofs.PartStopsTheWhole.{IsPrefixFree, starts_within, first_of, IsBoth, stuck_first, stuck_second, free_both, stuck_as}

@@ -4,13 +4,12 @@ use Rattle.std.proofs.lemmas.List.{take-append-drop, take_rest}
 use Rattle.std.specs.List.{AllByRecursion}
 use Rattle.jk_model.specs.declared.descriptors.FieldType.{FieldType}
 use Rattle.jk_model.specs.declared.descriptors.MethodType.{MethodType}
-use Rattle.jk_model.specs.Descriptors.{IsFieldType, field_text, IsFieldText, method_text, IsMethodText, IsBadFieldText, IsBadMethodText}
+use Rattle.jk_model.specs.Descriptors.{IsFieldType, field_text, IsFieldText, method_text, IsMethodText, IsBadFieldText, IsBadMethodText, IsFieldDescriptor, IsMethodDescriptor}
 use Rattle.descriptors.specs.declared.error.DescriptorError.{DescriptorError}
 use Rattle.descriptors.specs.declared.error.DescriptorError.TheVariants.{BadDescriptor, OutOfMemory}
 use Rattle.descriptors.specs.Stops.{IsStuck, StopsAt, IsStop}
 use Rattle.descriptors.specs.Names.{IsNameText, IsNameLength}
 use Rattle.descriptors.specs.PartTexts.{IsBaseText, IsParamsText, IsResultText, AreDimensions, IsNoLetter, ReadsMethod, ReadsField}
-use Rattle.jk_model.specs.Descriptors.{IsFieldDescriptor, IsMethodDescriptor}
 use Rattle.descriptors.specs.TypeOrPlace.{IsFieldAnswer, IsMethodAnswer}
 use Rattle.descriptors.proofs.PartStopsTheWhole.{EndsAt, stuck_ends, trailing_ends, one_end}
 use Rattle.descriptors.proofs.NoTextBeginsAnother.{stuck_class, stuck_nothing, stuck_unit, stuck_field, params_text, stuck_params, stuck_result, stuck_at_params, stuck_at_result, field_texts_free, method_texts_free, one_field, one_method}

@@ -2,6 +2,7 @@
 use Rattle.std.proofs.Common.{◌≡◌, ◌≢◌, ℕ, ◌+◌, ◌-◌, ◌<◌, ◌⊎◌, inl, inr, List, [], ◌∷◌, ◌++◌, length, refl, sym, ◌∙◌, ap, subst, arith, length-append, append-nil, append_assoc, Result, Ok, Err, MatchResult}
 use Rattle.jk_model.specs.declared.instructions.Instr.{Instr}
 use Rattle.jk_model.specs.Instructions.{IsInstr, AreInstrs, Decodes, Fault, Shows, BeginsWithInstr, GoesOn, HasFault, IsCutAt}
+use Rattle.model_lemmas.proofs.PlacesOfInstrs.{some_bytes}
 use Rattle.jk_opcodes.specs.declared.errors.CodeError.{CodeError}
 use Rattle.jk_opcodes.specs.declared.errors.CodeError.TheVariants as errors
 use Rattle.jk_opcodes.specs.declared.errors.Stop.{Stop}
@@ -196,12 +197,6 @@ same_instr at f g i j r s fits hf hg e =
       long = omega (arith, ap length e, ap length after, length-append f r, length-append g s);
       after = after;
     }
-
-some_bytes : (at : ℕ) (front after : List ℕ) (i : Instr) → IsInstr at front i → front ++ after ≡ [] → ⊥
-some_bytes at [] after i h e = h
-some_bytes at (b ∷ front) after i h e =
-    let whole : b ∷ (front ++ after) ≡ [] = e in
-    absurd cc
 
 one_reading : (at : ℕ) (bytes : List ℕ) (us vs : List Instr) → IsBytes bytes → AreInstrs at bytes us → AreInstrs at bytes vs → us ≡ vs
 one_reading at bytes [] [] fits h k = refl

@@ -1,7 +1,5 @@
 -- Lemmas on the words, lines and numbers of scripts, and on what they say.
 mod CappedNumbers
-mod FirstLineAndRest
-mod FirstWordAndRest
 mod LinesInTurn
 mod OptionsInTurn
 mod WordsInTurn

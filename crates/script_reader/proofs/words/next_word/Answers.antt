@@ -1,6 +1,6 @@
 -- The first word stands from the first byte that is no blank to the next blank.
 use Rattle.std.proofs.Common.{◌≡◌, ◌-◌, length, take, drop, sym, take_all, arith, length-drop}
-use Rattle.script_reader.proofs.FirstWordAndRest.{first_word}
+use Rattle.model_lemmas.proofs.WordsInTurn.{word_stands}
 use Rattle.script_reader.proofs.words.next_word.Goals as goal
 
 pub returns : goal.returns
@@ -10,6 +10,6 @@ returns c =
     let rest : take (length line - begin) (drop begin line) ≡ drop begin line =
     take_all (length line - begin) (drop begin line) (omega (arith, length-drop begin line)) in
     let found =
-    first_word line (take (length line - begin) (drop begin line)) begin c.first_blank.result
+    word_stands line (take (length line - begin) (drop begin line)) begin c.first_blank.result
     (sym c.in_ok-text.ensures) rest c.first_blank.ensures in
-    rw (c.split_at.ensures.front, c.split_at.ensures.back, c.unwrap_or-end.ensures) (found.0, found.1)
+    rw (c.split_at.ensures.front, c.split_at.ensures.back, c.unwrap_or-end.ensures) (found.parts, found.long)
