@@ -14,7 +14,7 @@ use Rattle.jk_model_classes.specs.declared.records.MethodRecord.{MethodRecord}
 use Rattle.jk_model_classes.specs.Items.{HasItem}
 use Rattle.jk_model_typing.specs.Scopes.{CodeScope, LeadsToLink}
 use Rattle.jk_model_domains.specs.NumberRows.{IsOfNumbers, number_opcodes}
-use Rattle.jk_model_machine.specs.Executions.{NamesMethod}
+use Rattle.jk_model_sound_classes.specs.NamedMembers.{NamesMethod}
 use Rattle.type_rows.specs.Operands.{IsLink}
 use Rattle.number_ops.specs.Parts.{is_in}
 use Rattle.step_progress.specs.BuiltCodes.{CallsCode, CallsPrintln, IsBuiltInstr, ReadsSystemOut}

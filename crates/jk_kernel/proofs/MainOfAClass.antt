@@ -19,8 +19,8 @@ use Rattle.jk_model_typing.specs.declared.frames.VType.TheVariants.{Long}
 use Rattle.jk_model_typing.specs.FrameTypes.{value_of}
 use Rattle.jk_model_typing.specs.Scopes.{CodeScope, IsScopeOf, own_receiver, parameter_values}
 use Rattle.jk_model_typing.specs.Typing.{IsStart, as_locals}
-use Rattle.jk_model_machine.specs.Machine.{Machine}
-use Rattle.jk_model_machine.specs.SoundClasses.{AreSoundClasses}
+use Rattle.jk_model_sound_classes.specs.SoundClasses.{AreSoundClasses}
+use Rattle.jk_model_machine.specs.Machine.{Machine, tables_of}
 use Rattle.jk_model_machine.specs.Starts.{IsMain}
 use Rattle.descriptors.proofs.NoTextBeginsAnother.{one_method}
 use Rattle.sealed_steps.proofs.MainTakesOneArray.{main-params}
@@ -136,7 +136,7 @@ some-locals : (ts : List VType) → length ts ≡ 1 → 1 ≤ length (flat_map a
 some-locals [] one = absurd (omega (arith, one))
 some-locals (t ∷ ts) one = omega (arith, one-local t, length-append (as_locals t) (flat_map as_locals ts))
 
-module _ (m : Machine) (sound : AreSoundClasses m.classes m.domains) (class : ClassId) (main : MemberId) (code : LinkedCode)
+module _ (m : Machine) (sound : AreSoundClasses m.classes (tables_of m.domains)) (class : ClassId) (main : MemberId) (code : LinkedCode)
     (is : IsMain m class main code) where
   abbrev here : CodeScope
   here = main-code m class main code is

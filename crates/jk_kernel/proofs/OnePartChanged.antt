@@ -1,8 +1,9 @@
 -- The states of the domains, where one domain's part is changed.
-use Rattle.std.proofs.Common.{◌≡◌, ℕ, zero, suc, List, [], ◌∷◌, length, set, Some, slice_get, refl, sym, ap, ◌∙◌, arith}
+use Rattle.std.proofs.Common.{◌≡◌, ℕ, zero, suc, List, [], ◌∷◌, length, set, Contains, Some, slice_get, refl, sym, ap, subst, ◌∙◌, arith}
 use Rattle.std.proofs.lemmas.Option.{same_Some, slice_get_within}
 use Rattle.jk_model_classes.specs.Worlds.{DomainRecord}
-use Rattle.jk_model_machine.specs.Machine.{DomainState}
+use Rattle.jk_model_machine.specs.Machine.{DomainState, tables_of}
+use Rattle.jk_model_machine.proofs.TablesOfDomains.{table-among, table-from}
 use Rattle.sealed_steps.proofs.OneItemChanged.{Contains-at, item-at, place-of}
 use Rattle.sound_folders.specs.LinkedWorlds.{HaveNamesOf}
 use Rattle.jk_kernel.specs.declared.domain_parts.DomainPart.{DomainPart}
@@ -42,16 +43,17 @@ states-set (x ∷ ds) (y ∷ ps) zero n d names =
 states-set (x ∷ ds) (y ∷ ps) (suc i) n d names = ap (λ (zs : List DomainState). state_of x y ∷ zs) (states-set ds ps i n d names)
 
 -- as many parts give the same names
-pub names-stay : (ds : List DomainRecord) (old new : List DomainPart) → length new ≡ length old → HaveNamesOf (states_of ds new) (states_of ds old)
-names-stay ds old new many = λ x among.
-    let place = place-of (states_of ds new) x among in
-    let is = states-at ds new place.0 x place.1 in
+pub names-stay : (ds : List DomainRecord) (old new : List DomainPart) → length new ≡ length old
+    → HaveNamesOf (tables_of (states_of ds new)) (tables_of (states_of ds old))
+names-stay ds old new many = λ table among.
+    let of = table-from (states_of ds new) table among in
+    let place = place-of (states_of ds new) of.0 of.1 in
+    let is = states-at ds new place.0 of.0 place.1 in
     let low = slice_get_within new place.0 is.part is.is_part in
-    let was = item-at old place.0 (omega (arith, low, many)) in (
-      state_of is.names was.0,
-      Contains-at (states_of ds old) place.0 (state_of is.names was.0) (at-state ds old place.0 is.names was.0 is.is_names was.1),
-      ap (λ (d : DomainState). d.table) is.is,
-    )
+    let was = item-at old place.0 (omega (arith, low, many)) in
+    let there = Contains-at (states_of ds old) place.0 (state_of is.names was.0) (at-state ds old place.0 is.names was.0 is.is_names was.1) in
+    let same : is.names.table ≡ table = ap (λ (d : DomainState). d.table) (sym is.is) ∙ of.2 in
+    subst (Contains (tables_of (states_of ds old))) same (table-among (states_of ds old) (state_of is.names was.0) there)
 
 -- written back as it was
 pub set-same : {X : Type 0} (xs : List X) (i : ℕ) (x : X) → slice_get xs i ≡ Some x → set xs i x ≡ xs

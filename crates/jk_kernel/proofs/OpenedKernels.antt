@@ -168,7 +168,7 @@ module _ (w : WorldRecord) (parts : List DomainPart) (threads : List (ℕ × Thr
       built-here =
           more-built loads may-load l.table l.first loads.first_is (subst (λ (xs : List ClassRecord). AreBuilt xs l.first l.table) same-classes o.built)
 
-      accepts : Accepts f m name l.first l.table l.offers l.stubs new
+      accepts : Accepts f (world_of m) name l.first l.table l.offers l.stubs new
       accepts = record {
         may = subst MayLoad (sym same-world) may-load;
         loads = loads-here;

@@ -10,7 +10,7 @@ use Rattle.jk_model_classes.specs.Classes.{AreOrdered}
 use Rattle.jk_model_classes.specs.Worlds.{NamedClass, WorldRecord}
 use Rattle.jk_model_domains.specs.OwnStates.{literal_named}
 use Rattle.jk_model_folders.specs.declared.files.FolderFiles.{FolderFiles}
-use Rattle.jk_model_machine.specs.Machine.{DomainState, Inside, Machine}
+use Rattle.jk_model_machine.specs.Machine.{DomainState, Inside, Machine, world_of}
 use Rattle.sound_folders.specs.LinkedWorlds.{Accepts}
 use Rattle.step_progress.specs.BuiltCodes.{AreAllBuilt, AreMoreBuilt, HasTexts, HaveTexts, RunNoConstructors}
 use Rattle.step_progress.proofs.MoreClassesBuilt.{all-more, opened-plain, opened-texts}
@@ -21,7 +21,7 @@ use Rattle.jk_kernel.specs.SoundKernels.{IsSoundMachine}
 use Rattle.jk_kernel.proofs.CodesDecoded.{decoded-opened}
 
 module _ {f : FolderFiles} {m : Machine} {name : List ℕ} {first : ClassId} {table : List NamedClass} {offers : List Offer} {stubs : List Stub}
-    {w : WorldRecord} (a : Accepts f m name first table offers stubs w) (s : IsSoundMachine m) (ordered : AreOrdered w.classes)
+    {w : WorldRecord} (a : Accepts f (world_of m) name first table offers stubs w) (s : IsSoundMachine m) (ordered : AreOrdered w.classes)
     (suiting : HaveSuitingConstants w.classes) (built : AreMoreBuilt m.classes a.loads.is_placed.added) (quotas : Quotas)
     (inside : Inside) (opening : IsOpening w.classes table inside) where
   abbrev d : DomainState

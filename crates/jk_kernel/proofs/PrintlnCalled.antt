@@ -32,7 +32,8 @@ use Rattle.jk_model_frames.specs.Frames.{FrameState}
 use Rattle.jk_model_domains.specs.Objects.{NamedObject, PRINT_STREAM}
 use Rattle.jk_model_domains.specs.OwnStates.{OwnState}
 use Rattle.jk_model_domains.specs.ValueTypes.{EachValueFits}
-use Rattle.jk_model_machine.specs.Executions.{IsSaid, NULL_POINTER_EXCEPTION, NamesMethod, Raises, Says, prints_line}
+use Rattle.jk_model_sound_classes.specs.NamedMembers.{NamesMethod}
+use Rattle.jk_model_machine.specs.Executions.{IsSaid, NULL_POINTER_EXCEPTION, Raises, Says, prints_line}
 use Rattle.jk_model_machine.specs.Machine.{DomainState, Inside, Machine}
 use Rattle.jk_model_machine.specs.Places.{RunningSegment, with_frames, without_running}
 use Rattle.jk_model_machine.specs.Sealed.{IsKnownValue}

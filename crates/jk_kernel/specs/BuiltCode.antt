@@ -20,7 +20,8 @@ use Rattle.jk_model_classes.specs.Worlds.{IsNamed, NamedClass}
 use Rattle.jk_model_typing.specs.Scopes.{CodeScope, LeadsToLink}
 use Rattle.jk_model_domains.specs.Objects.{PRINT_STREAM}
 use Rattle.jk_model_domains.specs.OwnStates.{IsLiteralOf}
-use Rattle.jk_model_machine.specs.Executions.{IsSystemOut, NamesField, NamesMethod}
+use Rattle.jk_model_sound_classes.specs.NamedMembers.{NamesField, NamesMethod}
+use Rattle.jk_model_machine.specs.Executions.{IsSystemOut}
 
 -- ---- Instructions.
 

@@ -5,7 +5,7 @@ use Rattle.std.specs.BTreeMap.{is_at}
 use Rattle.std.specs.Map.{remove_entry}
 use Rattle.jk_model.specs.declared.output.Line.{Line}
 use Rattle.jk_model_classes.specs.Worlds.{DomainRecord, WorldRecord, domain_of}
-use Rattle.jk_model_machine.specs.Machine.{Machine, Segment, Thread, IsFirstMachine, thread_numbered}
+use Rattle.jk_model_machine.specs.Machine.{Machine, Segment, Thread, IsFirstMachine, tables_of, thread_numbered}
 use Rattle.jk_model_machine.specs.Run.{Goes, Rounds, Turns}
 use Rattle.jk_model_machine.specs.Sealed.{IsSealed}
 use Rattle.jk_model_machine.specs.Steps.{Steps}
@@ -67,7 +67,7 @@ TellsSo w texts r happened lines =
 abbrev pub StepsKeepSound : Type 0
 StepsKeepSound =
     (m new : Machine) (t : ℕ) (lines : List Line) → IsSoundMachine m → Steps m t lines new → new.classes ≡ m.classes
-    → HaveNamesOf new.domains m.domains → IsSoundMachine new
+    → HaveNamesOf (tables_of new.domains) (tables_of m.domains) → IsSoundMachine new
 
 -- each thread of a sound machine has so many steps, after which it is sealed
 abbrev pub SoundMachinesGoOn : Type 0

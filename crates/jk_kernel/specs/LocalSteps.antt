@@ -9,13 +9,13 @@ use Rattle.jk_model_classes.specs.declared.records.ClassRecord.{ClassRecord}
 use Rattle.jk_model_classes.specs.Classes.{record_of}
 use Rattle.jk_model_classes.specs.Worlds.{DomainRecord, IsNamed, WorldRecord}
 use Rattle.jk_model_frames.specs.Frames.{FrameState, segment_chunks}
+use Rattle.jk_model_sound_classes.specs.SoundClasses.{AreSoundClasses}
 use Rattle.jk_model_machine.specs.Executions.{number_text}
 use Rattle.jk_model_domains.specs.OwnStates.{IsLiteralOf, literal_named}
 use Rattle.jk_model_machine.specs.Initialising.{HasNoClinit}
-use Rattle.jk_model_machine.specs.Machine.{Machine, free_chunks}
+use Rattle.jk_model_machine.specs.Machine.{Machine, free_chunks, tables_of}
 use Rattle.jk_model_machine.specs.Places.{RunningSegment, with_frames, without_running}
 use Rattle.jk_model_machine.specs.Sealed.{IsSealed}
-use Rattle.jk_model_machine.specs.SoundClasses.{AreSoundClasses}
 use Rattle.jk_model_machine.specs.Steps.{Steps}
 use Rattle.frame_store.specs.FrameContents.{FrameContent, Changes, IsSame, free_chunks as free_in}
 use Rattle.jk_kernel.specs.declared.domain_parts.DomainPart.{DomainPart}
@@ -44,7 +44,7 @@ pub record IsAt (c : FrameContent) (w : WorldRecord) (names : DomainRecord) (d :
   pub free : free_in c r.domain ≡ free_chunks m p.domain
   pub out : d.own.out ≡ 0
   pub sealed : IsSealed m
-  pub sound : AreSoundClasses m.classes m.domains
+  pub sound : AreSoundClasses m.classes (tables_of m.domains)
   -- no class that the domain knows has an initialiser with code, and each literal has its object
   pub no_clinit : (k : ClassId) → IsNamed names.table k → HasNoClinit m.classes k
   pub literals : (text : List ℕ) → IsLiteralOf m.classes names.table text → (a : ℕ) × (literal_named d.own text ≡ Some a)

@@ -4,9 +4,9 @@ use Rattle.jk_model.specs.declared.descriptors.MethodType.{MethodType}
 use Rattle.jk_model.specs.Descriptors.{IsMethodText}
 use Rattle.jk_model.specs.SystemTable.{system_classes}
 use Rattle.jk_model_classes.specs.Worlds.{IsWorld, WorldRecord}
-use Rattle.jk_model_machine.specs.Machine.{Machine}
+use Rattle.jk_model_sound_classes.specs.SoundClasses.{AreSoundClasses}
+use Rattle.jk_model_machine.specs.Machine.{Machine, tables_of}
 use Rattle.jk_model_machine.specs.Sealed.{IsSealed}
-use Rattle.jk_model_machine.specs.SoundClasses.{AreSoundClasses}
 use Rattle.frame_store.specs.FrameContents.{FrameContent}
 use Rattle.sealed_openings.specs.FieldConstants.{HaveSuitingConstants}
 use Rattle.sealed_steps.specs.FirstNumbers.{CountsFromOne}
@@ -22,8 +22,8 @@ use Rattle.jk_kernel.specs.KernelStates.{ArePartsOfKernel, machine_of}
 pub record IsSoundMachine (m : Machine) : Type 0 where
   pub sealed : IsSealed m
   pub counts : CountsFromOne m
-  pub sound : AreSoundClasses m.classes m.domains
-  pub linked : AreLinked m.classes m.domains
+  pub sound : AreSoundClasses m.classes (tables_of m.domains)
+  pub linked : AreLinked m.classes (tables_of m.domains)
   pub built : AreAllBuilt m.classes
   pub texts : HaveTexts m
   pub no_constructors : RunNoConstructors m

@@ -6,7 +6,7 @@ ghost use Rattle.jk_kernel.specs.KernelTurns.{FirstMachinesAreSound, RoundsGoOn,
 use sealed_steps::laws::{
     first_machine_is_sealed, numbers_count_from_one, starts_stay_sealed, steps_stay_sealed,
 };
-use sound_folders::laws::{first_machine_is_sound, same_names_stay_sound};
+use sound_folders::laws::{first_classes_are_sound, same_names_stay_sound};
 use step_progress::laws::{
     code_stays_built, more_classes_are_built, no_constructor_begins, texts_keep_objects,
     turns_are_there,
@@ -18,7 +18,7 @@ pub(crate) fn first_is_sound()
 {
     first_machine_is_sealed();
     numbers_count_from_one();
-    first_machine_is_sound();
+    first_classes_are_sound();
     more_classes_are_built();
     texts_keep_objects();
     no_constructor_begins();

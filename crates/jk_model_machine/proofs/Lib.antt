@@ -1,0 +1,2 @@
+-- What follows from the definitions of the whole machine alone.
+pub mod TablesOfDomains

@@ -23,7 +23,6 @@ use Rattle.jk_model_classes.specs.declared.records.Link.TheVariants as To
 use Rattle.jk_model_classes.specs.declared.records.LinkedCode.{LinkedCode}
 use Rattle.jk_model_classes.specs.declared.records.MethodRecord.{MethodRecord}
 use Rattle.jk_model_classes.specs.declared.records.TypeRef.{TypeRef}
-use Rattle.jk_model_classes.specs.Lookups.{FieldIs, MethodIs}
 use Rattle.jk_model_typing.specs.FrameTypes.{STRING, array_type}
 use Rattle.jk_model_typing.specs.Scopes.{CodeScope, LeadsToLink}
 pub use Rattle.jk_model_frames.specs.Frames.{as_locals}
@@ -31,6 +30,7 @@ use Rattle.jk_model_frames.specs.Frames.{FrameState, head_chunks}
 use Rattle.jk_model_domains.specs.NumberRows.{IsOnTop, NumberRow, Replaces}
 use Rattle.jk_model_domains.specs.Objects.{NamedObject, Text, PRINT_STREAM, class_type, object_named}
 use Rattle.jk_model_domains.specs.OwnStates.{OwnState, literal_named, static_of, with_static}
+use Rattle.jk_model_sound_classes.specs.NamedMembers.{NamesField, NamesMethod}
 use Rattle.jk_model_machine.specs.Machine.{Inside}
 
 -- What is done after an instruction.
@@ -73,10 +73,6 @@ pub record LoadsText (s : CodeScope) (i : Instr) (w new : Working) (outcome : Ou
   pub goes_on : outcome ≡ GoesOn (w.frame.head.at + 1)
 
 -- ---- Static fields.
-
--- the field that the instruction names
-abbrev pub NamesField : CodeScope → Instr → MemberId → FieldRecord → Type 0
-NamesField s i m field = (c : ClassId) × LeadsToLink s i (To.Field c m) × FieldIs s.classes m field
 
 -- the one static field of the system classes
 abbrev pub IsSystemOut : CodeScope → MemberId → Type 0
@@ -125,10 +121,6 @@ pub record PutsStatic (s : CodeScope) (i : Instr) (w new : Working) (outcome : O
   pub goes_on : outcome ≡ GoesOn (w.frame.head.at + 1)
 
 -- ---- Calls of static methods with code.
-
--- the method that the instruction names
-abbrev pub NamesMethod : CodeScope → Instr → MemberId → MethodRecord → Type 0
-NamesMethod s i m method = (c : ClassId) × LeadsToLink s i (To.Method c m) × MethodIs s.classes m method
 
 abbrev pub call_head : MemberId → LinkedCode → FrameHead
 call_head m code = record {

@@ -4,6 +4,5 @@ pub mod Machine
 pub mod Places
 pub mod Run
 pub mod Sealed
-pub mod SoundClasses
 pub mod Starts
 pub mod Steps

@@ -1,5 +1,5 @@
 -- The machine: classes, domains with heaps of their own, and threads as stacks of segments.
-use Rattle.std.specs.Prelude.{◌≡◌, ℕ, ◌+◌, ◌-◌, ◌*◌, ◌<◌, ◌==◌, ◌&&◌, Bool, false, List, [], ◌∷◌, ◌++◌, length, map, filter, sum_by, find, Option, Some, None, slice_get, slice_set, bytes_eq, not, if◌then◌else◌}
+use Rattle.std.specs.Prelude.{◌≡◌, ℕ, ◌-◌, ◌==◌, ◌&&◌, Bool, false, List, [], length, map, filter, sum_by, find, Option, Some, None, slice_get, slice_set, bytes_eq, not, if◌then◌else◌}
 use Rattle.jk_model.specs.declared.identifiers.DomainId.{DomainId}
 use Rattle.jk_model.specs.declared.identifiers.SegmentNo.{SegmentNo}
 use Rattle.jk_model.specs.declared.identifiers.ThreadNo.{ThreadNo}
@@ -33,6 +33,10 @@ pub record DomainState : Type 0 where
 
 abbrev pub is_live_domain : DomainState → Bool
 is_live_domain d = elim d.inside as (λ _. Bool) [ Some i ↦ Bool.true | None ↦ false ]
+
+-- what names mean in each of these domains
+abbrev pub tables_of : List DomainState → List (List NamedClass)
+tables_of domains = map (λ (d : DomainState). d.table) domains
 
 -- ---- Threads. Segments and frames stand lowest first.
 

@@ -1,6 +1,6 @@
 -- What holds of the machine at every moment: no name crosses from one domain to another, each value fits where it stands, each
 -- frame fits its method's least typing, and nobody uses more chunks than its quota has.
-use Rattle.std.specs.Prelude.{◌≡◌, ◌≢◌, ℕ, ◌<◌, ◌≤◌, ◌⊎◌, ⊤, Bool, true, false, List, [], ◌∷◌, ◌++◌, length, take, Contains, Option, Some, None, slice_get, count_by, sum_by, ◌==◌, if◌then◌else◌}
+use Rattle.std.specs.Prelude.{◌≡◌, ◌≢◌, ℕ, ◌<◌, ◌≤◌, ◌⊎◌, ⊤, Bool, true, false, List, [], ◌∷◌, ◌++◌, length, Contains, Option, Some, None, slice_get, count_by, sum_by, ◌==◌, if◌then◌else◌}
 use Rattle.std.specs.List.{AllByRecursion}
 use Rattle.jk_model.specs.declared.identifiers.ClassId.{ClassId}
 use Rattle.jk_model.specs.declared.identifiers.MemberId.{MemberId}
@@ -13,8 +13,6 @@ use Rattle.jk_model.specs.declared.values.Value.TheVariants.{Obj, Cap}
 use Rattle.jk_model_classes.specs.declared.records.ClassRecord.{ClassRecord}
 use Rattle.jk_model_classes.specs.declared.records.FieldRecord.{FieldRecord}
 use Rattle.jk_model_classes.specs.declared.records.MethodRecord.{MethodRecord}
-use Rattle.jk_model_classes.specs.declared.records.BaseRef.{BaseRef}
-use Rattle.jk_model_classes.specs.declared.records.BaseRef.TheVariants as Base
 use Rattle.jk_model_classes.specs.Layouts.{InstanceField, instance_fields}
 use Rattle.jk_model_classes.specs.Lookups.{FieldIs}
 use Rattle.jk_model_classes.specs.Worlds.{IsNamed, NamedClass}
@@ -23,15 +21,16 @@ use Rattle.jk_model_typing.specs.declared.frames.VType.{VType}
 use Rattle.jk_model_typing.specs.Rows.{Row}
 use Rattle.jk_model_typing.specs.Scopes.{CodeScope, IsScopeOf, result_values}
 use Rattle.jk_model_typing.specs.FrameTypes.{STRING}
-use Rattle.jk_model_typing.specs.Typing.{FrameAt, IsLeastTyping, IsTyping}
+use Rattle.jk_model_typing.specs.Typing.{FrameAt}
 use Rattle.jk_model_domains.specs.declared.states.ClassState.{ClassState}
 use Rattle.jk_model_domains.specs.declared.states.ClassState.TheVariants as State
 use Rattle.jk_model_frames.specs.Frames.{FrameState}
 use Rattle.jk_model_domains.specs.Objects.{NamedObject, Object, Plain, Array, Text, Task, CAPABILITY, PRINT_STREAM, TASK, object_named}
 use Rattle.jk_model_domains.specs.OwnStates.{IsOwnState, Literal, OwnState, state_of, static_of}
 use Rattle.jk_model_domains.specs.ValueTypes.{EachValueFits, FrameHolds, HoldsDeclared}
-use Rattle.class_growth.specs.ClosedClasses.{IsClosed}
-use Rattle.jk_model_machine.specs.Executions.{NamesMethod}
+use Rattle.jk_model_sound_classes.specs.NamedMembers.{NamesMethod}
+use Rattle.jk_model_sound_classes.specs.SoundClasses.{IsNamedBase}
+use Rattle.jk_model_sound_classes.specs.VerifiedMethods.{IsVerified}
 use Rattle.jk_model_machine.specs.Machine.{DomainState, Inside, Machine, Segment, Thread, chunks_used, domain_at, is_live_domain, is_live_thread}
 
 -- ---- Values. There are no capabilities so far.
@@ -42,10 +41,6 @@ IsKnownValue heap (Cap k) = ⊥
 IsKnownValue heap _ = ⊤
 
 -- ---- Domains.
-
-abbrev pub IsNamedBase : List NamedClass → BaseRef → Type 0
-IsNamedBase table (Base.Class c) = IsNamed table c
-IsNamedBase table base = ⊤
 
 -- as many values as the class has instance fields, each of which fits its field
 pub record HasFields (classes : List ClassRecord) (heap : List NamedObject) (class : ClassId) (values : List Value) : Type 0 where
@@ -77,14 +72,6 @@ pub record IsSealedInside (classes : List ClassRecord) (d : DomainState) (inside
       → HoldsDeclared classes inside.heap v field.kind × IsKnownValue inside.heap v
 
 -- ---- Frames.
-
--- A method's code has this typing, and it is the least one among all classes, or among some first ones that mention no other, as
--- those do that stood when the method's folder was loaded. So no later class can come into a frame.
-pub record IsVerified (classes : List ClassRecord) (method : MemberId) (frames : List (Option FrameType)) : Type 0 where
-  pub typing : IsTyping classes method frames
-  pub stood : ℕ
-  pub enough : (stood ≡ length classes) ⊎ IsClosed (take stood classes)
-  pub is_least : IsLeastTyping (take stood classes) method frames
 
 -- What a frame's method is judged in, and its typing.
 pub record HasTyping (classes : List ClassRecord) (f : FrameState) : Type 0 where

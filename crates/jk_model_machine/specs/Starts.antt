@@ -1,6 +1,6 @@
 -- A start, as a relation: which line it prints, and to which machine it leads. There is one case a rule, in the order of the
 -- rules. A start with words that breaks none of the rules has no case so far.
-use Rattle.std.specs.Prelude.{◌≡◌, ℕ, suc, ◌+◌, ◌<◌, ◌≤◌, ◌⊎◌, ◌&&◌, false, true, not, IsTrue, List, [], ◌∷◌, ◌++◌, Option, Some, None, codes}
+use Rattle.std.specs.Prelude.{◌≡◌, ℕ, suc, ◌+◌, ◌<◌, ◌≤◌, ◌&&◌, false, IsTrue, List, [], ◌∷◌, ◌++◌, Some, None, codes}
 use Rattle.jk_model.specs.declared.descriptors.MethodType.{MethodType}
 use Rattle.jk_model.specs.declared.identifiers.ClassId.{ClassId}
 use Rattle.jk_model.specs.declared.identifiers.MemberId.{MemberId}
@@ -16,7 +16,7 @@ use Rattle.jk_model_classes.specs.Lookups.{FindsMethod, MethodIs}
 use Rattle.jk_model_classes.specs.Worlds.{class_named}
 use Rattle.jk_model_frames.specs.Frames.{FrameState, head_chunks}
 use Rattle.jk_model_machine.specs.Executions.{IsCalledFrame, call_head}
-use Rattle.jk_model_machine.specs.Machine.{DomainState, Machine, Segment, Thread, free_chunks, live_domain, started_in}
+use Rattle.jk_model_machine.specs.Machine.{DomainState, Machine, Segment, free_chunks, live_domain, started_in}
 
 -- the public static method `main([Ljava/lang/String;)V` that is found from a class
 pub record IsMain (m : Machine) (class : ClassId) (main : MemberId) (code : LinkedCode) : Type 0 where

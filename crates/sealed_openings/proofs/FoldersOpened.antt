@@ -13,13 +13,14 @@ use Rattle.jk_model_classes.specs.Worlds.{NamedClass, WorldRecord}
 use Rattle.jk_model_domains.specs.declared.states.ClassState.TheVariants as State
 use Rattle.jk_model_domains.specs.OwnStates.{state_of}
 use Rattle.jk_model_folders.specs.declared.files.FolderFiles.{FolderFiles}
-use Rattle.jk_model_machine.specs.Machine.{DomainState, Inside, Machine, is_live_domain}
+use Rattle.jk_model_sound_classes.specs.SoundClasses.{AreSoundClasses}
+use Rattle.jk_model_machine.specs.Machine.{DomainState, Inside, Machine, is_live_domain, tables_of, world_of}
 use Rattle.jk_model_machine.specs.Sealed.{IsSealed, IsSealedInside}
-use Rattle.jk_model_machine.specs.SoundClasses.{AreSoundClasses}
+use Rattle.jk_model_machine.proofs.TablesOfDomains.{table-among, tables-behind}
 use Rattle.class_growth.proofs.ItemsOfLists.{Contains-at, Contains-here, place-of}
 use Rattle.sound_folders.specs.LinkedWorlds.{Accepts, AreLinked}
 use Rattle.sound_folders.proofs.NewClasses.{added, all}
-use Rattle.sound_folders.proofs.SoundAgain.{AreTyped, NoInitialisers, linked-again, sound-again}
+use Rattle.sound_folders.proofs.SoundAgain.{accepted-linked, accepted-sound}
 use Rattle.sealed_openings.specs.FieldConstants.{HaveSuitingConstants}
 use Rattle.sealed_openings.specs.NewDomains.{IsNewDomain}
 use Rattle.sealed_openings.specs.OpenedDomains.{IsOpening, new_domain, with_new_domain}
@@ -35,25 +36,23 @@ mapped-at f (y ∷ xs) zero x e = ap (λ z. Some (f z)) (same_Some y x e)
 mapped-at f (y ∷ xs) (suc k) x e = mapped-at f xs k x e
 
 module _ {f : FolderFiles} {m : Machine} {name : List ℕ} {first : ClassId} {table : List NamedClass} {offers : List Offer} {stubs : List Stub}
-    {w : WorldRecord} (a : Accepts f m name first table offers stubs w) (sealed : IsSealed m) (sound : AreSoundClasses m.classes m.domains)
-    (linked : AreLinked m.classes m.domains) (ordered : AreOrdered w.classes) (suiting : HaveSuitingConstants w.classes) (quotas : Quotas)
-    (inside : Inside) (opening : IsOpening w.classes table inside) where
+    {w : WorldRecord} (a : Accepts f (world_of m) name first table offers stubs w) (sealed : IsSealed m)
+    (sound : AreSoundClasses m.classes (tables_of m.domains)) (linked : AreLinked m.classes (tables_of m.domains)) (ordered : AreOrdered w.classes)
+    (suiting : HaveSuitingConstants w.classes) (quotas : Quotas) (inside : Inside) (opening : IsOpening w.classes table inside) where
   abbrev d : DomainState
   d = new_domain m name quotas table offers inside
 
   same : w.classes ≡ all a.loads
   same = ap (λ (x : WorldRecord). x.classes) a.loads.world ∙ a.loads.is_placed.classes
 
-  pub sound-then : AreSoundClasses w.classes (m.domains ++ d ∷ [])
-  sound-then =
-      subst (λ (xs : List ClassRecord). AreSoundClasses xs (m.domains ++ d ∷ [])) (sym same)
-      (sound-again a.loads a.may m.domains sound linked (subst AreOrdered same ordered) d a.loads.table_is
-      (subst (λ (xs : List ClassRecord). AreTyped first xs) same a.typed) (subst (λ (xs : List ClassRecord). NoInitialisers first xs) same a.no_initialisers))
+  same-tables : tables_of (m.domains ++ d ∷ []) ≡ tables_of m.domains ++ table ∷ []
+  same-tables = tables-behind m.domains d
 
-  pub linked-then : AreLinked w.classes (m.domains ++ d ∷ [])
-  linked-then =
-      subst (λ (xs : List ClassRecord). AreLinked xs (m.domains ++ d ∷ [])) (sym same)
-      (linked-again a.loads a.may m.domains sound linked (subst AreOrdered same ordered) d a.loads.table_is)
+  pub sound-then : AreSoundClasses w.classes (tables_of (m.domains ++ d ∷ []))
+  sound-then = subst (AreSoundClasses w.classes) (sym same-tables) (accepted-sound a (tables_of m.domains) sound linked ordered)
+
+  pub linked-then : AreLinked w.classes (tables_of (m.domains ++ d ∷ []))
+  linked-then = subst (AreLinked w.classes) (sym same-tables) (accepted-linked a (tables_of m.domains) sound linked ordered)
 
   not-live : (e : DomainState) → Contains m.domains e → is_live_domain e ≡ true → e.name ≡ name → ⊥
   not-live e on live same_name =
@@ -76,7 +75,8 @@ module _ {f : FolderFiles} {m : Machine} {name : List ℕ} {first : ClassId} {ta
     sealed = λ x is.
         subst (λ (y : Inside). IsSealedInside w.classes d y) (same_Some inside x is)
         (opening-sealed w.classes sound-then.system suiting d
-        (linked-then.knows_system d (Contains-append_right m.domains (d ∷ []) d (Contains-here d []))) inside opening);
+        (linked-then.knows_system table (table-among (m.domains ++ d ∷ []) d (Contains-append_right m.domains (d ∷ []) d (Contains-here d []))))
+        inside opening);
     calm = λ x c t is. subst (λ (y : Inside). state_of y.own c ≡ State.InProgress t → ⊥) (same_Some inside x is)
         (none-in_progress inside.own opening.untouched c t);
   }

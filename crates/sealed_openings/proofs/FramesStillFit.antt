@@ -18,8 +18,8 @@ use Rattle.jk_model_typing.specs.Typing.{IsLeastTyping}
 use Rattle.jk_model_frames.specs.Frames.{FrameState}
 use Rattle.jk_model_domains.specs.Objects.{NamedObject}
 use Rattle.jk_model_domains.specs.ValueTypes.{EachValueFits, FrameHolds}
-use Rattle.jk_model_machine.specs.Executions.{NamesMethod}
-use Rattle.jk_model_machine.specs.Sealed.{FitsAsCaller, FitsAsTop, FitsAtCall, FitsHere, FramesFit, HasTyping, IsVerified}
+use Rattle.jk_model_sound_classes.specs.VerifiedMethods.{IsVerified}
+use Rattle.jk_model_machine.specs.Sealed.{FitsAsCaller, FitsAsTop, FitsAtCall, FitsHere, FramesFit, HasTyping}
 use Rattle.class_growth.specs.ClosedClasses.{HasType, IsClosed}
 use Rattle.class_growth.specs.ScopesOver.{among}
 use Rattle.class_growth.proofs.MoreClasses.{method-still}

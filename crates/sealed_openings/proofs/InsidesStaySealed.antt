@@ -18,8 +18,9 @@ use Rattle.jk_model_classes.specs.Worlds.{IsNamed, NamedClass}
 use Rattle.jk_model_domains.specs.Objects.{NamedObject, Object, Plain, Array, Text, Task}
 use Rattle.jk_model_domains.specs.OwnStates.{ClassPart, IsOwnState, OwnState, part_of, static_in, static_of}
 use Rattle.jk_model_domains.specs.ValueTypes.{HoldsDeclared}
+use Rattle.jk_model_sound_classes.specs.SoundClasses.{IsNamedBase}
 use Rattle.jk_model_machine.specs.Machine.{DomainState, Inside}
-use Rattle.jk_model_machine.specs.Sealed.{HasFields, IsKnownValue, IsNamedBase, IsSealedInside, IsSealedObject}
+use Rattle.jk_model_machine.specs.Sealed.{HasFields, IsKnownValue, IsSealedInside, IsSealedObject}
 use Rattle.class_growth.specs.ClosedClasses.{HasBase, IsClosed}
 use Rattle.class_growth.proofs.ItemsOfLists.{Contains-at, each-of, each-weaker}
 use Rattle.class_growth.proofs.LayoutsKept.{instance_fields-kept}

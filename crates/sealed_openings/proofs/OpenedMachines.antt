@@ -13,9 +13,10 @@ use Rattle.jk_model_domains.specs.declared.states.ClassState.{ClassState}
 use Rattle.jk_model_domains.specs.declared.states.ClassState.TheVariants as State
 use Rattle.jk_model_domains.specs.OwnStates.{OwnState, state_of}
 use Rattle.jk_model_frames.specs.Frames.{segment_chunks}
-use Rattle.jk_model_machine.specs.Machine.{DomainState, Inside, Machine, Segment, Thread, chunks_of, chunks_used, is_live_domain}
+use Rattle.jk_model_sound_classes.specs.SoundClasses.{AreSoundClasses}
+use Rattle.jk_model_machine.specs.Machine.{DomainState, Inside, Machine, Segment, Thread, chunks_of, chunks_used, is_live_domain, tables_of}
 use Rattle.jk_model_machine.specs.Sealed.{IsSealed, IsSealedInside, IsSealedSegment, in_progress_by, initialisers_of, segment_initialisers}
-use Rattle.jk_model_machine.specs.SoundClasses.{AreSoundClasses}
+use Rattle.jk_model_machine.proofs.TablesOfDomains.{table-among}
 use Rattle.class_growth.specs.ClosedClasses.{IsClosed}
 use Rattle.class_growth.proofs.ItemsOfLists.{Contains-at, Contains-here, Contains-there, slice_get-longer}
 use Rattle.class_growth.proofs.MoreClasses.{has_class-by_record}
@@ -49,7 +50,7 @@ in_progress-none : (t : ThreadNo) (own : OwnState) (c : ClassId) → ((by : Thre
     → in_progress_by t own c ≡ 0
 in_progress-none t own c calm = counted-none t (state_of own c) calm
 
-module _ (m : Machine) (more : List ClassRecord) (d : DomainState) (sealed : IsSealed m) (sound : AreSoundClasses m.classes m.domains)
+module _ (m : Machine) (more : List ClassRecord) (d : DomainState) (sealed : IsSealed m) (sound : AreSoundClasses m.classes (tables_of m.domains))
     (closed : IsClosed m.classes) (new : IsNewDomain m (m.classes ++ more) d) where
   abbrev opened : Machine
   opened = with_opened m more d
@@ -58,7 +59,7 @@ module _ (m : Machine) (more : List ClassRecord) (d : DomainState) (sealed : IsS
 
   named-there : (e : DomainState) → Contains m.domains e → (c : ClassId) → IsNamed e.table c → HasClass m.classes c
   named-there e on c named =
-      let at = sound.tables e on c named in
+      let at = sound.closed e.table (table-among m.domains e on) c named in
       has_class-by_record m.classes c at.0 at.1
 
   of_other : (thread : Thread) (s : Segment) → Contains m.threads thread → Contains thread.segments s → s.domain.0 == d.number.0 ≡ false

@@ -18,8 +18,9 @@ use Rattle.jk_model_typing.specs.Typing.{FitsAt, FrameAt, IsStart, as_locals as 
 use Rattle.jk_model_frames.specs.Frames.{FrameState}
 use Rattle.jk_model_domains.specs.Objects.{NamedObject}
 use Rattle.jk_model_domains.specs.ValueTypes.{EachValueFits, ValueFits}
+use Rattle.jk_model_sound_classes.specs.VerifiedMethods.{IsVerified}
 use Rattle.jk_model_machine.specs.Executions.{as_locals}
-use Rattle.jk_model_machine.specs.Sealed.{FitsHere, IsVerified}
+use Rattle.jk_model_machine.specs.Sealed.{FitsHere}
 use Rattle.sealed_steps.proofs.OneItemChanged.{if-true}
 use Rattle.sealed_steps.proofs.OneScope.{one-scope}
 use Rattle.sealed_steps.proofs.ValuesAbove.{fits-append, fits-length, values-above}

@@ -21,7 +21,7 @@ use Rattle.jk_model_typing.specs.Typing.{FitsAt, leaves_line}
 use Rattle.jk_model_frames.specs.Frames.{FrameState}
 use Rattle.jk_model_domains.specs.Objects.{NamedObject}
 use Rattle.jk_model_domains.specs.ValueTypes.{EachValueFits, FrameHolds}
-use Rattle.jk_model_machine.specs.Executions.{NamesMethod}
+use Rattle.jk_model_sound_classes.specs.NamedMembers.{NamesMethod}
 use Rattle.jk_model_machine.specs.Initialising.{RunsCode}
 use Rattle.jk_model_machine.specs.Sealed.{FitsAsTop, FitsAtCall, FitsHere}
 use Rattle.jk_model_machine.specs.Steps.{resumed}

@@ -17,9 +17,8 @@ use Rattle.jk_model_classes.specs.declared.records.MethodRecord.{MethodRecord}
 use Rattle.jk_model_classes.specs.Classes.{OBJECT, ParentIsBelow, class_method_walk, interface_method_walk, is_interface_record, listed_interfaces, method_walk, own_interfaces, parents_of, record_of, superclasses, superclasses_within, with_interfaces, with_interfaces_within}
 use Rattle.jk_model_classes.specs.Lookups.{MethodIs}
 use Rattle.jk_model_classes.specs.Worlds.{IsNamed, NamedClass}
-use Rattle.jk_model_machine.specs.Machine.{DomainState}
+use Rattle.jk_model_sound_classes.specs.SoundClasses.{AreSoundClasses, IsClosedTable}
 use Rattle.class_table.proofs.ItemsOfLists.{Contains-cases, Contains-flat_map_from, Contains-none, each-of}
-use Rattle.jk_model_machine.specs.SoundClasses.{AreSoundClasses, IsClosedTable}
 use Rattle.sealed_steps.proofs.OneItemChanged.{item-at}
 
 -- ---- Walks.
@@ -104,7 +103,7 @@ nothing_below : (p : ClassId) (o : Option ClassId) → o ≡ Some p → ParentIs
 nothing_below p None e below = none-some p e
 nothing_below p (Some q) e below = omega arith
 
-module _ (classes : List ClassRecord) (domains : List DomainState) (sound : AreSoundClasses classes domains) where
+module _ (classes : List ClassRecord) (tables : List (List NamedClass)) (sound : AreSoundClasses classes tables) where
   -- it is a system class, since nothing stands above it
   object-of_system : (r : ClassRecord) → record_of classes OBJECT ≡ Some r → slice_get (take (length system_classes) classes) 0 ≡ Some r
   object-of_system r is = by r.home refl

@@ -6,11 +6,12 @@ use Rattle.jk_model.specs.declared.steps.Raise.{Raise}
 use Rattle.jk_model_classes.specs.declared.records.ClassRecord.{ClassRecord}
 use Rattle.jk_model_classes.specs.Worlds.{NamedClass}
 use Rattle.jk_model_frames.specs.Frames.{FrameState}
+use Rattle.jk_model_sound_classes.specs.SoundClasses.{AreSoundClasses, IsClosedTable}
 use Rattle.jk_model_machine.specs.Executions.{Outcome, Working}
-use Rattle.jk_model_machine.specs.Machine.{DomainState, Inside, Machine, with_domain}
+use Rattle.jk_model_machine.specs.Machine.{DomainState, Inside, Machine, with_domain, tables_of}
 use Rattle.jk_model_machine.specs.Places.{RunningSegment}
 use Rattle.jk_model_machine.specs.Steps.{ActingFrame, Acts, Follows, RaisesPending, Steps, Throws, Touches, with_own, calls, does, ends, ends_initialiser, goes_on, meets_broken, need_falls, returns, says, throws, touches, NeedFalls}
-use Rattle.jk_model_machine.specs.SoundClasses.{AreSoundClasses, IsClosedTable}
+use Rattle.jk_model_machine.proofs.TablesOfDomains.{table-among, table-from}
 use Rattle.sealed_steps.proofs.OneItemChanged.{Contains-at, place-of, set-cases}
 use Rattle.sealed_steps.proofs.ThrowsSealed.{pays-only}
 
@@ -31,18 +32,18 @@ pub record ChangesOne (m new : Machine) : Type 0 where
   pub classes : new.classes ≡ m.classes
   pub domains : new.domains ≡ with_domain changed m.domains
 
-pub one-sound : (m new : Machine) → ChangesOne m new → AreSoundClasses m.classes m.domains → AreSoundClasses new.classes new.domains
+pub one-sound : (m new : Machine) → ChangesOne m new → AreSoundClasses m.classes (tables_of m.domains) → AreSoundClasses new.classes (tables_of new.domains)
 one-sound m new h sound =
-    subst (λ (ds : List DomainState). AreSoundClasses new.classes ds) (sym h.domains)
-    (subst (λ (cs : List ClassRecord). AreSoundClasses cs (with_domain h.changed m.domains)) (sym h.classes) there)
+    subst (λ (ds : List DomainState). AreSoundClasses new.classes (tables_of ds)) (sym h.domains)
+    (subst (λ (cs : List ClassRecord). AreSoundClasses cs (tables_of (with_domain h.changed m.domains))) (sym h.classes) there)
   where
     table : (d : DomainState) → (h.changed ≡ d) ⊎ Contains m.domains d → IsClosedTable m.classes d.table
     table d (inl same) =
         subst (λ (x : DomainState). IsClosedTable m.classes x.table) same
-        (subst (λ (x : List NamedClass). IsClosedTable m.classes x) (sym h.table) (sound.tables h.domain h.there))
-    table d (inr old) = sound.tables d old
+        (subst (λ (x : List NamedClass). IsClosedTable m.classes x) (sym h.table) (sound.closed h.domain.table (table-among m.domains h.domain h.there)))
+    table d (inr old) = sound.closed d.table (table-among m.domains d old)
 
-    there : AreSoundClasses m.classes (with_domain h.changed m.domains)
+    there : AreSoundClasses m.classes (tables_of (with_domain h.changed m.domains))
     there = record {
       ordered = sound.ordered;
       system = sound.system;
@@ -53,7 +54,9 @@ one-sound m new h sound =
       statics = sound.statics;
       static_fields = sound.static_fields;
       initialisers = sound.initialisers;
-      tables = λ d has. table d (new-or-old m.domains h.changed.number.0 h.changed d has);
+      closed = λ x has.
+          let from = table-from (with_domain h.changed m.domains) x has in
+          subst (IsClosedTable m.classes) from.2 (table from.0 (new-or-old m.domains h.changed.number.0 h.changed from.0 from.1));
     }
 
 -- ---- The cases of a step.
@@ -114,11 +117,11 @@ module _ (m : Machine) (t : ℕ) where
   pending-one lines new h =
       throws-one h.place h.payer (pays-only h.place.domain h.payer h.pays).table h.place.inside h.place.segment.frames _ lines new h.throws
 
-  same-sound : (new : Machine) → new ≡ m → AreSoundClasses m.classes m.domains → AreSoundClasses new.classes new.domains
-  same-sound new same sound = subst (λ (x : Machine). AreSoundClasses x.classes x.domains) (sym same) sound
+  same-sound : (new : Machine) → new ≡ m → AreSoundClasses m.classes (tables_of m.domains) → AreSoundClasses new.classes (tables_of new.domains)
+  same-sound new same sound = subst (λ (x : Machine). AreSoundClasses x.classes (tables_of x.domains)) (sym same) sound
 
-  pub step-sound : AreSoundClasses m.classes m.domains → (lines : List Line) (new : Machine) → Steps m t lines new
-      → AreSoundClasses new.classes new.domains
+  pub step-sound : AreSoundClasses m.classes (tables_of m.domains) → (lines : List Line) (new : Machine) → Steps m t lines new
+      → AreSoundClasses new.classes (tables_of new.domains)
   step-sound sound lines new (inl h) = same-sound new h.same sound
   step-sound sound lines new (inr (inl h)) = same-sound new h.same sound
   step-sound sound lines new (inr (inr (inl h))) = same-sound new h.same sound

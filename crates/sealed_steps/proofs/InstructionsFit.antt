@@ -26,7 +26,7 @@ use Rattle.jk_model_classes.specs.declared.records.BaseRef.{BaseRef}
 use Rattle.jk_model_classes.specs.declared.records.BaseRef.TheVariants as Base
 use Rattle.jk_model_classes.specs.Classes.{AreOrdered, record_of}
 use Rattle.jk_model_classes.specs.Lookups.{FieldIs, MethodIs}
-use Rattle.jk_model_classes.specs.Worlds.{IsNamed}
+use Rattle.jk_model_classes.specs.Worlds.{IsNamed, NamedClass}
 use Rattle.jk_model_typing.specs.declared.frames.FrameType.{FrameType}
 use Rattle.jk_model_typing.specs.FrameTypes.{array_type, erased_class, string, value_of}
 use Rattle.jk_model_typing.specs.Scopes.{CodeScope, LeadsToLink, parameter_values, result_values}
@@ -36,14 +36,15 @@ use Rattle.jk_model_domains.specs.NumberRows.{NumberRow, Replaces}
 use Rattle.jk_model_domains.specs.Objects.{NamedObject, Plain, Text, PRINT_STREAM, class_type, object_named}
 use Rattle.jk_model_domains.specs.OwnStates.{Literal}
 use Rattle.jk_model_domains.specs.ValueTypes.{EachValueFits, FrameHolds, HoldsDeclared, ValueFits}
-use Rattle.jk_model_machine.specs.Executions.{Calls, CallsStatic, Executes, GetsStatic, GoesOn, IsCalledFrame, IsOutcome, IsStaticValue, IsSystemOut, LoadsText, NamesMethod, Outcome, PrintsLine, PutsStatic, Raises, Returns, Says, Working, as_locals, calls_static, gets_static, loads_text, numbers, prints_line, puts_static, stored}
+use Rattle.jk_model_sound_classes.specs.NamedMembers.{NamesMethod}
+use Rattle.jk_model_sound_classes.specs.SoundClasses.{AreSoundClasses, IsClosedTable}
+use Rattle.jk_model_machine.specs.Executions.{Calls, CallsStatic, Executes, GetsStatic, GoesOn, IsCalledFrame, IsOutcome, IsStaticValue, IsSystemOut, LoadsText, Outcome, PrintsLine, PutsStatic, Raises, Returns, Says, Working, as_locals, calls_static, gets_static, loads_text, numbers, prints_line, puts_static, stored}
 use Rattle.jk_model_machine.specs.Initialising.{RunsCode}
 use Rattle.jk_model_machine.specs.Machine.{DomainState, Inside}
 use Rattle.jk_model_machine.specs.Sealed.{FitsAsCaller, FitsAsTop, FitsAtCall, FitsHere, HasTyping, IsAtHome, IsKnownIn, IsKnownValue, IsSealedInside, KnowsClassOf, NamesKnown, in_progress_by}
 use Rattle.jk_model_machine.specs.Steps.{at_place}
 use Rattle.class_table.proofs.ItemsByPlace.{slice_get-take}
 use Rattle.class_table.proofs.ItemsOfLists.{Contains-here, Contains-there}
-use Rattle.jk_model_machine.specs.SoundClasses.{AreSoundClasses, IsClosedTable}
 use Rattle.sealed_steps.proofs.BegunFrames.{IsBegun, begun-fits}
 use Rattle.sealed_steps.proofs.FramesInARow.{all-append}
 use Rattle.number_laws.proofs.HeadsStay.{head-kept, number-head}
@@ -134,7 +135,7 @@ stored-known heap Held.Unset t h = h
 
 -- ---- One instruction of a frame that fits.
 
-module _ (laws : NumberLaws) (classes : List ClassRecord) (domains : List DomainState) (sound : AreSoundClasses classes domains) (d : DomainState)
+module _ (laws : NumberLaws) (classes : List ClassRecord) (tables : List (List NamedClass)) (sound : AreSoundClasses classes tables) (d : DomainState)
     (closed : IsClosedTable classes d.table) (old : Inside) (inside : IsSealedInside classes d old) (f : FrameState)
     (home : IsAtHome d f) (known : NamesKnown old.heap f) (no_need : f.head.need ≡ None) (code : RunsCode classes f)
     (here : Stands classes old.heap f code) (free : ℕ) where

@@ -13,7 +13,7 @@ use Rattle.jk_model.specs.declared.values.Value.TheVariants.{Unset}
 use Rattle.jk_model_classes.specs.declared.records.ClassRecord.{ClassRecord}
 use Rattle.jk_model_classes.specs.declared.records.LinkedCode.{LinkedCode}
 use Rattle.jk_model_classes.specs.declared.records.TypeRef.{TypeRef}
-use Rattle.jk_model_classes.specs.Worlds.{IsNamed}
+use Rattle.jk_model_classes.specs.Worlds.{IsNamed, NamedClass}
 use Rattle.jk_model_typing.specs.FrameTypes.{value_of}
 use Rattle.jk_model_typing.specs.Scopes.{CodeScope}
 use Rattle.jk_model_domains.specs.declared.states.ClassState.TheVariants as State
@@ -21,13 +21,14 @@ use Rattle.jk_model_frames.specs.Frames.{FrameState, head_chunks, new_frame}
 use Rattle.jk_model_domains.specs.Objects.{NamedObject}
 use Rattle.jk_model_domains.specs.OwnStates.{with_state}
 use Rattle.jk_model_domains.specs.ValueTypes.{EachValueFits}
+use Rattle.jk_model_sound_classes.specs.SoundClasses.{AreSoundClasses, IsClosedTable}
 use Rattle.jk_model_machine.specs.Executions.{as_locals}
 use Rattle.jk_model_machine.specs.Initialising.{FrameNeeds, HasNoClinit, IsClinitOf, IsInitialiserHead}
-use Rattle.jk_model_machine.specs.Machine.{DomainState, Machine, free_chunks}
+use Rattle.jk_model_machine.specs.Machine.{DomainState, Machine, free_chunks, tables_of}
 use Rattle.jk_model_machine.specs.Places.{with_frames}
 use Rattle.jk_model_machine.specs.Sealed.{FitsAsCaller, FitsAsTop, FitsHere, HasTyping, IsAtHome, IsEmptyFrame, IsKnownIn, IsSealed, KnowsClassOf, NamesKnown, StandsWell, in_progress_by}
 use Rattle.jk_model_machine.specs.Steps.{ActingFrame, MeetsBroken, NO_CLASS_DEF_FOUND_ERROR, NeedFalls, Touches, with_own}
-use Rattle.jk_model_machine.specs.SoundClasses.{AreSoundClasses, IsClosedTable}
+use Rattle.jk_model_machine.proofs.TablesOfDomains.{table-among}
 use Rattle.sealed_steps.specs.TopChanges.{ChangesFrames, ChangesInside}
 use Rattle.sealed_steps.proofs.BegunFrames.{IsBegun, begun-fits}
 use Rattle.sealed_steps.proofs.FramesChanged.{frames-sealed}
@@ -50,7 +51,7 @@ last-of x (y ∷ xs) =
 
 -- ---- The frame that initialises a class.
 
-module _ (classes : List ClassRecord) (domains : List DomainState) (sound : AreSoundClasses classes domains) (heap : List NamedObject) (c : ClassId)
+module _ (classes : List ClassRecord) (tables : List (List NamedClass)) (sound : AreSoundClasses classes tables) (heap : List NamedObject) (c : ClassId)
     (head : FrameHead) (is : IsInitialiserHead classes c head) where
   runs-clinit : (m : MemberId) (code : LinkedCode) → IsClinitOf classes c m code → head.method ≡ Some m → head.max_locals ≡ code.max_locals
       → head.max_stack ≡ code.max_stack → FitsHere classes heap (new_frame head)
@@ -110,7 +111,7 @@ module _ (classes : List ClassRecord) (domains : List DomainState) (sound : AreS
 
 -- ---- Of an acting frame.
 
-module _ (m : Machine) (t : ℕ) (sealed : IsSealed m) (sound : AreSoundClasses m.classes m.domains) (a : ActingFrame m t) where
+module _ (m : Machine) (t : ℕ) (sealed : IsSealed m) (sound : AreSoundClasses m.classes (tables_of m.domains)) (a : ActingFrame m t) where
   facts : RunningFacts a.place
   facts = running-facts sealed a.place
 
@@ -118,7 +119,9 @@ module _ (m : Machine) (t : ℕ) (sealed : IsSealed m) (sound : AreSoundClasses 
   top = top-facts facts a.running
 
   closed : IsClosedTable m.classes a.place.domain.table
-  closed = sound.tables a.place.domain (Contains-at m.domains a.place.segment.domain.0 a.place.domain a.place.is_domain)
+  closed =
+      sound.closed a.place.domain.table
+      (table-among m.domains a.place.domain (Contains-at m.domains a.place.segment.domain.0 a.place.domain a.place.is_domain))
 
   -- a class that the top frame initialises is in progress
   pub in-progress : (c : ClassId) → a.running.frame.head.initialises ≡ Some c → 1 ≤ in_progress_by (thread_no t) a.place.inside.own c
@@ -146,9 +149,9 @@ module _ (m : Machine) (t : ℕ) (sealed : IsSealed m) (sound : AreSoundClasses 
             (a.place.segment.frames ++ new_frame h.head ∷ [])
         frames room =
             let called = new_frame h.head in
-            let fits = initialiser-fits m.classes m.domains sound a.place.inside.heap class h.head h.is_head in
+            let fits = initialiser-fits m.classes (tables_of m.domains) sound a.place.inside.heap class h.head h.is_head in
             let named = needs-known m.classes a.place.domain closed a.running.frame class top.top_home needs in
-            let home = initialiser-home m.classes m.domains sound a.place.inside.heap class h.head h.is_head a.place.domain closed named in
+            let home = initialiser-home m.classes (tables_of m.domains) sound a.place.inside.heap class h.head h.is_head a.place.domain closed named in
             let below : FitsAsCaller m.classes a.place.inside.heap a.running.frame called =
             inl (λ none. (let both : Some class ≡ None = sym h.is_head.initialises ∙ none in cc), top.top_fits) in
             let known : NamesKnown a.place.inside.heap called = (unset-known a.place.inside.heap h.head.max_locals, tt) in

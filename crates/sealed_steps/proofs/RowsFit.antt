@@ -25,7 +25,7 @@ use Rattle.jk_model_frames.specs.Frames.{FrameState}
 use Rattle.jk_model_domains.specs.NumberRows.{Replaces}
 use Rattle.jk_model_domains.specs.Objects.{NamedObject}
 use Rattle.jk_model_domains.specs.ValueTypes.{EachValueFits, FrameHolds, ValueFits}
-use Rattle.jk_model_machine.specs.Executions.{NamesField, NamesMethod}
+use Rattle.jk_model_sound_classes.specs.NamedMembers.{NamesField, NamesMethod}
 use Rattle.sealed_steps.proofs.OneMeaning.{one_field, one_link}
 use Rattle.sealed_steps.proofs.OneScope.{one-method}
 use Rattle.sealed_steps.proofs.ValuesAbove.{fits-append, fits-parts, value-above}

@@ -12,8 +12,9 @@ use Rattle.jk_model_typing.specs.Typing.{FitsAt, FrameAt, GoesOnAt, GoesWell}
 use Rattle.jk_model_frames.specs.Frames.{FrameState}
 use Rattle.jk_model_domains.specs.Objects.{NamedObject}
 use Rattle.jk_model_domains.specs.ValueTypes.{FrameHolds}
+use Rattle.jk_model_sound_classes.specs.VerifiedMethods.{IsVerified}
 use Rattle.jk_model_machine.specs.Initialising.{RunsCode}
-use Rattle.jk_model_machine.specs.Sealed.{FitsAsTop, FitsHere, HasTyping, IsAtHome, IsKnownIn, IsVerified, KnowsClassOf}
+use Rattle.jk_model_machine.specs.Sealed.{FitsAsTop, FitsHere, HasTyping, IsAtHome, IsKnownIn, KnowsClassOf}
 use Rattle.jk_model_machine.specs.Machine.{DomainState}
 use Rattle.jk_model_machine.specs.Steps.{at_place}
 use Rattle.sealed_steps.proofs.FramesInARow.{LooksAlike}

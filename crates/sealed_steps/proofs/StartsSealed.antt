@@ -19,12 +19,13 @@ use Rattle.jk_model_typing.specs.Scopes.{CodeScope, IsScopeOf, parameter_values}
 use Rattle.jk_model_frames.specs.Frames.{FrameState, head_chunks}
 use Rattle.jk_model_domains.specs.Objects.{NamedObject}
 use Rattle.jk_model_domains.specs.ValueTypes.{EachValueFits}
+use Rattle.jk_model_sound_classes.specs.SoundClasses.{AreSoundClasses}
 use Rattle.jk_model_machine.specs.Executions.{IsCalledFrame, call_head}
-use Rattle.jk_model_machine.specs.Machine.{DomainState, Inside, Machine, free_chunks, is_live_domain, live_domain}
+use Rattle.jk_model_machine.specs.Machine.{DomainState, Inside, Machine, free_chunks, is_live_domain, live_domain, tables_of}
 use Rattle.jk_model_machine.specs.Sealed.{FramesFit, IsAtHome, IsKnownIn, IsKnownValue, IsSealed, KnowsClassOf, NamesKnown}
 use Rattle.jk_model_machine.specs.Starts.{Begins, IsMain, Starts, begins, many_threads, no_chunks, no_class, no_domain, no_main, with_new_thread}
+use Rattle.jk_model_machine.proofs.TablesOfDomains.{table-among}
 use Rattle.sealed_steps.specs.FirstNumbers.{CountsFromOne}
-use Rattle.jk_model_machine.specs.SoundClasses.{AreSoundClasses}
 use Rattle.sealed_steps.proofs.BegunFrames.{IsBegun, begun-fits}
 use Rattle.sealed_steps.proofs.ClassesAround.{method_walk-named, object-without_code}
 use Rattle.sealed_steps.proofs.MainTakesOneArray.{null-fits_main}
@@ -66,7 +67,7 @@ unset-known heap (suc n) = (tt, unset-known heap n)
 
 -- ---- The method, and its frame.
 
-module _ (m : Machine) (sound : AreSoundClasses m.classes m.domains) (class : ClassId) (main : MemberId) (code : LinkedCode)
+module _ (m : Machine) (sound : AreSoundClasses m.classes (tables_of m.domains)) (class : ClassId) (main : MemberId) (code : LinkedCode)
     (is : IsMain m class main code) where
   found : IsFirstOn (IsMethodOf m.classes (codes "main") is.type) (method_walk m.classes class) main
   found = is.found
@@ -98,10 +99,10 @@ module _ (m : Machine) (sound : AreSoundClasses m.classes m.domains) (class : Cl
 
   main-named : (d : DomainState) → Contains m.domains d → IsNamed d.table class → IsNamed d.table main.class
   main-named d on named =
-      elim (method_walk-named m.classes d.table (sound.tables d on) class main.class named
+      elim (method_walk-named m.classes d.table (sound.closed d.table (table-among m.domains d on)) class main.class named
       (Contains-at (method_walk m.classes class) found.place main.class found.visited)) [
         | inl there ↦ there
-        | inr object ↦ absurd (object-without_code m.classes m.domains sound main is.method code is.is_method (sym object) is.body)
+        | inr object ↦ absurd (object-without_code m.classes (tables_of m.domains) sound main is.method code is.is_method (sym object) is.body)
       ]
 
   module _ (frame : FrameState) (called : IsCalledFrame main code (Held.Null ∷ []) frame) where
@@ -156,7 +157,7 @@ module _ (m : Machine) (sound : AreSoundClasses m.classes m.domains) (class : Cl
 -- ---- Each case.
 
 begins-sealed : (m new : Machine) (name class : List ℕ) (words : List (List ℕ)) (lines : List Line) → IsSealed m → CountsFromOne m
-    → AreSoundClasses m.classes m.domains → Begins m name class words lines new → IsSealed new
+    → AreSoundClasses m.classes (tables_of m.domains) → Begins m name class words lines new → IsSealed new
 begins-sealed m new name class words lines sealed numbers sound h =
     let knows = h.has_main.knows in
     subst IsSealed (sym h.leads)
@@ -164,7 +165,7 @@ begins-sealed m new name class words lines sealed numbers sound h =
     knows.found (named-from knows.domain.table class knows.named knows.is_named) h.fits)
 
 pub start-sealed : (m new : Machine) (name class : List ℕ) (words : List (List ℕ)) (lines : List Line) → IsSealed m → CountsFromOne m
-    → AreSoundClasses m.classes m.domains → Starts m name class words lines new → IsSealed new
+    → AreSoundClasses m.classes (tables_of m.domains) → Starts m name class words lines new → IsSealed new
 start-sealed m new name class words lines sealed numbers sound (no_domain h) = subst IsSealed (sym h.same) sealed
 start-sealed m new name class words lines sealed numbers sound (no_class h) = subst IsSealed (sym h.same) sealed
 start-sealed m new name class words lines sealed numbers sound (no_main h) = subst IsSealed (sym h.same) sealed

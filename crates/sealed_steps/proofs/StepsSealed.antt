@@ -11,13 +11,14 @@ use Rattle.jk_model.specs.declared.values.Value.{Value}
 use Rattle.jk_model_domains.specs.declared.states.ClassState.TheVariants as State
 use Rattle.jk_model_frames.specs.Frames.{FrameState, head_chunks}
 use Rattle.jk_model_domains.specs.OwnStates.{with_state}
+use Rattle.jk_model_sound_classes.specs.SoundClasses.{AreSoundClasses}
 use Rattle.jk_model_machine.specs.Executions.{Outcome, Returns, Working}
 use Rattle.jk_model_machine.specs.Initialising.{RunsCode}
-use Rattle.jk_model_machine.specs.Machine.{Machine, free_chunks}
+use Rattle.jk_model_machine.specs.Machine.{Machine, free_chunks, tables_of}
 use Rattle.jk_model_machine.specs.Places.{with_frames, without_running}
 use Rattle.jk_model_machine.specs.Sealed.{FitsAsCaller, FitsAsTop, FitsAtCall, FitsHere, IsAtHome, IsKnownValue, IsSealed, NamesKnown, in_progress_by, initialises}
 use Rattle.jk_model_machine.specs.Steps.{ActingFrame, Acts, DoesInstr, Follows, RaisesPending, Steps, at_place, calls, does, ends, ends_initialiser, goes_on, meets_broken, need_falls, resumed, returns, says, throws, touches, with_own}
-use Rattle.jk_model_machine.specs.SoundClasses.{AreSoundClasses}
+use Rattle.jk_model_machine.proofs.TablesOfDomains.{table-among}
 use Rattle.sealed_steps.specs.TopChanges.{ChangesFrames, ChangesInside, LeavesNothing}
 use Rattle.sealed_steps.proofs.CallersResume.{AnswersWell, resumes-as-top}
 use Rattle.sealed_steps.proofs.FramesChanged.{frames-sealed}
@@ -35,9 +36,9 @@ use Rattle.sealed_steps.proofs.ThrowsSealed.{inside-set, throws-sealed}
 
 -- ---- What follows an instruction.
 
-module _ (m : Machine) (t : ℕ) (sealed : IsSealed m) (sound : AreSoundClasses m.classes m.domains) (a : ActingFrame m t) (facts : RunningFacts a.place)
-    (top : TopFacts a.running) (code : RunsCode m.classes a.running.frame) (no_need : a.running.frame.head.need ≡ None) (w : Working)
-    (kept : IsKept m.classes a.place.domain a.place.inside a.running.frame w) where
+module _ (m : Machine) (t : ℕ) (sealed : IsSealed m) (sound : AreSoundClasses m.classes (tables_of m.domains)) (a : ActingFrame m t)
+    (facts : RunningFacts a.place) (top : TopFacts a.running) (code : RunsCode m.classes a.running.frame)
+    (no_need : a.running.frame.head.need ≡ None) (w : Working) (kept : IsKept m.classes a.place.domain a.place.inside a.running.frame w) where
   abbrev Left : Outcome → Type 0
   Left outcome = FitsOutcome m.classes a.place.domain a.place.inside.heap code.scope (free_chunks m a.place.domain) w outcome
 
@@ -147,16 +148,17 @@ module _ (m : Machine) (t : ℕ) (sealed : IsSealed m) (sound : AreSoundClasses 
 
 -- ---- All steps.
 
-module _ (laws : NumberLaws) (m : Machine) (t : ℕ) (sealed : IsSealed m) (sound : AreSoundClasses m.classes m.domains) where
+module _ (laws : NumberLaws) (m : Machine) (t : ℕ) (sealed : IsSealed m) (sound : AreSoundClasses m.classes (tables_of m.domains)) where
   does-sealed : (a : ActingFrame m t) (lines : List Line) (new : Machine) → DoesInstr a lines new → IsSealed new
   does-sealed a lines new h =
       let facts = running-facts sealed a.place in
       let top = top-facts facts a.running in
-      let closed = sound.tables a.place.domain (Contains-at m.domains a.place.segment.domain.0 a.place.domain a.place.is_domain) in
+      let home = Contains-at m.domains a.place.segment.domain.0 a.place.domain a.place.is_domain in
+      let closed = sound.closed a.place.domain.table (table-among m.domains a.place.domain home) in
       let fits = runs-here m.classes a.place.inside.heap a.running.frame h.code top.top_fits in
       let here = stands-here m.classes a.running.frame h.code fits.0 a.place.inside.heap fits.1 in
-      let left = instruction-leaves laws m.classes m.domains sound a.place.domain closed a.place.inside facts.inside a.running.frame top.top_home top.top_known
-      h.no_need h.code here (free_chunks m a.place.domain) h.working h.outcome h.executes in
+      let left = instruction-leaves laws m.classes (tables_of m.domains) sound a.place.domain closed a.place.inside facts.inside a.running.frame
+      top.top_home top.top_known h.no_need h.code here (free_chunks m a.place.domain) h.working h.outcome h.executes in
       follows-sealed m t sealed sound a facts top h.code h.no_need h.working left.0 h.outcome lines new h.follows left.1
 
   acts-sealed : (lines : List Line) (new : Machine) → Acts m t lines new → IsSealed new

@@ -12,10 +12,10 @@ use Rattle.jk_model_classes.specs.Worlds.{IsNamed}
 use Rattle.jk_model_typing.specs.FrameTypes.{array_type}
 use Rattle.jk_model_typing.specs.Scopes.{LeadsToLink}
 use Rattle.jk_model_frames.specs.Frames.{FrameState}
+use Rattle.jk_model_sound_classes.specs.SoundClasses.{IsClosedTable, KnowsAround}
 use Rattle.jk_model_machine.specs.Initialising.{FrameNeeds, InstrNeeds, RunsCode}
 use Rattle.jk_model_machine.specs.Machine.{DomainState}
 use Rattle.jk_model_machine.specs.Sealed.{IsAtHome, IsKnownIn, KnowsClassOf}
-use Rattle.jk_model_machine.specs.SoundClasses.{IsClosedTable, KnowsAround}
 use Rattle.sealed_steps.proofs.OneItemChanged.{Contains-at}
 
 module _ (classes : List ClassRecord) (d : DomainState) (closed : IsClosedTable classes d.table) where

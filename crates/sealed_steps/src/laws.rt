@@ -2,7 +2,8 @@
 
 ghost use Rattle.std.specs.Prelude.{ℕ, List};
 ghost use Rattle.jk_model.specs.declared.output.Line.{Line as ALine};
-ghost use Rattle.jk_model_machine.specs.Machine.{Machine, IsFirstMachine};
+ghost use Rattle.jk_model_sound_classes.specs.SoundClasses.{AreSoundClasses};
+ghost use Rattle.jk_model_machine.specs.Machine.{Machine, IsFirstMachine, tables_of};
 ghost use Rattle.jk_model_machine.specs.Places.{RunningSegment};
 ghost use Rattle.jk_model_machine.specs.Sealed.{IsSealed};
 ghost use Rattle.jk_model_machine.specs.Starts.{Starts};
@@ -11,7 +12,6 @@ ghost use Rattle.jk_model_frames.specs.Frames.{FrameState};
 ghost use Rattle.jk_model_machine.specs.Machine.{DomainState, Inside};
 ghost use Rattle.jk_model_machine.specs.Places.{with_frames, without_running};
 ghost use Rattle.sealed_steps.specs.FirstNumbers.{CountsFromOne};
-ghost use Rattle.jk_model_machine.specs.SoundClasses.{AreSoundClasses};
 ghost use Rattle.sealed_steps.specs.TopChanges.{ChangesFrames, ChangesInside, LeavesNothing};
 
 use number_laws::laws::{returned_values_fit, rows_keep_types};
@@ -32,7 +32,7 @@ pub fn top_changes_stay_sealed()
 /// A start keeps the machine sealed, where threads and segments are numbered from 1 on.
 pub fn starts_stay_sealed()
     ensures { (m new : Machine) (name class : List ℕ) (words : List (List ℕ)) (lines : List ALine) → IsSealed m → CountsFromOne m
-        → AreSoundClasses m.classes m.domains → Starts m name class words lines new → IsSealed new }
+        → AreSoundClasses m.classes (tables_of m.domains) → Starts m name class words lines new → IsSealed new }
 {}
 
 /// Threads and segments are numbered from 1 on in the first machine, and after each start and step.
@@ -45,10 +45,10 @@ pub fn numbers_count_from_one()
 
 /// One step of one thread keeps the machine sealed, and its classes and names as they were.
 pub fn steps_stay_sealed()
-    ensures sealed { (m new : Machine) (t : ℕ) (lines : List ALine) → IsSealed m → AreSoundClasses m.classes m.domains
+    ensures sealed { (m new : Machine) (t : ℕ) (lines : List ALine) → IsSealed m → AreSoundClasses m.classes (tables_of m.domains)
         → Steps m t lines new → IsSealed new }
-    ensures sound { (m new : Machine) (t : ℕ) (lines : List ALine) → IsSealed m → AreSoundClasses m.classes m.domains
-        → Steps m t lines new → AreSoundClasses new.classes new.domains }
+    ensures sound { (m new : Machine) (t : ℕ) (lines : List ALine) → IsSealed m → AreSoundClasses m.classes (tables_of m.domains)
+        → Steps m t lines new → AreSoundClasses new.classes (tables_of new.domains) }
 {
     rows_keep_types();
     returned_values_fit();

@@ -1,5 +1,5 @@
--- The system classes alone are sound and linked, and classes stay so where domains have the names of those that were there.
-use Rattle.std.proofs.Common.{◌≡◌, ℕ, zero, suc, ◌+◌, Bool, true, ◌&&◌, List, [], ◌∷◌, length, map, take, Option, Some, None, slice_get, Contains, refl, sym, ap, subst, ◌∙◌, arith, nat_lt}
+-- The system classes alone are sound and linked, and classes stay so where each name table is one that was there.
+use Rattle.std.proofs.Common.{◌≡◌, ℕ, zero, suc, ◌+◌, Bool, true, ◌&&◌, List, [], ◌∷◌, length, map, take, Option, Some, None, slice_get, refl, sym, ap, subst, ◌∙◌, arith, nat_lt}
 use Rattle.std.specs.Prelude.{option_map}
 use Rattle.std.specs.List.{AllByRecursion, list_all}
 use Rattle.std.proofs.lemmas.Bool.{and_parts, ltb-true}
@@ -16,10 +16,9 @@ use Rattle.jk_model_classes.specs.Classes.{AreOrdered, IsBelow, ParentIsBelow, r
 use Rattle.jk_model_classes.specs.ClassNames.{BeginsArray}
 use Rattle.jk_model_classes.specs.Lookups.{MethodIs}
 use Rattle.jk_model_classes.specs.SystemRecords.{AreSystemRecords, IsSystemMethodAt, IsSystemRecord, system_meaning}
-use Rattle.jk_model_classes.specs.Worlds.{IsNamed, NamedClass}
+use Rattle.jk_model_classes.specs.Worlds.{NamedClass}
 use Rattle.jk_model_typing.specs.Scopes.{CodeScope, IsScopeOf}
-use Rattle.jk_model_machine.specs.Machine.{DomainState}
-use Rattle.jk_model_machine.specs.SoundClasses.{AreSoundClasses, IsClosedTable}
+use Rattle.jk_model_sound_classes.specs.SoundClasses.{AreSoundClasses}
 use Rattle.class_growth.proofs.ItemsOfLists.{Contains-none, item-at}
 use Rattle.class_growth.proofs.SystemClassesClosed.{system-closed}
 use Rattle.sound_folders.specs.LinkedWorlds.{AreLinked, HaveNamesOf}
@@ -102,40 +101,36 @@ module _ (classes : List ClassRecord) (system : AreSystemRecords classes) where
   all_front : take (length system_classes) classes ≡ classes
   all_front = take_all (length system_classes) classes (omega (arith, system.as_many))
 
-  module _ (domains : List DomainState) (none : domains ≡ []) where
-    no_domain : (d : DomainState) → Contains domains d → ⊥
-    no_domain d on = Contains-none d (subst (λ (xs : List DomainState). Contains xs d) none on)
+  pub first-sound : AreSoundClasses classes []
+  first-sound =
+      record {
+        ordered = in_order;
+        system = subst AreSystemRecords (sym all_front) system;
+        homed = λ c r is foreign. absurd (foreign (entry-of c r is).2.home);
+        of_system = λ c r is home. ap (λ (xs : List ClassRecord). slice_get xs c.0) all_front ∙ is;
+        described = λ m method is. (system_meaning, (method-of m method is).2.params);
+        typed = λ m s scope. absurd (never_scope m s scope);
+        statics = λ m member s i method scope on op names. absurd (never_scope m s scope);
+        static_fields = λ m member s i field scope on op names. absurd (never_scope m s scope);
+        initialisers = λ m s scope named. absurd (never_scope m s scope);
+        closed = λ table on. absurd (Contains-none table on);
+      }
 
-    pub first-sound : AreSoundClasses classes domains
-    first-sound =
-        record {
-          ordered = in_order;
-          system = subst AreSystemRecords (sym all_front) system;
-          homed = λ c r is foreign. absurd (foreign (entry-of c r is).2.home);
-          of_system = λ c r is home. ap (λ (xs : List ClassRecord). slice_get xs c.0) all_front ∙ is;
-          described = λ m method is. (system_meaning, (method-of m method is).2.params);
-          typed = λ m s scope. absurd (never_scope m s scope);
-          statics = λ m member s i method scope on op names. absurd (never_scope m s scope);
-          static_fields = λ m member s i field scope on op names. absurd (never_scope m s scope);
-          initialisers = λ m s scope named. absurd (never_scope m s scope);
-          tables = λ d on. absurd (no_domain d on);
-        }
+  pub first-linked : AreLinked classes []
+  first-linked =
+      record {
+        closed = system-closed classes system;
+        around = λ c r is foreign. absurd (foreign (entry-of c r is).2.home);
+        names = λ c r is begins.
+            let of = entry-of c r is in
+            system_no_array c.0 of.0 of.1 (subst BeginsArray of.2.name begins);
+        knows_system = λ table on c low. absurd (Contains-none table on);
+      }
 
-    pub first-linked : AreLinked classes domains
-    first-linked =
-        record {
-          closed = system-closed classes system;
-          around = λ c r is foreign. absurd (foreign (entry-of c r is).2.home);
-          names = λ c r is begins.
-              let of = entry-of c r is in
-              system_no_array c.0 of.0 of.1 (subst BeginsArray of.2.name begins);
-          knows_system = λ d on c low. absurd (no_domain d on);
-        }
+-- ---- The same name tables.
 
--- ---- Domains with the same names.
-
-module _ (classes : List ClassRecord) (old domains : List DomainState) (same : HaveNamesOf domains old) where
-  pub same-sound : AreSoundClasses classes old → AreSoundClasses classes domains
+module _ (classes : List ClassRecord) (old tables : List (List NamedClass)) (same : HaveNamesOf tables old) where
+  pub same-sound : AreSoundClasses classes old → AreSoundClasses classes tables
   same-sound sound =
       record {
         ordered = sound.ordered;
@@ -147,18 +142,14 @@ module _ (classes : List ClassRecord) (old domains : List DomainState) (same : H
         statics = sound.statics;
         static_fields = sound.static_fields;
         initialisers = sound.initialisers;
-        tables = λ d on.
-            let was = same d on in
-            subst (IsClosedTable classes) (sym was.2) (sound.tables was.0 was.1);
+        closed = λ table on. sound.closed table (same table on);
       }
 
-  pub same-linked : AreLinked classes old → AreLinked classes domains
+  pub same-linked : AreLinked classes old → AreLinked classes tables
   same-linked linked =
       record {
         closed = linked.closed;
         around = linked.around;
         names = linked.names;
-        knows_system = λ d on c low.
-            let was = same d on in
-            subst (λ (table : List NamedClass). IsNamed table c) (sym was.2) (linked.knows_system was.0 was.1 c low);
+        knows_system = λ table on. linked.knows_system table (same table on);
       }

@@ -1,4 +1,4 @@
--- What an accepted folder adds keeps the classes and the names of a machine sound.
+-- What an accepted folder adds keeps all classes and names sound.
 pub mod NamesOfTables
 pub mod WalksWithin
 pub mod NewClasses

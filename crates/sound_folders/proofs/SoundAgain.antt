@@ -2,7 +2,7 @@
 use Rattle.std.proofs.Common.{◌≡◌, ◌≢◌, ℕ, ◌+◌, ◌-◌, ◌<◌, ◌≤◌, ◌⊎◌, inl, inr, min, IsTrue, List, [], ◌∷◌, ◌++◌, length, take, Option, Some, None, slice_get, Contains, refl, sym, ap, subst, ◌∙◌, arith}
 use Rattle.std.proofs.lemmas.Bool.{cases_lt}
 use Rattle.std.proofs.lemmas.List.{take-append-le, take_all, take_min}
-use Rattle.std.proofs.lemmas.List.Elements.{Contains-append_cases}
+use Rattle.std.proofs.lemmas.List.Elements.{Contains-push_cases}
 use Rattle.std.proofs.lemmas.Option.{slice_get_within}
 use Rattle.jk_model.specs.Flags.{STATIC, has}
 use Rattle.jk_model.specs.declared.identifiers.ClassId.{ClassId}
@@ -26,17 +26,16 @@ use Rattle.jk_model_typing.specs.Scopes.{CodeScope, IsScopeOf, is_static}
 use Rattle.jk_model_typing.specs.Typing.{IsLeastTyping}
 use Rattle.jk_model_folders.specs.declared.files.FolderFiles.{FolderFiles}
 use Rattle.jk_model_folders.specs.Loads.{Loads, MayLoad}
-use Rattle.jk_model_machine.specs.Executions.{NamesField, NamesMethod}
-use Rattle.jk_model_machine.specs.Machine.{DomainState}
-use Rattle.jk_model_machine.specs.Sealed.{IsVerified}
-use Rattle.jk_model_machine.specs.SoundClasses.{AreSoundClasses, IsClosedTable}
+use Rattle.jk_model_sound_classes.specs.NamedMembers.{NamesField, NamesMethod}
+use Rattle.jk_model_sound_classes.specs.SoundClasses.{AreSoundClasses, IsClosedTable}
+use Rattle.jk_model_sound_classes.specs.VerifiedMethods.{IsVerified}
 use Rattle.class_growth.specs.ClosedClasses.{IsClosed}
 use Rattle.class_growth.specs.ScopesOver.{among}
-use Rattle.class_growth.proofs.ItemsOfLists.{Contains-cases, Contains-none, item-at, place-of, slice_get-append_cases}
+use Rattle.class_growth.proofs.ItemsOfLists.{item-at, place-of, slice_get-append_cases}
 use Rattle.class_growth.proofs.MoreClasses.{field-before, field_walk-kept, method-before, method_walk-kept, record-still}
 use Rattle.class_growth.proofs.ScopesKept.{closed-scope, scope-before}
 use Rattle.class_growth.proofs.TypingsKept.{typing-still}
-use Rattle.sound_folders.specs.LinkedWorlds.{AreLinked, RefersAround}
+use Rattle.sound_folders.specs.LinkedWorlds.{Accepts, AreLinked, RefersAround}
 use Rattle.sound_folders.proofs.ArraysHaveNoNames.{own_no_array}
 use Rattle.sound_folders.proofs.NewClasses.{OwnFile, added, all, closed-more, meaning, own_file, system_few}
 use Rattle.sound_folders.proofs.ReferencesAround.{refers-around}
@@ -55,8 +54,8 @@ NoInitialisers first classes =
     (member : MemberId) (method : MethodRecord) → MethodIs classes member method → first.0 ≤ member.class.0 → method.name ≢ CLINIT
 
 module _ {f : FolderFiles} {w : WorldRecord} {into : List ℕ} {first : ClassId} {table : List NamedClass} {offers : List Offer} {stubs : List Stub}
-    {new : WorldRecord} (l : Loads f w into first table offers stubs new) (may : MayLoad w) (domains : List DomainState)
-    (sound : AreSoundClasses w.classes domains) (linked : AreLinked w.classes domains) (ordered : AreOrdered (all l)) where
+    {new : WorldRecord} (l : Loads f w into first table offers stubs new) (may : MayLoad w) (tables : List (List NamedClass))
+    (sound : AreSoundClasses w.classes tables) (linked : AreLinked w.classes tables) (ordered : AreOrdered (all l)) where
   -- the file of a record that is new
   own_of : (r : ClassRecord) → Contains (added l) r → (k : ℕ) × OwnFile (length w.classes) l.files l.placed k r
   own_of r on = let place = place-of (added l) r on in (place.0, own_file l place.0 r place.1)
@@ -166,80 +165,90 @@ module _ {f : FolderFiles} {w : WorldRecord} {into : List ℕ} {first : ClassId}
     | inr high ↦ absurd (never m s.method (scope.class, scope.class_is, scope.method) (omega (arith, high, l.first_is)) named)
   ]
 
-  -- ---- The domains.
+  -- ---- The name tables.
 
-  module _ (d : DomainState) (table_is : d.table ≡ l.placed.table) where
-    tables-again : (e : DomainState) → Contains (domains ++ d ∷ []) e → IsClosedTable (all l) e.table
-    tables-again e on = elim (Contains-append_cases domains (d ∷ []) e on) [
-      | inl old ↦ λ c named.
-          let known = sound.tables e old c named in
-          (known.0, record-still w.classes (added l) c known.0 known.1, known.2)
-      | inr last ↦ elim (Contains-cases e d [] last) [
-        | inl same ↦
-            subst (λ (x : DomainState). IsClosedTable (all l) x.table) same
-            (subst (IsClosedTable (all l)) (sym table_is) (new_table_closed l may linked.closed sound.of_system linked.around ordered))
-        | inr none ↦ absurd (Contains-none e none)
-      ]
-    ]
+  closed-again : (t : List NamedClass) → Contains (tables ++ table ∷ []) t → IsClosedTable (all l) t
+  closed-again t on = elim (Contains-push_cases tables table t on) [
+    | inl old ↦ λ c named.
+        let known = sound.closed t old c named in
+        (known.0, record-still w.classes (added l) c known.0 known.1, known.2)
+    | inr same ↦
+        subst (IsClosedTable (all l)) (sym l.table_is ∙ same)
+        (new_table_closed l may linked.closed sound.of_system linked.around ordered)
+  ]
 
-    pub sound-again : AreTyped first (all l) → NoInitialisers first (all l) → AreSoundClasses (all l) (domains ++ d ∷ [])
-    sound-again typed never =
-        record {
-          ordered = ordered;
-          system = subst AreSystemRecords (sym front_same) sound.system;
-          homed = homed-again;
-          of_system = of_system-again;
-          described = described-again;
-          typed = typed-again typed;
-          statics = statics-again;
-          static_fields = static_fields-again;
-          initialisers = initialisers-again never;
-          tables = tables-again;
-        }
+  pub sound-again : AreTyped first (all l) → NoInitialisers first (all l) → AreSoundClasses (all l) (tables ++ table ∷ [])
+  sound-again typed never =
+      record {
+        ordered = ordered;
+        system = subst AreSystemRecords (sym front_same) sound.system;
+        homed = homed-again;
+        of_system = of_system-again;
+        described = described-again;
+        typed = typed-again typed;
+        statics = statics-again;
+        static_fields = static_fields-again;
+        initialisers = initialisers-again never;
+        closed = closed-again;
+      }
 
-    knows_system-again : (e : DomainState) → Contains (domains ++ d ∷ []) e → (c : ClassId) → c.0 < length system_classes → IsNamed e.table c
-    knows_system-again e on c low = elim (Contains-append_cases domains (d ∷ []) e on) [
-      | inl old ↦ linked.knows_system e old c low
-      | inr last ↦ elim (Contains-cases e d [] last) [
-        | inl same ↦
-            subst (λ (x : DomainState). IsNamed x.table c) same
-            (subst (λ (x : List NamedClass). IsNamed x c) (sym table_is) (system_known l may c low))
-        | inr none ↦ absurd (Contains-none e none)
-      ]
-    ]
+  knows_system-again : (t : List NamedClass) → Contains (tables ++ table ∷ []) t → (c : ClassId) → c.0 < length system_classes → IsNamed t c
+  knows_system-again t on c low = elim (Contains-push_cases tables table t on) [
+    | inl old ↦ linked.knows_system t old c low
+    | inr same ↦ subst (λ (x : List NamedClass). IsNamed x c) (sym l.table_is ∙ same) (system_known l may c low)
+  ]
 
-    around-still : (c : ClassId) (r : ClassRecord) → record_of w.classes c ≡ Some r → RefersAround w.classes r → RefersAround (all l) r
-    around-still c r is around =
-        let there = (linked.closed.each c r is).links in
-        record {
-          parent = around.parent;
-          interfaces = around.interfaces;
-          entries = around.entries;
-          fields = λ class m on.
-              let found = around.fields class m on in
-              let has = (there (To.Field class m) on).0 in (
-                found.0,
-                subst (λ (walk : List ClassId). Contains walk m.class) (sym (field_walk-kept w.classes (added l) may.world.ordered class has)) found.1,
-              );
-          methods = λ class m on.
-              let found = around.methods class m on in
-              let has = (there (To.Method class m) on).0 in (
-                found.0,
-                subst (λ (walk : List ClassId). Contains walk m.class) (sym (method_walk-kept w.classes (added l) may.world.ordered class has)) found.1,
-              );
-        }
+  around-still : (c : ClassId) (r : ClassRecord) → record_of w.classes c ≡ Some r → RefersAround w.classes r → RefersAround (all l) r
+  around-still c r is around =
+      let there = (linked.closed.each c r is).links in
+      record {
+        parent = around.parent;
+        interfaces = around.interfaces;
+        entries = around.entries;
+        fields = λ class m on.
+            let found = around.fields class m on in
+            let has = (there (To.Field class m) on).0 in (
+              found.0,
+              subst (λ (walk : List ClassId). Contains walk m.class) (sym (field_walk-kept w.classes (added l) may.world.ordered class has)) found.1,
+            );
+        methods = λ class m on.
+            let found = around.methods class m on in
+            let has = (there (To.Method class m) on).0 in (
+              found.0,
+              subst (λ (walk : List ClassId). Contains walk m.class) (sym (method_walk-kept w.classes (added l) may.world.ordered class has)) found.1,
+            );
+      }
 
-    pub linked-again : AreLinked (all l) (domains ++ d ∷ [])
-    linked-again =
-        record {
-          closed = closed-more l may linked.closed;
-          around = λ c r is foreign. elim (slice_get-append_cases w.classes (added l) c.0 r is) [
-            | inl old ↦ around-still c r old (linked.around c r old foreign)
-            | inr later ↦ let own = own_of r later in refers-around l linked.names ordered own.0 r own.1
-          ];
-          names = λ c r is. elim (slice_get-append_cases w.classes (added l) c.0 r is) [
-            | inl old ↦ linked.names c r old
-            | inr later ↦ let own = own_of r later in own_no_array l own.1.place own.1.file own.1.listed r.name own.1.is_record.name
-          ];
-          knows_system = knows_system-again;
-        }
+  pub linked-again : AreLinked (all l) (tables ++ table ∷ [])
+  linked-again =
+      record {
+        closed = closed-more l may linked.closed;
+        around = λ c r is foreign. elim (slice_get-append_cases w.classes (added l) c.0 r is) [
+          | inl old ↦ around-still c r old (linked.around c r old foreign)
+          | inr later ↦ let own = own_of r later in refers-around l linked.names ordered own.0 r own.1
+        ];
+        names = λ c r is. elim (slice_get-append_cases w.classes (added l) c.0 r is) [
+          | inl old ↦ linked.names c r old
+          | inr later ↦ let own = own_of r later in own_no_array l own.1.place own.1.file own.1.listed r.name own.1.is_record.name
+        ];
+        knows_system = knows_system-again;
+      }
+
+-- ---- With what an accepted folder gives.
+
+module _ {f : FolderFiles} {old : WorldRecord} {into : List ℕ} {first : ClassId} {table : List NamedClass} {offers : List Offer}
+    {stubs : List Stub} {new : WorldRecord} (a : Accepts f old into first table offers stubs new) (tables : List (List NamedClass))
+    (sound : AreSoundClasses old.classes tables) (linked : AreLinked old.classes tables) (ordered : AreOrdered new.classes) where
+  same : new.classes ≡ all a.loads
+  same = ap (λ (x : WorldRecord). x.classes) a.loads.world ∙ a.loads.is_placed.classes
+
+  pub accepted-sound : AreSoundClasses new.classes (tables ++ table ∷ [])
+  accepted-sound =
+      subst (λ (xs : List ClassRecord). AreSoundClasses xs (tables ++ table ∷ [])) (sym same)
+      (sound-again a.loads a.may tables sound linked (subst AreOrdered same ordered)
+      (subst (λ (xs : List ClassRecord). AreTyped first xs) same a.typed) (subst (λ (xs : List ClassRecord). NoInitialisers first xs) same a.no_initialisers))
+
+  pub accepted-linked : AreLinked new.classes (tables ++ table ∷ [])
+  accepted-linked =
+      subst (λ (xs : List ClassRecord). AreLinked xs (tables ++ table ∷ [])) (sym same)
+      (linked-again a.loads a.may tables sound linked (subst AreOrdered same ordered))

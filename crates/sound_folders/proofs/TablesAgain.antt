@@ -25,8 +25,7 @@ use Rattle.jk_model_folders.specs.declared.files.FolderFiles.{FolderFiles}
 use Rattle.jk_model_folders.specs.FolderRules.{link_scope}
 use Rattle.jk_model_folders.specs.LinkedClasses.{IsEntryType}
 use Rattle.jk_model_folders.specs.Loads.{Loads, MayLoad}
-use Rattle.jk_model_machine.specs.Sealed.{IsNamedBase}
-use Rattle.jk_model_machine.specs.SoundClasses.{IsClosedTable}
+use Rattle.jk_model_sound_classes.specs.SoundClasses.{IsClosedTable, IsNamedBase}
 use Rattle.class_growth.specs.ClosedClasses.{IsClosed}
 use Rattle.class_growth.proofs.ItemsOfLists.{Contains-none, each-from, each-of, item-at, place-of}
 use Rattle.class_growth.proofs.MoreClasses.{field_walk-kept, method_walk-kept, record-still}

@@ -1,4 +1,4 @@
--- What is kept of the classes and the names of a machine from one accepted folder to the next, beside their soundness.
+-- What is kept of all classes, and of what names mean in each domain, from one accepted folder to the next, beside their soundness.
 use Rattle.std.specs.Prelude.{◌≡◌, ◌≢◌, ℕ, ◌<◌, ◌≤◌, List, length, Contains, Option, Some, None}
 use Rattle.std.specs.List.{AllByRecursion}
 use Rattle.jk_model.specs.declared.identifiers.ClassId.{ClassId}
@@ -22,7 +22,6 @@ use Rattle.jk_model_typing.specs.Scopes.{CodeScope, IsScopeOf}
 use Rattle.jk_model_typing.specs.Typing.{IsLeastTyping}
 use Rattle.jk_model_folders.specs.declared.files.FolderFiles.{FolderFiles}
 use Rattle.jk_model_folders.specs.Loads.{Loads, MayLoad}
-use Rattle.jk_model_machine.specs.Machine.{DomainState, Machine, world_of}
 use Rattle.class_growth.specs.ClosedClasses.{IsClosed}
 
 abbrev pub RefersToBase : ClassRecord → BaseRef → Type 0
@@ -39,26 +38,26 @@ pub record RefersAround (classes : List ClassRecord) (r : ClassRecord) : Type 0 
   pub methods : (c : ClassId) (m : MemberId) → Contains r.links (To.Method c m)
       → Contains r.references c × Contains (method_walk classes c) m.class
 
-pub record AreLinked (classes : List ClassRecord) (domains : List DomainState) : Type 0 where
+pub record AreLinked (classes : List ClassRecord) (tables : List (List NamedClass)) : Type 0 where
   pub closed : IsClosed classes
   -- of each class that isn't of the system
   pub around : (c : ClassId) (r : ClassRecord) → record_of classes c ≡ Some r → r.home ≢ None → RefersAround classes r
   -- the name of a class isn't one of an array
   pub names : (c : ClassId) (r : ClassRecord) → record_of classes c ≡ Some r → BeginsArray r.name → ⊥
   -- each domain knows the system classes
-  pub knows_system : (d : DomainState) → Contains domains d → (c : ClassId) → c.0 < length system_classes → IsNamed d.table c
+  pub knows_system : (table : List NamedClass) → Contains tables table → (c : ClassId) → c.0 < length system_classes → IsNamed table c
 
--- each of these domains has the names of one of those
-abbrev pub HaveNamesOf : List DomainState → List DomainState → Type 0
-HaveNamesOf domains old = (d : DomainState) → Contains domains d → (e : DomainState) × Contains old e × (d.table ≡ e.table)
+-- in each of these name tables names mean what they mean in one of those
+abbrev pub HaveNamesOf : List (List NamedClass) → List (List NamedClass) → Type 0
+HaveNamesOf tables old = (table : List NamedClass) → Contains tables table → Contains old table
 
 -- Files that break no rule give these names, offers, stubs and classes to the domain that is loaded next; each of the new methods
 -- with code has a least typing, and none is a class initialiser.
-pub record Accepts (f : FolderFiles) (m : Machine) (name : List ℕ) (first : ClassId) (table : List NamedClass) (offers : List Offer)
-    (stubs : List Stub) (w : WorldRecord) : Type 0 where
-  pub may : MayLoad (world_of m)
-  pub loads : Loads f (world_of m) name first table offers stubs w
-  pub typed : (member : MemberId) (s : CodeScope) → IsScopeOf w.classes member s → first.0 ≤ member.class.0
-      → (frames : List (Option FrameType)) × IsLeastTyping w.classes member frames
-  pub no_initialisers : (member : MemberId) (method : MethodRecord) → MethodIs w.classes member method → first.0 ≤ member.class.0
+pub record Accepts (f : FolderFiles) (old : WorldRecord) (name : List ℕ) (first : ClassId) (table : List NamedClass) (offers : List Offer)
+    (stubs : List Stub) (new : WorldRecord) : Type 0 where
+  pub may : MayLoad old
+  pub loads : Loads f old name first table offers stubs new
+  pub typed : (member : MemberId) (s : CodeScope) → IsScopeOf new.classes member s → first.0 ≤ member.class.0
+      → (frames : List (Option FrameType)) × IsLeastTyping new.classes member frames
+  pub no_initialisers : (member : MemberId) (method : MethodRecord) → MethodIs new.classes member method → first.0 ≤ member.class.0
       → method.name ≢ CLINIT

@@ -1,41 +1,38 @@
-//! The laws. The functions have no bodies: each stands for its clauses.
+//! The laws. The functions have no bodies: each stands for its clauses. Name tables say what names mean in the domains.
 
-ghost use Rattle.std.specs.Prelude.{◌≡◌, ◌++◌, ◌∷◌, [], ℕ, List};
+ghost use Rattle.std.specs.Prelude.{◌++◌, ◌∷◌, [], ℕ, List};
 ghost use Rattle.jk_model.specs.declared.identifiers.ClassId.{ClassId as AClassId};
 ghost use Rattle.jk_model_classes.specs.declared.records.ClassRecord.{ClassRecord as ARecord};
 ghost use Rattle.jk_model_classes.specs.declared.sharing.Offer.{Offer as AnOffer};
 ghost use Rattle.jk_model_classes.specs.declared.sharing.Stub.{Stub as AStub};
 ghost use Rattle.jk_model_classes.specs.Classes.{AreOrdered};
+ghost use Rattle.jk_model_classes.specs.SystemRecords.{AreSystemRecords};
 ghost use Rattle.jk_model_classes.specs.Worlds.{NamedClass as AName, WorldRecord as AWorld};
 ghost use Rattle.jk_model_folders.specs.declared.files.FolderFiles.{FolderFiles as SomeFiles};
-ghost use Rattle.jk_model_machine.specs.Machine.{DomainState as ADomain, IsFirstMachine, Machine as AMachine};
-ghost use Rattle.jk_model_machine.specs.SoundClasses.{AreSoundClasses};
+ghost use Rattle.jk_model_sound_classes.specs.SoundClasses.{AreSoundClasses};
 ghost use Rattle.sound_folders.specs.LinkedWorlds.{Accepts, AreLinked, HaveNamesOf};
 
-/// The classes of a machine without domains are sound and linked.
-pub fn first_machine_is_sound()
-    ensures sound { (m : AMachine) → IsFirstMachine m → AreSoundClasses m.classes m.domains }
-    ensures linked { (m : AMachine) → IsFirstMachine m → AreLinked m.classes m.domains }
+/// The system classes alone are sound and linked, where there is no domain.
+pub fn first_classes_are_sound()
+    ensures sound { (classes : List ARecord) → AreSystemRecords classes → AreSoundClasses classes [] }
+    ensures linked { (classes : List ARecord) → AreSystemRecords classes → AreLinked classes [] }
 {}
 
-/// Where each domain has the names of one that was there, the classes and names stay sound and linked, whatever else changed in
-/// the domains.
+/// Where each name table is one that was there, the classes and names stay sound and linked.
 pub fn same_names_stay_sound()
-    ensures sound { (classes : List ARecord) (old domains : List ADomain) → AreSoundClasses classes old
-        → HaveNamesOf domains old → AreSoundClasses classes domains }
-    ensures linked { (classes : List ARecord) (old domains : List ADomain) → AreLinked classes old
-        → HaveNamesOf domains old → AreLinked classes domains }
+    ensures sound { (classes : List ARecord) (old tables : List (List AName)) → AreSoundClasses classes old
+        → HaveNamesOf tables old → AreSoundClasses classes tables }
+    ensures linked { (classes : List ARecord) (old tables : List (List AName)) → AreLinked classes old
+        → HaveNamesOf tables old → AreLinked classes tables }
 {}
 
-/// With the classes of an accepted folder behind the others, and its domain behind the others, the classes and names are sound
-/// and linked as before.
+/// With the classes of an accepted folder behind the others, and the name table of its domain behind the others, the classes and
+/// names are sound and linked as before.
 pub fn accepted_folders_stay_sound()
-    ensures sound { (m : AMachine) (f : SomeFiles) (name : List ℕ) (first : AClassId) (table : List AName) (offers : List AnOffer)
-        (stubs : List AStub) (w : AWorld) (d : ADomain) → AreSoundClasses m.classes m.domains → AreLinked m.classes m.domains
-        → Accepts f m name first table offers stubs w → AreOrdered w.classes → d.table ≡ table
-        → AreSoundClasses w.classes (m.domains ++ d ∷ []) }
-    ensures linked { (m : AMachine) (f : SomeFiles) (name : List ℕ) (first : AClassId) (table : List AName) (offers : List AnOffer)
-        (stubs : List AStub) (w : AWorld) (d : ADomain) → AreSoundClasses m.classes m.domains → AreLinked m.classes m.domains
-        → Accepts f m name first table offers stubs w → AreOrdered w.classes → d.table ≡ table
-        → AreLinked w.classes (m.domains ++ d ∷ []) }
+    ensures sound { (old : AWorld) (tables : List (List AName)) (f : SomeFiles) (name : List ℕ) (first : AClassId) (table : List AName)
+        (offers : List AnOffer) (stubs : List AStub) (new : AWorld) → AreSoundClasses old.classes tables → AreLinked old.classes tables
+        → Accepts f old name first table offers stubs new → AreOrdered new.classes → AreSoundClasses new.classes (tables ++ table ∷ []) }
+    ensures linked { (old : AWorld) (tables : List (List AName)) (f : SomeFiles) (name : List ℕ) (first : AClassId) (table : List AName)
+        (offers : List AnOffer) (stubs : List AStub) (new : AWorld) → AreSoundClasses old.classes tables → AreLinked old.classes tables
+        → Accepts f old name first table offers stubs new → AreOrdered new.classes → AreLinked new.classes (tables ++ table ∷ []) }
 {}

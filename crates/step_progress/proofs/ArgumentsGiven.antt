@@ -30,7 +30,8 @@ use Rattle.jk_model_frames.specs.Frames.{FrameState}
 use Rattle.jk_model_domains.specs.NumberRows.{IsOnTop, value_slots}
 use Rattle.jk_model_domains.specs.Objects.{CAPABILITY, NamedObject, class_type, type_of}
 use Rattle.jk_model_domains.specs.ValueTypes.{EachValueFits, FrameHolds, ValueFits}
-use Rattle.jk_model_machine.specs.Executions.{NamesMethod, as_locals}
+use Rattle.jk_model_sound_classes.specs.NamedMembers.{NamesMethod}
+use Rattle.jk_model_machine.specs.Executions.{as_locals}
 use Rattle.type_frames.proofs.OrderOfTypes.{Fits-cases, RefFits-trans}
 use Rattle.step_progress.proofs.OneMeaning.{one_link, one_method}
 use Rattle.step_progress.proofs.ValuesOfTypes.{end_fits, fits-length, value_slots-fit}

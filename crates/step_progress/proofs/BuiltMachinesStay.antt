@@ -25,7 +25,8 @@ use Rattle.jk_model_classes.specs.Worlds.{IsNamed, NamedClass}
 use Rattle.jk_model_typing.specs.Scopes.{CodeScope}
 use Rattle.jk_model_frames.specs.Frames.{FrameState, new_frame}
 use Rattle.jk_model_domains.specs.OwnStates.{IsLiteralOf, Literal, literal_named}
-use Rattle.jk_model_machine.specs.Executions.{Calls, CallsStatic, NamesMethod, Working}
+use Rattle.jk_model_sound_classes.specs.NamedMembers.{NamesMethod}
+use Rattle.jk_model_machine.specs.Executions.{Calls, CallsStatic, Working}
 use Rattle.jk_model_machine.specs.Initialising.{IsInitialiserHead, RunsCode}
 use Rattle.jk_model_machine.specs.Machine.{DomainState, Inside, IsFirstMachine, Machine, Segment, Thread, with_domain}
 use Rattle.jk_model_machine.specs.Places.{RunningSegment, with_frames, without_running}

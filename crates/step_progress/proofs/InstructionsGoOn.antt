@@ -18,6 +18,7 @@ use Rattle.jk_model_classes.specs.declared.records.MethodRecord.{MethodRecord}
 use Rattle.jk_model_classes.specs.declared.records.TypeRef.{TypeRef}
 use Rattle.jk_model_classes.specs.Classes.{AreOrdered}
 use Rattle.jk_model_classes.specs.Lookups.{MethodIs}
+use Rattle.jk_model_classes.specs.Worlds.{NamedClass}
 use Rattle.jk_model_typing.specs.declared.frames.FrameType.{FrameType}
 use Rattle.jk_model_typing.specs.declared.frames.VType.{VType}
 use Rattle.jk_model_typing.specs.declared.frames.VType.TheVariants.{FreshThis}
@@ -30,10 +31,10 @@ use Rattle.jk_model_domains.specs.NumberRows.{IsOnTop, NumberRow, Replaces, exch
 use Rattle.jk_model_domains.specs.Objects.{PRINT_STREAM}
 use Rattle.jk_model_domains.specs.OwnStates.{literal_named}
 use Rattle.jk_model_domains.specs.ValueTypes.{EachValueFits}
+use Rattle.jk_model_sound_classes.specs.SoundClasses.{AreSoundClasses}
 use Rattle.jk_model_machine.specs.Executions.{Calls, Executes, GoesOn, IsCalledFrame, IsSaid, Outcome, Raises, Returns, Says, Working, as_locals, call_head, calls_static, gets_static, loads_text, numbers, prints_line}
 use Rattle.jk_model_machine.specs.Initialising.{RunsCode}
-use Rattle.jk_model_machine.specs.Machine.{DomainState, Inside}
-use Rattle.jk_model_machine.specs.SoundClasses.{AreSoundClasses}
+use Rattle.jk_model_machine.specs.Machine.{Inside}
 use Rattle.step_progress.specs.BuiltCodes.{CallsCode, CallsPrintln, IsBuiltInstr, ReadsSystemOut}
 use Rattle.step_progress.proofs.ArgumentsGiven.{given-static, given-virtual, locals-taken}
 use Rattle.step_progress.proofs.CodeStandsHere.{MayBegin}
@@ -94,7 +95,7 @@ null_or_not (Held.Obj a) = inr (λ e. cc)
 null_or_not (Held.Cap k) = inr (λ e. cc)
 null_or_not Held.Unset = inr (λ e. cc)
 
-module _ (classes : List ClassRecord) (domains : List DomainState) (sound : AreSoundClasses classes domains) (free : ℕ) (inside : Inside)
+module _ (classes : List ClassRecord) (tables : List (List NamedClass)) (sound : AreSoundClasses classes tables) (free : ℕ) (inside : Inside)
     (f : FrameState) (code : RunsCode classes f) (begins : MayBegin classes inside.heap f code) where
   abbrev Some_is_done : Type 0
   Some_is_done = DoesSome code.scope free code.instr (working inside f)

@@ -13,9 +13,10 @@ use Rattle.jk_model_classes.specs.SystemRecords.{AreSystemRecords}
 use Rattle.jk_model_classes.specs.Worlds.{IsNamed}
 use Rattle.jk_model_typing.specs.Scopes.{CodeScope, IsScopeOf}
 use Rattle.jk_model_domains.specs.OwnStates.{IsLiteralOf, literal_named}
-use Rattle.jk_model_machine.specs.Machine.{DomainState, IsFirstMachine, Machine}
+use Rattle.jk_model_sound_classes.specs.SoundClasses.{AreSoundClasses}
+use Rattle.jk_model_machine.specs.Machine.{DomainState, IsFirstMachine, Machine, tables_of}
 use Rattle.jk_model_machine.specs.Sealed.{IsAtHome, IsSealed, KnowsClassOf}
-use Rattle.jk_model_machine.specs.SoundClasses.{AreSoundClasses}
+use Rattle.jk_model_machine.proofs.TablesOfDomains.{table-among}
 use Rattle.class_table.proofs.ItemsByPlace.{slice_get-front}
 use Rattle.class_table.proofs.ItemsOfLists.{each-of}
 use Rattle.step_progress.specs.BuiltCodes.{AreAllBuilt, AreBuiltCodes, AreMoreBuilt, HasTexts, HaveTexts, IsBuiltInstr, RunNoConstructors, with_opened}
@@ -119,10 +120,10 @@ module _ (classes more : List ClassRecord) where
 
 -- ---- A new domain.
 
-module _ (m : Machine) (more : List ClassRecord) (d : DomainState) (sound : AreSoundClasses m.classes m.domains) where
+module _ (m : Machine) (more : List ClassRecord) (d : DomainState) (sound : AreSoundClasses m.classes (tables_of m.domains)) where
   named-low : (e : DomainState) (c : ClassId) → Contains m.domains e → IsNamed e.table c → c.0 < length m.classes
   named-low e c on named =
-      let there = sound.tables e on c named in
+      let there = sound.closed e.table (table-among m.domains e on) c named in
       slice_get_within m.classes c.0 there.0 there.1
 
   pub opened-texts : HaveTexts m → HasTexts (m.classes ++ more) d → HaveTexts (with_opened m more d)

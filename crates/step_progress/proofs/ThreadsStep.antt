@@ -26,12 +26,12 @@ use Rattle.jk_model_domains.specs.declared.states.ClassState.TheVariants as Stat
 use Rattle.jk_model_frames.specs.Frames.{FrameState, head_chunks}
 use Rattle.jk_model_domains.specs.Objects.{PRINT_STREAM}
 use Rattle.jk_model_domains.specs.OwnStates.{ClassPart, OwnState, part_of, state_of}
+use Rattle.jk_model_sound_classes.specs.SoundClasses.{AreSoundClasses}
 use Rattle.jk_model_machine.specs.Executions.{Calls, GoesOn, Outcome, Raises, Returns, Says, Working}
 use Rattle.jk_model_machine.specs.Initialising.{FrameNeeds, HasNoClinit, IsInitialiserHead}
-use Rattle.jk_model_machine.specs.Machine.{DomainState, Inside, Machine, Thread, free_chunks, thread_numbered}
+use Rattle.jk_model_machine.specs.Machine.{DomainState, Inside, Machine, Thread, free_chunks, thread_numbered, tables_of}
 use Rattle.jk_model_machine.specs.Places.{RunningFrame, RunningSegment}
 use Rattle.jk_model_machine.specs.Sealed.{IsSealed, IsSealedObject, KnowsClassOf}
-use Rattle.jk_model_machine.specs.SoundClasses.{AreSoundClasses}
 use Rattle.jk_model_machine.specs.Steps.{ActingFrame, Acts, Follows, IsHeld, IsInProgressElsewhere, IsReady, Pays, Steps, Throws, calls, does, ends, ends_initialiser, goes_on, meets_broken, need_falls, returns, says, throws, touches}
 use Rattle.step_progress.specs.BuiltCodes.{AreBuiltCodes, HaveTexts, RunNoConstructors}
 use Rattle.step_progress.proofs.InstructionsGoOn.{MayFollow, instr-done}
@@ -69,7 +69,7 @@ no_budget (suc n) = inr (n, refl)
 not_both : (b : Bool) → b ≡ true → b ≡ false → ⊥
 not_both b on off = let both : true ≡ false = sym on ∙ off in cc
 
-module _ (m : Machine) (t : ℕ) (sealed : IsSealed m) (sound : AreSoundClasses m.classes m.domains)
+module _ (m : Machine) (t : ℕ) (sealed : IsSealed m) (sound : AreSoundClasses m.classes (tables_of m.domains))
     (built : AreBuiltCodes m.classes m.domains) (texts : HaveTexts m) (plain : RunNoConstructors m) where
   abbrev StepIsThere : Type 0
   StepIsThere = (lines : List Line) × (new : Machine) × Steps m t lines new
@@ -259,7 +259,7 @@ module _ (m : Machine) (t : ℕ) (sealed : IsSealed m) (sound : AreSoundClasses 
           let code = s.code in
           let all : m.classes ≡ code.scope.classes = sym code.is_scope.all in
           let named = subst (KnowsClassOf p.domain) code.is_method top.home.0 in
-          let done = instr-done m.classes m.domains sound (free_chunks m p.domain) p.inside r.frame code s.begins
+          let done = instr-done m.classes (tables_of m.domains) sound (free_chunks m p.domain) p.inside r.frame code s.begins
           (λ text leads.
           texts p.domain p.inside text here.in_domains p.is_inside (
             code.method.class,

@@ -20,7 +20,8 @@ use Rattle.jk_model_frames.specs.Frames.{FrameState}
 use Rattle.jk_model_domains.specs.NumberRows.{IsOfNumbers}
 use Rattle.jk_model_domains.specs.Objects.{PRINT_STREAM}
 use Rattle.jk_model_domains.specs.OwnStates.{IsLiteralOf, literal_named}
-use Rattle.jk_model_machine.specs.Executions.{IsSystemOut, NamesField, NamesMethod}
+use Rattle.jk_model_sound_classes.specs.NamedMembers.{NamesField, NamesMethod}
+use Rattle.jk_model_machine.specs.Executions.{IsSystemOut}
 use Rattle.jk_model_machine.specs.Machine.{DomainState, Inside, Machine, Segment, Thread}
 
 -- ---- Instructions.

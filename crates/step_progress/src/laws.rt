@@ -3,10 +3,10 @@
 ghost use Rattle.std.specs.Prelude.{◌++◌, ℕ, List};
 ghost use Rattle.jk_model.specs.declared.output.Line.{Line as ALine};
 ghost use Rattle.jk_model_classes.specs.declared.records.ClassRecord.{ClassRecord as AClass};
-ghost use Rattle.jk_model_machine.specs.Machine.{DomainState as ADomain, IsFirstMachine, Machine as AMachine};
+ghost use Rattle.jk_model_sound_classes.specs.SoundClasses.{AreSoundClasses};
+ghost use Rattle.jk_model_machine.specs.Machine.{DomainState as ADomain, IsFirstMachine, Machine as AMachine, tables_of};
 ghost use Rattle.jk_model_machine.specs.Run.{Goes, Rounds, Turns};
 ghost use Rattle.jk_model_machine.specs.Sealed.{IsSealed};
-ghost use Rattle.jk_model_machine.specs.SoundClasses.{AreSoundClasses};
 ghost use Rattle.jk_model_machine.specs.Starts.{Starts};
 ghost use Rattle.jk_model_machine.specs.Steps.{Steps};
 ghost use Rattle.step_progress.specs.BuiltCodes.{AreAllBuilt, AreBuiltCodes, AreMoreBuilt, HasTexts, HaveTexts, RunNoConstructors, with_opened};
@@ -15,7 +15,7 @@ ghost use Rattle.step_progress.specs.WholeEvents.{MayGoOn, StepsKeepSealed};
 /// In a sealed machine each thread number has a step, where the code of its classes is of the forms that run, each text of that code
 /// has an object, and no frame runs a constructor.
 pub fn a_step_is_there()
-    ensures { (m : AMachine) (t : ℕ) → IsSealed m → AreSoundClasses m.classes m.domains → AreBuiltCodes m.classes m.domains → HaveTexts m
+    ensures { (m : AMachine) (t : ℕ) → IsSealed m → AreSoundClasses m.classes (tables_of m.domains) → AreBuiltCodes m.classes m.domains → HaveTexts m
         → RunNoConstructors m → (lines : List ALine) × (new : AMachine) × Steps m t lines new }
 {}
 
@@ -34,7 +34,7 @@ pub fn texts_keep_objects()
     ensures starts { (m new : AMachine) (name class : List ℕ) (words : List (List ℕ)) (lines : List ALine) → HaveTexts m
         → Starts m name class words lines new → HaveTexts new }
     ensures steps { (m new : AMachine) (t : ℕ) (lines : List ALine) → HaveTexts m → Steps m t lines new → HaveTexts new }
-    ensures openings { (m : AMachine) (more : List AClass) (d : ADomain) → AreSoundClasses m.classes m.domains → HaveTexts m
+    ensures openings { (m : AMachine) (more : List AClass) (d : ADomain) → AreSoundClasses m.classes (tables_of m.domains) → HaveTexts m
         → HasTexts (m.classes ++ more) d → HaveTexts (with_opened m more d) }
 {}
 
@@ -45,7 +45,7 @@ pub fn no_constructor_begins()
         → Starts m name class words lines new → RunNoConstructors new }
     ensures steps { (m new : AMachine) (t : ℕ) (lines : List ALine) → IsSealed m → AreBuiltCodes m.classes m.domains → RunNoConstructors m
         → Steps m t lines new → RunNoConstructors new }
-    ensures openings { (m : AMachine) (more : List AClass) (d : ADomain) → IsSealed m → AreSoundClasses m.classes m.domains
+    ensures openings { (m : AMachine) (more : List AClass) (d : ADomain) → IsSealed m → AreSoundClasses m.classes (tables_of m.domains)
         → RunNoConstructors m → RunNoConstructors (with_opened m more d) }
 {}
 

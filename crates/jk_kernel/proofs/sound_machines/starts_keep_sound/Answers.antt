@@ -1,8 +1,8 @@
 -- By the laws of the crates below.
 use Rattle.std.proofs.Common.{List, sym, subst}
 use Rattle.jk_model_classes.specs.declared.records.ClassRecord.{ClassRecord}
-use Rattle.jk_model_machine.specs.Machine.{DomainState}
-use Rattle.jk_model_machine.specs.SoundClasses.{AreSoundClasses}
+use Rattle.jk_model_sound_classes.specs.SoundClasses.{AreSoundClasses}
+use Rattle.jk_model_machine.specs.Machine.{DomainState, tables_of}
 use Rattle.sound_folders.specs.LinkedWorlds.{AreLinked}
 use Rattle.step_progress.specs.BuiltCodes.{AreAllBuilt}
 use Rattle.jk_kernel.specs.DecodedCodes.{AreDecoded}
@@ -16,11 +16,11 @@ returns c = λ m new name class words lines h start.
       sealed = c.starts_stay_sealed.ensures m new name class words lines h.sealed h.counts h.sound start;
       counts = c.numbers_count_from_one.ensures.starts m new name class words lines h.counts start;
       sound =
-          subst (λ (cs : List ClassRecord). AreSoundClasses cs new.domains) (sym world.0)
-          (subst (λ (ds : List DomainState). AreSoundClasses m.classes ds) (sym world.1) h.sound);
+          subst (λ (cs : List ClassRecord). AreSoundClasses cs (tables_of new.domains)) (sym world.0)
+          (subst (λ (ds : List DomainState). AreSoundClasses m.classes (tables_of ds)) (sym world.1) h.sound);
       linked =
-          subst (λ (cs : List ClassRecord). AreLinked cs new.domains) (sym world.0)
-          (subst (λ (ds : List DomainState). AreLinked m.classes ds) (sym world.1) h.linked);
+          subst (λ (cs : List ClassRecord). AreLinked cs (tables_of new.domains)) (sym world.0)
+          (subst (λ (ds : List DomainState). AreLinked m.classes (tables_of ds)) (sym world.1) h.linked);
       built = subst (λ (cs : List ClassRecord). AreAllBuilt cs) (sym world.0) h.built;
       texts = c.texts_keep_objects.ensures.starts m new name class words lines h.texts start;
       no_constructors = c.no_constructor_begins.ensures.starts m new name class words lines h.no_constructors start;

@@ -1,5 +1,5 @@
--- What holds of the classes and the names of a machine whose folders were all accepted.
-use Rattle.std.specs.Prelude.{◌≡◌, ℕ, IsTrue, List, [], length, take, Contains, Option, Some, None, slice_get}
+-- What holds of all classes, and of what names mean in each domain, where every folder was accepted.
+use Rattle.std.specs.Prelude.{◌≡◌, ℕ, ⊤, IsTrue, List, [], length, take, Contains, Option, Some, None, slice_get}
 use Rattle.std.specs.List.{AllByRecursion}
 use Rattle.jk_model.specs.Flags.{has, STATIC}
 use Rattle.jk_model.specs.declared.identifiers.ClassId.{ClassId}
@@ -7,6 +7,8 @@ use Rattle.jk_model.specs.declared.identifiers.MemberId.{MemberId}
 use Rattle.jk_model.specs.declared.instructions.Instr.{Instr}
 use Rattle.jk_model.specs.SystemTable.{system_classes}
 use Rattle.jk_model.specs.declared.opcodes.TheConstants.{GETSTATIC, INVOKESTATIC}
+use Rattle.jk_model_classes.specs.declared.records.BaseRef.{BaseRef}
+use Rattle.jk_model_classes.specs.declared.records.BaseRef.TheVariants as Base
 use Rattle.jk_model_classes.specs.declared.records.ClassRecord.{ClassRecord}
 use Rattle.jk_model_classes.specs.declared.records.FieldRecord.{FieldRecord}
 use Rattle.jk_model_classes.specs.declared.records.Link.TheVariants as To
@@ -19,9 +21,15 @@ use Rattle.jk_model_classes.specs.SystemRecords.{AreSystemRecords, AreTypesFor}
 use Rattle.jk_model_classes.specs.Worlds.{NamedClass, IsNamed}
 use Rattle.jk_model_typing.specs.declared.frames.FrameType.{FrameType}
 use Rattle.jk_model_typing.specs.Scopes.{CodeScope, IsScopeOf, is_static}
-use Rattle.jk_model_machine.specs.Executions.{NamesField, NamesMethod}
-use Rattle.jk_model_machine.specs.Machine.{DomainState}
-use Rattle.jk_model_machine.specs.Sealed.{IsNamedBase, IsVerified}
+use Rattle.jk_model_sound_classes.specs.NamedMembers.{NamesField, NamesMethod}
+use Rattle.jk_model_sound_classes.specs.VerifiedMethods.{IsVerified}
+
+-- ---- What names mean in one domain: its name table.
+
+-- the class of a type, or of an array's elements, has a name
+abbrev pub IsNamedBase : List NamedClass → BaseRef → Type 0
+IsNamedBase table (Base.Class c) = IsNamed table c
+IsNamedBase table base = ⊤
 
 -- Of a class that a domain knows, the domain knows the parent and the interfaces too, each class to which its pool leads, and the
 -- class of each member to which it leads.
@@ -37,7 +45,9 @@ abbrev pub IsClosedTable : List ClassRecord → List NamedClass → Type 0
 IsClosedTable classes table =
     (c : ClassId) → IsNamed table c → (r : ClassRecord) × (record_of classes c ≡ Some r) × KnowsAround table r
 
-pub record AreSoundClasses (classes : List ClassRecord) (domains : List DomainState) : Type 0 where
+-- ---- All classes, and the name tables of all domains.
+
+pub record AreSoundClasses (classes : List ClassRecord) (tables : List (List NamedClass)) : Type 0 where
   pub ordered : AreOrdered classes
   -- the system classes stand in front, and each other class has a parent
   pub system : AreSystemRecords (take (length system_classes) classes)
@@ -58,5 +68,4 @@ pub record AreSoundClasses (classes : List ClassRecord) (domains : List DomainSt
   -- the initialiser of a class is static, and takes and answers nothing
   pub initialisers : (m : MemberId) (s : CodeScope) → IsScopeOf classes m s → s.method.name ≡ CLINIT
       → IsTrue (is_static s.method) × (s.method.params ≡ []) × (s.method.result ≡ None)
-  -- what a domain's names mean
-  pub tables : (d : DomainState) → Contains domains d → IsClosedTable classes d.table
+  pub closed : (table : List NamedClass) → Contains tables table → IsClosedTable classes table

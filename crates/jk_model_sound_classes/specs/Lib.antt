@@ -1,0 +1,3 @@
+pub mod NamedMembers
+pub mod SoundClasses
+pub mod VerifiedMethods
