@@ -125,6 +125,8 @@ module _ (classes : List ClassRecord) (system : AreSystemRecords classes) where
             let of = entry-of c r is in
             system_no_array c.0 of.0 of.1 (subst BeginsArray of.2.name begins);
         knows_system = λ table on c low. absurd (Contains-none table on);
+        own_names = λ table on. absurd (Contains-none table on);
+        types = λ table on. absurd (Contains-none table on);
       }
 
 -- ---- The same name tables.
@@ -152,4 +154,6 @@ module _ (classes : List ClassRecord) (old tables : List (List NamedClass)) (sam
         around = linked.around;
         names = linked.names;
         knows_system = λ table on. linked.knows_system table (same table on);
+        own_names = λ table on. linked.own_names table (same table on);
+        types = λ table on. linked.types table (same table on);
       }

@@ -4,6 +4,8 @@ pub mod WalksWithin
 pub mod NewClasses
 pub mod FoundByLinks
 pub mod ArraysHaveNoNames
+pub mod TypesByNames
+pub mod NamesSayTypes
 pub mod ReferencesAround
 pub mod TablesAgain
 pub mod StaticMembers

@@ -21,15 +21,16 @@ use Rattle.jk_model_classes.specs.Worlds.{NamedClass, WorldRecord}
 use Rattle.jk_model_folders.specs.declared.files.FolderFiles.{FolderFiles}
 use Rattle.jk_model_folders.specs.FolderRules.{link_scope}
 use Rattle.jk_model_folders.specs.LinkedClasses.{IsEntryType}
-use Rattle.jk_model_folders.specs.Loads.{Loads}
+use Rattle.jk_model_folders.specs.Loads.{Loads, MayLoad}
 use Rattle.class_growth.proofs.ItemsOfLists.{each-from, item-at, place-of}
 use Rattle.sound_folders.specs.LinkedWorlds.{RefersAround, RefersToBase}
 use Rattle.sound_folders.proofs.ArraysHaveNoNames.{entry_refers}
 use Rattle.sound_folders.proofs.FoundByLinks.{field-found, field_above, method-found, method_above, type-found}
+use Rattle.sound_folders.proofs.NamesSayTypes.{own_refers}
 use Rattle.sound_folders.proofs.NewClasses.{OwnFile, all, meaning}
 
 module _ {f : FolderFiles} {w : WorldRecord} {into : List ℕ} {first : ClassId} {table : List NamedClass} {offers : List Offer} {stubs : List Stub}
-    {new : WorldRecord} (l : Loads f w into first table offers stubs new)
+    {new : WorldRecord} (l : Loads f w into first table offers stubs new) (may : MayLoad w)
     (plain : (c : ClassId) (r : ClassRecord) → record_of w.classes c ≡ Some r → BeginsArray r.name → ⊥) (ordered : AreOrdered (all l)) (k : ℕ)
     (r : ClassRecord) (own : OwnFile (length w.classes) l.files l.placed k r) where
   abbrev self : ClassId
@@ -99,4 +100,5 @@ module _ {f : FolderFiles} {w : WorldRecord} {into : List ℕ} {first : ClassId}
               subst (λ (x : ClassId). Contains (method_walk (all l) x) m.class) found.1
                   (method_above l ordered self own.file place.0 m found.0),
             );
+        types = λ method on. let place = place-of r.methods method on in own_refers l may k r own place.0 method place.1;
       }

@@ -36,7 +36,9 @@ use Rattle.class_growth.proofs.MoreClasses.{field-before, field_walk-kept, metho
 use Rattle.class_growth.proofs.ScopesKept.{closed-scope, scope-before}
 use Rattle.class_growth.proofs.TypingsKept.{typing-still}
 use Rattle.sound_folders.specs.LinkedWorlds.{Accepts, AreLinked, RefersAround}
+use Rattle.sound_folders.specs.NamesAndTypes.{HasOwnNames, IsCalled, SayTypes}
 use Rattle.sound_folders.proofs.ArraysHaveNoNames.{own_no_array}
+use Rattle.sound_folders.proofs.NamesSayTypes.{new_own_names, new_say_types}
 use Rattle.sound_folders.proofs.NewClasses.{OwnFile, added, all, closed-more, meaning, own_file, system_few}
 use Rattle.sound_folders.proofs.ReferencesAround.{refers-around}
 use Rattle.sound_folders.proofs.StaticMembers.{calls_static, reads_static}
@@ -198,6 +200,9 @@ module _ {f : FolderFiles} {w : WorldRecord} {into : List ℕ} {first : ClassId}
     | inr same ↦ subst (λ (x : List NamedClass). IsNamed x c) (sym l.table_is ∙ same) (system_known l may c low)
   ]
 
+  called-still : (c : ClassId) (name : List ℕ) → IsCalled w.classes c name → IsCalled (all l) c name
+  called-still c name (r, is, e) = (r, record-still w.classes (added l) c r is, e)
+
   around-still : (c : ClassId) (r : ClassRecord) → record_of w.classes c ≡ Some r → RefersAround w.classes r → RefersAround (all l) r
   around-still c r is around =
       let there = (linked.closed.each c r is).links in
@@ -217,7 +222,31 @@ module _ {f : FolderFiles} {w : WorldRecord} {into : List ℕ} {first : ClassId}
               found.0,
               subst (λ (walk : List ClassId). Contains walk m.class) (sym (method_walk-kept w.classes (added l) may.world.ordered class has)) found.1,
             );
+        types = λ method on.
+            let says = around.types method on in
+            record {
+              meaning = says.meaning;
+              is_said = says.is_said;
+              refers = λ name d named meant. let so = says.refers name d named meant in (so.0, called-still d name so.1);
+            };
       }
+
+  own_names-again : (t : List NamedClass) → Contains (tables ++ table ∷ []) t → HasOwnNames (all l) t
+  own_names-again t on = elim (Contains-push_cases tables table t on) [
+    | inl old ↦
+        let names = linked.own_names t old in
+        record { own = λ name c has. called-still c name (names.own name c has); once = names.once }
+    | inr same ↦ subst (HasOwnNames (all l)) (sym l.table_is ∙ same) (new_own_names l may)
+  ]
+
+  types-again : (t : List NamedClass) → Contains (tables ++ table ∷ []) t → SayTypes (all l) t
+  types-again t on = elim (Contains-push_cases tables table t on) [
+    | inl old ↦ λ m method is named.
+        let known = sound.closed t old m.class named in
+        let low = slice_get_within w.classes m.class.0 known.0 known.1 in
+        linked.types t old m method (method-before w.classes (added l) m method low is) named
+    | inr same ↦ subst (SayTypes (all l)) (sym l.table_is ∙ same) (new_say_types l may sound.of_system linked.around)
+  ]
 
   pub linked-again : AreLinked (all l) (tables ++ table ∷ [])
   linked-again =
@@ -225,13 +254,15 @@ module _ {f : FolderFiles} {w : WorldRecord} {into : List ℕ} {first : ClassId}
         closed = closed-more l may linked.closed;
         around = λ c r is foreign. elim (slice_get-append_cases w.classes (added l) c.0 r is) [
           | inl old ↦ around-still c r old (linked.around c r old foreign)
-          | inr later ↦ let own = own_of r later in refers-around l linked.names ordered own.0 r own.1
+          | inr later ↦ let own = own_of r later in refers-around l may linked.names ordered own.0 r own.1
         ];
         names = λ c r is. elim (slice_get-append_cases w.classes (added l) c.0 r is) [
           | inl old ↦ linked.names c r old
           | inr later ↦ let own = own_of r later in own_no_array l own.1.place own.1.file own.1.listed r.name own.1.is_record.name
         ];
         knows_system = knows_system-again;
+        own_names = own_names-again;
+        types = types-again;
       }
 
 -- ---- With what an accepted folder gives.

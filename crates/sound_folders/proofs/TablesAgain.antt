@@ -38,7 +38,7 @@ use Rattle.sound_folders.proofs.WalksWithin.{StandsWithin, field_walk-within, me
 
 -- ---- Lists that begin with others.
 
-slice_get-take : {X : Type 0} (xs : List X) (n k : ℕ) (x : X) → k < n → slice_get xs k ≡ Some x → slice_get (take n xs) k ≡ Some x
+pub slice_get-take : {X : Type 0} (xs : List X) (n k : ℕ) (x : X) → k < n → slice_get xs k ≡ Some x → slice_get (take n xs) k ≡ Some x
 slice_get-take [] n k x low e = absurd cc
 slice_get-take (y ∷ xs) zero k x low e = absurd (omega arith)
 slice_get-take (y ∷ xs) (suc n) zero x low e = e
@@ -51,7 +51,7 @@ slice_get-behind (x ∷ xs) ys k =
     ap (slice_get (x ∷ (xs ++ ys))) e ∙ slice_get-behind xs ys k
 
 -- what is reached from a class by references, and one more
-reached_further : (classes : List ClassRecord) (c d e : ClassId) (r : ClassRecord) → IsReached classes c d → record_of classes d ≡ Some r
+pub reached_further : (classes : List ClassRecord) (c d e : ClassId) (r : ClassRecord) → IsReached classes c d → record_of classes d ≡ Some r
     → Contains r.references e → IsReached classes c e
 reached_further classes c d e r (itself a) is on = further a e e r is on (itself e)
 reached_further classes c d e r (further a b z q at listed rest) is on =

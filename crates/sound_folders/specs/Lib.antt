@@ -1,1 +1,2 @@
 pub mod LinkedWorlds
+pub mod NamesAndTypes

@@ -23,13 +23,14 @@ use Rattle.jk_model_typing.specs.Typing.{IsLeastTyping}
 use Rattle.jk_model_folders.specs.declared.files.FolderFiles.{FolderFiles}
 use Rattle.jk_model_folders.specs.Loads.{Loads, MayLoad}
 use Rattle.class_growth.specs.ClosedClasses.{IsClosed}
+use Rattle.sound_folders.specs.NamesAndTypes.{HasOwnNames, SayTypes, SaysReferences}
 
 abbrev pub RefersToBase : ClassRecord → BaseRef → Type 0
 RefersToBase r (Base.Class c) = Contains r.references c
 RefersToBase r base = Unit {0}
 
--- A record lists among its references its parent, its interfaces, and each class that an entry of its pool names; and a member to
--- which an entry leads stands on the way up from the class that the entry names.
+-- A record lists among its references its parent, its interfaces, each class that an entry of its pool names, and each in the type of
+-- a method. A member to which an entry leads stands on the way up from the class that the entry names.
 pub record RefersAround (classes : List ClassRecord) (r : ClassRecord) : Type 0 where
   pub parent : (p : ClassId) → r.parent ≡ Some p → Contains r.references p
   pub interfaces : AllByRecursion (Contains r.references) r.interfaces
@@ -37,6 +38,7 @@ pub record RefersAround (classes : List ClassRecord) (r : ClassRecord) : Type 0 
   pub fields : (c : ClassId) (m : MemberId) → Contains r.links (To.Field c m) → Contains r.references c × Contains (field_walk classes c) m.class
   pub methods : (c : ClassId) (m : MemberId) → Contains r.links (To.Method c m)
       → Contains r.references c × Contains (method_walk classes c) m.class
+  pub types : (method : MethodRecord) → Contains r.methods method → SaysReferences classes r method
 
 pub record AreLinked (classes : List ClassRecord) (tables : List (List NamedClass)) : Type 0 where
   pub closed : IsClosed classes
@@ -46,6 +48,9 @@ pub record AreLinked (classes : List ClassRecord) (tables : List (List NamedClas
   pub names : (c : ClassId) (r : ClassRecord) → record_of classes c ≡ Some r → BeginsArray r.name → ⊥
   -- each domain knows the system classes
   pub knows_system : (table : List NamedClass) → Contains tables table → (c : ClassId) → c.0 < length system_classes → IsNamed table c
+  -- each class that a domain knows stands under its own name, and its methods' types are said by the domain's names
+  pub own_names : (table : List NamedClass) → Contains tables table → HasOwnNames classes table
+  pub types : (table : List NamedClass) → Contains tables table → SayTypes classes table
 
 -- in each of these name tables names mean what they mean in one of those
 abbrev pub HaveNamesOf : List (List NamedClass) → List (List NamedClass) → Type 0

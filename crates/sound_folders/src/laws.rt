@@ -1,6 +1,6 @@
 //! The laws. The functions have no bodies: each stands for its clauses. Name tables say what names mean in the domains.
 
-ghost use Rattle.std.specs.Prelude.{◌++◌, ◌∷◌, [], ℕ, List};
+ghost use Rattle.std.specs.Prelude.{◌++◌, ◌∷◌, [], ℕ, List, Contains};
 ghost use Rattle.jk_model.specs.declared.identifiers.ClassId.{ClassId as AClassId};
 ghost use Rattle.jk_model_classes.specs.declared.records.ClassRecord.{ClassRecord as ARecord};
 ghost use Rattle.jk_model_classes.specs.declared.sharing.Offer.{Offer as AnOffer};
@@ -11,6 +11,7 @@ ghost use Rattle.jk_model_classes.specs.Worlds.{NamedClass as AName, WorldRecord
 ghost use Rattle.jk_model_folders.specs.declared.files.FolderFiles.{FolderFiles as SomeFiles};
 ghost use Rattle.jk_model_sound_classes.specs.SoundClasses.{AreSoundClasses};
 ghost use Rattle.sound_folders.specs.LinkedWorlds.{Accepts, AreLinked, HaveNamesOf};
+ghost use Rattle.sound_folders.specs.NamesAndTypes.{AgreeOnTypes, HasOwnNames, SayTypes};
 
 /// The system classes alone are sound and linked, where there is no domain.
 pub fn first_classes_are_sound()
@@ -35,4 +36,15 @@ pub fn accepted_folders_stay_sound()
     ensures linked { (old : AWorld) (tables : List (List AName)) (f : SomeFiles) (name : List ℕ) (first : AClassId) (table : List AName)
         (offers : List AnOffer) (stubs : List AStub) (new : AWorld) → AreSoundClasses old.classes tables → AreLinked old.classes tables
         → Accepts f old name first table offers stubs new → AreOrdered new.classes → AreLinked new.classes (tables ++ table ∷ []) }
+{}
+
+/// In each domain a class stands under its own name, a method takes and answers what its descriptor says by the domain's names, and so
+/// methods of one type take the same parameters and answer the same.
+pub fn names_say_types()
+    ensures names { (classes : List ARecord) (tables : List (List AName)) (table : List AName) → AreLinked classes tables
+        → Contains tables table → HasOwnNames classes table }
+    ensures types { (classes : List ARecord) (tables : List (List AName)) (table : List AName) → AreLinked classes tables
+        → Contains tables table → SayTypes classes table }
+    ensures methods { (classes : List ARecord) (tables : List (List AName)) (table : List AName) → AreLinked classes tables
+        → Contains tables table → AgreeOnTypes classes table }
 {}
