@@ -1,27 +1,17 @@
 -- A code is one list of instructions.
-use Rattle.std.proofs.Common.{◌≡◌, ℕ, ◌+◌, List, [], ◌∷◌, ◌++◌, length, take, drop, refl, sym, ap, subst, ◌∙◌, append_assoc, length-append, arith}
+use Rattle.std.proofs.Common.{◌≡◌, ℕ, ◌+◌, List, [], ◌∷◌, ◌++◌, length, refl, sym, ap, subst, ◌∙◌, append_assoc, length-append, arith}
 use Rattle.std.specs.Prelude.{pos, ◌+ℤ◌, ◌-ℤ◌, flat_map, map}
 use Rattle.std.specs.List.{AllByRecursion}
 use Rattle.std.specs.Int.{w8, w32, cast_signed, from_be_bytes}
-use Rattle.std.proofs.lemmas.List.{drop_at, take_at}
+use Rattle.list_lemmas.proofs.EndsOfLists.{cancel, front_of, front_of_pairs, tail_is, head_is}
+use Rattle.list_lemmas.proofs.TestsAndOrders.{same_pos}
 use Rattle.jk_model.specs.declared.instructions.Instr.{Instr}
 use Rattle.jk_model.specs.ClassFile.{u4, IsU4}
 use Rattle.jk_model.specs.Instructions.{AreInstrs, Decodes, Format, IsInstr, IsLookupSwitch, IsPair, IsTableSwitch, Means, WideFormat, WideMeans, case_at, format_of, pair_bytes, plain, short, signed_int, signed_short, switch, table_cases, target, wide_format_of}
+use Rattle.model_lemmas.proofs.PlacesOfInstrs.{some_bytes}
 use Rattle.byte_fields.specs.OneReading.{one_u4}
 
 -- ---- Lists whose fronts are as long.
-
-cancel : (xs ys r s : List ℕ) → length xs ≡ length ys → xs ++ r ≡ ys ++ s → (xs ≡ ys) × (r ≡ s)
-cancel xs ys r s long e = (
-  sym (take_at xs r (length ys) long) ∙ ap (λ (w : List ℕ). take (length ys) w) e ∙ take_at ys s (length ys) refl,
-  sym (drop_at xs r (length ys) long) ∙ ap (λ (w : List ℕ). drop (length ys) w) e ∙ drop_at ys s (length ys) refl,
-)
-
-head_is : (x y : ℕ) (xs ys : List ℕ) → x ∷ xs ≡ y ∷ ys → x ≡ y
-head_is x y xs ys e = cc
-
-tail_is : (x y : ℕ) (xs ys : List ℕ) → x ∷ xs ≡ y ∷ ys → xs ≡ ys
-tail_is x y xs ys e = cc
 
 -- two instructions that are the same, and what stands after them
 record Same (i j : Instr) (r s : List ℕ) : Type 0 where
@@ -146,16 +136,6 @@ wide_increment_read at op (k ∷ l ∷ m ∷ n ∷ []) i e = record { long = ref
 wide_increment_read at op _ i h = absurd h
 
 -- ---- Switches.
-
--- what stands before the offsets, with what follows
-front_of : (f d l h o r : List ℕ) → (f ++ d ++ l ++ h ++ o) ++ r ≡ f ++ (d ++ (l ++ (h ++ (o ++ r))))
-front_of f d l h o r = simp append_assoc
-
-front_of_pairs : (f d n o r : List ℕ) → (f ++ d ++ n ++ o) ++ r ≡ f ++ (d ++ (n ++ (o ++ r)))
-front_of_pairs f d n o r = simp append_assoc
-
-pub same_pos : (m n : ℕ) → pos m ≡ pos n → m ≡ n
-same_pos m n e = cc
 
 same_offsets : (us vs r s : List ℕ) → length us ≡ length vs → AllByRecursion IsU4 us → AllByRecursion IsU4 vs → flat_map u4 us ++ r ≡ flat_map u4 vs ++ s
     → (us ≡ vs) × (r ≡ s)
@@ -288,12 +268,6 @@ both_instrs at (v ∷ xs) (w ∷ ys) r s i j h k e =
     both_mean (format_of v) at v xs ys r s i j h own (tail_is v w (xs ++ r) (ys ++ s) e)
 
 -- ---- One after the other.
-
-some_bytes : (at : ℕ) (front after : List ℕ) (i : Instr) → IsInstr at front i → front ++ after ≡ [] → ⊥
-some_bytes at [] after i h e = h
-some_bytes at (b ∷ front) after i h e =
-    let whole : b ∷ (front ++ after) ≡ [] = e in
-    absurd cc
 
 one_reading : (at : ℕ) (bytes : List ℕ) (us vs : List Instr) → AreInstrs at bytes us → AreInstrs at bytes vs → us ≡ vs
 one_reading at bytes [] [] h k = refl

@@ -2,10 +2,10 @@
 use Rattle.std.proofs.Common.{◌≡◌, ℕ, ◌⊎◌, inl, inr, List, slice_get, refl, sym, ap, subst, ◌∙◌}
 use Rattle.std.proofs.lemmas.Bool.{cases_order}
 use Rattle.std.proofs.lemmas.Option.{same_Some}
+use Rattle.list_lemmas.proofs.ItemsOfLists.{Contains-at as contained}
 use Rattle.jk_model.specs.declared.output.Rule.{Rule}
 use Rattle.jk_model_classes.specs.Items.{Spot, Member, Entry, spot_number, IsBefore}
 use Rattle.jk_model_folders.specs.FolderRules.{BreaksAt, IsFirstBroken, NoneBroken}
-use Rattle.one_verdict.proofs.RisingLists.{contained}
 
 spot_cases : (s t : Spot) → (s ≡ t) ⊎ (IsBefore s t ⊎ IsBefore t s)
 spot_cases (Member m) (Entry j) = inr (inl tt)

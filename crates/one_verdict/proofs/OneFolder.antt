@@ -1,6 +1,7 @@
 -- The classes of a folder are put behind the others in one way, as far as a rule can tell.
 use Rattle.std.proofs.Common.{◌≡◌, ℕ, zero, suc, ◌+◌, inl, inr, List, [], ◌∷◌, ◌++◌, length, map, Contains, Option, Some, None, slice_get, refl, sym, ap, subst, ◌∙◌, arith}
 use Rattle.std.proofs.lemmas.Option.{slice_get_within}
+use Rattle.list_lemmas.proofs.ItemsByPlace.{item_there as item_at}
 use Rattle.jk_model.specs.declared.class_file.ClassFile.{ClassFile}
 use Rattle.jk_model.specs.declared.identifiers.ClassId.{ClassId}
 use Rattle.jk_model.specs.declared.identifiers.DomainId.{DomainId}
@@ -15,7 +16,7 @@ use Rattle.one_verdict.proofs.OneAttribute.{IsJudged}
 use Rattle.one_verdict.proofs.OneLinks.{one_list_of_links}
 use Rattle.one_verdict.proofs.OneOrder.{one_order}
 use Rattle.one_verdict.proofs.OneRecord.{one_record}
-use Rattle.one_verdict.proofs.RisingLists.{item_at, list_is}
+use Rattle.one_verdict.proofs.RisingLists.{list_is}
 
 -- ---- What names mean.
 

@@ -2,6 +2,7 @@
 use Rattle.std.proofs.Common.{◌≡◌, ◌≢◌, ℕ, zero, suc, inl, inr, List, [], ◌∷◌, ◌++◌, Some, slice_get, replicate, refl, sym, ◌∙◌, ap, subst, arith}
 use Rattle.std.specs.List.{join_with_byte}
 use Rattle.std.proofs.lemmas.Option.{same_Some, slice_get_within}
+use Rattle.list_lemmas.proofs.ItemsByPlace.{item_there as item_at}
 use Rattle.jk_model.specs.declared.class_file.Attribute.{Attribute}
 use Rattle.jk_model.specs.declared.class_file.ClassFile.{ClassFile}
 use Rattle.jk_model.specs.declared.class_file.MemberInfo.{MemberInfo}
@@ -17,11 +18,12 @@ use Rattle.jk_model_classes.specs.declared.records.TypeRef.{TypeRef}
 use Rattle.jk_model_classes.specs.LinkRules.{LinkScope}
 use Rattle.jk_model_classes.specs.SystemRecords.{IsTypeFor}
 use Rattle.jk_model_folders.specs.LinkedClasses.{AreLinksFor, AreThrownBy, IsEntryType, IsFieldLink, IsLinkFor, IsMethodLink, IsThrown}
-use Rattle.class_texts.proofs.OneText.{one_class, one_text}
+use Rattle.class_lemmas.proofs.OneMember.{one_type}
+use Rattle.class_lemmas.proofs.OneText.{one_text, one_class}
 use Rattle.descriptors.proofs.NoTextBeginsAnother.{one_field}
 use Rattle.one_verdict.proofs.OneAttribute.{IsJudged, one_exceptions, one_list_of_indices}
-use Rattle.one_verdict.proofs.OneMember.{one_field_found, one_method_found, one_type}
-use Rattle.one_verdict.proofs.RisingLists.{item_at, list_is}
+use Rattle.one_verdict.proofs.OneMember.{one_field_found, one_method_found}
+use Rattle.one_verdict.proofs.RisingLists.{list_is}
 
 -- ---- The name of a class is none of an array.
 

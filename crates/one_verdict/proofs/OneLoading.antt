@@ -1,5 +1,6 @@
 -- Files that break no rule bring one thing, but for how names and offers are listed.
 use Rattle.std.proofs.Common.{◌≡◌, ℕ, ◌<◌, List, Contains, sym, ap, subst, ◌∙◌, arith}
+use Rattle.list_lemmas.proofs.ItemsOfLists.{Contains-at as contained}
 use Rattle.jk_model.specs.declared.identifiers.ClassId.{ClassId}
 use Rattle.jk_model_classes.specs.declared.records.ClassRecord.{ClassRecord}
 use Rattle.jk_model_classes.specs.declared.sharing.Offer.{Offer}
@@ -11,7 +12,7 @@ use Rattle.jk_model_folders.specs.Loads.{AreStubs}
 use Rattle.one_verdict.specs.Verdicts.{Brings, Brought, IsSameBrought}
 use Rattle.one_verdict.proofs.OneFolder.{TwoWays, one_list_of_classes, one_table, same_offers, swapped}
 use Rattle.one_verdict.proofs.OneVerdict.{both_ways, places_of}
-use Rattle.one_verdict.proofs.RisingLists.{IsIn, contained, in_list, rising_same}
+use Rattle.one_verdict.proofs.RisingLists.{IsIn, in_list, rising_same}
 
 -- ---- Stubs.
 

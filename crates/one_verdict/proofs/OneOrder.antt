@@ -10,7 +10,7 @@ use Rattle.std.proofs.lemmas.Option.{same_Some, slice_get-get_or}
 use Rattle.jk_model.specs.declared.class_file.ClassFile.{ClassFile}
 use Rattle.jk_model_classes.specs.References.{IsCalledClass}
 use Rattle.jk_model_folders.specs.ClassOrder.{ClimbsTo, ComesBefore, HasHeight, IsClassOrder, IsOfFiles}
-use Rattle.class_texts.proofs.OneText.{one_class}
+use Rattle.class_lemmas.proofs.OneText.{one_class}
 use Rattle.one_verdict.proofs.RisingLists.{IsIn, rising_same}
 
 -- ---- Distinct numbers below as many as they are, are all of these.
@@ -86,7 +86,7 @@ module _ (files : List ClassFile) where
       let name : a ≡ b = one_class d.pool d.this_class a b (subst (λ (x : ClassFile). IsCalledClass x a) one of_a) of_b in
       one_height b m n (subst (λ (x : List ℕ). HasHeight files x m) name h) k
 
-  never_both : (i j : ℕ) → ComesBefore files i j → ComesBefore files j i → ⊥
+  pub never_both : (i j : ℕ) → ComesBefore files i j → ComesBefore files j i → ⊥
   never_both i j (c, d, at_c, at_d, (a, b, m, n, of_a, of_b, high_a, high_b, comes)) (e, f, at_e, at_f, (x, y, k, l, of_x, of_y, high_x, high_y, goes)) =
       let same_i : m ≡ l = height_at i c f a y m l at_c at_f of_a of_y high_a high_y in
       let same_j : n ≡ k = height_at j d e b x n k at_d at_e of_b of_x high_b high_x in

@@ -3,6 +3,8 @@ use Rattle.std.proofs.Common.{◌≡◌, ℕ, ◌<◌, inl, inr, Bool, true, fal
 use Rattle.std.specs.Prelude.{ℤ, pos, ◌||◌, not, IsTrue}
 use Rattle.std.proofs.lemmas.Bool.{cases_eq}
 use Rattle.std.proofs.lemmas.Option.{same_Some, slice_get_within}
+use Rattle.list_lemmas.proofs.ItemsByPlace.{item_there as item_at}
+use Rattle.list_lemmas.proofs.ItemsOfLists.{Contains-at as contained}
 use Rattle.jk_model.specs.declared.class_file.Attribute.{Attribute}
 use Rattle.jk_model.specs.declared.class_file.ClassFile.{ClassFile}
 use Rattle.jk_model.specs.declared.class_file.Code.{Code}
@@ -32,13 +34,15 @@ use Rattle.jk_model_classes.specs.LinkRules.{LinkScope}
 use Rattle.jk_model_classes.specs.MemberCode.{is_jump, is_switch}
 use Rattle.jk_model_classes.specs.SystemRecords.{AreTypesFor, IsResultFor, IsTypeFor}
 use Rattle.jk_model_folders.specs.LinkedClasses.{AreReferences, GoAlong, IsBodyFor, IsCaseFor, IsCaughtFor, IsConstantFrom, IsConstantOfField, IsEndFor, IsFieldFor, IsInstrFor, IsLinkedCode, IsMethodFor, IsPlaceOf, IsRecordFor, NamesClassAt, without_links}
+use Rattle.class_lemmas.proofs.OneMember.{one_type}
+use Rattle.class_lemmas.proofs.OneRecord.{one_flags}
+use Rattle.class_lemmas.proofs.OneText.{one_text, one_class}
 use Rattle.class_reader.proofs.OneCodeBody.{only as only_code}
-use Rattle.class_texts.proofs.OneText.{one_class, one_text}
 use Rattle.one_verdict.proofs.OneAttribute.{IsJudged, one_code_attribute, one_entry}
 use Rattle.one_verdict.proofs.OneDecoding.{one_decoding}
-use Rattle.one_verdict.proofs.OneMember.{one_field_type, one_method_type, one_result, one_type}
+use Rattle.one_verdict.proofs.OneMember.{one_field_type, one_method_type, one_result}
 use Rattle.one_verdict.proofs.PlacesOfInstrs.{none_at_the_end, one_place}
-use Rattle.one_verdict.proofs.RisingLists.{IsIn, contained, in_list, item_at, list_is, rising_same}
+use Rattle.one_verdict.proofs.RisingLists.{IsIn, in_list, list_is, rising_same}
 
 -- ---- Lists that go along with one list.
 
@@ -78,12 +82,6 @@ module _ (c : ClassFile) (judged : IsJudged c) where
   one_constant i info kind a b at (inl (static, (x, has_x, from_x))) (inr (none, e)) = absurd (none static x has_x)
   one_constant i info kind a b at (inr (none, e)) (inl (also, (y, has_y, from_y))) = absurd (none also y has_y)
   one_constant i info kind a b at (inr (none, e)) (inr (never, f)) = e ∙ sym f
-
-one_flags : (c : ClassFile) (info : MemberInfo) (a b : ℕ) → MethodFlags c info a → MethodFlags c info b → a ≡ b
-one_flags c info a b (inl (is, e)) (inl (also, f)) = e ∙ sym f
-one_flags c info a b (inl (is, e)) (inr (never, f)) = absurd (never is)
-one_flags c info a b (inr (never, e)) (inl (also, f)) = absurd (never also)
-one_flags c info a b (inr (never, e)) (inr (none, f)) = e ∙ sym f
 
 -- ---- Instructions and catch entries.
 

@@ -2,6 +2,8 @@
 use Rattle.std.proofs.Common.{◌≡◌, ℕ, ◌<◌, inl, inr, List, Some, Result, Ok, slice_get, refl, sym, ap, subst, ◌∙◌, arith}
 use Rattle.std.proofs.lemmas.Bool.{cases_order}
 use Rattle.std.proofs.lemmas.Option.{same_Some, slice_get_within}
+use Rattle.list_lemmas.proofs.ItemsByPlace.{item_there as item_at}
+use Rattle.list_lemmas.proofs.ItemsOfLists.{Contains-at as contained}
 use Rattle.jk_model.specs.declared.class_file.ClassFile.{ClassFile}
 use Rattle.jk_model.specs.declared.output.Place.{Place}
 use Rattle.jk_model.specs.declared.output.Place.TheVariants.{At}
@@ -26,7 +28,6 @@ use Rattle.one_verdict.proofs.OneAttribute.{IsJudged}
 use Rattle.one_verdict.proofs.OneFirstBroken.{SameFault, none_is_first, one_broken}
 use Rattle.one_verdict.proofs.OneFolder.{TwoWays, one_meaning}
 use Rattle.one_verdict.proofs.OneRecord.{along_is}
-use Rattle.one_verdict.proofs.RisingLists.{contained, item_at}
 use Rattle.one_verdict.proofs.SamePlacedFaults.{faults_there}
 
 -- ---- Class files.

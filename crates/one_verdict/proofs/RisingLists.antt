@@ -1,13 +1,8 @@
 -- Lists that are equal: those whose items are equal, and those that rise and have the same items.
 use Rattle.std.proofs.Common.{◌≡◌, ℕ, zero, suc, ◌<◌, ◌⊎◌, inl, inr, List, [], ◌∷◌, length, Contains, Some, slice_get, refl, sym, ap, subst, ◌∙◌, arith}
-use Rattle.std.proofs.lemmas.Option.{same_Some, none-some, slice_get_within, slice_get-get_or, get_or_from_slice_get}
+use Rattle.std.proofs.lemmas.Option.{same_Some, none-some, slice_get-get_or}
 
 -- ---- By their items.
-
-pub item_at : {X : Type 0} (xs : List X) (i : ℕ) → i < length xs → (x : X) × (slice_get xs i ≡ Some x)
-item_at [] i less = absurd (omega (arith, less))
-item_at (x ∷ xs) zero less = (x, refl)
-item_at (x ∷ xs) (suc i) less = item_at xs i (omega (arith, less))
 
 pub list_is : {X : Type 0} (xs ys : List X) → length xs ≡ length ys
     → ((i : ℕ) (x y : X) → slice_get xs i ≡ Some x → slice_get ys i ≡ Some y → x ≡ y) → xs ≡ ys
@@ -29,9 +24,6 @@ IsIn {X} x xs = (k : ℕ) × (slice_get xs k ≡ Some x)
 
 pub in_list : {X : Type 0} (xs : List X) (x : X) → Contains xs x → IsIn x xs
 in_list xs x (i, within, e) = (i, slice_get-get_or xs i x within ∙ ap Some e)
-
-pub contained : {X : Type 0} (xs : List X) (i : ℕ) (x : X) → slice_get xs i ≡ Some x → Contains xs x
-contained xs i x at = (i, slice_get_within xs i x at, get_or_from_slice_get xs i x x at)
 
 abbrev pub NeverBoth : {X : Type 0} → (X → X → Type 0) → Type 0
 NeverBoth {X} Less = (a b : X) → Less a b → Less b a → ⊥

@@ -1,6 +1,7 @@
 -- Whichever way the classes of a folder are put behind the others, they break the same rules at the same spots.
-use Rattle.std.proofs.Common.{◌≡◌, ℕ, suc, ◌+◌, inl, inr, List, [], ◌∷◌, ◌++◌, length, Contains, Option, Some, None, slice_get, refl, sym, ap, subst, ◌∙◌, arith}
+use Rattle.std.proofs.Common.{◌≡◌, ℕ, ◌+◌, inl, inr, List, length, Contains, Option, Some, None, slice_get, refl, sym, ap, subst, ◌∙◌, arith}
 use Rattle.std.proofs.lemmas.Option.{slice_get_within}
+use Rattle.list_lemmas.proofs.ItemsByPlace.{item_there as item_at, slice_get-behind as behind}
 use Rattle.jk_model.specs.declared.class_file.ClassFile.{ClassFile}
 use Rattle.jk_model.specs.declared.class_file.MemberInfo.{MemberInfo}
 use Rattle.jk_model.specs.declared.identifiers.ClassId.{ClassId}
@@ -20,7 +21,6 @@ use Rattle.jk_model_folders.specs.FolderRules.{BreaksPlaced, IsClassOfFile, Plac
 use Rattle.jk_model_folders.specs.LinkedClasses.{AreThrownBy}
 use Rattle.one_verdict.proofs.OneFolder.{TwoWays, one_home, one_list_of_classes, one_order_of, one_scope, one_table, same_offers, swapped}
 use Rattle.one_verdict.proofs.OneLinks.{one_list_of_thrown}
-use Rattle.one_verdict.proofs.RisingLists.{item_at}
 
 -- ---- Offers that are the same, in whatever order.
 
@@ -38,14 +38,6 @@ module _ (as_offers bs : List Offer) (into : (o : Offer) → Contains as_offers 
   goes_along w home to c (r, is, inr (d, of_home, lives, inl (own, e), along)) =
       (r, is, inr (d, bs, lives, inl (own, refl), offered_as c to (subst (λ (os : List Offer). IsOfferedAs os c to) e along)))
   goes_along w home to c (r, is, inr (d, of_home, lives, inr other, along)) = (r, is, inr (d, of_home, lives, inr other, along))
-
-behind : {X : Type 0} (xs ys : List X) (n : ℕ) → slice_get (xs ++ ys) (length xs + n) ≡ slice_get ys n
-behind {X} [] ys n =
-    let none : 0 + n ≡ n = omega arith in
-    ap (λ (k : ℕ). slice_get ys k) none
-behind {X} (x ∷ xs) ys n =
-    let one : length (x ∷ xs) + n ≡ suc (length xs + n) = omega arith in
-    ap (λ (k : ℕ). slice_get (x ∷ xs ++ ys) k) one ∙ behind xs ys n
 
 module _ (t : TwoWays) where
   abbrev first : ClassId
