@@ -5,6 +5,8 @@ mod FieldOfAnIndex
 mod FirstState
 mod ListedInOrder
 mod LiteralsByPlace
+mod MarkedTexts
+mod MissingFound
 mod PartAdded
 mod PartChanged
 mod PartOfAClass

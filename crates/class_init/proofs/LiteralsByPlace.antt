@@ -112,9 +112,9 @@ apart_from (p ∷ names) place e = by_test (nat_eq place p.0) refl (λ t. apart_
     by_test true t later = let s : Some p.1 ≡ None = rw t at e in cc
     by_test false t later = (t, later t)
 
-pub room_for_one : (texts : List (List ℕ)) (names : List (ℕ × ℕ)) (room place : ℕ) → AreNamed texts names room → place < length texts
+pub room_for_one : (texts : List (List ℕ)) (names : List (ℕ × ℕ)) (room place : ℕ) (marks : List Bool) → AreNamed texts names room marks → place < length texts
     → lookup (nat_eq place) names ≡ None → 0 < room
-room_for_one texts names room place h low none =
+room_for_one texts names room place marks h low none =
     let keys = keys_of names in
     let apart : IsDistinct nat_eq (place ∷ keys) = IsDistinct-cons nat_eq place keys (apart_from names place none) h.apart in
     let few : length (place ∷ keys) ≤ length texts = length-le_from_distinct_below (place ∷ keys) (length texts) apart below in
@@ -129,13 +129,15 @@ room_for_one texts names room place h low none =
         by_test true t = let here : q ≡ place = eqb-true q place t in omega (arith, here, low)
         by_test false t = h.within q (Contains-list_any nat_eq (λ x y e. eqb-true x y e) (keys_of names) q (rw t at any))
 
-pub named_more : (texts : List (List ℕ)) (names : List (ℕ × ℕ)) (room room' place name : ℕ) → AreNamed texts names room → place < length texts
-    → IsDistinct nat_eq (keys_of (names ++ (place, name) ∷ [])) → room ≤ room' + 1 → AreNamed texts (names ++ (place, name) ∷ []) room'
-named_more texts names room room' place name h low apart left = record {
+pub named_more : (texts : List (List ℕ)) (names : List (ℕ × ℕ)) (room room' place name : ℕ) (marks : List Bool)
+    → AreNamed texts names room marks → place < length texts
+    → IsDistinct nat_eq (keys_of (names ++ (place, name) ∷ [])) → room ≤ room' + 1 → AreNamed texts (names ++ (place, name) ∷ []) room' marks
+named_more texts names room room' place name marks h low apart left = record {
   texts_differ = h.texts_differ;
   within = λ q has. by_place q (Contains-push_cases (keys_of names) place q (rw (map-append (λ (p : ℕ × ℕ). p.0) names ((place, name) ∷ [])) at has));
   apart = apart;
   fits = omega (arith, h.fits, left, length_push names (place, name));
+  unmarked = h.unmarked;
 }
   where
     by_place : (q : ℕ) → Contains (keys_of names) q ⊎ (place ≡ q) → q < length texts
@@ -202,18 +204,19 @@ text_place texts names k l within at =
     }
 
 -- no two have one text
-pub literals_differ : (texts : List (List ℕ)) (names : List (ℕ × ℕ)) (room : ℕ) → AreNamed texts names room → (i j : ℕ) (a b : Literal)
-    → slice_get (map (literal_of texts) names) i ≡ Some a → slice_get (map (literal_of texts) names) j ≡ Some b → a.text ≡ b.text → i ≡ j
-literals_differ texts names room h i j a b p q e =
+pub literals_differ : (texts : List (List ℕ)) (names : List (ℕ × ℕ)) (room : ℕ) (marks : List Bool) → AreNamed texts names room marks
+    → (i j : ℕ) (a b : Literal) → slice_get (map (literal_of texts) names) i ≡ Some a
+    → slice_get (map (literal_of texts) names) j ≡ Some b → a.text ≡ b.text → i ≡ j
+literals_differ texts names room marks h i j a b p q e =
     let x = text_place texts names i a h.within p in
     let y = text_place texts names j b h.within q in
     let here : x.from.0 ≡ y.from.0 = h.texts_differ x.from.0 y.from.0 a.text x.text (y.text ∙ ap Some (sym e)) in
     differ_from_distinct (λ (n : ℕ × ℕ). n.0) names h.apart i j x.from y.from x.there y.there here
 
 -- and each text is known
-pub text_known : (texts : List (List ℕ)) (names : List (ℕ × ℕ)) (room : ℕ) → AreNamed texts names room → (l : Literal)
+pub text_known : (texts : List (List ℕ)) (names : List (ℕ × ℕ)) (room : ℕ) (marks : List Bool) → AreNamed texts names room marks → (l : Literal)
     → Contains (map (literal_of texts) names) l → Contains texts l.text
-text_known texts names room h l has =
+text_known texts names room marks h l has =
     let s = stands_at (map (literal_of texts) names) l has in
     let x = text_place texts names s.place l h.within s.there in
     Contains-at texts x.from.0 l.text x.text

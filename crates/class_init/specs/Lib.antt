@@ -2,6 +2,7 @@
 pub mod Beginning
 pub mod InOrder
 pub mod Literals
+pub mod MissingTexts
 pub mod Parts
 pub mod Statics
 pub mod Texts

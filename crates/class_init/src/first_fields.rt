@@ -26,7 +26,7 @@ pub(crate) fn first_fields(alloc: Global, fields: &[FieldRecord]) -> Result<Stat
 }
 
 /// Whether the class has such a field, and not its objects.
-fn is_static(field: &FieldRecord) -> bool
+pub(crate) fn is_static(field: &FieldRecord) -> bool
     ensures { result ≡ has field.now.flags STATIC }
 {
     has(field.flags, AccessFlags::STATIC)

@@ -9,6 +9,7 @@ mod known_texts;
 mod literals;
 mod looking;
 mod making;
+mod missing_texts;
 mod own;
 mod statics;
 #[cfg(test)]

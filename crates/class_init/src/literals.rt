@@ -2,13 +2,17 @@
 
 ghost use Rattle.std.specs.Prelude.{◌≡◌, ◌↔◌, ◌++◌, ◌∷◌, [], ℕ, List as AList, bytes_eq, Contains, IfOk, IsTrue, None, Some, find, map, option_map, slice_get};
 ghost use Rattle.shared_values.specs.Fingerprints.{fingerprint_of};
+ghost use Rattle.jk_model_classes.specs.declared.records.FieldRecord.{FieldRecord as AField};
 ghost use Rattle.jk_model_domains.specs.declared.states.LiteralImage.{LiteralImage as AnImage};
-ghost use Rattle.jk_model_domains.specs.OwnStates.{Literal, literal_image};
+ghost use Rattle.jk_model_domains.specs.OwnStates.{Literal, OwnState, literal_image};
 ghost use Rattle.class_init.specs.Literals.{literal_from};
+ghost use Rattle.class_init.specs.MissingTexts.{HasTextConstant, IsCostOfMissing};
 
 use crate::known_texts::KnownTexts;
+use crate::missing_texts::{mark_missing, unmark_missing};
 use indexmap::IndexMap;
 use jk_model::{OutOfMemory, Units};
+use jk_model_classes::FieldRecord;
 use jk_model_domains::LiteralImage;
 use shared_values::fingerprint;
 use std::alloc::Global;
@@ -22,6 +26,8 @@ pub(crate) struct Literals {
     /// The map's hash is known, but nobody picks its keys: they are places below the number of texts, and it has room for all
     /// of these from the beginning. So no more of them meet in it than of the numbers from 0 on, which spread.
     names: IndexMap<usize, u32>,
+    /// A mark for each text, for `missing_words` alone: between calls no text is marked.
+    marks: Vec<bool>,
 }
 
 impl Model for Literals {
@@ -35,7 +41,7 @@ impl Model for Literals {
 
     ghost view = { λ l. record { texts = l.texts; literals = map (literal_of l.texts) l.names.entries } };
 
-    ghost invariant = { λ l. AreNamed l.texts l.names.entries (spare l.names) };
+    ghost invariant = { λ l. AreNamed l.texts l.names.entries (spare l.names) l.marks.items };
 }
 
 impl Literals {
@@ -45,7 +51,12 @@ impl Literals {
     {
         texts.differ();
         let names = IndexMap::with_capacity(alloc, texts.len())?;
-        Ok(Literals { texts, names })
+        let marks = vec![in alloc; false; texts.len()]?;
+        Ok(Literals {
+            texts,
+            names,
+            marks,
+        })
     }
 
     /// The name of the object of a text, which has this fingerprint; none where it has no object.
@@ -93,6 +104,19 @@ impl Literals {
             let units = image.text.as_slice();
             self.set(units, fingerprint(units), image.name);
         }
+    }
+
+    /// What the objects cost together of the texts that are constants of static fields among these and have no object yet, equal
+    /// ones once. It takes no memory, and time in proportion to n log m for n fields and m texts.
+    pub(crate) fn missing_words(&mut self, fields: &[FieldRecord]) -> u64
+        requires { (f : AField) (text : AList ℕ) → Contains fields.now f → HasTextConstant f text → Contains self.old.texts text }
+        ensures words { (own : OwnState) → own.literals ≡ self.old.literals → IsCostOfMissing own fields.now result }
+        ensures same { self.new ≡ self.old }
+    {
+        let marks = self.marks.as_mut_slice();
+        let words = mark_missing(&self.texts, &self.names, marks, fields);
+        unmark_missing(&self.texts, &self.names, marks, fields);
+        words
     }
 
     /// What holds of all texts and literals: no two texts are equal, no two literals have one text, and the text of each literal

@@ -2,12 +2,14 @@
 
 ghost use Rattle.std.specs.Prelude.{◌≡◌, ℕ, ◌≢◌, ◌<◌, ◌++◌, ◌∷◌, [], List as AList, length, Contains, IfOk, OnErr, OnOk, None, slice_get, slice_set, Some};
 ghost use Rattle.jk_model.specs.declared.identifiers.ClassId.{ClassId as AClassId};
+ghost use Rattle.jk_model_classes.specs.declared.records.FieldRecord.{FieldRecord as AField};
 ghost use Rattle.jk_model_classes.specs.Classes.{HasClass};
 ghost use Rattle.jk_model_classes.specs.Worlds.{IsNamed};
 ghost use Rattle.jk_model_domains.specs.OwnStates.{OwnState as AState, ClassPart as APart, Literal as ALiteral, ArePartsOf, HasState, HasStatic, IsFirstState, IsLiteralOf, IsOwnState, literal_named, standing_place, state_of, static_of, with_state, with_static};
 ghost use Rattle.jk_model_domains.specs.declared.states.LiteralImage.{LiteralImage as AnImage};
 ghost use Rattle.class_init.specs.Beginning.{new_state};
 ghost use Rattle.class_init.specs.InOrder.{AreByName, AreByText};
+ghost use Rattle.class_init.specs.MissingTexts.{HasTextConstant, IsCostOfMissing};
 
 use crate::class_parts::ClassParts;
 use crate::in_order::{classes_in_order, literals_in_order};
@@ -16,6 +18,7 @@ use crate::making::{Begun, add_images, begin};
 use class_table::ClassTable;
 use domain_resolver::NameTable;
 use jk_model::{ClassId, MemberId, OutOfMemory, Standing, Value};
+use jk_model_classes::FieldRecord;
 use jk_model_domains::{ClassState, LiteralImage, OwnParts};
 use shared_values::Text;
 use std::alloc::Global;
@@ -149,6 +152,16 @@ impl Own {
         ensures { self.new ≡ record self.old { literals = self.old.literals ++ record { text = text.now; name = a } ∷ [] } }
     {
         self.literals.set(text.as_slice(), text.fingerprint(), a);
+    }
+
+    /// How many words the objects take together of the texts that are constants of static fields among these and have no object
+    /// yet, equal ones once. It takes no memory, and time in proportion to n log m for n fields and m texts that are known.
+    pub fn missing_words(&mut self, fields: &[FieldRecord]) -> u64
+        requires { (f : AField) (text : AList ℕ) → Contains fields.now f → HasTextConstant f text → Contains self.old.texts text }
+        ensures words { IsCostOfMissing self.old fields.now result }
+        ensures same { self.new ≡ self.old }
+    {
+        self.literals.missing_words(fields)
     }
 
     /// The name of a standing throwable.

@@ -8,8 +8,9 @@ returns-clause-texts c = rw (← c.self.view_is) c.self.invariant.texts_differ
 
 pub returns-clause-literals : goal.returns-clause-literals
 returns-clause-literals c =
-    rw (← c.self.view_is) (literals_differ c.self.inside.texts c.self.inside.names.entries (spare c.self.inside.names) c.self.invariant)
+    rw (← c.self.view_is)
+    (literals_differ c.self.inside.texts c.self.inside.names.entries (spare c.self.inside.names) c.self.inside.marks.items c.self.invariant)
 
 pub returns-clause-known : goal.returns-clause-known
 returns-clause-known c =
-    rw (← c.self.view_is) (text_known c.self.inside.texts c.self.inside.names.entries (spare c.self.inside.names) c.self.invariant)
+    rw (← c.self.view_is) (text_known c.self.inside.texts c.self.inside.names.entries (spare c.self.inside.names) c.self.inside.marks.items c.self.invariant)

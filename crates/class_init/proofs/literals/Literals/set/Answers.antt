@@ -22,7 +22,7 @@ unreachable-requires-in-Err c =
     let free : lookup (nat_eq place) names ≡ None =
     sym (named_by_place texts names c.args.units.now place c.self.invariant.texts_differ c.self.invariant.within c.in-Some.ensures)
     ∙ ap (option_map name_of_literal) none in
-    let room : 0 < spare c.self.inside.names = room_for_one texts names (spare c.self.inside.names) place c.self.invariant low free in
+    let room : 0 < spare c.self.inside.names = room_for_one texts names (spare c.self.inside.names) place c.self.inside.marks.items c.self.invariant low free in
     let ok = c.in-Err.ensures.succeeds room in
     cc
 
@@ -39,8 +39,8 @@ invariant_of-self c =
     let is : c.insert.new.self.entries ≡ names ++ (place, c.args.name) ∷ [] =
     c.in-Ok.ensures.entries ∙ insert_entry-new nat_eq c.self.inside.names place c.args.name free in
     rw is
-    (named_more texts names (spare c.self.inside.names) (spare c.insert.new.self) place c.args.name c.self.invariant low (rw is at c.in-Ok.ensures.unique)
-    c.in-Ok.ensures.spare)
+    (named_more texts names (spare c.self.inside.names) (spare c.insert.new.self) place c.args.name c.self.inside.marks.items c.self.invariant low
+    (rw is at c.in-Ok.ensures.unique) c.in-Ok.ensures.spare)
 
 pub returns : goal.returns
 returns c =
