@@ -6,9 +6,8 @@ use Rattle.std.proofs.lemmas.Option.{same_Some}
 use Rattle.std.proofs.lemmas.List.{length-set}
 use Rattle.std.proofs.lemmas.List.Elements.{Contains-push_cases}
 use Rattle.std.proofs.lemmas.Slice.Eq.{bytes_eq-Decides}
-use Rattle.list_lemmas.proofs.ItemsByPlace.{slice_get-front, old_or_last, comes_from}
+use Rattle.list_lemmas.proofs.ItemsByPlace.{slice_get-front, old_or_last, comes_from, slice_get-set_other}
 use Rattle.list_lemmas.proofs.ItemsOfLists.{Contains-at}
-use Rattle.class_table.proofs.ItemsByPlace.{slice_get-set_other}
 use Rattle.jk_model.specs.declared.identifiers.ClassId.{ClassId}
 use Rattle.jk_model.specs.declared.identifiers.MemberId.{MemberId}
 use Rattle.jk_model.specs.declared.steps.Standing.{Standing}

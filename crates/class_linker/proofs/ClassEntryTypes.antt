@@ -26,7 +26,7 @@ use Rattle.jk_model_classes.specs.Worlds.{NamedClass, class_named}
 use Rattle.model_lemmas.proofs.ClassNamesDecided.{class_or_not}
 use Rattle.class_lemmas.proofs.ArraysHaveNoNames.{no_array, array_begins}
 use Rattle.class_lemmas.proofs.EntriesAreGood.{class_there}
-use Rattle.class_texts.proofs.OneText.{one_text}
+use Rattle.class_lemmas.proofs.OneText.{one_text}
 use Rattle.descriptors.proofs.NoTextBeginsAnother.{one_field}
 use Rattle.class_linker.specs.LinkedFiles.{IsLinkable}
 use Rattle.class_linker.specs.LinkParts.{IsClassLinkFrom, type_of_class, type_said}

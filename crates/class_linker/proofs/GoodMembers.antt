@@ -25,7 +25,7 @@ use Rattle.jk_model_classes.specs.MemberDescriptors.{IsFloatBase, IsFloatResult}
 use Rattle.jk_model_classes.specs.Members.{TextAt, ClassAt}
 use Rattle.jk_model_classes.specs.Worlds.{NamedClass, class_named}
 use Rattle.class_lemmas.proofs.ArraysHaveNoNames.{begins_by}
-use Rattle.class_texts.proofs.OneText.{one_text, one_class}
+use Rattle.class_lemmas.proofs.OneText.{one_text, one_class}
 use Rattle.class_linker.specs.KnownCodes.{IsGoodCode}
 use Rattle.class_linker.specs.KnownMembers.{IsGoodField, IsGoodMethod, HasGoodCode}
 use Rattle.class_linker.specs.KnownTypes.{Meaning, IsKnownBase, IsKnownType, IsKnownResult, IsKnownKind}

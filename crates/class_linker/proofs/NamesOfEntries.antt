@@ -15,7 +15,7 @@ use Rattle.model_lemmas.proofs.ClassNamesDecided.{class_or_not}
 use Rattle.descriptors.proofs.NoTextBeginsAnother.{one_field}
 use Rattle.class_lemmas.proofs.ClassesInDescriptors.{some_dims}
 use Rattle.class_lemmas.proofs.ArraysHaveNoNames.{no_array, array_begins}
-use Rattle.class_texts.proofs.OneText.{one_text}
+use Rattle.class_lemmas.proofs.OneText.{one_text}
 use Rattle.class_linker.specs.KnownReferences.{Adds, AreKnown, IsGoodName, IsNameEntry, IsNamedBy, RefersBy}
 use Rattle.class_linker.specs.KnownTypes.{Meaning}
 use Rattle.class_linker.specs.LinkedFiles.{IsLinkable}

@@ -23,7 +23,7 @@ use Rattle.jk_model_classes.specs.SystemRecords.{IsBaseFor, IsTypeFor}
 use Rattle.jk_model_classes.specs.Worlds.{NamedClass, class_named}
 use Rattle.model_lemmas.proofs.TextsAreLong.{units_within}
 use Rattle.class_lemmas.proofs.OneMember.{same_type}
-use Rattle.class_texts.proofs.OneText.{one_text, one_class}
+use Rattle.class_lemmas.proofs.OneText.{one_text, one_class}
 use Rattle.descriptors.proofs.NoTextBeginsAnother.{one_field, one_method}
 use Rattle.class_linker.specs.TextsSaid.{Answers, AreAt, AreSaid, IsFieldTextFor, IsPairOf, IsSaid, IsSaidAt, NamesClassBy, SaysClass, SaysField, SaysMethod}
 use Rattle.class_linker.specs.declared.said.Said.{Said}

@@ -14,7 +14,7 @@ use Rattle.class_table.specs.OwnFields.{own_of}
 use Rattle.class_table.proofs.HeightsAreEnough.{instance_fields-step}
 use Rattle.class_table.proofs.OwnPlacesGrow.{length-own_of}
 use Rattle.class_table.proofs.StandingAbove.{superclasses-lower, is-own_superclass, superclasses-of_parent, parent-lower}
-use Rattle.class_table.proofs.ItemsOfLists.{Contains-here}
+use Rattle.list_lemmas.proofs.ItemsOfLists.{Contains-here}
 
 pub record-at : (entries : List Entry) (c : ClassId) (e : Entry) → slice_get entries c.0 ≡ Some e → record_of (records entries) c ≡ Some e.class
 record-at entries c e at = rw (slice_get-map (λ (x : Entry). x.class) entries c.0, at) refl

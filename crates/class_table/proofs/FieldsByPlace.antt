@@ -17,7 +17,7 @@ use Rattle.class_table.specs.Entries.{IsTable, fields_above, records}
 use Rattle.class_table.specs.Holders.{Holds}
 use Rattle.class_table.specs.OwnFields.{instance_field, own_from, own_of}
 use Rattle.class_table.proofs.EntriesAreRight.{entry-at, fields-at, field_count-at, saturated-twice}
-use Rattle.class_table.proofs.ItemsByPlace.{slice_get-front, slice_get-back}
+use Rattle.list_lemmas.proofs.ItemsByPlace.{slice_get-front, slice_get-back}
 use Rattle.class_table.proofs.LayoutsBegin.{layouts-begin}
 
 module _ (entries : List Entry) (table : IsTable entries) (c : ClassId) (i : ℕ) (d : ClassId) (holds : Holds entries c i d) where

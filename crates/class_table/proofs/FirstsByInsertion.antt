@@ -7,7 +7,9 @@ use Rattle.indexmap.specs.IndexSet.{insert_key}
 use Rattle.jk_model.specs.declared.identifiers.ClassId.{ClassId}
 use Rattle.jk_model_classes.specs.Classes.{firsts}
 use Rattle.class_table.specs.Walks.{numbers, classes_numbered, with_all}
-use Rattle.class_table.proofs.ItemsOfLists.{Contains-here, Contains-there, Contains-cases, Contains-none}
+use Rattle.list_lemmas.proofs.ItemsOfLists.{Contains-here, Contains-there, Contains-cases, Contains-none}
+use Rattle.list_lemmas.proofs.ItemsByPlace.{take_front}
+use Rattle.list_lemmas.proofs.ItemsThatPass.{Contains-filter}
 
 -- whether a class's number isn't among these
 abbrev is_new : List ℕ → ClassId → Bool
@@ -172,10 +174,6 @@ with_all-firsts keys (x ∷ xs) =
 
 -- ---- What was there stands in front.
 
-pub take_front : {X : Type 0} (xs ys : List X) → take (length xs) (xs ++ ys) ≡ xs
-take_front [] ys = refl
-take_front (x ∷ xs) ys = ap (λ rest. x ∷ rest) (take_front xs ys)
-
 pub with_all-front : (keys : List ℕ) (xs : List ClassId) → take (length keys) (with_all keys xs) ≡ keys
 with_all-front keys xs = rw (with_all-is keys xs) (take_front keys (numbers (filter (is_new keys) (firsts xs))))
 
@@ -190,17 +188,6 @@ Contains-filter_from p (y ∷ xs) x h = elim (cases_Bool (p y)) [
         | inr later ↦ Contains-there x y xs (Contains-filter_from p xs x later)
       ]
   | inr fails ↦ Contains-there x y xs (Contains-filter_from p xs x (rw fails at h))
-]
-
-Contains-filter : {X : Type 0} (p : X → Bool) (xs : List X) (x : X) → Contains xs x → p x ≡ true → Contains (filter p xs) x
-Contains-filter p [] x h passes = h
-Contains-filter p (y ∷ xs) x h passes = elim (Contains-cases x y xs h) [
-  | inl same ↦ rw (same, passes) (Contains-here x (filter p xs))
-  | inr later ↦
-      elim (cases_Bool (p y)) [
-        | inl also ↦ rw also (Contains-there x y (filter p xs) (Contains-filter p xs x later passes))
-        | inr fails ↦ rw fails (Contains-filter p xs x later passes)
-      ]
 ]
 
 pub Contains-firsts_from : (xs : List ClassId) (c : ClassId) → Contains (firsts xs) c → Contains xs c

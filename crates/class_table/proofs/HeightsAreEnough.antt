@@ -7,45 +7,12 @@ use Rattle.jk_model.specs.declared.identifiers.ClassId.{ClassId}
 use Rattle.jk_model_classes.specs.declared.records.ClassRecord.{ClassRecord}
 use Rattle.jk_model_classes.specs.Classes.{record_of, parents_of, listed_interfaces, IsBelow, ParentIsBelow, StandsAbove, AreOrdered, superclasses_within, superclasses, with_interfaces_within, with_interfaces, own_interfaces, field_walk}
 use Rattle.jk_model_classes.specs.Layouts.{own_fields, fields_within, instance_fields}
-use Rattle.class_table.proofs.ItemsOfLists.{each-of, each-from, each-weaker, Contains-flat_map_from, Contains-cases, Contains-none, flat_map-same, flat_map-flat_map}
-
--- ---- The classes directly above a class have lower numbers.
-
-one_below : (n : ℕ) (p : Option ClassId) → ParentIsBelow n p → AllByRecursion (IsBelow n) (option_map_or (λ c. c ∷ []) p [])
-one_below n None h = tt
-one_below n (Some p) h = (h, tt)
-
-parents_below_by : (n : ℕ) (o : Option ClassRecord) → ((r : ClassRecord) → o ≡ Some r → StandsAbove n r)
-    → AllByRecursion (IsBelow n) (option_map_or (λ (r : ClassRecord). option_map_or (λ p. p ∷ []) r.parent []) o [])
-parents_below_by n None h = tt
-parents_below_by n (Some r) h = one_below n r.parent (h r refl).0
-
-interfaces_below_by : (n : ℕ) (o : Option ClassRecord) → ((r : ClassRecord) → o ≡ Some r → StandsAbove n r)
-    → AllByRecursion (IsBelow n) (option_map_or (λ (r : ClassRecord). r.interfaces) o [])
-interfaces_below_by n None h = tt
-interfaces_below_by n (Some r) h = (h r refl).1
+use Rattle.list_lemmas.proofs.ItemsOfLists.{each-of, each-from, each-weaker, Contains-flat_map_from, Contains-cases, Contains-none, flat_map-same, flat_map-flat_map}
+use Rattle.class_lemmas.proofs.ClassesBelow.{one_below, parents_below_by, interfaces_below_by, parents-below, interfaces-below, superclasses_within-below}
 
 module _ (classes : List ClassRecord) (ordered : AreOrdered classes) where
-  pub parents-below : (c : ClassId) → AllByRecursion (IsBelow c.0) (parents_of classes c)
-  parents-below c = parents_below_by c.0 (record_of classes c) (ordered c)
-
-  pub interfaces-below : (c : ClassId) → AllByRecursion (IsBelow c.0) (listed_interfaces classes c)
-  interfaces-below c = interfaces_below_by c.0 (record_of classes c) (ordered c)
-
-  -- no class above has a higher number
-  superclasses_within-below : (h : ℕ) (c d : ClassId) → Contains (superclasses_within h classes c) d → d.0 < suc c.0
-  superclasses_within-below zero c d h = absurd (Contains-none d h)
-  superclasses_within-below (suc h) c d there =
-      elim (Contains-cases d c (flat_map (superclasses_within h classes) (parents_of classes c)) there) [
-        | inl e ↦ rw e (omega arith)
-        | inr above ↦
-            let from = Contains-flat_map_from (superclasses_within h classes) (parents_of classes c) d above in
-            let lower : from.0.0 < c.0 = each-of (IsBelow c.0) (parents_of classes c) from.0 (parents-below c) from.1 in
-            omega (arith, superclasses_within-below h from.0 d from.2, lower)
-      ]
-
   pub superclasses-below : (c : ClassId) → AllByRecursion (λ d. d.0 < suc c.0) (superclasses classes c)
-  superclasses-below c = each-from (λ (d : ClassId). d.0 < suc c.0) (superclasses classes c) (superclasses_within-below (c.0 + 1) c)
+  superclasses-below c = each-from (λ (d : ClassId). d.0 < suc c.0) (superclasses classes c) (superclasses_within-below classes ordered (c.0 + 1) c)
 
   -- ---- The height.
 
@@ -56,7 +23,7 @@ module _ (classes : List ClassRecord) (ordered : AreOrdered classes) where
       ap (λ walk. c ∷ walk)
       (flat_map-same (superclasses_within h classes) (superclasses_within k classes) (parents_of classes c)
       (each-weaker (IsBelow c.0) (λ p. superclasses_within h classes p ≡ superclasses_within k classes p)
-      (λ p below. superclasses-height h k p (omega arith) (omega arith)) (parents_of classes c) (parents-below c)))
+      (λ p below. superclasses-height h k p (omega arith) (omega arith)) (parents_of classes c) (parents-below classes ordered c)))
 
   pub with_interfaces-height : (h k : ℕ) (c : ClassId) → c.0 < h → c.0 < k
       → with_interfaces_within h classes c ≡ with_interfaces_within k classes c
@@ -66,7 +33,7 @@ module _ (classes : List ClassRecord) (ordered : AreOrdered classes) where
       ap (λ walk. c ∷ walk)
       (flat_map-same (with_interfaces_within h classes) (with_interfaces_within k classes) (listed_interfaces classes c)
       (each-weaker (IsBelow c.0) (λ p. with_interfaces_within h classes p ≡ with_interfaces_within k classes p)
-      (λ p below. with_interfaces-height h k p (omega arith) (omega arith)) (listed_interfaces classes c) (interfaces-below c)))
+      (λ p below. with_interfaces-height h k p (omega arith) (omega arith)) (listed_interfaces classes c) (interfaces-below classes ordered c)))
 
   pub fields-height : (h k : ℕ) (c : ClassId) → c.0 < h → c.0 < k → fields_within h classes c ≡ fields_within k classes c
   fields-height zero k c low high = absurd (omega arith)
@@ -75,7 +42,7 @@ module _ (classes : List ClassRecord) (ordered : AreOrdered classes) where
       ap (λ fields. fields ++ own_fields classes c)
       (flat_map-same (fields_within h classes) (fields_within k classes) (parents_of classes c)
       (each-weaker (IsBelow c.0) (λ p. fields_within h classes p ≡ fields_within k classes p)
-      (λ p below. fields-height h k p (omega arith) (omega arith)) (parents_of classes c) (parents-below c)))
+      (λ p below. fields-height h k p (omega arith) (omega arith)) (parents_of classes c) (parents-below classes ordered c)))
 
   -- ---- One step up.
 
@@ -85,7 +52,7 @@ module _ (classes : List ClassRecord) (ordered : AreOrdered classes) where
       ∙ ap (λ walk. c ∷ walk)
       (flat_map-same (superclasses_within (c.0 + 1) classes) (superclasses classes) (parents_of classes c)
       (each-weaker (IsBelow c.0) (λ p. superclasses_within (c.0 + 1) classes p ≡ superclasses classes p)
-      (λ p below. superclasses-height (c.0 + 1) (p.0 + 1) p (omega arith) (omega arith)) (parents_of classes c) (parents-below c)))
+      (λ p below. superclasses-height (c.0 + 1) (p.0 + 1) p (omega arith) (omega arith)) (parents_of classes c) (parents-below classes ordered c)))
 
   pub with_interfaces-step : (c : ClassId) → with_interfaces classes c ≡ c ∷ own_interfaces classes c
   with_interfaces-step c =
@@ -93,7 +60,7 @@ module _ (classes : List ClassRecord) (ordered : AreOrdered classes) where
       ∙ ap (λ walk. c ∷ walk)
       (flat_map-same (with_interfaces_within (c.0 + 1) classes) (with_interfaces classes) (listed_interfaces classes c)
       (each-weaker (IsBelow c.0) (λ p. with_interfaces_within (c.0 + 1) classes p ≡ with_interfaces classes p)
-      (λ p below. with_interfaces-height (c.0 + 1) (p.0 + 1) p (omega arith) (omega arith)) (listed_interfaces classes c) (interfaces-below c)))
+      (λ p below. with_interfaces-height (c.0 + 1) (p.0 + 1) p (omega arith) (omega arith)) (listed_interfaces classes c) (interfaces-below classes ordered c)))
 
   pub instance_fields-step : (c : ClassId)
       → instance_fields classes c ≡ flat_map (instance_fields classes) (parents_of classes c) ++ own_fields classes c
@@ -102,7 +69,7 @@ module _ (classes : List ClassRecord) (ordered : AreOrdered classes) where
       ∙ ap (λ fields. fields ++ own_fields classes c)
       (flat_map-same (fields_within (c.0 + 1) classes) (instance_fields classes) (parents_of classes c)
       (each-weaker (IsBelow c.0) (λ p. fields_within (c.0 + 1) classes p ≡ instance_fields classes p)
-      (λ p below. fields-height (c.0 + 1) (p.0 + 1) p (omega arith) (omega arith)) (parents_of classes c) (parents-below c)))
+      (λ p below. fields-height (c.0 + 1) (p.0 + 1) p (omega arith) (omega arith)) (parents_of classes c) (parents-below classes ordered c)))
 
   -- the class with its interfaces, and then what its parent is looked for in
   pub field_walk-step : (c : ClassId)

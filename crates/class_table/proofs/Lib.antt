@@ -1,12 +1,10 @@
 -- What is known of classes in order, and of the lists that are made from them.
+pub mod ClassesThatStay
 pub mod EntriesAreRight
 pub mod FieldsByPlace
 pub mod FirstsByInsertion
 pub mod HeightsAreEnough
-pub mod ItemsByPlace
-pub mod ItemsOfLists
 pub mod LayoutsBegin
-pub mod LowerClassesDecide
 pub mod MembersAreFew
 pub mod OneClassMore
 pub mod OwnPlacesGrow

@@ -7,9 +7,10 @@ use Rattle.jk_model_classes.specs.Layouts.{instance_fields, up_to_32_bits, words
 use Rattle.class_table.specs.declared.entry.Entry.{Entry}
 use Rattle.class_table.specs.Entries.{IsStanding, IsTable, fields_above, records}
 use Rattle.class_table.proofs.EntriesAreRight.{length-records, parents-from, words-at, field_count-at, few_fields-at, within-at}
-use Rattle.class_table.proofs.ItemsByPlace.{slice_get-last}
-use Rattle.class_table.proofs.ItemsOfLists.{Contains-here}
-use Rattle.class_table.proofs.LowerClassesDecide.{agree-push, ordered-push, superclasses-agree, instance_fields-agree}
+use Rattle.list_lemmas.proofs.ItemsByPlace.{slice_get-last}
+use Rattle.list_lemmas.proofs.ItemsOfLists.{Contains-here}
+use Rattle.class_lemmas.proofs.LowerClassesDecide.{superclasses-agree, instance_fields-agree}
+use Rattle.class_table.proofs.ClassesThatStay.{agree-push, ordered-push}
 use Rattle.class_table.proofs.StandingAbove.{superclasses-of_parent, is-own_superclass, flat_map-one}
 
 abbrev pub next_number : List Entry → ClassId

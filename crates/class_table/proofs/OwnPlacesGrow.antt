@@ -15,13 +15,9 @@ use Rattle.class_table.specs.declared.entry.OwnField.{OwnField}
 use Rattle.class_table.specs.declared.entry.OwnPlaces.{OwnPlaces}
 use Rattle.class_table.specs.Entries.{AreOwnPlaces, IsOwnField}
 use Rattle.class_table.specs.OwnFields.{instance_field, own_of}
-use Rattle.class_table.proofs.ItemsByPlace.{slice_get-front, slice_get-last, slice_get-push_cases}
-
-enumerate_from-push : {X : Type 0} (n : ℕ) (xs : List X) (y : X) → enumerate_from n (xs ++ y ∷ []) ≡ enumerate_from n xs ++ (n + length xs, y) ∷ []
-enumerate_from-push n [] y = let e : n ≡ n + 0 = omega arith in ap (λ k. (k, y) ∷ []) e
-enumerate_from-push n (x ∷ xs) y =
-    let e : (n + 1) + length xs ≡ n + suc (length xs) = omega arith in
-    ap (λ rest. (n, x) ∷ rest) (enumerate_from-push (n + 1) xs y ∙ ap (λ k. enumerate_from (n + 1) xs ++ (k, y) ∷ []) e)
+use Rattle.list_lemmas.proofs.ItemsByPlace.{slice_get-front, slice_get-last, slice_get-push_cases}
+use Rattle.list_lemmas.proofs.LastItems.{enumerate_from-push}
+use Rattle.list_lemmas.proofs.ItemsThatPass.{filter_short}
 
 map-append : {X Y : Type 0} (f : X → Y) (xs ys : List X) → map f (xs ++ ys) ≡ map f xs ++ map f ys
 map-append f [] ys = refl
@@ -44,13 +40,6 @@ pub own_of-instance : (c : ClassId) (front : List FieldRecord) (f : FieldRecord)
 own_of-instance c front f own =
     let e : 0 + length front ≡ length front = omega arith in
     own_of-append_one c front f ∙ rw own (ap (λ k. own_of c front ++ instance_field c (k, f) ∷ []) e)
-
-filter_short : {X : Type 0} (p : X → Bool) (xs : List X) → length (filter p xs) ≤ length xs
-filter_short p [] = omega arith
-filter_short p (x ∷ xs) = elim (cases_Bool (p x)) [
-  | inl passes ↦ rw passes (omega (arith, filter_short p xs))
-  | inr fails ↦ rw fails (omega (arith, filter_short p xs))
-]
 
 pub length-own_of : (c : ClassId) (fields : List FieldRecord) → length (own_of c fields) ≤ length fields
 length-own_of c fields =

@@ -14,7 +14,7 @@ use Rattle.class_table.specs.Entries.{IsTable, records}
 use Rattle.class_table.proofs.EntriesAreRight.{record-at, length-records, entry-exists, entry-at}
 use Rattle.class_table.proofs.FirstsByInsertion.{Contains-firsts, Contains-firsts_from}
 use Rattle.class_table.proofs.HeightsAreEnough.{field_walk-step, with_interfaces-step}
-use Rattle.class_table.proofs.ItemsOfLists.{only_in}
+use Rattle.list_lemmas.proofs.ItemsOfLists.{only_in}
 
 -- ---- No class.
 

@@ -5,8 +5,9 @@ use Rattle.std.specs.Option.{option_map_or}
 use Rattle.jk_model.specs.declared.identifiers.ClassId.{ClassId}
 use Rattle.jk_model_classes.specs.declared.records.ClassRecord.{ClassRecord}
 use Rattle.jk_model_classes.specs.Classes.{record_of, parents_of, listed_interfaces, IsBelow, AreOrdered, superclasses, with_interfaces, own_interfaces}
-use Rattle.class_table.proofs.ItemsOfLists.{Contains-here, Contains-there, Contains-cases, none_in, only_in, Contains-flat_map, Contains-flat_map_from, each-of}
-use Rattle.class_table.proofs.HeightsAreEnough.{parents-below, interfaces-below, superclasses-below, superclasses-step, with_interfaces-step}
+use Rattle.list_lemmas.proofs.ItemsOfLists.{Contains-here, Contains-there, Contains-cases, none_in, only_in, Contains-flat_map, Contains-flat_map_from, each-of}
+use Rattle.class_lemmas.proofs.ClassesBelow.{parents-below, interfaces-below}
+use Rattle.class_table.proofs.HeightsAreEnough.{superclasses-below, superclasses-step, with_interfaces-step}
 
 -- ---- A class has one parent at most.
 

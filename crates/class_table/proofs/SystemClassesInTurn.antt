@@ -4,7 +4,7 @@ use Rattle.std.proofs.lemmas.Option.{same_Some}
 use Rattle.jk_model.specs.SystemTable.{SystemClass, system_classes}
 use Rattle.jk_model_classes.specs.declared.records.ClassRecord.{ClassRecord}
 use Rattle.jk_model_classes.specs.SystemRecords.{IsSystemRecord}
-use Rattle.class_table.proofs.ItemsByPlace.{slice_get-push_cases}
+use Rattle.list_lemmas.proofs.ItemsByPlace.{slice_get-push_cases}
 
 abbrev pub AreSystemSoFar : List ClassRecord → Type 0
 AreSystemSoFar classes =

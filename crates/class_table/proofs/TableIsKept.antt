@@ -14,10 +14,11 @@ use Rattle.jk_model_classes.specs.Layouts.{instance_fields, up_to_32_bits, words
 use Rattle.class_table.specs.declared.entry.Entry.{Entry}
 use Rattle.class_table.specs.Entries.{IsEntry, IsTable, fields_above, records}
 use Rattle.class_table.proofs.EntriesAreRight.{length-records, record-at}
-use Rattle.class_table.proofs.HeightsAreEnough.{parents-below}
-use Rattle.class_table.proofs.ItemsByPlace.{slice_get-push_cases, slice_get-from_take, slice_get-set_cases, length_take, length_take_whole}
-use Rattle.class_table.proofs.ItemsOfLists.{each-weaker, flat_map-same}
-use Rattle.class_table.proofs.LowerClassesDecide.{AgreeBelow, agree-push, agree-take, agree-links, ordered-push, ordered-take, ordered-links, superclasses-agree, with_interfaces-agree, instance_fields-agree, field_walk-agree}
+use Rattle.list_lemmas.proofs.ItemsByPlace.{slice_get-push_cases, slice_get-from_take, slice_get-set_cases, length_take, length_take_whole}
+use Rattle.list_lemmas.proofs.ItemsOfLists.{each-weaker, flat_map-same}
+use Rattle.class_lemmas.proofs.ClassesBelow.{parents-below}
+use Rattle.class_lemmas.proofs.LowerClassesDecide.{superclasses-agree, with_interfaces-agree, instance_fields-agree, field_walk-agree, AgreeBelow}
+use Rattle.class_table.proofs.ClassesThatStay.{agree-push, agree-take, agree-links, ordered-push, ordered-take, ordered-links}
 use Rattle.class_table.proofs.WalkOfNew.{take-map}
 
 -- an entry is right for each list that agrees on the classes up to its own

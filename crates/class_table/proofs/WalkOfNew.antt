@@ -16,8 +16,9 @@ use Rattle.class_table.specs.Walks.{numbers, classes_numbered, with_all}
 use Rattle.class_table.proofs.EntriesAreRight.{length-records, parents-from, entry-at}
 use Rattle.class_table.proofs.FirstsByInsertion.{IsThere, with_all-append, with_all-is, with_all-none, with_all-from, with_all-put, with_all-present, with_all-firsts, with_all-front, classes_numbered-numbers}
 use Rattle.class_table.proofs.HeightsAreEnough.{with_interfaces-step, field_walk-step}
-use Rattle.class_table.proofs.ItemsOfLists.{each-of, each-from, each-weaker, flat_map-same, Contains-flat_map, Contains-flat_map_from}
-use Rattle.class_table.proofs.LowerClassesDecide.{agree-push, with_interfaces-agree, field_walk-agree}
+use Rattle.list_lemmas.proofs.ItemsOfLists.{each-of, each-from, each-weaker, flat_map-same, Contains-flat_map, Contains-flat_map_from}
+use Rattle.class_lemmas.proofs.LowerClassesDecide.{with_interfaces-agree, field_walk-agree}
+use Rattle.class_table.proofs.ClassesThatStay.{agree-push}
 use Rattle.class_table.proofs.StandingAbove.{interfaces-trans, flat_map-one}
 use Rattle.class_table.proofs.OneClassMore.{next_number, with_new, record-new, ordered-new}
 

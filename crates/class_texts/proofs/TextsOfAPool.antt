@@ -1,6 +1,6 @@
 -- Texts that are made entry by entry are those of the pool.
-use Rattle.std.proofs.Common.{◌≡◌, ℕ, zero, suc, ◌+◌, ◌<◌, List, [], ◌∷◌, ◌++◌, length, take, get_or, refl, sym, ◌∙◌, ap, subst, arith, Option, Some, None, slice_get, MatchOption}
-use Rattle.std.specs.List.{AllByRecursion, AllZip}
+use Rattle.std.proofs.Common.{◌≡◌, ℕ, zero, suc, ◌+◌, ◌<◌, List, [], ◌∷◌, ◌++◌, length, take, get_or, refl, sym, ◌∙◌, ap, subst, Option, Some, None, slice_get, MatchOption}
+use Rattle.std.specs.List.{AllZip}
 use Rattle.std.proofs.lemmas.List.{take_more}
 use Rattle.std.proofs.lemmas.Slice.Zip.{all_zipped_more, AllZip-long}
 use Rattle.jk_model.specs.declared.class_file.PoolEntry.{PoolEntry}
@@ -15,12 +15,6 @@ use Rattle.class_texts.specs.PoolTexts.{AreTextsOf}
 pub text_from_good : (pool : List PoolEntry) (e : PoolEntry) → IsGoodEntry pool e → IsText e
 text_from_good pool (Utf8 bytes) h = h
 text_from_good pool _ h = tt
-
--- what holds of all items holds of the one at a place
-pub all_read : {X : Type 0} (P : X → Type 0) (xs : List X) (i : ℕ) (d : X) → AllByRecursion P xs → i < length xs → P (get_or xs i d)
-all_read P [] i d h below = absurd (omega arith)
-all_read P (x ∷ xs) zero d h below = h.0
-all_read P (x ∷ xs) (suc i) d h below = all_read P xs i d h.1 (omega arith)
 
 -- one more entry, and its text
 pub texts_more : (pool : List PoolEntry) (texts longer : List (Option (List ℕ))) (i : ℕ) (d : PoolEntry) (text : Option (List ℕ)) → i < length pool

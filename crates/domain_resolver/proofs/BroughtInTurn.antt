@@ -1,19 +1,16 @@
 -- Classes that are brought into a table one after the other, and all that is reached from a class.
-use Rattle.std.proofs.Common.{◌≡◌, ℕ, ◌+◌, ◌<◌, ◌≤◌, ◌⊎◌, inl, inr, Bool, List, [], ◌∷◌, ◌++◌, length, refl, sym, ◌∙◌, ap, arith, append-nil, append_assoc, Option, Some, None, Result, Ok, Err, find, get_or}
+use Rattle.std.proofs.Common.{◌≡◌, ℕ, ◌+◌, ◌<◌, ◌≤◌, ◌⊎◌, inl, inr, Bool, List, [], ◌∷◌, ◌++◌, length, refl, sym, ◌∙◌, ap, arith, append-nil, append_assoc, Some, Result, Ok, Err, get_or}
 use Rattle.std.specs.Prelude.{Contains, MatchBool, IfOk, OnErr}
-use Rattle.std.specs.Option.{option_map}
-use Rattle.std.specs.Str.{bytes_eq}
 use Rattle.std.proofs.lemmas.Bool.{cases_lt}
 use Rattle.std.proofs.lemmas.List.{get_or_default}
 use Rattle.std.proofs.lemmas.List.Elements.{Contains-get_or, Contains-append_left, Contains-push, Contains-append_cases}
-use Rattle.std.proofs.lemmas.Option.{same_Some}
 use Rattle.list_lemmas.proofs.ItemsOfLists.{Contains-none, Contains-at}
 use Rattle.jk_model.specs.declared.identifiers.ClassId.{ClassId}
 use Rattle.jk_model_classes.specs.declared.records.ClassRecord.{ClassRecord}
 use Rattle.jk_model_classes.specs.Classes.{record_of}
-use Rattle.jk_model_classes.specs.Worlds.{NamedClass, class_named, Gives, IsNamed}
+use Rattle.jk_model_classes.specs.Worlds.{NamedClass, Gives, IsNamed}
+use Rattle.class_lemmas.proofs.NamesOfTables.{means_named}
 use Rattle.domain_resolver.specs.Imports.{IsOwnName, IsNew, Brings, Clashes}
-use Rattle.domain_resolver.proofs.PlacesInLists.{Finds, finds}
 
 -- ---- What is in a list.
 
@@ -24,24 +21,6 @@ only_one y x (k, low, at) = let first : k ≡ 0 = omega (arith, low) in let same
 
 pub named_more : (a b more : List NamedClass) (c : ClassId) → b ≡ a ++ more → IsNamed a c → IsNamed b c
 named_more a b more c is (name, has) = (name, rw is (Contains-append_left a more (record { name = name; class = c }) has))
-
--- a name that means a class is a name of the class
-means_named : (t : List NamedClass) (name : List ℕ) (c : ClassId) → class_named t name ≡ Some c → IsNamed t c
-means_named t name c e = by_find (find (λ (n : NamedClass). bytes_eq n.name name) t) refl (finds (λ (n : NamedClass). bytes_eq n.name name) t)
-  where
-    same : (n : NamedClass) → n.class ≡ c → n ≡ record { name = n.name; class = c }
-    same n q =
-        let of : (m : List ℕ) (x y : ClassId) → x ≡ y → (let z : NamedClass = record { name = m; class = x } in z) ≡ record { name = m; class = y } =
-        λ m x y p. cc in
-        of n.name n.class c q
-
-    by_find : (r : Option NamedClass) → find (λ (n : NamedClass). bytes_eq n.name name) t ≡ r
-        → Finds (λ (n : NamedClass). bytes_eq n.name name) t (find (λ (n : NamedClass). bytes_eq n.name name) t) → IsNamed t c
-    by_find None f h = let none : None ≡ Some c = ap (option_map (λ (n : NamedClass). n.class)) (sym f) ∙ e in cc
-    by_find (Some n) f h =
-        let g : Finds (λ (n : NamedClass). bytes_eq n.name name) t (Some n) = rw f at h in
-        let class : Some n.class ≡ Some c = ap (option_map (λ (n : NamedClass). n.class)) (sym f) ∙ e in
-        (n.name, Contains-at t g.0 (record { name = n.name; class = c }) (g.1 ∙ ap Some (same n (same_Some n.class c class))))
 
 -- ---- One class, and then others.
 

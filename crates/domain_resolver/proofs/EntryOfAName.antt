@@ -6,12 +6,12 @@ use Rattle.std.proofs.lemmas.Bool.{cases_lt}
 use Rattle.std.proofs.lemmas.Slice.Eq.{bytes_eq-Decides}
 use Rattle.std.proofs.lemmas.Option.{slice_get_within, same_Some}
 use Rattle.list_lemmas.proofs.ItemsByPlace.{comes_from, mapped_at}
+use Rattle.list_lemmas.proofs.FoundItems.{finds, Finds}
 use Rattle.jk_model.specs.declared.identifiers.ClassId.{ClassId}
 use Rattle.shared_values.specs.Fingerprints.{fingerprint_of}
 use Rattle.jk_model_classes.specs.Worlds.{NamedClass, class_named}
 use Rattle.domain_resolver.specs.declared.name_table.NameEntry.{NameEntry}
 use Rattle.domain_resolver.specs.NameIndex.{named_class, IsNewest, HasFingerprint, AreChained, HasName, LacksName}
-use Rattle.domain_resolver.proofs.PlacesInLists.{Finds, finds}
 
 abbrev pub NamesDiffer : List NameEntry → Type 0
 NamesDiffer es = (i j : ℕ) (a b : NameEntry) → slice_get es i ≡ Some a → slice_get es j ≡ Some b → a.name ≡ b.name → i ≡ j

@@ -2,12 +2,10 @@
 mod BroughtInTurn
 mod ClassOfANumber
 mod EntryOfAName
-mod LinesInTurn
 mod LiveDomainsFound
 mod NameIndexKept
 mod NamesInTheMap
 mod OffersInOrder
 mod PlacesInLists
-mod ReachedClassesNamed
+pub mod ReachedClassesNamed
 pub mod SystemClassesAlone
-mod WordsInTurn

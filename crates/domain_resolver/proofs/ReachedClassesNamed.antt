@@ -91,13 +91,6 @@ entry_at cur next class told = by_place (slice_get cur next) refl told
     by_place None at e = cc
     by_place (Some x) at e = record { entry = x; there = at; classed = sym (same_Some class x.class e) }
 
-pub no_entry : (cur : List NamedClass) (next : ℕ) → None ≡ option_map (λ (e : NamedClass). e.class) (slice_get cur next) → next < length cur → ⊥
-no_entry cur next told low = by_place (slice_get cur next) refl told
-  where
-    by_place : (r : Option NamedClass) → slice_get cur next ≡ r → None ≡ option_map (λ (e : NamedClass). e.class) r → ⊥
-    by_place None at e = let some = slice_get-get_or cur next (record { name = []; class = record { 0 = 0 } }) low in cc
-    by_place (Some x) at e = cc
-
 pub passed_at : (classes : List ClassRecord) (old cur : List NamedClass) (from : ClassId) (next : ℕ) (e : NamedClass)
     → Importing classes old from cur next → slice_get cur next ≡ Some e → IsReached classes old from e.class
 passed_at classes old cur from next e h at = (brought_at classes old cur from h.imported next e h.low at).0

@@ -26,7 +26,7 @@ fn word_end(text: &[u8]) -> Option<usize>
 }
 
 /// The first word of a line and what follows it, or `None` where the line has no word.
-#[tactic(auto, using(crate::proofs::WordsInTurn::no_word))]
+#[tactic(auto, using(model_lemmas::proofs::WordsInTurn::no_word))]
 pub(crate) fn next_word(line: &[u8]) -> Option<(&[u8], &[u8])>
     ensures { MatchOption result (script.words line.now ≡ [])
         (λ found. (script.words line.now ≡ found.0.now ∷ script.words found.1.now) × (0 < length found.0.now)) }
@@ -54,7 +54,7 @@ fn line_end(text: &[u8]) -> Option<usize>
 }
 
 /// The first of some lines and what follows it, or `None` where no line is left.
-#[tactic(auto, using(crate::proofs::LinesInTurn::last_line))]
+#[tactic(auto, using(model_lemmas::proofs::LinesInTurn::last_line))]
 pub(crate) fn next_line(text: &[u8]) -> Option<(&[u8], &[u8])>
     ensures { MatchOption result (script.script_lines text.now ≡ [])
         (λ found. (script.script_lines text.now ≡ found.0.now ∷ script.script_lines found.1.now) × (length found.1.now < length text.now)) }

@@ -6,6 +6,7 @@ use Rattle.std.specs.List.{AllByRecursion}
 use Rattle.std.specs.Option.{option_map_or}
 use Rattle.std.proofs.lemmas.Bool.{false≢true}
 use Rattle.std.proofs.lemmas.Option.{slice_get_within}
+use Rattle.list_lemmas.proofs.ItemsByPlace.{slice_get-from_take}
 use Rattle.jk_model.specs.declared.identifiers.ClassId.{ClassId}
 use Rattle.jk_model.specs.declared.identifiers.MemberId.{MemberId}
 use Rattle.jk_model.specs.SystemTable.{SystemClass, system_classes}
@@ -24,7 +25,6 @@ use Rattle.jk_model_typing.specs.FrameTypes.{erased_base, of_class, of_type, val
 use Rattle.jk_model_typing.specs.Scopes.{CodeScope}
 use Rattle.jk_model_typing.specs.Typing.{FrameAt, IsLeastTyping}
 use Rattle.class_growth.proofs.ItemsOfLists.{item-at}
-use Rattle.class_table.proofs.ItemsByPlace.{slice_get-from_take}
 use Rattle.class_table.proofs.StandingAbove.{parent-lower, superclasses-cases}
 use Rattle.erased_typings.specs.ErasedFrames.{HaveClassParents, IsErasedBase, IsErasedType, IsErasedFrame}
 use Rattle.erased_typings.proofs.MarkedTypes.{is_marked, IsPlain, IsPlainFrame, AreMarks}

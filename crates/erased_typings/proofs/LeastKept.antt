@@ -7,6 +7,7 @@ use Rattle.std.specs.Option.{option_map_or}
 use Rattle.std.proofs.lemmas.Bool.{cases_Bool, cases_lt, leb-false, leb-true}
 use Rattle.std.proofs.lemmas.List.{take-append-drop, take_all}
 use Rattle.std.proofs.lemmas.Option.{slice_get_within}
+use Rattle.list_lemmas.proofs.ItemsByPlace.{slice_get-from_take, slice_get-take}
 use Rattle.jk_model.specs.declared.identifiers.ClassId.{ClassId}
 use Rattle.jk_model.specs.declared.identifiers.MemberId.{MemberId}
 use Rattle.jk_model.specs.declared.instructions.Instr.{Instr}
@@ -34,7 +35,6 @@ use Rattle.class_growth.proofs.ShapesKept.{parameters-kept}
 use Rattle.class_growth.proofs.TypesKept.{frame_fits-still}
 use Rattle.class_growth.proofs.TypingsKept.{caught_value-kept, own_receiver-kept, typing-still}
 use Rattle.class_growth.proofs.ItemsOfLists.{Contains-here, Contains-there, item-at}
-use Rattle.class_table.proofs.ItemsByPlace.{slice_get-from_take, slice_get-take}
 use Rattle.class_table.proofs.StandingAbove.{superclasses-lower}
 use Rattle.type_frames.proofs.OrderOfFrames.{FrameFits-trans}
 use Rattle.erased_typings.proofs.MarkedTypes.{is_marked, lowered_frame, IsPlain, IsPlainFrame, AreMarks, all-plain, frame-below}

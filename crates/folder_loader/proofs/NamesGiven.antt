@@ -11,7 +11,7 @@ use Rattle.jk_model.specs.declared.class_file.ClassFile.{ClassFile}
 use Rattle.jk_model.specs.declared.identifiers.ClassId.{ClassId}
 use Rattle.jk_model_classes.specs.References.{IsCalledClass}
 use Rattle.jk_model_classes.specs.Worlds.{Gives, NamedClass, class_named}
-use Rattle.class_texts.proofs.OneText.{one_class}
+use Rattle.class_lemmas.proofs.OneText.{one_class}
 use Rattle.name_rules.specs.FolderNames.{AreOwnNames}
 use Rattle.folder_loader.specs.OwnClasses.{NamesDiffer}
 

@@ -17,7 +17,7 @@ use Rattle.jk_model_classes.specs.References.{HasParentNamed, IsCalledClass, Lis
 use Rattle.jk_model_classes.specs.References.StandsOver.{next}
 use Rattle.jk_model_classes.specs.Worlds.{NamedClass, class_named}
 use Rattle.jk_model_folders.specs.ClassOrder.{ClimbsTo, ComesBefore, HasHeight, IsClassOrder}
-use Rattle.class_texts.proofs.OneText.{one_class}
+use Rattle.class_lemmas.proofs.OneText.{one_class}
 use Rattle.folder_loader.specs.ClassesInOrder.{StandInOrder}
 use Rattle.folder_loader.specs.FolderTables.{IsFolderTable}
 

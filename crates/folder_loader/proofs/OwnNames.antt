@@ -30,7 +30,7 @@ use Rattle.jk_model_folders.specs.declared.files.FolderFiles.{FolderFiles}
 use Rattle.jk_model_folders.specs.FolderRules.{AreClassFiles, AreOuterNames, BreaksAlone, HasGoodLines, NoneBroken, class_paths}
 use Rattle.jk_model_folders.specs.FolderTrees.{AreFiles, IsClassPath}
 use Rattle.jk_model_folders.specs.Loads.{MayLoad}
-use Rattle.class_texts.proofs.OneText.{one_class}
+use Rattle.class_lemmas.proofs.OneText.{one_class}
 use Rattle.shared_interfaces.proofs.PathsInOrder.{before_itself}
 use Rattle.folder_loader.specs.LinkedFolders.{AreLinkable, ArePathsInOrder}
 

@@ -32,8 +32,8 @@ use Rattle.jk_model_folders.specs.declared.files.FolderFiles.{FolderFiles}
 use Rattle.jk_model_folders.specs.FolderRules.{link_scope}
 use Rattle.jk_model_folders.specs.LinkedClasses.{IsConstantFrom, IsConstantOfField, IsFieldFor}
 use Rattle.jk_model_folders.specs.Loads.{Loads}
+use Rattle.class_lemmas.proofs.OneText.{one_text}
 use Rattle.class_growth.proofs.ItemsOfLists.{Contains-at, item-at, place-of}
-use Rattle.class_texts.proofs.OneText.{one_text}
 use Rattle.descriptors.proofs.NoTextBeginsAnother.{one_field}
 use Rattle.sound_folders.proofs.NewClasses.{OwnFile, added, meaning, own_file}
 use Rattle.sealed_openings.specs.FieldConstants.{IsOfInts, SuitsType}

@@ -6,6 +6,7 @@ use Rattle.std.specs.Option.{option_map_or}
 use Rattle.std.proofs.lemmas.Bool.{and_parts}
 use Rattle.std.proofs.lemmas.Grind.{common_steps}
 use Rattle.std.proofs.lemmas.Option.{same_Some, slice_get_within}
+use Rattle.list_lemmas.proofs.ItemsByPlace.{slice_get-from_take}
 use Rattle.jk_model.specs.declared.descriptors.Base.{Base as Letter}
 use Rattle.jk_model.specs.declared.descriptors.Base.TheVariants as Said
 use Rattle.jk_model.specs.declared.descriptors.FieldType.{FieldType}
@@ -24,7 +25,6 @@ use Rattle.jk_model_classes.specs.SystemRecords.{AreSystemRecords, AreTypesFor, 
 use Rattle.jk_model_typing.specs.FrameTypes.{RefFits, STRING, array_type, erased_class}
 use Rattle.jk_model_domains.specs.Objects.{PRINT_STREAM, class_type}
 use Rattle.jk_model_machine.specs.Executions.{number_type}
-use Rattle.class_table.proofs.ItemsByPlace.{slice_get-from_take}
 use Rattle.class_table.proofs.StandingAbove.{superclasses-cases, superclasses-lower}
 use Rattle.descriptors.proofs.NoTextBeginsAnother.{one_method}
 use Rattle.sealed_steps.proofs.OneItemChanged.{item-at}

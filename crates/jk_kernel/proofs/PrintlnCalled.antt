@@ -3,6 +3,7 @@ use Rattle.std.proofs.Common.{◌≡◌, ◌≢◌, ◌≤◌, ◌+◌, ℕ, Lis
 use Rattle.std.specs.Prelude.{codes}
 use Rattle.std.specs.List.{AllByRecursion}
 use Rattle.std.proofs.lemmas.List.{length-append, length-map}
+use Rattle.list_lemmas.proofs.ItemsByPlace.{slice_get-take}
 use Rattle.jk_model.specs.declared.frames.FrameHead.{FrameHead}
 use Rattle.jk_model.specs.declared.identifiers.ClassId.{ClassId}
 use Rattle.jk_model.specs.declared.identifiers.MemberId.{MemberId}
@@ -38,7 +39,6 @@ use Rattle.jk_model_machine.specs.Machine.{DomainState, Inside, Machine}
 use Rattle.jk_model_machine.specs.Places.{RunningSegment, with_frames, without_running}
 use Rattle.jk_model_machine.specs.Sealed.{IsKnownValue}
 use Rattle.jk_model_machine.specs.Steps.{Throws, at_place, resumed, says, throws}
-use Rattle.class_table.proofs.ItemsByPlace.{slice_get-take}
 use Rattle.frame_store.specs.FrameContents.{FrameContent, IsContent}
 use Rattle.type_rows.specs.Operands.{IsLink}
 use Rattle.sealed_steps.proofs.FramesInARow.{all-parts}

@@ -11,6 +11,7 @@ use Rattle.std.proofs.lemmas.Bool.{cases_eq}
 use Rattle.std.proofs.lemmas.List.{length-set, map-append}
 use Rattle.std.proofs.lemmas.List.Sums.{sum_by_push}
 use Rattle.std.proofs.lemmas.Option.{slice_get-map}
+use Rattle.list_lemmas.proofs.ItemsByPlace.{slice_get-last}
 use Rattle.jk_model.specs.declared.descriptors.MethodType.{MethodType}
 use Rattle.jk_model.specs.declared.identifiers.DomainId.{DomainId}
 use Rattle.jk_model.specs.declared.identifiers.SegmentNo.{SegmentNo}
@@ -20,7 +21,6 @@ use Rattle.jk_model_machine.specs.Machine.{DomainState, Machine, Thread, chunks_
 use Rattle.jk_model_machine.specs.Starts.{with_new_thread}
 use Rattle.step_progress.specs.BuiltCodes.{HaveTexts}
 use Rattle.frame_store.specs.FrameContents.{Changes, FrameContent, StoredSegment}
-use Rattle.class_table.proofs.ItemsByPlace.{slice_get-last}
 use Rattle.sealed_steps.proofs.OneItemChanged.{Contains-at, place-of, push-cases, set-cases, slice_get-longer}
 use Rattle.jk_kernel.specs.declared.domain_parts.DomainPart.{DomainPart}
 use Rattle.jk_kernel.specs.declared.domain_parts.ThreadPart.{ThreadPart}

@@ -3,9 +3,8 @@ use Rattle.std.proofs.Common.{◌≡◌, ◌≢◌, ℕ, ◌+◌, ◌<◌, ◌�
 use Rattle.std.specs.Prelude.{slice_get}
 use Rattle.std.specs.Option.{is_some, option_map, option_to_list}
 use Rattle.std.proofs.lemmas.Option.{same_Some}
-use Rattle.list_lemmas.proofs.ItemsOfLists.{Contains-at}
+use Rattle.list_lemmas.proofs.ItemsOfLists.{Contains-at, Contains-here}
 use Rattle.class_table.proofs.StandingAbove.{parent-lower, superclasses-cases, superclasses-lower, superclasses-of_parent}
-use Rattle.class_table.proofs.ItemsOfLists.{Contains-here}
 use Rattle.jk_model.specs.declared.identifiers.ClassId.{ClassId}
 use Rattle.jk_model.specs.declared.identifiers.MemberId.{MemberId}
 use Rattle.jk_model_classes.specs.declared.records.ClassRecord.{ClassRecord}

@@ -26,7 +26,7 @@ use Rattle.jk_model_classes.specs.Members.{ClassAt, TextAt}
 use Rattle.jk_model_classes.specs.OneClassRules.{HasNoFault}
 use Rattle.class_lemmas.proofs.ArraysHaveNoNames.{no_array, array_begins}
 use Rattle.jk_model_folders.specs.LinkedClasses.{AreLinksFor, IsEntryType, IsLinkFor}
-use Rattle.class_texts.proofs.OneText.{one_text}
+use Rattle.class_lemmas.proofs.OneText.{one_text}
 use Rattle.class_texts.specs.PoolTexts.{AreTextsOf}
 use Rattle.link_rules.specs.LinkedInstrs.{BreaksAccess, IsClassLink, LeadsUnmakable, MakesUnmakable}
 

@@ -20,7 +20,7 @@ use Rattle.jk_model_classes.specs.LinkRules.{FindsFieldAt, FindsMethodAt, IsRefe
 use Rattle.jk_model_classes.specs.Members.{ClassAt, MemberKind, Field, Method, InterfaceMethod, NameAndTypeAt, reference}
 use Rattle.class_lemmas.proofs.EntriesAreGood.{text_there, class_there}
 use Rattle.jk_model_folders.specs.LinkedClasses.{AreLinksFor, IsFieldLink, IsLinkFor, IsMethodLink}
-use Rattle.class_texts.proofs.OneText.{one_class}
+use Rattle.class_lemmas.proofs.OneText.{one_class}
 use Rattle.link_rules.specs.MissingMembers.{IsFirstMissing, IsMissingBy, NamesInterface, NamesNoInterface}
 
 -- ---- What the entries name is there.

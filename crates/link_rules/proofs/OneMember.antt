@@ -17,7 +17,7 @@ use Rattle.jk_model_classes.specs.Lookups.{FindsField, FindsMethod, IsFieldOf, I
 use Rattle.jk_model_classes.specs.Members.{ClassAt, Field, MemberKind, TextAt, reference}
 use Rattle.jk_model_classes.specs.SystemRecords.{IsTypeFor}
 use Rattle.class_lemmas.proofs.OneMember.{one_on, same_reference, one_type}
-use Rattle.class_texts.proofs.OneText.{one_class, one_text}
+use Rattle.class_lemmas.proofs.OneText.{one_class, one_text}
 use Rattle.descriptors.proofs.NoTextBeginsAnother.{one_field, one_method}
 
 -- ---- The parts of a reference.

@@ -29,7 +29,7 @@ use Rattle.jk_model_classes.specs.SystemRecords.{IsBaseFor}
 use Rattle.class_lemmas.proofs.ArraysHaveNoNames.{no_array, array_begins}
 use Rattle.class_lemmas.proofs.OneMember.{same_reference}
 use Rattle.jk_model_folders.specs.LinkedClasses.{AreLinksFor, IsEntryType, IsFieldLink, IsLinkFor, IsMethodLink}
-use Rattle.class_texts.proofs.OneText.{one_text}
+use Rattle.class_lemmas.proofs.OneText.{one_text}
 use Rattle.descriptors.proofs.NoTextBeginsAnother.{one_field}
 use Rattle.link_rules.specs.RefusedEntries.{IsFirstRefused, RefusesBase, RefusesLink}
 use Rattle.link_rules.proofs.MissingByLinks.{is_reference, no_ref}

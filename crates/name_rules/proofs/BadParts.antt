@@ -18,7 +18,7 @@ use Rattle.jk_model_classes.specs.Items.{HasItem, Spot, Member, Entry}
 use Rattle.jk_model_classes.specs.Members.{ClassAt, TextAt}
 use Rattle.jk_model_classes.specs.References.{FlagsOfNamed, FolderScope, HasBadHierarchy, HasBadInterface, HasBadParent, IsCalledClass, IsClosedNamed}
 use Rattle.jk_model_classes.specs.Worlds.{NamedClass, class_named}
-use Rattle.class_texts.proofs.OneText.{one_class, one_text}
+use Rattle.class_lemmas.proofs.OneText.{one_class, one_text}
 use Rattle.system_table.proofs.LawsOfTheTable.{each, has_own_name, own_name}
 use Rattle.name_rules.specs.BadHierarchies.{AnswersFlags, HasOwnNames, IsBadAt, IsBadParent, IsNoInterface, IsUnfit, LoadedFlags, TextIsBad, folder_scope}
 use Rattle.name_rules.specs.FolderEdges.{AreEdges, IsListedName}

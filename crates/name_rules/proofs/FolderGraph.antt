@@ -14,7 +14,7 @@ use Rattle.jk_model_classes.specs.Members.{ClassAt}
 use Rattle.jk_model_classes.specs.References.{IsCalledClass, StandsOver, StepsUp, higher, next}
 use Rattle.jk_model_classes.specs.Worlds.{NamedClass, class_named}
 use Rattle.jk_model_folders.specs.ClassOrder.{ClimbsTo, HasHeight, IsClassOrder, IsOfFiles}
-use Rattle.class_texts.proofs.OneText.{one_class}
+use Rattle.class_lemmas.proofs.OneText.{one_class}
 use Rattle.class_texts.specs.PoolTexts.{AreTextsOf}
 use Rattle.name_rules.specs.FolderEdges.{AreEdges, MeansPlace}
 use Rattle.class_files.specs.FolderClasses.{AreReadClasses, IsReadClass, files_of}

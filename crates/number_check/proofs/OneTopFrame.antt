@@ -3,10 +3,10 @@ use Rattle.std.proofs.Common.{◌≡◌, ℕ, List, [], ◌∷◌, ◌++◌, len
 use Rattle.std.specs.List.{AllByRecursion}
 use Rattle.std.proofs.lemmas.List.{length_push}
 use Rattle.std.proofs.lemmas.Option.{same_Some}
+use Rattle.list_lemmas.proofs.ItemsByPlace.{slice_get-last}
 use Rattle.jk_model.specs.declared.identifiers.SegmentNo.{SegmentNo}
 use Rattle.jk_model_frames.specs.Frames.{FrameState}
 use Rattle.frame_store.specs.FrameContents.{FrameContent, IsContent, IsSized, SetsTop, StoredSegment, TopFrame}
-use Rattle.class_table.proofs.ItemsByPlace.{slice_get-last}
 use Rattle.sealed_steps.proofs.FramesInARow.{all-pop}
 
 same_end : {X : Type 0} (a b : List X) (x y : X) → a ++ x ∷ [] ≡ b ++ y ∷ [] → x ≡ y

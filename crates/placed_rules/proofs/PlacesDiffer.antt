@@ -7,7 +7,7 @@ use Rattle.jk_model.specs.declared.class_file.PoolEntry.TheVariants.{Class}
 use Rattle.jk_model_classes.specs.Members.{TextAt}
 use Rattle.jk_model_classes.specs.References.{IsCalledClass}
 use Rattle.jk_model_folders.specs.ClassOrder.{ClimbsTo, ComesBefore, HasHeight, IsClassOrder, IsOfFiles}
-use Rattle.class_texts.proofs.OneText.{one_text}
+use Rattle.class_lemmas.proofs.OneText.{one_text}
 
 -- one class has one name
 pub one_name : (c : ClassFile) (a b : List ℕ) → IsCalledClass c a → IsCalledClass c b → a ≡ b

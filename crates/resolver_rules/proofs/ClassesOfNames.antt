@@ -8,9 +8,7 @@ use Rattle.std.proofs.lemmas.Bool.{ltb-true}
 use Rattle.std.proofs.lemmas.List.Sums.{passes_at_first}
 use Rattle.std.proofs.lemmas.Option.{cond_some, get_or_from_slice_get, same_Some}
 use Rattle.std.proofs.lemmas.Slice.Eq.{bytes_eq-Decides}
-use Rattle.list_lemmas.proofs.ItemsByPlace.{item_there}
-use Rattle.list_lemmas.proofs.ItemsOfLists.{stands_at}
-use Rattle.class_table.proofs.ItemsOfLists.{Contains-there}
+use Rattle.list_lemmas.proofs.ItemsOfLists.{stands_at, Contains-there}
 use Rattle.jk_model.specs.declared.identifiers.ClassId.{ClassId}
 use Rattle.jk_model.specs.SystemTable.{SystemClass, system_classes, number_named}
 use Rattle.jk_model_classes.specs.SystemRecords.{system_meaning}
@@ -23,25 +21,6 @@ pub same_class : (a b : ClassId) → a.0 ≡ b.0 → a ≡ b
 same_class a b e = let of : (m n : ℕ) → m ≡ n → (let x : ClassId = record { 0 = m } in x) ≡ record { 0 = n } = λ m n q. cc in of a.0 b.0 e
 
 -- ---- Names of a table.
-
--- an entry of this class stands at a place
-pub record EntryAt (t : List NamedClass) (k : ℕ) (class : ClassId) : Type 0 where
-  pub entry : NamedClass
-  pub there : slice_get t k ≡ Some entry
-  pub classed : entry.class ≡ class
-
-pub entry_at : (t : List NamedClass) (k : ℕ) (class : ClassId) → Some class ≡ option_map (λ (e : NamedClass). e.class) (slice_get t k) → EntryAt t k class
-entry_at t k class told = by_place (slice_get t k) refl told
-  where
-    by_place : (r : Option NamedClass) → slice_get t k ≡ r → Some class ≡ option_map (λ (e : NamedClass). e.class) r → EntryAt t k class
-    by_place None at e = absurd cc
-    by_place (Some x) at e = record { entry = x; there = at; classed = sym (same_Some class x.class e) }
-
-pub no_entry : (t : List NamedClass) (k : ℕ) → None ≡ option_map (λ (e : NamedClass). e.class) (slice_get t k) → k < length t → ⊥
-no_entry t k told low =
-    let x = item_there t k low in
-    let both : None ≡ Some x.0.class = told ∙ ap (option_map (λ (e : NamedClass). e.class)) x.1 in
-    cc
 
 pub named_entry : (t : List NamedClass) (name : List ℕ) (c : ClassId) → class_named t name ≡ Some c → Contains t (record { name = name; class = c })
 named_entry [] name c e = absurd cc

@@ -5,10 +5,8 @@ use Rattle.std.specs.Prelude.{Contains, IfOk, MatchBool}
 use Rattle.std.proofs.lemmas.Bool.{cases_lt}
 use Rattle.std.proofs.lemmas.List.Elements.{Contains-append_left, Contains-append_cases}
 use Rattle.std.proofs.lemmas.Option.{slice_get_within, same_Some}
-use Rattle.list_lemmas.proofs.ItemsByPlace.{item_there}
-use Rattle.list_lemmas.proofs.ItemsOfLists.{Contains-at, stands_at}
-use Rattle.class_table.proofs.ItemsByPlace.{slice_get-front}
-use Rattle.class_table.proofs.ItemsOfLists.{Contains-none, each-of}
+use Rattle.list_lemmas.proofs.ItemsByPlace.{item_there, slice_get-front}
+use Rattle.list_lemmas.proofs.ItemsOfLists.{Contains-at, stands_at, Contains-none, each-of}
 use Rattle.jk_model.specs.declared.identifiers.ClassId.{ClassId}
 use Rattle.jk_model.specs.declared.identifiers.DomainId.{DomainId}
 use Rattle.jk_model_classes.specs.declared.records.ClassRecord.{ClassRecord}
@@ -21,11 +19,12 @@ use Rattle.jk_model_classes.specs.SystemRecords.{system_meaning}
 use Rattle.jk_model_classes.specs.Worlds.{DomainRecord, IsWorld, NamedClass, WorldRecord, class_named, domain_of, IsLiveNamed, IsOfferedTo}
 use Rattle.jk_model_folders.specs.declared.files.FolderFiles.{FolderFiles}
 use Rattle.jk_model_folders.specs.FolderRules.{BreaksL7, HasGoodLines, class_paths}
+use Rattle.class_lemmas.proofs.ReachedByReferences.{reached_further}
 use Rattle.domain_resolver.specs.Imports.{Imported, IsClash, IsOwnName}
 use Rattle.resolver_rules.specs.Faults.{IsFirstNotOffered}
 use Rattle.resolver_rules.specs.Imported.{AreBrought, HasOtherMeaning, HasTakenFrom, IsFreeImport, IsOffered, IsTakenImport}
 use Rattle.resolver_rules.proofs.ClassesOfNames.{named_entry, same_meaning}
-use Rattle.resolver_rules.proofs.ReachedByImport.{IsClosed, is_reached, reached_further, reached_is_named, refers}
+use Rattle.resolver_rules.proofs.ReachedByImport.{IsClosed, is_reached, reached_is_named, refers}
 
 abbrev at_name : List ℕ → ClassId → NamedClass
 at_name name c = record { name = name; class = c }

@@ -1,14 +1,14 @@
 -- The lines of a text are its first line and the lines of what follows that, and each line by itself is one line.
-use Rattle.std.proofs.Common.{◌≡◌, ℕ, ◌+◌, ◌-◌, ◌<◌, ◌≤◌, Bool, true, false, not, List, [], ◌∷◌, length, take, drop, refl, sym, ◌∙◌, ap, arith, Some, None, cond, slice_index, get_or-take, length-drop, length-take, nat_eq, nat_lt}
+use Rattle.std.proofs.Common.{◌≡◌, ℕ, ◌+◌, ◌-◌, ◌<◌, ◌≤◌, Bool, true, false, List, [], ◌∷◌, length, take, drop, refl, ◌∙◌, ap, arith, Some, None, cond, slice_index, get_or-take, length-drop, length-take, nat_eq}
 use Rattle.std.specs.List.{slice_split, onto_first, position_or_len, position, All}
 use Rattle.std.specs.Str.Lines.{lines, lines_of_parts, strip_carriage_return}
-use Rattle.std.proofs.lemmas.Bool.{ltb-true, ne_eqb}
+use Rattle.std.proofs.lemmas.Bool.{ne_eqb}
 use Rattle.std.proofs.lemmas.List.Elements.{All-take}
 use Rattle.std.proofs.lemmas.List.Splits.{slice_split_first, slice_split_none, slice_split-cons_yes, slice_split-cons_no}
-use Rattle.std.proofs.lemmas.List.Sums.{fails_before_first, prefix_len-le-length}
-use Rattle.std.proofs.lemmas.Option.{cond_some}
-use Rattle.list_lemmas.proofs.FirstByTest.{past_end}
+use Rattle.std.proofs.lemmas.List.Sums.{fails_before_first}
+use Rattle.list_lemmas.proofs.FirstByTest.{found_at, found_nowhere}
 use Rattle.jk_model_classes.specs.Resolver.{lines_say}
+use Rattle.model_lemmas.proofs.LinesInTurn.{line_of_part}
 use Rattle.resolver_rules.specs.Lines.{IsFirstOf, IsOneLine}
 
 abbrev is_line_feed : ℕ → Bool
@@ -18,16 +18,6 @@ abbrev HasNoLineFeed : List ℕ → Type 0
 HasNoLineFeed xs = All (λ b. is_line_feed b ≡ false) xs
 
 -- ---- Where the first line feed stands.
-
-found_at : (p : ℕ → Bool) (xs : List ℕ) (i : ℕ) → position p xs ≡ Some i → (i ≡ position_or_len p xs) × (position_or_len p xs < length xs)
-found_at p xs i e =
-    let (inside, is) = cond_some (nat_lt (position_or_len p xs) (length xs)) (position_or_len p xs) i e in
-    (sym is, ltb-true (position_or_len p xs) (length xs) inside)
-
-found_nowhere : (p : ℕ → Bool) (xs : List ℕ) → position p xs ≡ None → position_or_len p xs ≡ length xs
-found_nowhere p xs e =
-    let high : length xs ≤ position_or_len p xs = past_end (position_or_len p xs) (length xs) (nat_lt (position_or_len p xs) (length xs)) refl e in
-    omega (arith, prefix_len-le-length (λ x. not (p x)) xs)
 
 -- a text is cut into one part at least
 some_part : (p : ℕ → Bool) (xs : List ℕ) → (y : List ℕ) × (more : List (List ℕ)) × (slice_split p xs ≡ y ∷ more)
@@ -57,10 +47,6 @@ cut_length true n line = omega (arith, length-take n line)
 cut_length false n line = omega arith
 
 -- ---- The first line.
-
-line_of_part : (part : List ℕ) (parts : List (List ℕ)) (y : List ℕ) (more : List (List ℕ)) → parts ≡ y ∷ more
-    → lines_of_parts (part ∷ parts) ≡ strip_carriage_return part ∷ lines_of_parts parts
-line_of_part part parts y more e = rw e refl
 
 before_feed : (text : List ℕ) (n : ℕ) → n ≡ position_or_len is_line_feed text → HasNoLineFeed (take n text)
 before_feed text n e k d low =

@@ -11,9 +11,10 @@ use Rattle.jk_model_classes.specs.declared.records.ClassRecord.{ClassRecord}
 use Rattle.jk_model_classes.specs.Classes.{record_of}
 use Rattle.jk_model_classes.specs.SystemRecords.{system_meaning}
 use Rattle.jk_model_classes.specs.Worlds.{NamedClass}
+use Rattle.domain_resolver.proofs.ReachedClassesNamed.{EntryAt}
 use Rattle.domain_resolver.specs.Imports.{Imported, IsImport, IsOwnName}
 use Rattle.resolver_rules.specs.Imported.{AreFreeFrom, HasOtherMeaning, HasTakenFrom, IsFreeImport, IsTakenClass, IsTakenImport, NamesDiffer}
-use Rattle.resolver_rules.proofs.ClassesOfNames.{EntryAt, meaning_number, number_meaning, same_class}
+use Rattle.resolver_rules.proofs.ClassesOfNames.{meaning_number, number_meaning, same_class}
 
 -- ---- One name.
 

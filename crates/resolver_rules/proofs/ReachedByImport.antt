@@ -4,12 +4,13 @@ use Rattle.std.specs.Prelude.{Contains}
 use Rattle.std.specs.Option.{option_map_or}
 use Rattle.std.proofs.lemmas.Bool.{eqb-false}
 use Rattle.std.proofs.lemmas.List.Elements.{Contains-append_left}
-use Rattle.class_table.proofs.ItemsOfLists.{Contains-cases, Contains-none, Contains-there}
+use Rattle.list_lemmas.proofs.ItemsOfLists.{Contains-cases, Contains-none, Contains-there}
 use Rattle.jk_model.specs.declared.identifiers.ClassId.{ClassId}
 use Rattle.jk_model_classes.specs.declared.records.ClassRecord.{ClassRecord}
 use Rattle.jk_model_classes.specs.Classes.{record_of}
 use Rattle.jk_model_classes.specs.ResolverRules.{IsReached, itself, further}
 use Rattle.jk_model_classes.specs.Worlds.{NamedClass, IsNamed}
+use Rattle.class_lemmas.proofs.ReachedByReferences.{reached_further}
 use Rattle.domain_resolver.specs.Imports as Import
 use Rattle.domain_resolver.specs.Imports.{references_of, IsImport, Itself, Further}
 use Rattle.resolver_rules.proofs.ClassesOfNames.{same_class}
@@ -43,11 +44,6 @@ refers_by (Some r) d has = (r, refl, has)
 pub refers : (classes : List ClassRecord) (c d : ClassId) → Contains (references_of classes c) d
     → (r : ClassRecord) × (record_of classes c ≡ Some r) × Contains r.references d
 refers classes c d has = refers_by (record_of classes c) d has
-
-pub reached_further : (classes : List ClassRecord) (a b d : ClassId) (r : ClassRecord) → IsReached classes a b → record_of classes b ≡ Some r
-    → Contains r.references d → IsReached classes a d
-reached_further classes a b d r (itself c) at has = further c d d r at has (itself d)
-reached_further classes a b d r (further c x e s at_c has_x rest) at has = further c x d s at_c has_x (reached_further classes x e d r rest at has)
 
 -- ---- What an import reaches.
 

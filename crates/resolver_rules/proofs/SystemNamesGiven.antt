@@ -5,9 +5,8 @@ use Rattle.std.proofs.lemmas.Bool.{cases_eq, cases_lt}
 use Rattle.std.proofs.lemmas.List.{length-take}
 use Rattle.std.proofs.lemmas.List.Elements.{Contains-append_left, Contains-push, Contains-push_cases}
 use Rattle.std.proofs.lemmas.Option.{slice_get_within, same_Some}
-use Rattle.list_lemmas.proofs.ItemsByPlace.{item_there}
+use Rattle.list_lemmas.proofs.ItemsByPlace.{item_there, slice_get-take}
 use Rattle.list_lemmas.proofs.ItemsOfLists.{Contains-at, stands_at}
-use Rattle.class_table.proofs.ItemsByPlace.{slice_get-take}
 use Rattle.jk_model.specs.declared.identifiers.ClassId.{ClassId}
 use Rattle.jk_model.specs.SystemTable.{system_classes, number_named}
 use Rattle.jk_model_classes.specs.declared.records.ClassRecord.{ClassRecord}

@@ -1,7 +1,7 @@
 -- What a line says by itself, the lines that were passed, and the first line outside the grammar.
 use Rattle.std.proofs.Common.{◌≡◌, ℕ, suc, ◌+◌, ◌<◌, ◌≤◌, inl, inr, List, [], ◌∷◌, ◌++◌, length, refl, sym, ◌∙◌, ap, arith, append_assoc, append-nil, length-append, Some, None, Result, Ok, Err, slice_get, subst}
 use Rattle.std.proofs.lemmas.Option.{same_Some}
-use Rattle.class_table.proofs.ItemsByPlace.{slice_get-push_cases, slice_get-front, slice_get-last}
+use Rattle.list_lemmas.proofs.ItemsByPlace.{slice_get-push_cases, slice_get-front, slice_get-last}
 use Rattle.jk_model.specs.Script.{script_lines}
 use Rattle.jk_model_classes.specs.declared.sharing.ResolverLine.{ResolverLine}
 use Rattle.jk_model_classes.specs.declared.sharing.ResolverWord.{ResolverWord}

@@ -5,6 +5,7 @@ use Rattle.std.specs.List.{AllByRecursion}
 use Rattle.std.specs.Option.{option_map_or}
 use Rattle.std.proofs.lemmas.List.Elements.{Contains-append_cases}
 use Rattle.std.proofs.lemmas.Option.{none-some, slice_get_within}
+use Rattle.list_lemmas.proofs.ItemsOfLists.{Contains-cases, Contains-flat_map_from, Contains-none, each-of}
 use Rattle.jk_model.specs.declared.identifiers.ClassId.{ClassId}
 use Rattle.jk_model.specs.declared.identifiers.DomainId.{DomainId}
 use Rattle.jk_model.specs.declared.identifiers.MemberId.{MemberId}
@@ -18,7 +19,6 @@ use Rattle.jk_model_classes.specs.Classes.{OBJECT, ParentIsBelow, class_method_w
 use Rattle.jk_model_classes.specs.Lookups.{MethodIs}
 use Rattle.jk_model_classes.specs.Worlds.{IsNamed, NamedClass}
 use Rattle.jk_model_sound_classes.specs.SoundClasses.{AreSoundClasses, IsClosedTable}
-use Rattle.class_table.proofs.ItemsOfLists.{Contains-cases, Contains-flat_map_from, Contains-none, each-of}
 use Rattle.sealed_steps.proofs.OneItemChanged.{item-at}
 
 -- ---- Walks.

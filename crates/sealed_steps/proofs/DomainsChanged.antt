@@ -4,6 +4,7 @@ use Rattle.std.proofs.Common.{◌≡◌, ◌≢◌, ℕ, ◌==◌, inl, inr, Boo
 use Rattle.std.specs.List.{AllByRecursion}
 use Rattle.std.proofs.lemmas.Bool.{cases_eq}
 use Rattle.std.proofs.lemmas.Option.{same_Some}
+use Rattle.list_lemmas.proofs.ItemsOfLists.{each-weaker}
 use Rattle.jk_model.specs.declared.identifiers.ClassId.{ClassId}
 use Rattle.jk_model.specs.declared.identifiers.DomainId.{DomainId}
 use Rattle.jk_model.specs.declared.identifiers.MemberId.{MemberId}
@@ -17,7 +18,6 @@ use Rattle.jk_model_domains.specs.OwnStates.{OwnState, state_of}
 use Rattle.jk_model_machine.specs.Machine.{DomainState, Inside, Machine, Segment, Thread, is_live_domain, is_live_thread, with_domain}
 use Rattle.jk_model_machine.specs.Places.{RunningSegment}
 use Rattle.jk_model_machine.specs.Sealed.{FramesFit, IsAtHome, IsKnownIn, IsSealed, IsSealedInside, IsSealedSegment, KnowsClassOf, NamesKnown, in_progress_by, initialisers_of}
-use Rattle.class_table.proofs.ItemsOfLists.{each-weaker}
 use Rattle.sealed_steps.specs.TopChanges.{ChangesInside}
 use Rattle.sealed_steps.proofs.OneItemChanged.{Contains-at, IsNewOrOld, if-false, if-true, place-of, set-cases, slice_get-elsewhere, slice_get-set}
 

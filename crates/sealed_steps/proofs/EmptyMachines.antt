@@ -1,9 +1,9 @@
 -- A machine without domains and threads is sealed.
 use Rattle.std.proofs.Common.{◌≡◌, ℕ, List, [], Contains, Some, slice_get, subst}
 use Rattle.std.proofs.lemmas.Option.{none-some}
+use Rattle.list_lemmas.proofs.ItemsOfLists.{none_in}
 use Rattle.jk_model_machine.specs.Machine.{DomainState, IsFirstMachine, Machine, Thread}
 use Rattle.jk_model_machine.specs.Sealed.{IsSealed}
-use Rattle.class_table.proofs.ItemsOfLists.{none_in}
 
 nowhere : {X : Type 0} (xs : List X) → xs ≡ [] → (i : ℕ) (x : X) → slice_get xs i ≡ Some x → ⊥
 nowhere {X = X} xs none i x e = none-some x (subst (λ (ys : List X). slice_get ys i ≡ Some x) none e)

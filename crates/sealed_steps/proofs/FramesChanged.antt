@@ -2,6 +2,7 @@
 use Rattle.std.proofs.Common.{◌≡◌, ◌≢◌, ℕ, ◌+◌, ◌-◌, ◌<◌, ◌≤◌, inl, inr, true, false, List, [], ◌∷◌, ◌++◌, Contains, Some, slice_get, set, count_by, refl, sym, ap, subst, ◌∙◌, arith}
 use Rattle.std.proofs.lemmas.Bool.{cases_eq}
 use Rattle.std.proofs.lemmas.Option.{same_Some}
+use Rattle.list_lemmas.proofs.ItemsOfLists.{Contains-here, only_in}
 use Rattle.jk_model.specs.declared.identifiers.ClassId.{ClassId}
 use Rattle.jk_model.specs.declared.identifiers.DomainId.{DomainId}
 use Rattle.jk_model.specs.declared.identifiers.ThreadNo.{ThreadNo}
@@ -12,7 +13,6 @@ use Rattle.jk_model_domains.specs.OwnStates.{state_of}
 use Rattle.jk_model_machine.specs.Machine.{DomainState, Inside, Machine, Segment, Thread, chunks_used, is_live_thread, with_domain}
 use Rattle.jk_model_machine.specs.Places.{RunningSegment, with_frames}
 use Rattle.jk_model_machine.specs.Sealed.{IsSealed, IsSealedSegment, in_progress_by, initialises, initialisers_of}
-use Rattle.class_table.proofs.ItemsOfLists.{Contains-here, only_in}
 use Rattle.sealed_steps.specs.TopChanges.{ChangesFrames, ChangesInside}
 use Rattle.sealed_steps.proofs.DomainsChanged.{changed-at, domain-at, domain-cases, domain_names-differ, domains-numbered, each-domain, home-moved, in_progress-live, initialisers-still, insides-sealed, number-is, segment-still, with_threads}
 use Rattle.sealed_steps.proofs.OneItemChanged.{Contains-at, only_at, place-of, set-cases, slice_get-elsewhere, slice_get-set, sum_by-changed}

@@ -6,6 +6,8 @@ use Rattle.std.specs.Option.{option_map_or}
 use Rattle.std.proofs.lemmas.List.{append-nil}
 use Rattle.std.proofs.lemmas.Option.{same_Some}
 use Rattle.std.proofs.lemmas.Slice.Eq.{bytes_eq-Decides}
+use Rattle.list_lemmas.proofs.ItemsByPlace.{slice_get-take}
+use Rattle.list_lemmas.proofs.ItemsOfLists.{Contains-here, Contains-there}
 use Rattle.jk_model.specs.declared.frames.FrameHead.{FrameHead}
 use Rattle.jk_model.specs.declared.identifiers.ClassId.{ClassId}
 use Rattle.jk_model.specs.declared.identifiers.MemberId.{MemberId}
@@ -43,8 +45,6 @@ use Rattle.jk_model_machine.specs.Initialising.{RunsCode}
 use Rattle.jk_model_machine.specs.Machine.{DomainState, Inside}
 use Rattle.jk_model_machine.specs.Sealed.{FitsAsCaller, FitsAsTop, FitsAtCall, FitsHere, HasTyping, IsAtHome, IsKnownIn, IsKnownValue, IsSealedInside, KnowsClassOf, NamesKnown, in_progress_by}
 use Rattle.jk_model_machine.specs.Steps.{at_place}
-use Rattle.class_table.proofs.ItemsByPlace.{slice_get-take}
-use Rattle.class_table.proofs.ItemsOfLists.{Contains-here, Contains-there}
 use Rattle.sealed_steps.proofs.BegunFrames.{IsBegun, begun-fits}
 use Rattle.sealed_steps.proofs.FramesInARow.{all-append}
 use Rattle.number_laws.proofs.HeadsStay.{head-kept, number-head}

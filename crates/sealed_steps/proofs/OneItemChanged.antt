@@ -4,7 +4,7 @@ use Rattle.std.proofs.Common.{◌≡◌, ◌≢◌, ℕ, zero, suc, ◌+◌, ◌
 use Rattle.std.proofs.lemmas.List.Filters.{sum_by-filter_both}
 use Rattle.std.proofs.lemmas.List.Sums.{sum_by-set}
 use Rattle.std.proofs.lemmas.Option.{get_or_from_slice_get, same_Some, slice_get-get_or, slice_get_within}
-use Rattle.class_table.proofs.ItemsByPlace.{slice_get-front, slice_get-push_cases, slice_get-set_other, slice_get-set_same}
+use Rattle.list_lemmas.proofs.ItemsByPlace.{slice_get-front, slice_get-push_cases, slice_get-set_other, slice_get-set_same}
 
 -- ---- Tests.
 

@@ -7,6 +7,7 @@ use Rattle.std.proofs.lemmas.Bool.{and_parts, both_ways, not_from_true, or_cases
 use Rattle.std.proofs.lemmas.List.{same_from_push}
 use Rattle.std.proofs.lemmas.Option.{same_Some, slice_get_within}
 use Rattle.std.proofs.lemmas.Slice.Eq.{bytes_eq-Decides}
+use Rattle.list_lemmas.proofs.ItemsByPlace.{slice_get-from_take}
 use Rattle.jk_model.specs.declared.descriptors.Base.{Base as Letter}
 use Rattle.jk_model.specs.declared.descriptors.Base.TheVariants as Said
 use Rattle.jk_model.specs.declared.descriptors.FieldType.{FieldType}
@@ -23,8 +24,7 @@ use Rattle.jk_model_classes.specs.Classes.{is_interface_record, record_of}
 use Rattle.jk_model_classes.specs.SystemRecords.{AreSystemRecords, IsBaseFor, IsResultFor, IsSystemField, IsSystemRecord, IsTypeFor, system_meaning}
 use Rattle.jk_model_typing.specs.FrameTypes.{erased_class}
 use Rattle.jk_model_domains.specs.Objects.{PRINT_STREAM, class_type}
-use Rattle.class_table.proofs.ItemsByPlace.{slice_get-from_take}
-use Rattle.type_frames.proofs.OrderOfTypes.{same_type}
+use Rattle.class_lemmas.proofs.OneMember.{same_type}
 use Rattle.sealed_steps.proofs.OneItemChanged.{item-at}
 
 -- ---- Lists.

@@ -3,6 +3,7 @@ use Rattle.std.proofs.Common.{◌≡◌, ℕ, suc, ◌+◌, ◌-◌, ◌<◌, �
 use Rattle.std.proofs.lemmas.Bool.{cases_eq}
 use Rattle.std.proofs.lemmas.List.Sums.{sum_by_push}
 use Rattle.std.proofs.lemmas.Option.{same_Some, slice_get_within}
+use Rattle.list_lemmas.proofs.ItemsOfLists.{only_in}
 use Rattle.jk_model.specs.declared.identifiers.ClassId.{ClassId}
 use Rattle.jk_model.specs.declared.identifiers.DomainId.{DomainId}
 use Rattle.jk_model.specs.declared.identifiers.SegmentNo.{SegmentNo}
@@ -13,7 +14,6 @@ use Rattle.jk_model_domains.specs.OwnStates.{state_of}
 use Rattle.jk_model_machine.specs.Machine.{DomainState, Inside, Machine, Segment, Thread, chunks_used, free_chunks, is_live_thread}
 use Rattle.jk_model_machine.specs.Sealed.{FramesFit, IsAtHome, IsSealed, IsSealedSegment, NamesKnown, in_progress_by, initialises, initialisers_of}
 use Rattle.jk_model_machine.specs.Starts.{first_segment, with_new_thread}
-use Rattle.class_table.proofs.ItemsOfLists.{only_in}
 use Rattle.sealed_steps.specs.FirstNumbers.{CountsFromOne}
 use Rattle.sealed_steps.proofs.DomainsChanged.{in_progress-none}
 use Rattle.sealed_steps.proofs.OneItemChanged.{Contains-at, only_at, place-of, push-cases, slice_get-longer}

@@ -1,13 +1,14 @@
 -- Characters are written as lists of units. Where two characters always differ upwards at the first unit where they differ, texts
 -- are in the order of their units exactly where they are in the order of their characters.
-use Rattle.std.proofs.Common.{◌≡◌, ℕ, ◌<◌, ◌↔◌, true, List, [], ◌∷◌, ◌++◌, refl, sym, ◌∙◌, ap, ap₂, subst, append_assoc, Ordering, Less, Equal, Greater, nat_cmp}
+use Rattle.std.proofs.Common.{◌≡◌, ℕ, ◌<◌, ◌↔◌, true, List, [], ◌∷◌, ◌++◌, refl, sym, ◌∙◌, ap, ap₂, append_assoc, Ordering, Less, Equal, Greater, nat_cmp}
 use Rattle.std.specs.Ordering.{ordering_then, ordering_reverse, MatchOrdering}
 use Rattle.std.specs.Cmp.Lexicographic.{slice_cmp}
 use Rattle.std.proofs.Math.Utf8.{scalar, scalars}
 use Rattle.std.proofs.lemmas.Bool.{and_parts}
 use Rattle.std.proofs.lemmas.Cmp.{nat_list_cmp_total, nat_cmp_total, tied_itself, ranked}
 use Rattle.jk_model_classes.specs.SharedRules.{IsBeforeInOrder}
-use Rattle.shared_interfaces.proofs.PathsInOrder.{before_from_less, less_from_before, less_after}
+use Rattle.class_lemmas.proofs.PathsInOrder.{before_from_less}
+use Rattle.shared_interfaces.proofs.PathsInOrder.{less_from_before, less_after}
 
 -- the lists are the same up to a place where the first has the lesser number
 abbrev pub DifferUpwards : List ℕ → List ℕ → Type 0

@@ -5,7 +5,6 @@ pub mod WalksOverItems
 pub mod MethodsCounted
 pub mod NumbersOfClasses
 pub mod GoesAlongByHome
-pub mod ItemsLent
 pub mod OffersOneByOne
 pub mod StaticFields
 pub mod SilentMethods

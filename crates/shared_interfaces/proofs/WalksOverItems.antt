@@ -6,10 +6,6 @@ use Rattle.jk_model_classes.specs.Items.{HasItem, HasItemBefore}
 
 -- ---- What an answer says.
 
--- a test that is false is of what not_so so
-pub not_so : (b : Bool) (P : Type 0) → (IsTrue b ↔ P) → b ≡ false → P → ⊥
-not_so b P h e p = let no : true ≡ false = sym (h.1 p) ∙ e in absurd cc
-
 -- the opposite of a test, of the opposite
 pub opposite : (b : Bool) (P : Type 0) → (IsTrue b ↔ P) → IsTrue (not b) ↔ (P → ⊥)
 opposite true P h = (λ t. absurd cc, λ never. absurd (never (h.0 refl)))

@@ -21,8 +21,8 @@ use Rattle.jk_model_folders.specs.declared.files.FolderFiles.{FolderFiles}
 use Rattle.jk_model_folders.specs.FolderRules.{link_scope}
 use Rattle.jk_model_folders.specs.LinkedClasses.{AreReferences}
 use Rattle.jk_model_folders.specs.Loads.{Loads}
+use Rattle.class_lemmas.proofs.OneText.{one_class}
 use Rattle.class_growth.proofs.ItemsOfLists.{Contains-at, Contains-cases, Contains-here, Contains-none, Contains-there, item-at}
-use Rattle.class_texts.proofs.OneText.{one_class}
 use Rattle.sound_folders.proofs.NamesOfTables.{system_meant, system_no_array}
 use Rattle.sound_folders.proofs.NewClasses.{meaning}
 

@@ -16,9 +16,9 @@ use Rattle.jk_model_classes.specs.SystemRecords.{system_meaning}
 use Rattle.jk_model_classes.specs.Worlds.{NamedClass, WorldRecord}
 use Rattle.jk_model_folders.specs.declared.files.FolderFiles.{FolderFiles}
 use Rattle.jk_model_folders.specs.Loads.{Loads, MayLoad}
+use Rattle.class_lemmas.proofs.OneText.{one_class}
 use Rattle.class_growth.proofs.ItemsOfLists.{Contains-at, item-at, place-of, slice_get-append_cases}
 use Rattle.class_growth.proofs.MoreClasses.{record-still}
-use Rattle.class_texts.proofs.OneText.{one_class}
 use Rattle.sound_folders.specs.LinkedWorlds.{RefersAround}
 use Rattle.sound_folders.specs.NamesAndTypes.{HasOwnNames, IsCalled, IsSaidBy, SayTypes, SaysReferences}
 use Rattle.sound_folders.proofs.NamesOfTables.{meant-from, system_meant}

@@ -6,6 +6,7 @@ use Rattle.std.proofs.lemmas.Bool.{and_parts}
 use Rattle.std.proofs.lemmas.Slice.Eq.{bytes_eq-Decides}
 use Rattle.std.proofs.lemmas.List.Elements.{Contains-append_left, Contains-push, Contains-push_cases}
 use Rattle.std.proofs.lemmas.Option.{same_Some, slice_get_within}
+use Rattle.list_lemmas.proofs.ItemsOfLists.{Contains-none, only_in}
 use Rattle.jk_model.specs.declared.frames.FrameHead.{FrameHead}
 use Rattle.jk_model.specs.declared.identifiers.ClassId.{ClassId}
 use Rattle.jk_model.specs.declared.identifiers.MemberId.{MemberId}
@@ -33,7 +34,6 @@ use Rattle.jk_model_machine.specs.Places.{RunningSegment, with_frames, without_r
 use Rattle.jk_model_machine.specs.Sealed.{IsAtHome, IsSealed, KnowsClassOf}
 use Rattle.jk_model_machine.specs.Starts.{Begins, IsMain, Starts, begins, many_threads, no_chunks, no_class, no_domain, no_main, with_new_thread}
 use Rattle.jk_model_machine.specs.Steps.{ActingFrame, Steps}
-use Rattle.class_table.proofs.ItemsOfLists.{Contains-none, only_in}
 use Rattle.step_progress.specs.BuiltCodes.{AreBuiltCodes, HaveTexts, IsBuiltInstr, RunNoConstructors, RunsNoConstructor}
 use Rattle.step_progress.proofs.ItemsStay.{in-filtered, in-mapped, in-set}
 use Rattle.step_progress.proofs.ListsSearched.{all-last, contains-at, find-there, item-at}

@@ -2,8 +2,8 @@
 use Rattle.std.proofs.Common.{◌≡◌, inl, inr, ℕ, ◌⊎◌, Bool, true, false, cond, if◌then◌else◌, List, [], ◌∷◌, ◌++◌, map, set, filter, Contains, Some, slice_get, sym, ap, subst, ◌∙◌}
 use Rattle.std.proofs.lemmas.List.Elements.{Contains-append_cases, Contains-append_left, Contains-append_right}
 use Rattle.std.proofs.lemmas.Option.{slice_get-get_or}
-use Rattle.class_table.proofs.ItemsByPlace.{slice_get-set_cases}
-use Rattle.class_table.proofs.ItemsOfLists.{Contains-cases, Contains-here, Contains-none, Contains-there}
+use Rattle.list_lemmas.proofs.ItemsByPlace.{slice_get-set_cases}
+use Rattle.list_lemmas.proofs.ItemsOfLists.{Contains-cases, Contains-here, Contains-none, Contains-there}
 use Rattle.step_progress.proofs.ListsSearched.{contains-at}
 
 module _ {X : Type 0} where

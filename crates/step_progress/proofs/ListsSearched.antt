@@ -2,7 +2,7 @@
 use Rattle.std.proofs.Common.{◌≡◌, inl, inr, ℕ, zero, suc, ◌<◌, ◌⊎◌, Bool, true, false, List, [], ◌∷◌, ◌++◌, length, find, Contains, Option, Some, None, slice_get, refl, ap, subst, arith}
 use Rattle.std.specs.List.{AllByRecursion}
 use Rattle.std.proofs.lemmas.Option.{get_or_from_slice_get, same_Some, slice_get_within}
-use Rattle.class_table.proofs.ItemsOfLists.{Contains-cases, Contains-here, Contains-none, Contains-there}
+use Rattle.list_lemmas.proofs.ItemsOfLists.{Contains-cases, Contains-here, Contains-none, Contains-there}
 use Rattle.jk_model.specs.declared.identifiers.ClassId.{ClassId}
 
 module _ {X : Type 0} where

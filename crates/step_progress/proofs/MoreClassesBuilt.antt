@@ -2,6 +2,8 @@
 use Rattle.std.proofs.Common.{◌≡◌, inl, inr, ℕ, ◌<◌, List, ◌++◌, length, Contains, Some, slice_get, refl, sym, subst, ◌∙◌, arith}
 use Rattle.std.proofs.lemmas.List.Elements.{Contains-push_cases}
 use Rattle.std.proofs.lemmas.Option.{slice_get_within}
+use Rattle.list_lemmas.proofs.ItemsByPlace.{slice_get-front}
+use Rattle.list_lemmas.proofs.ItemsOfLists.{each-of}
 use Rattle.jk_model.specs.declared.identifiers.ClassId.{ClassId}
 use Rattle.jk_model.specs.declared.identifiers.MemberId.{MemberId}
 use Rattle.jk_model.specs.declared.instructions.Instr.{Instr}
@@ -17,8 +19,6 @@ use Rattle.jk_model_sound_classes.specs.SoundClasses.{AreSoundClasses}
 use Rattle.jk_model_machine.specs.Machine.{DomainState, IsFirstMachine, Machine, tables_of}
 use Rattle.jk_model_machine.specs.Sealed.{IsAtHome, IsSealed, KnowsClassOf}
 use Rattle.jk_model_machine.proofs.TablesOfDomains.{table-among}
-use Rattle.class_table.proofs.ItemsByPlace.{slice_get-front}
-use Rattle.class_table.proofs.ItemsOfLists.{each-of}
 use Rattle.step_progress.specs.BuiltCodes.{AreAllBuilt, AreBuiltCodes, AreMoreBuilt, HasTexts, HaveTexts, IsBuiltInstr, RunNoConstructors, with_opened}
 use Rattle.step_progress.proofs.BuiltMachinesStay.{entry-of, system-named, system-parents}
 use Rattle.step_progress.proofs.ListsSearched.{contains-at, item-at, lower_or_not}

@@ -6,6 +6,7 @@ use Rattle.std.specs.Option.{option_map_or}
 use Rattle.std.proofs.lemmas.Bool.{and_parts}
 use Rattle.std.proofs.lemmas.Grind.{common_steps}
 use Rattle.std.proofs.lemmas.Option.{same_Some, slice_get_within}
+use Rattle.list_lemmas.proofs.ItemsByPlace.{slice_get-from_take}
 use Rattle.jk_model.specs.declared.descriptors.Base.{Base as Letter}
 use Rattle.jk_model.specs.declared.descriptors.Base.TheVariants as Said
 use Rattle.jk_model.specs.declared.descriptors.FieldType.{FieldType}
@@ -29,10 +30,9 @@ use Rattle.jk_model_domains.specs.Objects.{Array, CAPABILITY, NamedObject, Objec
 use Rattle.jk_model_domains.specs.ValueTypes.{EachValueFits, ValueFits}
 use Rattle.jk_model_machine.specs.Executions.{IsSaid, ReadsAs, number_text, number_type, truth_text}
 use Rattle.jk_model_machine.specs.Sealed.{IsSealedObject}
+use Rattle.class_lemmas.proofs.OneMember.{same_type}
 use Rattle.class_table.proofs.StandingAbove.{parent-lower, superclasses-cases}
-use Rattle.class_table.proofs.ItemsByPlace.{slice_get-from_take}
 use Rattle.descriptors.proofs.NoTextBeginsAnother.{one_method}
-use Rattle.type_frames.proofs.OrderOfTypes.{same_type}
 use Rattle.step_progress.proofs.ListsSearched.{find-there, item-at}
 use Rattle.step_progress.proofs.ValuesOfTypes.{int_fits, long_fits}
 

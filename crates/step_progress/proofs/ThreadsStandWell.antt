@@ -3,6 +3,7 @@ use Rattle.std.proofs.Common.{◌≡◌, inl, inr, ℕ, false, ◌==◌, List, [
 use Rattle.std.specs.List.{AllByRecursion}
 use Rattle.std.proofs.lemmas.List.{same_from_push}
 use Rattle.std.proofs.lemmas.List.Elements.{Contains-push}
+use Rattle.list_lemmas.proofs.ItemsOfLists.{Contains-here}
 use Rattle.jk_model_classes.specs.declared.records.ClassRecord.{ClassRecord}
 use Rattle.jk_model_frames.specs.Frames.{FrameState}
 use Rattle.jk_model_domains.specs.Objects.{NamedObject}
@@ -10,7 +11,6 @@ use Rattle.jk_model_machine.specs.Initialising.{RunsCode}
 use Rattle.jk_model_machine.specs.Machine.{Machine, Segment, Thread, thread_numbered}
 use Rattle.jk_model_machine.specs.Places.{RunningFrame, RunningSegment}
 use Rattle.jk_model_machine.specs.Sealed.{FitsAsTop, FramesFit, IsAtHome, IsSealed, IsSealedInside, KnowsClassOf}
-use Rattle.class_table.proofs.ItemsOfLists.{Contains-here}
 use Rattle.step_progress.specs.BuiltCodes.{AreBuiltCodes, IsBuiltInstr, RunNoConstructors, RunsNoConstructor}
 use Rattle.step_progress.proofs.CodeStandsHere.{MayBegin, stands-here}
 use Rattle.step_progress.proofs.ListsSearched.{all-last, by-end, contains-at, find-there}

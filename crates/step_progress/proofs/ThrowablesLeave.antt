@@ -1,5 +1,6 @@
 -- A throwable of a system class leaves any frames, is of a system class then, and ends the thread.
 use Rattle.std.proofs.Common.{◌≡◌, inl, inr, ℕ, ◌<◌, Bool, List, [], ◌∷◌, length, take, Some, slice_get, refl, arith}
+use Rattle.list_lemmas.proofs.ItemsByPlace.{slice_get-from_take}
 use Rattle.jk_model.specs.declared.identifiers.ClassId.{ClassId}
 use Rattle.jk_model.specs.declared.output.Line.{Line}
 use Rattle.jk_model.specs.declared.output.Line.TheVariants.{EndedBy}
@@ -14,7 +15,6 @@ use Rattle.jk_model_domains.specs.OwnStates.{OwnState, with_state}
 use Rattle.jk_model_machine.specs.Machine.{DomainState, Inside, Machine}
 use Rattle.jk_model_machine.specs.Places.{RunningSegment, without_running}
 use Rattle.jk_model_machine.specs.Steps.{ERROR, EXCEPTION_IN_INITIALIZER_ERROR, IsThrown, LeavesFrame, LeavesFrames, Throws, with_own}
-use Rattle.class_table.proofs.ItemsByPlace.{slice_get-from_take}
 use Rattle.step_progress.proofs.ListsSearched.{by-option, in-or-not, item-at}
 
 -- one of the classes that stand in front

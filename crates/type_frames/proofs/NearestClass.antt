@@ -5,7 +5,7 @@ use Rattle.jk_model_classes.specs.declared.records.BaseRef.{BaseRef}
 use Rattle.jk_model_classes.specs.declared.records.BaseRef.TheVariants as Base
 use Rattle.jk_model_classes.specs.declared.records.ClassRecord.{ClassRecord}
 use Rattle.jk_model_classes.specs.Classes.{AreOrdered, IsSubclass, parents_of}
-use Rattle.class_table.proofs.ItemsOfLists.{Contains-here}
+use Rattle.list_lemmas.proofs.ItemsOfLists.{Contains-here}
 use Rattle.class_table.proofs.StandingAbove.{is-own_superclass, superclasses-lower, superclasses-cases, superclasses-of_parent, superclasses-trans}
 use Rattle.type_frames.specs.TypesAbove.{IsNearest, BaseFits, HaveNoBase, IsNearestBase}
 

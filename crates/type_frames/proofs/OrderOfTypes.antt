@@ -9,14 +9,12 @@ use Rattle.jk_model_classes.specs.declared.records.TypeRef.{TypeRef}
 use Rattle.jk_model_classes.specs.Classes.{AreOrdered, IsSubclass, OBJECT}
 use Rattle.jk_model_typing.specs.declared.frames.VType.{VType}
 use Rattle.jk_model_typing.specs.declared.frames.VType.TheVariants.{Unusable, Null, Ref}
-use Rattle.jk_model_typing.specs.FrameTypes.{IsClassBelow, RefFits, Fits, IsJoin, array_type}
+use Rattle.jk_model_typing.specs.FrameTypes.{IsClassBelow, RefFits, Fits, IsJoin}
+use Rattle.class_lemmas.proofs.OneMember.{same_type}
 use Rattle.class_table.proofs.StandingAbove.{superclasses-lower, superclasses-trans}
 
 pub same_class : (a b : ClassId) → a.0 ≡ b.0 → a ≡ b
 same_class a b e = ap (λ (n : ℕ). record { 0 = n }) e
-
-pub same_type : (a b : TypeRef) → a.dims ≡ b.dims → a.base ≡ b.base → a ≡ b
-same_type a b dims base = ap (λ (n : ℕ). array_type n a.base) dims ∙ ap (λ (r : BaseRef). array_type b.dims r) base
 
 module _ (classes : List ClassRecord) where
   -- ---- How a type may fit another.

@@ -4,7 +4,7 @@ use Rattle.std.specs.Prelude.{if◌then◌else◌}
 use Rattle.std.specs.Option.{option_map, option_map_or}
 use Rattle.std.proofs.Math.ListN.{length-set}
 use Rattle.std.proofs.lemmas.Option.{same_Some, slice_get-map, slice_get_within}
-use Rattle.class_table.proofs.ItemsByPlace.{slice_get-set_cases, slice_get-set_same, slice_get-set_other}
+use Rattle.list_lemmas.proofs.ItemsByPlace.{slice_get-set_cases, slice_get-set_same, slice_get-set_other}
 use Rattle.jk_model_typing.specs.declared.frames.VType.{VType}
 use Rattle.jk_model_typing.specs.declared.frames.VType.TheVariants.{Unusable, Int, Long, Null, Ref, Fresh, FreshThis}
 use Rattle.jk_model_typing.specs.FrameTypes.{slots_of}

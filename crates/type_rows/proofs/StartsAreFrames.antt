@@ -4,7 +4,7 @@ use Rattle.std.specs.Prelude.{flat_map, replicate, if◌then◌else◌}
 use Rattle.std.proofs.lemmas.List.{length-append, length-replicate}
 use Rattle.std.proofs.lemmas.List.Concat.{flat_map-cons}
 use Rattle.std.proofs.lemmas.Option.{same_Some, slice_get_within}
-use Rattle.class_table.proofs.ItemsByPlace.{slice_get-front, slice_get-back, slice_get-nil}
+use Rattle.list_lemmas.proofs.ItemsByPlace.{slice_get-front, slice_get-back, slice_get-nil}
 use Rattle.jk_model_typing.specs.declared.frames.VType.{VType}
 use Rattle.jk_model_typing.specs.declared.frames.VType.TheVariants.{Unusable, Int, Long, Null, Ref, Fresh, FreshThis}
 use Rattle.jk_model_typing.specs.FrameTypes.{IsFrameOf, of_class}

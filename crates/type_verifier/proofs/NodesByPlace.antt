@@ -4,7 +4,7 @@ use Rattle.std.proofs.lemmas.Bool.{cases_eq}
 use Rattle.std.proofs.lemmas.List.{length-set, length-map}
 use Rattle.std.proofs.lemmas.Option.{same_Some, slice_get_within, slice_get_cases, slice_get-map}
 use Rattle.std.specs.Option.{option_map, option_and_then}
-use Rattle.class_table.proofs.ItemsByPlace.{slice_get-set_same, slice_get-set_other, slice_get-set_cases}
+use Rattle.list_lemmas.proofs.ItemsByPlace.{slice_get-set_same, slice_get-set_other, slice_get-set_cases}
 use Rattle.type_verifier.specs.declared.covers.Seen.{Seen}
 use Rattle.type_verifier.specs.Climbs.{IsNodeSet, node_in}
 use Rattle.type_verifier.specs.Covers.{Nodes}

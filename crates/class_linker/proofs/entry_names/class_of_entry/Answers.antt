@@ -6,7 +6,7 @@ use Rattle.jk_model_classes.specs.ClassNames.{BeginsArray}
 use Rattle.jk_model_classes.specs.Members.{ClassAt}
 use Rattle.class_lemmas.proofs.ArraysHaveNoNames.{no_array}
 use Rattle.class_lemmas.proofs.EntriesAreGood.{class_there}
-use Rattle.class_texts.proofs.OneText.{one_class}
+use Rattle.class_lemmas.proofs.OneText.{one_class}
 use Rattle.class_linker.proofs.EntriesAreGood.{class_by_front, good_entries}
 use Rattle.class_linker.proofs.entry_names.class_of_entry.Goals as goal
 

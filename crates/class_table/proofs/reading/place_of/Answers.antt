@@ -3,7 +3,7 @@ use Rattle.std.proofs.Common.{◌≡◌, ◌<◌, ◌≤◌, Some, length, slice
 use Rattle.std.proofs.lemmas.Option.{slice_get_read, slice_get-get_or}
 use Rattle.class_table.proofs.EntriesAreRight.{entry-at, within-at}
 use Rattle.class_table.proofs.FieldsByPlace.{placed-member}
-use Rattle.class_table.proofs.ItemsByPlace.{length_take_whole}
+use Rattle.list_lemmas.proofs.ItemsByPlace.{length_take_whole}
 use Rattle.class_table.proofs.OwnPlacesGrow.{length-own_of}
 use Rattle.class_table.proofs.reading.place_of.Goals as goal
 

@@ -1,6 +1,6 @@
 -- The first line ends at the first line feed.
 use Rattle.std.proofs.Common.{◌≡◌, ◌-◌, ◌+◌, length, take, drop, sym, take_all, arith, length-drop}
-use Rattle.domain_resolver.proofs.LinesInTurn.{first_line}
+use Rattle.model_lemmas.proofs.LinesInTurn.{first_line}
 use Rattle.domain_resolver.proofs.words.next_line.Goals as goal
 
 pub returns-in-Some : goal.returns-in-Some

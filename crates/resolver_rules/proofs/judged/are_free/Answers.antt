@@ -2,7 +2,7 @@
 use Rattle.std.proofs.Common.{arith}
 use Rattle.std.proofs.lemmas.Bool.{iff_false}
 use Rattle.jk_model_folders.specs.FolderRules.{class_paths}
-use Rattle.resolver_rules.proofs.ClassesOfNames.{entry_at}
+use Rattle.domain_resolver.proofs.ReachedClassesNamed.{entry_at}
 use Rattle.resolver_rules.proofs.NamesJudged.{all_free, free_further, taken_here}
 use Rattle.resolver_rules.proofs.judged.are_free.Goals as goal
 

@@ -3,7 +3,7 @@ use Rattle.std.proofs.Common.{◌≡◌, ◌+◌, ◌<◌, ◌≤◌, ℕ, Some,
 use Rattle.jk_model.specs.declared.identifiers.ClassId.{ClassId}
 use Rattle.jk_model_classes.specs.SharedRules.{methods_before}
 use Rattle.shared_interfaces.proofs.FirstClass.{next_class, one_more}
-use Rattle.shared_interfaces.proofs.ItemsLent.{item_lent}
+use Rattle.list_lemmas.proofs.ItemsByPlace.{item_lent}
 use Rattle.shared_interfaces.proofs.MethodsCounted.{counted_on}
 use Rattle.shared_interfaces.proofs.class_rule.first_to_break.Goals as goal
 

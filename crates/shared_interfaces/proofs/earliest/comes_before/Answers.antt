@@ -1,6 +1,6 @@
 -- The names of both tell.
 use Rattle.shared_interfaces.proofs.FirstClass.{path_by_names}
-use Rattle.shared_interfaces.proofs.ItemsLent.{item_lent}
+use Rattle.list_lemmas.proofs.ItemsByPlace.{item_lent}
 use Rattle.shared_interfaces.proofs.earliest.comes_before.Goals as goal
 
 pub returns : goal.returns

@@ -1,5 +1,5 @@
 -- Both are in the order of their characters.
-use Rattle.std.proofs.Common.{◌≡◌, ◌++◌, ◌↔◌, ℕ, List, codes, map, sym, ◌∙◌, ap, subst₂}
+use Rattle.std.proofs.Common.{◌↔◌, ℕ, List, map, ap, subst₂}
 use Rattle.std.specs.Str.{chars}
 use Rattle.std.proofs.Math.Utf8.{encode, encodes}
 use Rattle.std.proofs.lemmas.Str.{encodes-chars, scalars-chars}

@@ -1,8 +1,9 @@
 -- One doesn't go along, or all do.
 use Rattle.std.proofs.Common.{arith}
 use Rattle.std.proofs.lemmas.Option.{slice_get-get_or}
+use Rattle.list_lemmas.proofs.AnswersTold.{not_so}
 use Rattle.jk_model_classes.specs.SharedRules.{GoesAlong}
-use Rattle.shared_interfaces.proofs.WalksOverItems.{found, missed, none_here, not_so}
+use Rattle.shared_interfaces.proofs.WalksOverItems.{found, missed, none_here}
 use Rattle.shared_interfaces.proofs.references.exposes_any.Goals as goal
 
 pub returns-then-not-goes_along : goal.returns-then-not-goes_along

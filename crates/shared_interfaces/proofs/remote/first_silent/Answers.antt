@@ -1,8 +1,8 @@
 -- A method is the first that is silent, or none is.
 use Rattle.std.proofs.Common.{◌≡◌, ◌+◌, Some, refl, length, slice_get, arith}
 use Rattle.std.proofs.lemmas.Option.{slice_get_read}
+use Rattle.list_lemmas.proofs.AnswersTold.{not_so}
 use Rattle.shared_interfaces.proofs.SilentMethods.{none_silent, none_silent_here}
-use Rattle.shared_interfaces.proofs.WalksOverItems.{not_so}
 use Rattle.shared_interfaces.proofs.remote.first_silent.Goals as goal
 
 pub loop-i-preserved : goal.loop-i-preserved

@@ -1,8 +1,9 @@
 -- One is no remote interface, or all are.
 use Rattle.std.proofs.Common.{arith}
 use Rattle.std.proofs.lemmas.Option.{slice_get-get_or}
+use Rattle.list_lemmas.proofs.AnswersTold.{not_so}
 use Rattle.jk_model_classes.specs.Stubs.{ImplementsRemote}
-use Rattle.shared_interfaces.proofs.WalksOverItems.{found, missed, none_here, not_so}
+use Rattle.shared_interfaces.proofs.WalksOverItems.{found, missed, none_here}
 use Rattle.shared_interfaces.proofs.remote.lists_other.Goals as goal
 
 pub returns-then-not-is_remote : goal.returns-then-not-is_remote

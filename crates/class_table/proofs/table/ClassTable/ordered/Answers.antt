@@ -1,4 +1,3 @@
-use Rattle.std.proofs.Common.{◌≡◌}
 use Rattle.class_table.proofs.MembersAreFew.{few_members}
 use Rattle.class_table.proofs.table.ClassTable.ordered.Goals as goal
 

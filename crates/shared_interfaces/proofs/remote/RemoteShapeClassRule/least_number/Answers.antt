@@ -1,8 +1,8 @@
 -- What a class lists comes first, and then its methods in order.
 use Rattle.std.proofs.Common.{sym, ◌∙◌}
+use Rattle.list_lemmas.proofs.AnswersTold.{not_so}
 use Rattle.shared_interfaces.proofs.MethodsCounted.{counted_within}
 use Rattle.shared_interfaces.proofs.RemoteInterfaces.{lists_other_at_0, breaks_by_method, breaks_nowhere}
-use Rattle.shared_interfaces.proofs.WalksOverItems.{not_so}
 use Rattle.shared_interfaces.proofs.remote.RemoteShapeClassRule.least_number.Goals as goal
 
 pub returns-then-lists_other : goal.returns-then-lists_other
