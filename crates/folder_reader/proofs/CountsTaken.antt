@@ -1,10 +1,12 @@
 -- What calls took of files that tell no tree, one after the other; and what was asked of a folder that is missed.
-use Rattle.std.proofs.Common.{◌≡◌, ℕ, zero, suc, ◌+◌, ◌<◌, ◌≤◌, inl, inr, List, [], ◌∷◌, ◌++◌, length, Bool, true, false, cond, Option, Some, None, slice_get, refl, sym, ap, ◌∙◌, subst, append_assoc, arith}
+use Rattle.std.proofs.Common.{◌≡◌, ℕ, zero, suc, ◌+◌, ◌<◌, ◌≤◌, inl, inr, List, [], ◌∷◌, ◌++◌, length, Option, Some, None, slice_get, refl, sym, ap, ◌∙◌, subst, append_assoc, arith}
 use Rattle.std.specs.Prelude.{map, string_bytes, Contains, String}
 use Rattle.std.specs.List.{IsDistinct, filter}
 use Rattle.std.specs.Str.{bytes_eq}
 use Rattle.std.proofs.lemmas.List.{length-map}
 use Rattle.std.proofs.lemmas.List.Elements.{Contains-append_right}
+use Rattle.list_lemmas.proofs.ItemsOfLists.{Contains-at as item_at, each-from as all_of}
+use Rattle.list_lemmas.proofs.ItemsThatPass.{filter_short as fewer_pass}
 use Rattle.jk_model.specs.declared.entries.Entry.{Entry}
 use Rattle.jk_model.specs.Outside.{Ask, FileIsLong, FolderIsAbsent, FolderIsLong, NeverFalls, Tree}
 use Rattle.jk_outside.specs.Counts.{HasTaken}
@@ -13,7 +15,6 @@ use Rattle.folder_reader.specs.Calls.{Moves}
 use Rattle.folder_reader.specs.FolderAnswers.{AskedFor}
 use Rattle.folder_reader.specs.Paths.{children, child_of, class_paths, has_name, is_class}
 use Rattle.folder_reader.specs.Walks.{AreLevelled}
-use Rattle.folder_reader.proofs.ItemsOfLists.{all_of, item_at}
 use Rattle.folder_reader.proofs.NoMoreThanFound.{length_within}
 use Rattle.folder_reader.proofs.WalkGoesOn.{from_children}
 
@@ -54,14 +55,6 @@ took_folder None path n a k k' less (inr h) = inr h
 took_folder (Some t) path n a k k' less h = tt
 
 -- ---- no more is found than was taken
-
-fewer_pass : {X : Type 0} (p : X → Bool) (xs : List X) → length (filter p xs) ≤ length xs
-fewer_pass p [] = omega arith
-fewer_pass p (x ∷ xs) = one (p x) (fewer_pass p xs)
-  where
-    one : (b : Bool) → length (filter p xs) ≤ length xs → length (cond b (x ∷ filter p xs) (filter p xs)) ≤ length (x ∷ xs)
-    one true h = omega (arith, h)
-    one false h = omega (arith, h)
 
 pub few_children : (f : Found) (entries : List Entry) → length (children f entries) ≤ length entries
 few_children f entries = let as_many = length-map (filter has_name entries) (child_of f) in let few = fewer_pass has_name entries in omega (arith, as_many, few)

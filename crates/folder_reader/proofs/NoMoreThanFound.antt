@@ -8,7 +8,7 @@ use Rattle.std.proofs.lemmas.List.Sums.{sum_by-append}
 use Rattle.std.proofs.lemmas.List.Elements.{Contains-append_left, Contains-append_right, Contains-append_cases}
 use Rattle.std.proofs.lemmas.Map.Made.{Contains-tail}
 use Rattle.std.proofs.lemmas.Slice.Eq.{bytes_eq-Decides}
-use Rattle.folder_reader.proofs.ItemsOfLists.{place_of}
+use Rattle.list_lemmas.proofs.ItemsOfLists.{place_of}
 
 pub bytes_differ : (a b : List ℕ) → bytes_eq a b ≡ false → a ≡ b → ⊥
 bytes_differ a b e same = false≢true (sym e ∙ (bytes_eq-Decides a b).1 same)

@@ -1,16 +1,13 @@
 -- Sorted paths, each once, come in the order of their bytes.
-use Rattle.std.proofs.Common.{◌≡◌, ℕ, zero, suc, ◌<◌, ◌==◌, ◌⊎◌, inl, inr, List, [], ◌∷◌, ◌++◌, Some, slice_get, refl, sym, ap, ◌∙◌, subst, arith, true, false, cond, Bool}
-use Rattle.std.specs.Prelude.{map, string_bytes, nat_lt, Contains, String}
-use Rattle.std.specs.Cmp.Lexicographic.{slice_cmp}
+use Rattle.std.proofs.Common.{◌≡◌, ℕ, zero, suc, ◌<◌, ◌⊎◌, inl, inr, List, [], ◌∷◌, ◌++◌, Some, slice_get, refl, sym, ap, ◌∙◌, subst, arith, true, false, cond, Bool}
+use Rattle.std.specs.Prelude.{map, string_bytes, Contains, String}
 use Rattle.std.specs.List.{AllByRecursion, IsDistinct, dedup}
 use Rattle.std.specs.List.Sorted.{IsPermutation, IsSorted, IsStrictlySortedBy}
-use Rattle.std.specs.Ordering.{nat_cmp, ordering_then, is_eq}
+use Rattle.std.specs.Ordering.{ordering_then, is_eq}
 use Rattle.std.specs.declared.cmp.Ordering.{Ordering}
 use Rattle.std.specs.declared.cmp.Ordering.TheVariants.{Less, Equal, Greater}
 use Rattle.std.specs.Str.{bytes_eq}
 use Rattle.std.specs.String.{string_cmp, string_cmp_total, string_eq, string_eq_equiv}
-use Rattle.std.proofs.lemmas.Bool.{ltb-true}
-use Rattle.std.proofs.lemmas.Bool.Decides.{Decides-eqb}
 use Rattle.std.proofs.lemmas.List.Kept.{Any-dedup, Contains-from_dedup, IsStrictlySortedBy-dedup}
 use Rattle.std.proofs.lemmas.List.Sorted.{Contains-permutation, IsPermutation-sym}
 use Rattle.std.proofs.lemmas.Map.Text.{is_eq-slice_cmp}
@@ -18,6 +15,7 @@ use Rattle.std.proofs.lemmas.Slice.Eq.{bytes_eq-Decides}
 use Rattle.jk_model.proofs.EachItem.{all_at}
 use Rattle.jk_model_classes.specs.SharedRules.{IsBeforeInOrder}
 use Rattle.jk_model_folders.specs.declared.files.FolderFile.{FolderFile}
+use Rattle.class_lemmas.proofs.PathsInOrder.{before_from_less as before_by_cmp}
 use Rattle.folder_reader.specs.Paths.{IsRising}
 use Rattle.folder_reader.proofs.ItemsOfLists.{all_unmapped, in_map, of_map}
 
@@ -41,16 +39,6 @@ after_first x y xs ys same h =
     elim h [
       | inl a ↦ inl (a.0, a.1, let rest : ys ≡ xs ++ a.0 ∷ a.1 = a.2 in cc)
       | inr b ↦ inr (x ∷ b.0, b.1, b.2, b.3, b.4, (let rest : xs ≡ b.0 ++ b.1 ∷ b.3 = b.5 in cc), (let rest : ys ≡ b.0 ++ b.2 ∷ b.4 = b.6 in cc), b.7)
-    ]
-
-before_by_cmp : (xs ys : List ℕ) → slice_cmp nat_cmp xs ys ≡ Less → IsBeforeInOrder xs ys
-before_by_cmp [] [] e = absurd cc
-before_by_cmp [] (y ∷ ys) e = inl (y, ys, refl)
-before_by_cmp (x ∷ xs) [] e = absurd cc
-before_by_cmp (x ∷ xs) (y ∷ ys) e =
-    elim (then_less (nat_cmp x y) (slice_cmp nat_cmp xs ys) e) [
-      | inl a ↦ inr ([], x, y, xs, ys, refl, refl, ltb-true x y (less_number (nat_lt x y) (x == y) a))
-      | inr b ↦ after_first x y xs ys ((Decides-eqb x y).0 (same_number (nat_lt x y) (x == y) b.0)) (before_by_cmp xs ys b.1)
     ]
 
 all_rise : {Z : Type 0} (x : String Z) (xs : List (String Z)) → AllByRecursion (λ (y : String Z). string_cmp x y ≡ Less) xs

@@ -1,7 +1,7 @@
 -- The path of a name in a folder tells both, and leads on from the folder that is read.
 use Rattle.std.proofs.Common.{◌≡◌, ◌≢◌, ℕ, ◌==◌, ◌||◌, inl, inr, Bool, true, false, not, List, [], ◌∷◌, ◌++◌, length, refl, sym, ap, ◌∙◌, subst, append_assoc, length-append, eq-eqb, arith}
 use Rattle.std.specs.Prelude.{IsUtf8, ◌&&◌, bytes_eq, codes}
-use Rattle.std.specs.List.{AllByRecursion, list_any}
+use Rattle.std.specs.List.{list_any}
 use Rattle.std.proofs.lemmas.Bool.{and_parts, false≢true}
 use Rattle.std.proofs.lemmas.Bool.Decides.{Decides-eqb}
 use Rattle.std.proofs.lemmas.Slice.Eq.{bytes_eq-Decides}
@@ -10,33 +10,12 @@ use Rattle.jk_model.specs.declared.entries.Entry.{Entry}
 use Rattle.jk_model.specs.Outside.{◌/-◌}
 use Rattle.jk_model.proofs.EachItem.{all_push}
 use Rattle.jk_model_folders.specs.FolderTrees.{RESOLVER}
+use Rattle.model_lemmas.proofs.LastSlash.{slash_inside, last_names, HasNoSlash}
 use Rattle.jk_outside.specs.EntryNames.{IsPlainName}
 use Rattle.folder_reader.specs.FolderAnswers.{Counts, IsNameBelow, IsWithin, path_over}
 use Rattle.folder_reader.specs.Paths.{child, has_name, is_dots, whole_path}
 
 -- ---- two paths that are the same
-
-abbrev HasNoSlash : List ℕ → Type 0
-HasNoSlash name = AllByRecursion (λ c. c ≢ 47) name
-
-slash_inside : (front name : List ℕ) → HasNoSlash (front ++ 47 ∷ name) → ⊥
-slash_inside [] name h = h.0 refl
-slash_inside (c ∷ front) name h = slash_inside front name h.1
-
-last_names : (p q m n : List ℕ) → HasNoSlash m → HasNoSlash n → p ++ 47 ∷ m ≡ q ++ 47 ∷ n → (p ≡ q) × (m ≡ n)
-last_names [] [] m n hm hn e = (refl, cc)
-last_names [] (d ∷ q) m n hm hn e =
-    let rest : m ≡ q ++ 47 ∷ n = cc in
-    absurd (slash_inside q n (subst HasNoSlash rest hm))
-last_names (c ∷ p) [] m n hm hn e =
-    let rest : n ≡ p ++ 47 ∷ m = cc in
-    absurd (slash_inside p m (subst HasNoSlash rest hn))
-last_names (c ∷ p) (d ∷ q) m n hm hn e =
-    let tails : p ++ 47 ∷ m ≡ q ++ 47 ∷ n = cc in
-    let heads : c ≡ d = cc in
-    let same = last_names p q m n hm hn tails in
-    let fronts : p ≡ q = same.0 in
-    (cc, same.1)
 
 pub child_tells : (p q m n : List ℕ) → IsNameBelow m → IsNameBelow n → child p m ≡ child q n → (p ≡ q) × (m ≡ n)
 child_tells [] [] m n hm hn e = (refl, e)

@@ -1,14 +1,17 @@
 -- A walk goes on: what stands in the next folder is found after what was found before.
-use Rattle.std.proofs.Common.{◌≡◌, ◌≢◌, ℕ, zero, suc, ◌+◌, ◌<◌, ◌≤◌, ◌⊎◌, inl, inr, Bool, true, false, ltb, List, [], ◌∷◌, ◌++◌, length, Option, Some, slice_get, refl, sym, ap, ◌∙◌, subst, arith}
+use Rattle.std.proofs.Common.{◌≡◌, ◌≢◌, ℕ, zero, suc, ◌+◌, ◌<◌, ◌≤◌, inl, inr, Bool, true, false, List, [], ◌∷◌, ◌++◌, length, Option, Some, slice_get, refl, sym, ap, ◌∙◌, subst, arith}
 use Rattle.std.specs.Prelude.{map, option_map, Contains, IsSome}
 use Rattle.std.specs.List.{AllByRecursion, IsDistinct, filter}
 use Rattle.std.specs.Str.{bytes_eq}
-use Rattle.std.proofs.lemmas.Bool.{false≢true, ltb-true, ltb-false}
+use Rattle.std.proofs.lemmas.Bool.{false≢true}
 use Rattle.std.proofs.lemmas.List.{map-append}
 use Rattle.std.proofs.lemmas.List.Elements.{Contains-append_left, Contains-append_right}
 use Rattle.std.proofs.lemmas.Map.Keys.{apart_from_distinct}
 use Rattle.std.proofs.lemmas.Option.{slice_get-map, slice_get_within, get_or_from_slice_get}
 use Rattle.std.proofs.lemmas.Slice.Eq.{bytes_eq-Decides}
+use Rattle.list_lemmas.proofs.ItemsOfLists.{Contains-at as item_at, place_of, each-of as each_of, each-from as all_of}
+use Rattle.list_lemmas.proofs.ItemsThatPass.{Contains-filter as in_filter}
+use Rattle.list_lemmas.proofs.TestsAndOrders.{less_or_same as next_or_before}
 use Rattle.jk_model.specs.declared.entries.Entry.{Entry}
 use Rattle.jk_model.specs.Outside.{IsEntryName, Tree, ◌/-◌}
 use Rattle.jk_model.proofs.EachItem.{all_append, all_weaker}
@@ -19,7 +22,7 @@ use Rattle.folder_reader.specs.Calls.{IsListing}
 use Rattle.folder_reader.specs.FolderAnswers.{IsNameBelow}
 use Rattle.folder_reader.specs.Paths.{child, child_of, children, has_name, paths_of, top, whole_path}
 use Rattle.folder_reader.specs.Walks.{HasParent, IsBelow, IsFound, IsLooked, IsPlace, IsWalk}
-use Rattle.folder_reader.proofs.ItemsOfLists.{all_of, each_of, filter_all, in_filter, in_map, item_at, of_filter, of_map, place_of}
+use Rattle.folder_reader.proofs.ItemsOfLists.{filter_all, in_map, of_filter, of_map}
 use Rattle.folder_reader.proofs.NoMoreThanFound.{bytes_differ}
 use Rattle.folder_reader.proofs.PathsTellNames.{child_not_empty, child_tells, named_by_test, test_of_named, utf8_child, whole_child, within_child}
 
@@ -174,13 +177,6 @@ looked_stays t root found more f l = record {
   few = l.few;
   all = all_weaker _ _ l.entries (λ e h. Contains-append_left found more (child_of f e) h) l.all;
 }
-
-next_or_before : (k n : ℕ) → k < n + 1 → (k < n) ⊎ (k ≡ n)
-next_or_before k n lt = by (ltb k n) refl
-  where
-    by : (b : Bool) → ltb k n ≡ b → (k < n) ⊎ (k ≡ n)
-    by true e = inl (ltb-true k n e)
-    by false e = inr (let le = ltb-false k n e in omega arith)
 
 pub place_at : (t : Tree) (root : List ℕ) (found : List Found) (n k : ℕ) (f : Found) → IsWalk t root found n → slice_get found k ≡ Some f
     → IsPlace (Some t) root f

@@ -13,6 +13,8 @@ use Rattle.jk_model.specs.declared.entries.Entry.{Entry}
 use Rattle.jk_model.specs.Outside.{AreNamed, FileIs, FolderIs, FolderIsLong, Tree, ◌/-◌}
 use Rattle.jk_model.proofs.EachItem.{all_front, all_push, all_weaker}
 use Rattle.std.proofs.lemmas.Option.{get_or_from_slice_get, slice_get_within}
+use Rattle.list_lemmas.proofs.ItemsOfLists.{Contains-at as item_at, place_of, each-of as each_of, each-from as all_of}
+use Rattle.list_lemmas.proofs.ItemsThatPass.{Contains-filter as in_filter}
 use Rattle.jk_model_folders.specs.declared.files.FolderFile.{FolderFile}
 use Rattle.jk_model_folders.specs.declared.files.FolderFiles.{FolderFiles}
 use Rattle.jk_model_folders.specs.FolderTrees.{AreFiles, AreFilesOf, AreToldFiles, HasClassFileAt, HasEntryAt, HasFileAt, IsClassPath, IsThatFile, IsTooLarge, deep_folder, many_entries, many_files, long_file, long_resolver, long_together, MAX_CLASSES, MAX_FILE, MOST_ENTRIES, MOST_FILES, MOST_LEVELS, RESOLVER, StandsBelow, directly, deeper}
@@ -22,7 +24,7 @@ use Rattle.folder_reader.specs.FolderAnswers.{IsLarge, IsWithin}
 use Rattle.folder_reader.specs.Listings.{AreRead, IsFilePath, IsToldFilePath, IsToRead, sum_of}
 use Rattle.folder_reader.specs.Paths.{child, child_of, class_paths, is_class, is_resolver, IsRising, paths_of, top, whole_path}
 use Rattle.folder_reader.specs.Walks.{AreFound, IsBelow, IsFound, IsLooked, IsPlace, IsToldWalk, IsWalk}
-use Rattle.folder_reader.proofs.ItemsOfLists.{all_mapped, all_of, all_unmapped, each_of, in_filter, in_map, item_at, of_filter, of_map, place_of}
+use Rattle.folder_reader.proofs.ItemsOfLists.{all_mapped, all_unmapped, in_map, of_filter, of_map}
 use Rattle.folder_reader.proofs.NoMoreThanFound.{length_within, sum_within}
 use Rattle.folder_reader.proofs.PathsInOrder.{rising_at}
 use Rattle.folder_reader.proofs.PathsTellNames.{whole_below}

@@ -1,15 +1,13 @@
 -- The final methods of a class that another overrides are found by its name and type, one after the other.
-use Rattle.std.proofs.Common.{◌≡◌, ℕ, ◌+◌, ◌<◌, ◌≤◌, inl, inr, List, length, Some, None, subst, arith}
+use Rattle.std.proofs.Common.{◌≡◌, ℕ, ◌+◌, ◌<◌, inl, inr, List, Some, None, subst, arith}
 use Rattle.std.proofs.lemmas.Bool.{cases_eq, cases_lt}
-use Rattle.std.proofs.lemmas.Option.{slice_get_within}
 use Rattle.jk_model.specs.declared.descriptors.MethodType.{MethodType}
 use Rattle.jk_model.specs.declared.identifiers.ClassId.{ClassId}
 use Rattle.jk_model.specs.declared.identifiers.MemberId.{MemberId}
 use Rattle.jk_model_classes.specs.declared.records.ClassRecord.{ClassRecord}
 use Rattle.jk_model_classes.specs.declared.records.MethodRecord.{MethodRecord}
-use Rattle.jk_model_classes.specs.Classes.{record_of}
-use Rattle.jk_model_classes.specs.Lookups.{FindsFrom, IsMethodOf, MethodIs}
-use Rattle.member_lookup.proofs.OneRecord.{one-method}
+use Rattle.jk_model_classes.specs.Lookups.{FindsFrom, IsMethodOf}
+use Rattle.class_lemmas.proofs.OneRecord.{one_method}
 use Rattle.link_rules.specs.FinalMethods.{IsFinalFor, IsFinalIn}
 
 -- no method of class d before this place is one
@@ -23,7 +21,7 @@ module _ (classes : List ClassRecord) (class : ClassId) (name : List ℕ) (kind 
   -- a method of that name and type
   pub final_for : (m : MemberId) → IsMethodOf classes name kind m → IsFinalIn classes class m → IsFinalFor classes class name kind m
   final_for m (method, is, named, typed) (final, also, marked, over) =
-      let same : method ≡ final = one-method classes m method final is also in
+      let same : method ≡ final = one_method classes m method final is also in
       (final, also, subst (λ (r : MethodRecord). r.name ≡ name) same named, subst (λ (r : MethodRecord). r.kind ≡ kind) same typed, marked, over)
 
   final_in : (m : MemberId) → IsFinalFor classes class name kind m → IsFinalIn classes class m
@@ -62,10 +60,3 @@ module _ (classes : List ClassRecord) (class : ClassId) (name : List ℕ) (kind 
     | inl early ↦ before i early h
     | inr late ↦ none i late (namesake (record { class = d; index = i }) h)
   ]
-
--- a method's place is below 65,535 where no class has more than that many methods
-pub place-fits : (classes : List ClassRecord) → ((c : ClassId) (r : ClassRecord) → record_of classes c ≡ Some r
-    → (length r.fields ≤ 65535) × (length r.methods ≤ 65535)) → (m : MemberId) (method : MethodRecord) → MethodIs classes m method → m.index < 65535
-place-fits classes few m method (r, at, there) =
-    let within = slice_get_within r.methods m.index method there in
-    omega (arith, (few m.class r at).1)

@@ -28,6 +28,7 @@ use Rattle.jk_model_classes.specs.MemberAttributes.{IsCodeAttribute}
 use Rattle.jk_model_classes.specs.MemberCode.{HasCode, HasInstr, is_jump, is_switch}
 use Rattle.jk_model_classes.specs.OneClassRules.{HasNoFault}
 use Rattle.jk_model_folders.specs.LinkedClasses.{GoAlong, IsBodyFor, IsInstrFor, IsRecordFor}
+use Rattle.class_lemmas.proofs.OneRecord.{one_flags}
 use Rattle.byte_fields.specs.OneReading.{one_u4}
 use Rattle.link_rules.specs.FinalMethods.{IsFirstPlace}
 use Rattle.link_rules.specs.LinkedInstrs.{BodyHas, HasLinkedInstr}
@@ -47,12 +48,6 @@ one_code body c d h k =
     let locals = cancel (u2 c.max_locals) (u2 d.max_locals) _ _ refl stack.1 in
     let long = one_u4 (length c.code) (length d.code) _ _ (omega (arith, h.code.1)) (omega (arith, k.code.1)) locals.1 in
     (cancel c.code d.code _ _ long.0 long.1).0
-
-one_flags : (c : ClassFile) (info : MemberInfo) (f g : ℕ) → MethodFlags c info f → MethodFlags c info g → f ≡ g
-one_flags c info f g (inl (is, e)) (inl (also, d)) = e ∙ sym d
-one_flags c info f g (inl (is, e)) (inr (isnt, d)) = absurd (isnt is)
-one_flags c info f g (inr (isnt, e)) (inl (is, d)) = absurd (isnt is)
-one_flags c info f g (inr (isnt, e)) (inr (also, d)) = e ∙ sym d
 
 pub own_record : (s : LinkScope) (c : ClassFile) (links : List Link) (h : IsLinked s c links) (r : ClassRecord) → record_of s.classes s.self ≡ Some r
     → IsRecordFor s h.home c r

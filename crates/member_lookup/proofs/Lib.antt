@@ -1,7 +1,6 @@
 -- What is known of walks over classes, of records of methods, and of packages.
 pub mod FirstOnWalk
-pub mod OneRecord
 pub mod OnePackage
-mod RunnersOfAClass
+pub mod RunnersOfAClass
 pub mod WalksOfMethods
 pub mod WalksUpwards

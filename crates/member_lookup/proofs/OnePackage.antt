@@ -5,28 +5,7 @@ use Rattle.std.proofs.lemmas.List.{take-append-drop, get_or-drop}
 use Rattle.member_lookup.specs.Words.{HaveOnePackage}
 use Rattle.std.specs.List.{AllByRecursion}
 use Rattle.jk_model_classes.specs.Lookups.{IsPackageOf}
-
-abbrev HasNoSlash : List ℕ → Type 0
-HasNoSlash name = AllByRecursion (λ u. u ≢ 47) name
-
-slash_in : (front back : List ℕ) → HasNoSlash (front ++ 47 ∷ back) → ⊥
-slash_in [] back h = h.0 refl
-slash_in (u ∷ front) back h = slash_in front back h.1
-
--- the last `/` of a name stands in one place
-one_front : (a b s t : List ℕ) → a ++ 47 ∷ s ≡ b ++ 47 ∷ t → HasNoSlash s → HasNoSlash t → a ≡ b
-one_front [] [] s t e h k = refl
-one_front [] (u ∷ b) s t e h k =
-    let rest : s ≡ b ++ 47 ∷ t = cc in
-    absurd (slash_in b t (rw rest at h))
-one_front (u ∷ a) [] s t e h k =
-    let rest : a ++ 47 ∷ s ≡ t = cc in
-    absurd (slash_in a s (rw (← rest) at k))
-one_front (u ∷ a) (v ∷ b) s t e h k =
-    let first : u ≡ v = cc in
-    let rest : a ++ 47 ∷ s ≡ b ++ 47 ∷ t = cc in
-    let fronts : a ≡ b = one_front a b s t rest h k in
-    cc
+use Rattle.model_lemmas.proofs.LastSlash.{HasNoSlash, last_names, slash_inside}
 
 package_by : (name p q : List ℕ) (a : IsPackageOf name p) (b : IsPackageOf name q)
     → (p ≡ []) ⊎ ((front : List ℕ) × (p ≡ front ++ 47 ∷ [])) → (q ≡ []) ⊎ ((front : List ℕ) × (q ≡ front ++ 47 ∷ [])) → p ≡ q
@@ -34,16 +13,16 @@ package_by name p q a b (inl e) (inl f) = e ∙ sym f
 package_by name p q a b (inl e) (inr (front, f)) =
     let whole : a.simple ≡ front ++ 47 ∷ b.simple =
     ap (λ p. p ++ a.simple) (sym e) ∙ sym a.joined ∙ b.joined ∙ ap (λ q. q ++ b.simple) f ∙ append_assoc front (47 ∷ []) b.simple in
-    absurd (slash_in front b.simple (rw whole at a.no_slash))
+    absurd (slash_inside front b.simple (rw whole at a.no_slash))
 package_by name p q a b (inr (front, e)) (inl f) =
     let whole : b.simple ≡ front ++ 47 ∷ a.simple =
     ap (λ q. q ++ b.simple) (sym f) ∙ sym b.joined ∙ a.joined ∙ ap (λ p. p ++ a.simple) e ∙ append_assoc front (47 ∷ []) a.simple in
-    absurd (slash_in front a.simple (rw whole at b.no_slash))
+    absurd (slash_inside front a.simple (rw whole at b.no_slash))
 package_by name p q a b (inr (front, e)) (inr (other, f)) =
     let whole : front ++ 47 ∷ a.simple ≡ other ++ 47 ∷ b.simple =
     sym (append_assoc front (47 ∷ []) a.simple) ∙ ap (λ p. p ++ a.simple) (sym e) ∙ sym a.joined ∙ b.joined ∙ ap (λ q. q ++ b.simple) f
     ∙ append_assoc other (47 ∷ []) b.simple in
-    e ∙ ap (λ front. front ++ 47 ∷ []) (one_front front other a.simple b.simple whole a.no_slash b.no_slash) ∙ sym f
+    e ∙ ap (λ front. front ++ 47 ∷ []) (last_names front other a.simple b.simple a.no_slash b.no_slash whole).0 ∙ sym f
 
 pub package-unique : (name p q : List ℕ) → IsPackageOf name p → IsPackageOf name q → p ≡ q
 package-unique name p q a b = package_by name p q a b a.ends b.ends

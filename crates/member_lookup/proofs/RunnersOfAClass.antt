@@ -8,7 +8,7 @@ use Rattle.jk_model_classes.specs.declared.records.ClassRecord.{ClassRecord}
 use Rattle.jk_model_classes.specs.declared.records.MethodRecord.{MethodRecord}
 use Rattle.jk_model_classes.specs.Classes.{record_of, IsInterface}
 use Rattle.jk_model_classes.specs.Lookups.{FindsFrom, IsMethodOf, IsOverriddenIn, MethodIs, RunsFor}
-use Rattle.member_lookup.proofs.OneRecord.{one-method}
+use Rattle.class_lemmas.proofs.OneRecord.{one_method}
 
 -- no method of class d before this place runs for m
 abbrev pub NoneBefore : List ClassRecord → MemberId → ClassId → ℕ → Type 0
@@ -20,14 +20,14 @@ module _ (classes : List ClassRecord) (m : MemberId) (called : MethodRecord) (is
       ⊎ ((o.name ≡ method.name) × (o.kind ≡ method.kind) × (IsInterface classes m.class ⊎ IsOverriddenIn classes m method.flags other.class))
       → IsMethodOf classes called.name called.kind other
   namesake_by other method o same at (inl e) =
-      let whole : o ≡ called = one-method classes m o called (subst (λ (x : MemberId). MethodIs classes x o) e at) is in
+      let whole : o ≡ called = one_method classes m o called (subst (λ (x : MemberId). MethodIs classes x o) e at) is in
       (o, at, ap (λ (x : MethodRecord). x.name) whole, ap (λ (x : MethodRecord). x.kind) whole)
   namesake_by other method o same at (inr (named, typed, why)) =
       (o, at, named ∙ ap (λ (x : MethodRecord). x.name) same, typed ∙ ap (λ (x : MethodRecord). x.kind) same)
 
   -- what runs for the method has its name and type
   pub namesake : (other : MemberId) → RunsFor classes m other → IsMethodOf classes called.name called.kind other
-  namesake other h = namesake_by other h.method h.other_method (one-method classes m h.method called h.m_is is) h.other_is h.suits
+  namesake other h = namesake_by other h.method h.other_method (one_method classes m h.method called h.m_is is) h.other_is h.suits
 
   -- ---- The methods of class d at a place or after it.
 

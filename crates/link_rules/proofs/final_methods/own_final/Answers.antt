@@ -1,6 +1,7 @@
 -- The next method of that name and type is one, or none before the one after it is.
 use Rattle.std.proofs.Common.{◌≡◌, false, true, arith}
-use Rattle.link_rules.proofs.FinalsOfAClass.{first-final, no-final, none-before_first, none-before_next, place-fits}
+use Rattle.member_lookup.proofs.RunnersOfAClass.{place-fits}
+use Rattle.link_rules.proofs.FinalsOfAClass.{first-final, no-final, none-before_first, none-before_next}
 use Rattle.link_rules.proofs.final_methods.own_final.Goals as goal
 
 pub loop-index-init : goal.loop-index-init
