@@ -1,5 +1,5 @@
 -- The entries of a folder have names, no two of them the same, however many there are.
-use Rattle.std.proofs.Common.{◌≡◌, ℕ, Bool, true, false, List, Option, Some, None, refl, sym, subst}
+use Rattle.std.proofs.Common.{◌≡◌, ℕ, Bool, true, false, List, Some, None, subst}
 use Rattle.std.specs.Prelude.{if◌then◌else◌}
 use Rattle.jk_model.specs.Outside.{AreNamed}
 use Rattle.jk_model.specs.declared.entries.Entry.{Entry}

@@ -1,6 +1,6 @@
 -- One more line after lines that were all printed, and none after one that failed.
 use Rattle.std.proofs.Common.{◌≡◌, ℕ, List, [], ◌∷◌, ◌++◌, Option, Result, Ok, Err, refl, sym, ap, ◌∙◌, subst, append_assoc, append-nil}
-use Rattle.std.specs.Prelude.{flat_map, OnOk, OnErr}
+use Rattle.std.specs.Prelude.{OnOk, OnErr}
 use Rattle.std.specs.List.{concat}
 use Rattle.std.proofs.lemmas.Grind.{flat_map-append}
 use Rattle.std.proofs.lemmas.List.Folds.{concat-append}
@@ -9,7 +9,7 @@ use Rattle.jk_model.specs.Output.{line_text, text_of}
 use Rattle.jk_model.specs.declared.output.Line.{Line}
 use Rattle.jk_model.proofs.AppendsInTurn.{Appends-append, AppendsPart-after, AppendsPart-more}
 use Rattle.jk_model.proofs.CountsNeverFall.{NeverFalls-after, HasRisen-after}
-use Rattle.jk_outside.specs.CutTexts.{cut_text, BreaksOff, Sends}
+use Rattle.jk_outside.specs.CutTexts.{BreaksOff, Sends}
 use Rattle.jk_outside.specs.SeveralLines.{pieces_of, pieces_of_lines, PrintsLines}
 use Rattle.jk_outside.proofs.CutIsWholeAndRest.{concat-cut_text}
 use Rattle.jk_outside.proofs.SentInOrder.{BreaksOff-after, BreaksOff-more}

@@ -1,7 +1,5 @@
 -- What a log grows by in calls, one after another, where it is told.
 use Rattle.std.proofs.Common.{◌≡◌, arith, true, List, [], ◌∷◌, ◌++◌, Option, Some, None, refl, sym, ap, ◌∙◌, append_assoc, append-nil}
-use Rattle.std.specs.Prelude.{Contains}
-use Rattle.std.specs.List.{AllByRecursion}
 use Rattle.std.proofs.lemmas.List.Elements.{Contains-append_left, Contains-append_right}
 use Rattle.jk_model.proofs.EachItem.{all_append, all_weaker}
 use Rattle.jk_outside.specs.Systems.{Step, Logs, LogsOnly, LogsFault}

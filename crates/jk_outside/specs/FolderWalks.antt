@@ -4,7 +4,7 @@ use Rattle.std.specs.Fs.{IsDir, IsFile}
 use Rattle.std.specs.List.{filter_map}
 use Rattle.std.specs.declared.fs.attrs.FileType.{FileType}
 use Rattle.jk_model.specs.declared.entries.Entry.{Entry}
-use Rattle.jk_outside.specs.Systems.{Places, Stands, entry_as, entry_of}
+use Rattle.jk_outside.specs.Systems.{Places, entry_of}
 use Rattle.jk_outside.specs.declared.found.Sort.{Sort}
 use Rattle.jk_outside.specs.declared.found.Sort.TheVariants.{Folder, File, Other}
 

@@ -1,8 +1,12 @@
 -- What a system of files tells: what stands at each path, and which calls it was asked for.
-use Rattle.std.specs.Prelude.{◌≡◌, ◌≢◌, ℕ, ⊤, Bool, true, false, List, [], ◌∷◌, ◌++◌, Contains, Option, None, Some, Result, Ok, Err, is_err}
+use Rattle.std.specs.Prelude.{◌≡◌, ℕ, ⊤, Bool, true, false, List, [], ◌∷◌, ◌++◌, ◌⊎◌, Contains, Option, None, Some, Result, Ok, Err, is_err}
 use Rattle.std.specs.Fs.{IsDir, IsFile}
+use Rattle.std.specs.IoError.{error_kind}
 use Rattle.std.specs.List.{AllByRecursion, filter_map}
 use Rattle.std.specs.declared.fs.attrs.FileType.{FileType}
+use Rattle.std.specs.declared.io.Error.{Error}
+use Rattle.std.specs.declared.io.ErrorKind.{ErrorKind}
+use Rattle.std.specs.declared.io.ErrorKind.TheVariants.{Interrupted}
 use Rattle.jk_model.specs.Outside.{◌/-◌}
 use Rattle.jk_model.specs.declared.entries.Entry.{Entry}
 
@@ -82,13 +86,26 @@ pub data Question : Type 0 where
   Reads : Question
   TakesName : Question
 
--- a call, and whether it failed
+-- a call, whether it failed, and whether that was an interruption
 pub record Step : Type 0 where
   pub asks : Question
   pub failed : Bool
+  pub interrupted : Bool
 
-abbrev pub step_of : {A E : Type 0} → Question → Result A E → Step
-step_of asks result = record { asks = asks; failed = is_err result }
+abbrev pub is_interruption : ErrorKind → Bool
+is_interruption Interrupted = true
+is_interruption _ = false
+
+abbrev pub is_interrupted : {A : Type 0} → Result A Error → Bool
+is_interrupted (Ok a) = false
+is_interrupted (Err e) = is_interruption (error_kind e)
+
+abbrev pub step_of : {A : Type 0} → Question → Result A Error → Step
+step_of asks result = record { asks = asks; failed = is_err result; interrupted = is_interrupted result }
+
+-- It went well, or was a read that was interrupted, after which the file is read on.
+abbrev pub GoesOn : Step → Type 0
+GoesOn step = (step.failed ≡ false) ⊎ ((step.asks ≡ Reads) × (step.interrupted ≡ true))
 
 -- This call is the last of the log, where that is told.
 abbrev pub Logs : Option (List Step) → Option (List Step) → Step → Type 0
@@ -154,3 +171,13 @@ FileAtIs pipes (Some at) path Are = BytesAre pipes (at path) Are
 abbrev pub HasToRead : Bool → Option Places → List ℕ → Type 0
 HasToRead pipes None path = ⊥
 HasToRead pipes (Some at) path = BytesAre pipes (at path) (λ bytes. ⊤)
+
+-- A file is opened only where it is told that there is something to be read, or nothing is told.
+abbrev pub MayAsk : Bool → Option Places → List ℕ → Question → Type 0
+MayAsk pipes places path (OpensFile asked) = FileAtIs pipes places path (λ bytes. ⊤)
+MayAsk pipes places path question = ⊤
+
+-- what was opened is told to be something to be read, or nothing is told of it
+abbrev pub IsOpenToRead : Bool → Option Stands → Type 0
+IsOpenToRead pipes None = ⊤
+IsOpenToRead pipes (Some stands) = BytesAre pipes stands (λ bytes. ⊤)

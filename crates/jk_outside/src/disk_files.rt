@@ -1,6 +1,6 @@
 //! Files of a system, as something that lists folders and reads files.
 
-ghost use Rattle.std.specs.Prelude.{◌≡◌, ◌≢◌, ◌<◌, ◌≤◌, ◌⊎◌, ◌∷◌, ◌++◌, ◌-◌, ◌^◌, [], length, min, not, false, true, List, IfOk, IsSome, Err};
+ghost use Rattle.std.specs.Prelude.{◌≡◌, ◌≢◌, ◌<◌, ◌≤◌, ◌⊎◌, ◌∷◌, ◌++◌, ◌-◌, ◌^◌, [], length, min, not, false, true, List, IfOk, OnOk, IsSome, Err};
 ghost use Rattle.std.specs.List.{AllByRecursion};
 ghost use Rattle.std.specs.Str.{IsUtf8};
 ghost use Rattle.jk_model.specs.Outside.{ListOf, BytesOf, AreNamed, AreThere, FoldersAreThere, FolderIs, FileIs, FolderIsAbsent, FileIsAbsent, FolderIsLong, FileIsLong, HasNoFolder, HasNoFile, HasLongFolder, HasLongFile, HasRisen, HasRisenBy, NeverFalls};
@@ -8,7 +8,7 @@ ghost use Rattle.jk_model.specs.declared.entries.Entry.{Entry};
 ghost use Rattle.jk_outside.specs.Counts.{min_fits, HasTaken};
 ghost use Rattle.jk_outside.specs.DiskStates.{count_after, untold};
 ghost use Rattle.jk_outside.specs.EntryNames.{ArePlain};
-ghost use Rattle.jk_outside.specs.Systems.{AsksBelow, AsksFor, FileAtIs, FolderAtIs, HasNoFolderAt, HasNothing, HasToRead, LogsFault, LogsOnly};
+ghost use Rattle.jk_outside.specs.Systems.{AsksBelow, AsksFor, FileAtIs, FolderAtIs, GoesOn, HasNoFolderAt, HasNothing, HasToRead, LogsFault, LogsOnly, MayAsk};
 
 use crate::asked::{Asked, Call};
 use crate::files::{Files, FilesError};
@@ -126,6 +126,9 @@ impl<S: System + Drop> Files for DiskFiles<S> {
             → LogsFault (S.log self.old.system) (S.log self.new.system) ⊎ (self.new.taken ≡ 2 ^ 64 - 1) }
         // No other folder is opened, and nothing is looked at but what stands in it.
         ensures log { LogsOnly (λ step. AsksBelow folder.now step.asks) (S.log self.old.system) (S.log self.new.system) }
+        // Where it is answered what stands there, or that it is too long, no call failed.
+        ensures well { OnOk result (LogsOnly GoesOn (S.log self.old.system) (S.log self.new.system)) }
+        ensures well_long { result ≡ Err FilesError.TooLong → LogsOnly GoesOn (S.log self.old.system) (S.log self.new.system) }
         ensures listed { self.new.listed ≡ true }
     {
         self.asked = self.asked.and(&Call::List(folder.as_bytes(), limit));
@@ -173,6 +176,12 @@ impl<S: System + Drop> Files for DiskFiles<S> {
             → LogsFault (S.log self.old.system) (S.log self.new.system) }
         // No other path is looked at or opened.
         ensures log { LogsOnly (λ step. AsksFor path.now step.asks) (S.log self.old.system) (S.log self.new.system) }
+        // What isn't to be read isn't opened.
+        ensures opens { LogsOnly (λ step. MayAsk (not self.old.listed) (S.places self.old.system) path.now step.asks)
+            (S.log self.old.system) (S.log self.new.system) }
+        // Where it is answered what stands there, or that it is too long, no call failed, but for reads that were interrupted.
+        ensures well { OnOk result (LogsOnly GoesOn (S.log self.old.system) (S.log self.new.system)) }
+        ensures well_long { result ≡ Err FilesError.TooLong → LogsOnly GoesOn (S.log self.old.system) (S.log self.new.system) }
         ensures listed { self.new.listed ≡ self.old.listed }
     {
         self.asked = self.asked.and(&Call::Read(path.as_bytes(), limit));

@@ -7,7 +7,7 @@ ghost use Rattle.std.specs.Str.{IsUtf8};
 ghost use Rattle.jk_model.specs.Outside.{HasRisenBy, ◌/-◌};
 ghost use Rattle.jk_outside.specs.DiskStates.{count_after};
 ghost use Rattle.jk_outside.specs.FolderWalks.{AllAre, IsListedAs, ListsOn, listed_as};
-ghost use Rattle.jk_outside.specs.Systems.{AsksBelow, FolderAtIs, HasNoFolderAt, LogsFault, LogsOnly};
+ghost use Rattle.jk_outside.specs.Systems.{AsksBelow, FolderAtIs, GoesOn, HasNoFolderAt, LogsFault, LogsOnly};
 
 use crate::files::FilesError;
 use crate::found::{Sort, sort_of};
@@ -29,6 +29,8 @@ pub(crate) fn list_folder<S: System>(
     ensures absent { result ≡ Err FilesError.Absent → HasNoFolderAt (S.places system.old) folder.now }
     ensures failed { result ≡ Err FilesError.Failed → LogsFault (S.log system.old) (S.log system.new) ⊎ (taken.new ≡ 2 ^ 64 - 1) }
     ensures log { LogsOnly (λ step. AsksBelow folder.now step.asks) (S.log system.old) (S.log system.new) }
+    ensures well { OnOk result (LogsOnly GoesOn (S.log system.old) (S.log system.new)) }
+    ensures well_long { result ≡ Err FilesError.TooLong → LogsOnly GoesOn (S.log system.old) (S.log system.new) }
     ensures stays { S.places system.new ≡ S.places system.old }
     ensures names { IfOk result (λ entries. AllByRecursion (λ entry. IsUtf8 entry.name) entries) }
     ensures within { IfOk result (λ entries. length entries ≤ limit) }
@@ -57,6 +59,8 @@ fn list_names<S: System>(
     ensures present { result ≢ Err FilesError.Absent }
     ensures failed { result ≡ Err FilesError.Failed → LogsFault (S.log system.old) (S.log system.new) ⊎ (taken.new ≡ 2 ^ 64 - 1) }
     ensures log { LogsOnly (λ step. AsksBelow folder.now step.asks) (S.log system.old) (S.log system.new) }
+    ensures well { OnOk result (LogsOnly GoesOn (S.log system.old) (S.log system.new)) }
+    ensures well_long { result ≡ Err FilesError.TooLong → LogsOnly GoesOn (S.log system.old) (S.log system.new) }
     ensures stays { S.places system.new ≡ S.places system.old }
     ensures names { IfOk result (λ entries. AllByRecursion (λ entry. IsUtf8 entry.name) entries) }
     ensures within { IfOk result (λ entries. length entries ≤ limit) }
@@ -94,6 +98,7 @@ fn sort_at<S: System>(
     ensures short { result ≢ Err FilesError.TooLong }
     ensures failed { result ≡ Err FilesError.Failed → LogsFault (S.log system.old) (S.log system.new) }
     ensures log { LogsOnly (λ step. AsksBelow folder.now step.asks) (S.log system.old) (S.log system.new) }
+    ensures well { OnOk result (LogsOnly GoesOn (S.log system.old) (S.log system.new)) }
     ensures stays { S.places system.new ≡ S.places system.old }
 {
     let path = path_in(alloc, folder, name)?;

@@ -4,7 +4,7 @@ ghost use Rattle.std.specs.Prelude.{◌≡◌, ◌≢◌, ℕ, ⊤, ◌<◌, ◌
 ghost use Rattle.std.specs.Io.KnownBytes.{IsAtEnd};
 ghost use Rattle.jk_outside.specs.DiskStates.{count_after};
 ghost use Rattle.jk_outside.specs.Reading.{opening_fault, reading_fault, may_be_read, ReadsOn};
-ghost use Rattle.jk_outside.specs.Systems.{AsksFor, FileAtIs, HasNothing, HasToRead, IsOpenedAt, LogsFault, LogsOnly, Reads};
+ghost use Rattle.jk_outside.specs.Systems.{AsksFor, FileAtIs, GoesOn, HasNothing, HasToRead, IsOpenedAt, IsOpenToRead, LogsFault, LogsOnly, MayAsk, Reads};
 
 use crate::files::FilesError;
 use crate::found::{Sort, sort_of};
@@ -64,6 +64,9 @@ pub(crate) fn read_file<S: System>(
     ensures failed { result ≡ Err FilesError.Failed
         → HasToRead pipes (S.places system.old) path.now → LogsFault (S.log system.old) (S.log system.new) }
     ensures log { LogsOnly (λ step. AsksFor path.now step.asks) (S.log system.old) (S.log system.new) }
+    ensures opens { LogsOnly (λ step. MayAsk pipes (S.places system.old) path.now step.asks) (S.log system.old) (S.log system.new) }
+    ensures well { OnOk result (LogsOnly GoesOn (S.log system.old) (S.log system.new)) }
+    ensures well_long { result ≡ Err FilesError.TooLong → LogsOnly GoesOn (S.log system.old) (S.log system.new) }
     ensures stays { S.places system.new ≡ S.places system.old }
     ensures within { IfOk result (λ bytes. length bytes ≤ limit) }
     ensures counted { IfOk result (λ bytes. taken.new ≡ count_after taken.old (length bytes)) }
@@ -79,11 +82,14 @@ pub(crate) fn read_file<S: System>(
 fn open_to_read<S: System>(system: &mut S, path: &str, pipes: bool) -> Result<S::File, FilesError>
     ensures opened { IfOk result (λ file. IsOpenedAt (S.places system.old) path.now (S.opened file) (S.bytes_left file)) }
     ensures sort { IfOk result (λ _. FileAtIs pipes (S.places system.old) path.now (λ _. ⊤)) }
+    ensures judged { IfOk result (λ file. IsOpenToRead pipes (S.opened file)) }
     ensures short { result ≢ Err FilesError.TooLong }
     ensures absent { result ≡ Err FilesError.Absent → HasNothing (S.places system.old) path.now }
     ensures failed { result ≡ Err FilesError.Failed
         → HasToRead pipes (S.places system.old) path.now → LogsFault (S.log system.old) (S.log system.new) }
     ensures log { LogsOnly (λ step. AsksFor path.now step.asks) (S.log system.old) (S.log system.new) }
+    ensures opens { LogsOnly (λ step. MayAsk pipes (S.places system.old) path.now step.asks) (S.log system.old) (S.log system.new) }
+    ensures well { OnOk result (LogsOnly GoesOn (S.log system.old) (S.log system.new)) }
     ensures stays { S.places system.new ≡ S.places system.old }
 {
     let seen = system.look_at(path).map_err(|e| opening_fault(e.kind()))?;
@@ -115,6 +121,8 @@ fn whole_file<S: System>(
     ensures present { result ≢ Err FilesError.Absent }
     ensures failed { result ≡ Err FilesError.Failed → LogsFault (S.log system.old) (S.log system.new) }
     ensures log { LogsOnly (λ step. step.asks ≡ Reads) (S.log system.old) (S.log system.new) }
+    ensures well { OnOk result (LogsOnly GoesOn (S.log system.old) (S.log system.new)) }
+    ensures well_long { result ≡ Err FilesError.TooLong → LogsOnly GoesOn (S.log system.old) (S.log system.new) }
     ensures stays { S.places system.new ≡ S.places system.old }
     ensures within { IfOk result (λ bytes. length bytes ≤ limit) }
     ensures counted { IfOk result (λ bytes. taken.new ≡ count_after taken.old (length bytes)) }
@@ -158,6 +166,8 @@ fn read_more<S: System>(
     ensures present { result ≢ Err FilesError.Absent }
     ensures failed { result ≡ Err FilesError.Failed → LogsFault (S.log system.old) (S.log system.new) }
     ensures log { LogsOnly (λ step. step.asks ≡ Reads) (S.log system.old) (S.log system.new) }
+    ensures well { OnOk result (LogsOnly GoesOn (S.log system.old) (S.log system.new)) }
+    ensures well_long { result ≡ Err FilesError.TooLong → LogsOnly GoesOn (S.log system.old) (S.log system.new) }
     ensures stays { S.places system.new ≡ S.places system.old }
     ensures taken { taken.old ≤ taken.new }
 {

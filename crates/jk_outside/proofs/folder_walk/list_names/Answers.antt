@@ -1,9 +1,9 @@
 -- One more name makes one more entry, or none, and the log grows by what was asked for it.
-use Rattle.std.proofs.Common.{rules, ◌≡◌, true, Option, Some, Err, arith, inl, inr, ap, ◌∙◌, subst}
+use Rattle.std.proofs.Common.{rules, ◌≡◌, true, false, Option, Some, Err, arith, inl, ap, ◌∙◌, subst}
 use Rattle.std.specs.Prelude.{is_err}
 use Rattle.jk_outside.specs.declared.files.FilesError.TheVariants.{Failed, TooLong}
 use Rattle.jk_outside.specs.FolderWalks.{IsListedAs}
-use Rattle.jk_outside.specs.Systems.{AsksBelow, GivesName, LogsOnly, Places, Step}
+use Rattle.jk_outside.specs.Systems.{AsksBelow, GivesName, GoesOn, Places, Step}
 use Rattle.jk_outside.proofs.FolderWalkSteps.{lists_on, lists_long, no_more_than}
 use Rattle.jk_outside.proofs.LogsGrow.{LogsFault-back, LogsFault-one, LogsOnly-after, LogsOnly-one}
 use Rattle.jk_outside.proofs.folder_walk.list_names.Goals as goal
@@ -27,6 +27,11 @@ returns-in_err-sort-clause-log g c =
     let Is : Step → Type 0 = λ s. AsksBelow c.args.folder.now s.asks in
     LogsOnly-after Is _ _ _ (LogsOnly-after Is _ _ _ c.loop-turn.invariant.log (LogsOnly-one Is _ _ _ c.next_name.ensures.log tt)) c.sort_at.ensures.log
 
+pub returns-in_err-add_entry-clause-log : goal.returns-in_err-add_entry-clause-log
+returns-in_err-add_entry-clause-log g c =
+    let Is : Step → Type 0 = λ s. AsksBelow c.args.folder.now s.asks in
+    LogsOnly-after Is _ _ _ (LogsOnly-after Is _ _ _ c.loop-turn.invariant.log (LogsOnly-one Is _ _ _ c.next_name.ensures.log tt)) c.in_ok-sort.ensures.log
+
 pub returns-in_err-add_entry-clause-long : goal.returns-in_err-add_entry-clause-long
 returns-in_err-add_entry-clause-long g c =
     let same = c.next_name.ensures.stays ∙ c.loop-turn.invariant.stays in
@@ -41,6 +46,7 @@ loop-turn-preserved g c =
     let Is : Step → Type 0 = λ s. AsksBelow c.args.folder.now s.asks in
     let before = c.loop-turn.invariant in
     let same = c.next_name.ensures.stays ∙ before.stays in
+    let went : is_err c.next_name.result ≡ false = search rules in
     let gives : GivesName (g.S.System.names_left c.loop-turn.names) (g.S.System.names_left c.next_name.new.folder) (Some c.as_str-name.result.now) = search rules in
     let listed = subst (λ (at : Option Places). IsListedAs at c.args.folder.now c.as_str-name.result.now c.in_ok-sort.sort) same c.in_ok-sort.ensures.sort in
     record {
@@ -50,5 +56,6 @@ loop-turn-preserved g c =
       names = c.in_ok-add_entry.ensures.names before.names;
       on = lists_on _ _ _ _ _ _ _ _ _ before.on gives listed c.in_ok-add_entry.ensures.ok;
       log = LogsOnly-after Is _ _ _ (LogsOnly-after Is _ _ _ before.log (LogsOnly-one Is _ _ _ c.next_name.ensures.log tt)) c.in_ok-sort.ensures.log;
+      well = LogsOnly-after GoesOn _ _ _ (LogsOnly-after GoesOn _ _ _ before.well (LogsOnly-one GoesOn _ _ _ c.next_name.ensures.log (inl went))) c.in_ok-sort.ensures.well;
       stays = c.in_ok-sort.ensures.stays ∙ same;
     }

@@ -4,7 +4,7 @@ use Rattle.std.proofs.lemmas.Grind.{common_steps}
 use Rattle.jk_outside.specs.declared.files.FilesError.TheVariants.{Failed}
 use Rattle.jk_outside.specs.DiskStates.{count_after}
 use Rattle.jk_outside.specs.Reading.{ReadsOn}
-use Rattle.jk_outside.specs.Systems.{LogsFault, LogsOnly, Reads, Step}
+use Rattle.jk_outside.specs.Systems.{GoesOn, LogsFault, LogsOnly, Reads, Step}
 use Rattle.jk_outside.proofs.LogsGrow.{LogsFault-back, LogsFault-front, LogsOnly-after}
 use Rattle.jk_outside.proofs.reading.whole_file.Goals as goal
 
@@ -41,6 +41,7 @@ loop-turn-preserved g c =
       on = on;
       room = room;
       log = log;
+      well = LogsOnly-after GoesOn _ _ _ before.well c.in_ok-read_more.ensures.well;
       stays = c.in_ok-read_more.ensures.stays ∙ before.stays;
       turns = turns;
     }

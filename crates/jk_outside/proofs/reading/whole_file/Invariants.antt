@@ -2,7 +2,7 @@
 use Rattle.std.proofs.Common.{◌≡◌, ◌<◌, ◌≤◌, ◌⊎◌, [], length}
 use Rattle.jk_outside.specs.DiskStates.{count_after}
 use Rattle.jk_outside.specs.Reading.{ReadsOn}
-use Rattle.jk_outside.specs.Systems.{LogsFault, LogsOnly, Reads, Step}
+use Rattle.jk_outside.specs.Systems.{GoesOn, LogsFault, LogsOnly, Reads, Step}
 use Rattle.jk_outside.proofs.reading.whole_file.Given as goal
 
 abbrev pub invariant-loop-turn : goal.invariant-loop-turn
@@ -12,6 +12,7 @@ invariant-loop-turn g l = record {
   on : ReadsOn (g.S.System.bytes_left l.initial.file) (g.S.System.bytes_left l.file) [] l.bytes;
   room : 0 < length l.piece.items;
   log : LogsOnly (λ (step : Step). step.asks ≡ Reads) (g.S.System.log l.initial.system) (g.S.System.log l.system);
+  well : LogsOnly GoesOn (g.S.System.log l.initial.system) (g.S.System.log l.system);
   stays : g.S.System.places l.system ≡ g.S.System.places l.initial.system;
   turns : (l._turn ≤ length l.bytes) ⊎ LogsFault (g.S.System.log l.initial.system) (g.S.System.log l.system);
 }

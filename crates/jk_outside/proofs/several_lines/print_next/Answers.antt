@@ -1,5 +1,5 @@
 -- What came of the line is what came of all, where those before it went out.
-use Rattle.std.proofs.Common.{rules, ◌≡◌, List, ℕ, Option, Result, Ok, Err, subst}
+use Rattle.std.proofs.Common.{rules, ◌≡◌, Result, Ok, Err, subst}
 use Rattle.std.proofs.lemmas.Result.{err_from_is_err_and}
 use Rattle.jk_outside.specs.SeveralLines.{PrintsLines}
 use Rattle.jk_outside.specs.declared.sinks.SinkFailed.{SinkFailed}
