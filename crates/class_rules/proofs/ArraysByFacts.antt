@@ -8,13 +8,13 @@ use Rattle.jk_model.specs.declared.opcodes.TheConstants.{NEW, ANEWARRAY, MULTIAN
 use Rattle.jk_model_classes.specs.ClassNames.{BeginsArray}
 use Rattle.jk_model_classes.specs.Members.{ClassAt}
 use Rattle.jk_model_classes.specs.MemberCode.{HasDimensions, MakesBadArray}
+use Rattle.class_lemmas.proofs.OneText.{one_class as one_class_at}
 use Rattle.descriptors.proofs.NoTextBeginsAnother.{one_field}
 use Rattle.class_rules.specs.declared.texts.FieldShape.{FieldShape}
 use Rattle.class_rules.specs.declared.texts.TextFacts.{TextFacts}
 use Rattle.class_rules.specs.Codes.{HasShapeDimensions, IsWrongArray}
 use Rattle.class_rules.specs.KnownPools.{IsNameKnown}
 use Rattle.class_rules.specs.Texts.{IsFieldShape, AreFactsOf}
-use Rattle.class_rules.proofs.KnownEntries.{one_class_at}
 
 dims_known : (units : List ℕ) (field : Option FieldShape) (n : ℤ) → IsFieldShape units field → HasDimensions units n → HasShapeDimensions field n
 dims_known units None n none (t, some, text, enough) = none t text

@@ -13,6 +13,7 @@ use Rattle.jk_model.specs.declared.descriptors.FieldType.{FieldType}
 use Rattle.jk_model.specs.ClassFile.{u2, IsU2, NamesEntry}
 use Rattle.jk_model.specs.Descriptors.{IsFieldText}
 use Rattle.jk_model_classes.specs.MemberAttributes.{IsConstantOf, IsConstant}
+use Rattle.class_lemmas.proofs.OneText.{one_text}
 use Rattle.byte_fields.specs.OneReading.{one_u2}
 use Rattle.descriptors.proofs.NoTextBeginsAnother.{one_field}
 use Rattle.class_rules.specs.declared.texts.FieldShape.{FieldShape}
@@ -22,7 +23,6 @@ use Rattle.class_rules.specs.declared.texts.TextFacts.{TextFacts}
 use Rattle.class_rules.specs.Attributes.{IsOfConstantKind}
 use Rattle.class_rules.specs.KnownPools.{IsTextKnown}
 use Rattle.class_rules.specs.Texts.{IsFieldShape, field_shape, kind_of}
-use Rattle.class_rules.proofs.KnownTexts.{one_text}
 
 -- ---- Two bytes that are an index.
 

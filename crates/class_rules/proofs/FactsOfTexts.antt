@@ -1,15 +1,13 @@
 -- What is known at an index is known of the text that stands there.
-use Rattle.std.proofs.Common.{◌≡◌, ℕ, ◌<◌, inl, inr, List, length, slice_get, subst, arith, Option, Some, None}
-use Rattle.std.proofs.lemmas.Option.{slice_get_within, slice_get_cases}
+use Rattle.std.proofs.Common.{◌≡◌, ℕ, List, slice_get, subst, arith, Option, Some, None}
+use Rattle.std.proofs.lemmas.Option.{slice_get_within}
+use Rattle.list_lemmas.proofs.ItemsByPlace.{item_there as entry_at}
 use Rattle.jk_model.specs.declared.class_file.PoolEntry.{PoolEntry}
 use Rattle.jk_model.specs.declared.class_file.PoolEntry.TheVariants.{Utf8}
 use Rattle.jk_model_classes.specs.Members.{TextAt}
+use Rattle.class_lemmas.proofs.OneText.{one_text}
 use Rattle.class_rules.specs.Texts.{AreFacts, AreFactsAt, AreFactsOf}
 use Rattle.class_rules.specs.declared.texts.TextFacts.{TextFacts}
-use Rattle.class_rules.proofs.OneText.{one_text}
-
-entry_at : {X : Type 0} (xs : List X) (i : ℕ) → i < length xs → (x : X) × (slice_get xs i ≡ Some x)
-entry_at xs i lt = elim (slice_get_cases xs i).1 [ inl (x, _, at, _) ↦ (x, at) | inr (past, _) ↦ absurd (omega arith) ]
 
 text_of_facts : (pool : List PoolEntry) (i : ℕ) (e : PoolEntry) (facts : TextFacts) → slice_get pool i ≡ Some e → AreFactsAt pool e (Some facts)
     → (units : List ℕ) × TextAt pool i units × AreFactsOf pool units facts

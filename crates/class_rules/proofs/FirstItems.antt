@@ -1,15 +1,11 @@
 -- The first item of which a test answers yes is the least that is so.
-use Rattle.std.proofs.Common.{◌≡◌, ℕ, ◌<◌, inl, inr, ◌↔◌, refl, sym, ◌∙◌, subst, arith, Bool, true, false, List, length, get_or, Option, Some, None, MatchOption}
+use Rattle.std.proofs.Common.{◌≡◌, ℕ, ◌<◌, inl, inr, ◌↔◌, refl, sym, subst, arith, Bool, true, false, List, length, get_or, Option, Some, None, MatchOption}
 use Rattle.std.specs.Prelude.{slice_get, IsTrue}
 use Rattle.std.specs.Fn.{Shared, FnReturnsAt}
 use Rattle.std.specs.List.{AllWithin, HoldsAt}
-use Rattle.std.proofs.lemmas.Option.{slice_get_cases, get_or_from_slice_get}
+use Rattle.std.proofs.lemmas.Option.{slice_get_cases, get_or_from_slice_get, slice_get_within as item_within}
 use denote.Ref.{Bor}
 use Rattle.class_rules.specs.Walks.{IsLeastItem, IsFirstPassed}
-
--- an item that is there stands below the length
-pub item_within : {X : Type 0} (xs : List X) (i : ℕ) (x : X) → slice_get xs i ≡ Some x → i < length xs
-item_within xs i x e = elim (slice_get_cases xs i).1 [ inl h ↦ h.1 | inr h ↦ absurd (let z : Some x ≡ None = sym e ∙ h.1 in cc) ]
 
 all_within : {X : Type 0} (P : X → Type 0) (xs : List X) (n : ℕ) → AllWithin P xs 0 n → (i : ℕ) (x : X) → i < n → slice_get xs i ≡ Some x → P x
 all_within P xs n h i x lt e = let at : get_or xs i x ≡ x = get_or_from_slice_get xs i x x e in subst P at (h i x (omega arith) lt)

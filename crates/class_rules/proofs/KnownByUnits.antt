@@ -8,9 +8,9 @@ use Rattle.std.specs.Map.{KeepsOthers}
 use Rattle.std.specs.Ordering.{is_eq, nat_cmp}
 use Rattle.std.specs.declared.alloc.Global.{Global}
 use Rattle.std.specs.declared.cmp.Ordering.{Ordering}
+use Rattle.list_lemmas.proofs.TestsAndOrders.{equal_by as equal_from_is_eq}
 use Rattle.class_rules.specs.SeenTexts.{known_of, IsJudged, IsAdded}
 use Rattle.class_rules.specs.declared.texts.TextFacts.{TextFacts}
-use Rattle.class_rules.proofs.RepeatsByKeys.{equal_from_is_eq}
 
 abbrev pub units_cmp : Vec ℕ Global → Vec ℕ Global → Ordering
 units_cmp x y = slice_cmp nat_cmp x.items y.items

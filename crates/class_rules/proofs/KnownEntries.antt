@@ -4,8 +4,8 @@ use Rattle.std.specs.Prelude.{slice_get, IsTrue, not}
 use Rattle.jk_model.specs.declared.class_file.PoolEntry.{PoolEntry}
 use Rattle.jk_model.specs.declared.class_file.PoolEntry.TheVariants.{Class, FieldRef, MethodRef, InterfaceMethodRef, NameAndType}
 use Rattle.jk_model_classes.specs.ClassNames.{NamesClass, BeginsArray}
-use Rattle.jk_model_classes.specs.Members.{TextAt, ClassAt, NameAndTypeAt, ReferenceAt, MemberKind}
-use Rattle.jk_model_classes.specs.Members.{Field as FieldKind, Method as MethodKind, InterfaceMethod as InterfaceMethodKind}
+use Rattle.jk_model_classes.specs.Members.{TextAt, ClassAt, NameAndTypeAt, ReferenceAt, MemberKind, Field as FieldKind, Method as MethodKind, InterfaceMethod as InterfaceMethodKind}
+use Rattle.class_lemmas.proofs.OneText.{one_class as one_class_at, one_text}
 use Rattle.class_rules.specs.declared.known_pool.Reference.{Reference}
 use Rattle.class_rules.specs.declared.known_pool.ReferenceKind.{ReferenceKind}
 use Rattle.class_rules.specs.declared.texts.TextFacts.{TextFacts}
@@ -13,7 +13,6 @@ use Rattle.class_rules.specs.Entries.{kind_of, class_of, reference_of, HasClassN
 use Rattle.class_rules.specs.KnownPools.{IsTextKnown, ArePairKnown, IsClassKnown, IsNameKnown, IsReferenceKnown}
 use Rattle.class_rules.specs.Texts.{AreFactsOf}
 use Rattle.class_rules.proofs.Decisions.{denied}
-use Rattle.class_rules.proofs.KnownTexts.{one_text}
 
 -- the texts of a name and a descriptor at an index are at their own indices
 pub pair_texts : (pool : List PoolEntry) (i n d : ℕ) (name descriptor : List ℕ) → slice_get pool i ≡ Some (NameAndType n d)
@@ -132,12 +131,6 @@ reference_spot P pool i = (
 )
 
 -- ---- Tests of entries.
-
-pub one_class_at : (pool : List PoolEntry) (i : ℕ) (u v : List ℕ) → ClassAt pool i u → ClassAt pool i v → u ≡ v
-one_class_at pool i u v (n, at, first) (m, here, second) =
-    let same : Some (Class m) ≡ Some (Class n) = sym here ∙ at in
-    let names : m ≡ n = cc in
-    one_text pool n u v first (subst (λ (k : ℕ). TextAt pool k v) names second)
 
 no_class_reference : (pool : List PoolEntry) (entry : PoolEntry) (units : List ℕ) (kind : MemberKind) (name descriptor : List ℕ)
     → HasClassName pool entry units → HasReference pool entry kind name descriptor → ⊥

@@ -1,19 +1,17 @@
 -- What is known of the text at an index, and that a text has one list of units.
-use Rattle.std.proofs.Common.{◌≡◌, ℕ, ◌<◌, ◌≤◌, inl, inr, ◌↔◌, refl, sym, ◌∙◌, ap, subst, arith, Bool, true, false, List, length, Option, Some, None, Ok, ◌==◌}
+use Rattle.std.proofs.Common.{◌≡◌, ℕ, ◌<◌, ◌≤◌, inl, inr, ◌↔◌, refl, sym, ◌∙◌, ap, subst, arith, Bool, true, false, List, length, Option, Some, None, ◌==◌}
 use Rattle.std.specs.Prelude.{slice_get, IsTrue, if◌then◌else◌}
-use Rattle.std.proofs.lemmas.Option.{slice_get_cases}
+use Rattle.std.proofs.lemmas.Option.{slice_get_cases, slice_get_within as item_within}
 use Rattle.jk_model.specs.declared.class_file.PoolEntry.{PoolEntry}
 use Rattle.jk_model.specs.declared.class_file.PoolEntry.TheVariants.{Utf8}
-use Rattle.jk_model.specs.Text.{Spells}
 use Rattle.jk_model_classes.specs.ClassNames.{HasText}
 use Rattle.jk_model_classes.specs.Members.{TextAt}
-use Rattle.unit_text.proofs.OneReading.{only_text}
+use Rattle.class_lemmas.proofs.OneText.{one_text}
 use Rattle.class_rules.specs.KnownPools.{IsTextKnown}
 use Rattle.class_rules.specs.Texts.{AreFacts, AreFactsOf, AreFactsAt, IsWord, word_text}
 use Rattle.class_rules.specs.declared.texts.TextFacts.{TextFacts}
 use Rattle.class_rules.specs.declared.texts.Word.{Word}
 use Rattle.class_rules.specs.declared.texts.Word.TheVariants.{Init, Clinit, Code, ConstantValue, Exceptions, NothingToNothing}
-use Rattle.class_rules.proofs.FirstItems.{item_within}
 
 -- ---- What stands in the table.
 
@@ -54,15 +52,6 @@ pub own_known : (entries pool : List PoolEntry) (texts table : List (Option Text
     → AreFacts entries texts
 own_known entries pool texts table own same known =
     subst (λ (p : List PoolEntry). AreFacts p texts) (sym own) (subst (λ (t : List (Option TextFacts)). AreFacts pool t) (sym same) known)
-
--- ---- One text.
-
--- the text at an index is one list of units
-pub one_text : (pool : List PoolEntry) (i : ℕ) (u v : List ℕ) → TextAt pool i u → TextAt pool i v → u ≡ v
-one_text pool i u v (a, at, spells) (b, here, others) =
-    let same : Some (Utf8 a) ≡ Some (Utf8 b) = sym at ∙ here in
-    let bytes : b ≡ a = cc in
-    only_text a (Ok u) spells v (subst (λ (w : List ℕ). Spells w v) bytes others)
 
 -- ---- Words: their texts have different lengths.
 

@@ -5,10 +5,11 @@ use Rattle.jk_model.specs.declared.class_file.ClassFile.{ClassFile}
 use Rattle.jk_model.specs.declared.class_file.MemberInfo.{MemberInfo}
 use Rattle.jk_model.specs.declared.class_file.PoolEntry.{PoolEntry}
 use Rattle.jk_model_classes.specs.Items.{HasItem, HasItemBefore, Spot, Member, Entry, IsBefore}
+use Rattle.jk_model_classes.proofs.OneFirstFault.{nothing_before_the_class as before_class}
+use Rattle.std.proofs.lemmas.Option.{slice_get_within as item_within}
 use Rattle.class_rules.specs.Answers.{IsLeastSpot}
 use Rattle.class_rules.specs.declared.members.FirstPlaces.{FirstPlaces}
 use Rattle.class_rules.specs.Walks.{IsLeastItem, BreaksAt, ReadsEach, AreFirstPlaces, member_or_entry, least_number}
-use Rattle.class_rules.proofs.FirstItems.{item_within}
 
 -- two rules that are broken at the same spots have the same least spot
 same_spot : (P Q : Spot → Type 0) (n : Option ℕ) → ((spot : Spot) → P spot → Q spot) → ((spot : Spot) → Q spot → P spot)
@@ -49,10 +50,6 @@ module _ (c : ClassFile) (A : Type 0) (P Q : MemberInfo → Type 0) (R : PoolEnt
   nowhere : (A → ⊥) → (HasItem P c.fields → ⊥) → (HasItem Q c.methods → ⊥) → (HasItem R c.pool → ⊥) → (spot : Spot) → BreaksAt c A P Q R spot → ⊥
   nowhere fine none never clear (Member n) h = no_member fine none never n h
   nowhere fine none never clear (Entry i) (entry, at, bad) = clear (i, entry, at, bad)
-
-  before_class : (other : Spot) → IsBefore other (Member 0) → ⊥
-  before_class (Member n) before = omega arith
-  before_class (Entry i) before = before
 
   unrefused : IsTrue false ↔ A → A → ⊥
   unrefused of_class a = let same : false ≡ true = of_class.1 a in cc

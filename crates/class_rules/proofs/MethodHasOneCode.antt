@@ -13,6 +13,8 @@ use Rattle.jk_model.specs.ClassFile.{CodeLayout}
 use Rattle.jk_model.specs.Descriptors.{IsMethodText, method_slots, receiver_slots}
 use Rattle.jk_model.specs.Flags.{STATIC, NATIVE, ABSTRACT, has}
 use Rattle.jk_model_classes.specs.Items.{HasItemBefore, HasTwoItems}
+use Rattle.class_lemmas.proofs.SomeItem.{none_at_all}
+use Rattle.class_lemmas.proofs.OneText.{one_text}
 use Rattle.descriptors.proofs.NoTextBeginsAnother.{one_method}
 use Rattle.class_rules.specs.declared.codes.CodeJudgment.{CodeJudgment}
 use Rattle.class_rules.specs.declared.texts.MethodShape.{MethodShape}
@@ -23,9 +25,7 @@ use Rattle.class_rules.specs.Codes.{IsJudgment}
 use Rattle.class_rules.specs.KnownPools.{IsTextKnown}
 use Rattle.class_rules.specs.MethodCodes.{HasCodeBody, TakesMore, HasMoreSlots, IsMethodJudged}
 use Rattle.class_rules.specs.Texts.{IsMethodShape, method_shape}
-use Rattle.class_rules.proofs.KnownTexts.{one_text}
 use Rattle.class_rules.proofs.MethodsByFlags.{missed, one_value}
-use Rattle.class_rules.proofs.SomeItem.{none_at_all}
 
 -- ---- One Code.
 

@@ -9,13 +9,13 @@ use Rattle.jk_model.specs.Descriptors.{IsMethodText, method_slots}
 use Rattle.jk_model.specs.Flags.{STATIC, has}
 use Rattle.jk_model_classes.specs.MemberDescriptors.{MAX_SLOTS, HasMethodType}
 use Rattle.jk_model_classes.specs.Members.{TextAt, IsInit, IsClinit}
+use Rattle.class_lemmas.proofs.OneText.{one_text}
 use Rattle.class_rules.specs.declared.texts.TextFacts.{TextFacts}
 use Rattle.class_rules.specs.declared.texts.Word.TheVariants.{NothingToNothing}
 use Rattle.class_rules.specs.KnownPools.{IsTextKnown}
 use Rattle.class_rules.specs.MethodDescriptors.{FitsMethod}
 use Rattle.class_rules.specs.Texts.{AreFactsOf, word_text}
 use Rattle.class_rules.proofs.Decisions.{denied}
-use Rattle.class_rules.proofs.KnownTexts.{one_text}
 
 module _ (c : ClassFile) (method : MemberInfo) where
   few_slots : (t : MethodType) → HasMethodType c method t → (IsClinit c method → ⊥) → method_slots t (not (has method.flags STATIC)) ≤ MAX_SLOTS

@@ -1,16 +1,15 @@
 -- What is asked of a method's attributes hangs on the one value of the flags that count.
-use Rattle.std.proofs.Common.{◌≡◌, ℕ, ◌⊎◌, inl, inr, ◌↔◌, Bool, false, IsTrue, List, [], ◌++◌, Result, Ok, Err, Some, None, sym, ◌∙◌, ap, subst, append-nil}
+use Rattle.std.proofs.Common.{◌≡◌, ℕ, ◌⊎◌, inl, inr, ◌↔◌, Bool, false, IsTrue, List, ◌++◌, Result, Ok, Err, Some, None, sym, ◌∙◌, ap, subst, append-nil}
 use Rattle.std.specs.Prelude.{IfOk}
 use Rattle.std.specs.Int.{w16}
-use Rattle.std.proofs.lemmas.Option.{some_pair_parts}
 use Rattle.jk_model.specs.declared.class_file.ClassFile.{ClassFile}
 use Rattle.jk_model.specs.declared.class_file.PoolEntry.{PoolEntry}
 use Rattle.jk_model.specs.declared.class_file.MemberInfo.{MemberInfo}
 use Rattle.jk_model.specs.declared.class_file.Attribute.{Attribute}
-use Rattle.jk_model.specs.ClassFile.{u2, IsU2, interfaces_bytes, AreInterfaces}
+use Rattle.jk_model.specs.ClassFile.{interfaces_bytes, AreInterfaces}
 use Rattle.jk_model_classes.specs.MemberAttributes.{MissesCode, AreThrown}
+use Rattle.byte_fields.proofs.OneListRead.{read_again, one_list}
 use Rattle.byte_fields.specs.Reading.{number_at, counted_at}
-use Rattle.byte_fields.specs.OneReading.{u2_reader, counted_reader}
 use Rattle.class_rules.specs.Attributes.{CountFlags, IsCodeMissed, AreClasses, AreAllClasses, HasWrongExceptions, HasWrongCode, HasBadMethodAttributes}
 
 -- ---- Flags.
@@ -60,17 +59,8 @@ method_answer c method pool attributes flags (Err e) same also counted h = tt
 
 -- ---- Exceptions.
 
-read_again : (body indices : List ℕ) → AreInterfaces indices → body ≡ interfaces_bytes indices → counted_at (number_at w16) body ≡ Some (indices, [])
-read_again body indices fits e =
-    ap (counted_at (number_at w16)) (e ∙ sym (append-nil (interfaces_bytes indices)))
-    ∙ (counted_reader (number_at w16) u2 IsU2 u2_reader).again indices [] fits
-
 pub none_thrown : (pool : List PoolEntry) (body : List ℕ) → counted_at (number_at w16) body ≡ None → IsTrue false ↔ AreThrown pool body
 none_thrown pool body none = (λ t. absurd cc, λ (indices, fits, e, all). absurd (let again = read_again body indices fits e in cc))
-
-one_list : (body indices others rest : List ℕ) → counted_at (number_at w16) body ≡ Some (indices, rest) → AreInterfaces others
-    → body ≡ interfaces_bytes others → (indices ≡ others) × (rest ≡ [])
-one_list body indices others rest read these e = some_pair_parts indices others rest [] (sym read ∙ read_again body others these e)
 
 pub thrown_answer : (r : Bool) (pool : List PoolEntry) (body indices listed rest : List ℕ) → counted_at (number_at w16) body ≡ Some (indices, rest)
     → body ≡ interfaces_bytes indices ++ rest → AreInterfaces indices → listed ≡ indices → (IsTrue r ↔ AreAllClasses pool listed rest)

@@ -4,6 +4,7 @@ use Rattle.std.specs.Prelude.{IsTrue, not, ◌||◌}
 use Rattle.std.specs.List.{AllByRecursion, list_any}
 use Rattle.jk_model.specs.declared.descriptors.FieldType.{FieldType}
 use Rattle.jk_model.specs.Descriptors.{IsFieldText}
+use Rattle.std.proofs.lemmas.Bool.{or_parts as either_false}
 use Rattle.descriptors.proofs.NoTextBeginsAnother.{one_field}
 use Rattle.class_rules.specs.declared.texts.FieldShape.{FieldShape}
 use Rattle.class_rules.specs.Texts.{IsFieldShape, field_shape}
@@ -12,10 +13,6 @@ use Rattle.class_rules.specs.Texts.{IsFieldShape, field_shape}
 
 abbrev is_angle : ℕ → Bool
 is_angle u = u == 60 || u == 62
-
-either_false : (a b : Bool) → (a || b) ≡ false → (a ≡ false) × (b ≡ false)
-either_false true b e = absurd cc
-either_false false b e = (refl, e)
 
 both_false : (a b : Bool) → a ≡ false → b ≡ false → (a || b) ≡ false
 both_false a b h k = rw (h, k) refl

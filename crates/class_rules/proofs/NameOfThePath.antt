@@ -7,9 +7,9 @@ use Rattle.jk_model.specs.Text.{utf16_of}
 use Rattle.jk_model_classes.specs.ClassNames.{HasWrongPath, StandsUnder, IsReserved}
 use Rattle.jk_model_classes.specs.Items.{Spot, Member, Entry, IsBefore}
 use Rattle.jk_model_classes.specs.Members.{ClassAt}
+use Rattle.class_lemmas.proofs.OneText.{one_class}
 use Rattle.class_rules.specs.Answers.{IsLeastSpot}
 use Rattle.class_rules.specs.Paths.{MayStand, MayNotStand}
-use Rattle.class_rules.proofs.OneText.{one_class}
 
 -- where the class itself is at fault, no spot stands before it
 first_spot : (c : ClassFile) (path : List ℕ) → (other : Spot) → IsBefore other (Member 0) → HasWrongPath c path other → ⊥

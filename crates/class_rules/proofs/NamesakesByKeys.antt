@@ -8,12 +8,12 @@ use Rattle.jk_model.specs.declared.class_file.PoolEntry.{PoolEntry}
 use Rattle.jk_model_classes.specs.ClassNames.{AreNamesakes, IsSecondAt, IsDuplicate}
 use Rattle.jk_model_classes.specs.Items.{Spot, Member, Entry, IsBefore}
 use Rattle.jk_model_classes.specs.Members.{TextAt}
+use Rattle.class_lemmas.proofs.OneText.{one_text}
 use Rattle.class_rules.specs.Answers.{IsLeastSpot}
 use Rattle.class_rules.specs.MemberKeys.{first_of, first_at, both, key_of, HasKeyBefore, IsFirstRepeat}
 use Rattle.class_rules.specs.Texts.{AreFacts, IsFirstAt}
 use Rattle.class_rules.specs.declared.texts.TextFacts.{TextFacts}
 use Rattle.class_rules.proofs.FactsOfTexts.{facts_at, facts_of_text}
-use Rattle.class_rules.proofs.OneText.{one_text}
 
 -- ---- The first index of a text.
 

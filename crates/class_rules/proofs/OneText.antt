@@ -1,22 +1,8 @@
 -- A text of a pool has one reading, and a class one name.
 use Rattle.std.proofs.Common.{◌≡◌, ℕ, List, sym, ◌∙◌, subst, Option, Some, None, slice_get, MatchOption, Result, Ok, Err, IfOk}
 use Rattle.jk_model.specs.declared.class_file.PoolEntry.{PoolEntry}
-use Rattle.jk_model.specs.declared.class_file.PoolEntry.TheVariants.{Utf8, Class}
-use Rattle.jk_model.specs.Text.{Spells}
+use Rattle.jk_model.specs.declared.class_file.PoolEntry.TheVariants.{Class}
 use Rattle.jk_model_classes.specs.Members.{TextAt, ClassAt}
-use Rattle.model_lemmas.proofs.OneReading.{one_reading}
-
-pub one_text : (pool : List PoolEntry) (i : ℕ) (us vs : List ℕ) → TextAt pool i us → TextAt pool i vs → us ≡ vs
-one_text pool i us vs (bytes, e, h) (bytes2, e2, k) =
-    let both : Some (Utf8 bytes2) ≡ Some (Utf8 bytes) = sym e2 ∙ e in
-    let same : bytes2 ≡ bytes = cc in
-    one_reading bytes us vs h (subst (λ (b : List ℕ). Spells b vs) same k)
-
-pub one_class : (pool : List PoolEntry) (i : ℕ) (us vs : List ℕ) → ClassAt pool i us → ClassAt pool i vs → us ≡ vs
-one_class pool i us vs (n, e, h) (m, e2, k) =
-    let both : Some (Class m) ≡ Some (Class n) = sym e2 ∙ e in
-    let same : m ≡ n = cc in
-    one_text pool n us vs h (subst (λ (j : ℕ). TextAt pool j vs) same k)
 
 -- the name of a class is the text that its entry names
 class_of_text : (pool : List PoolEntry) (i name : ℕ) → slice_get pool i ≡ Some (Class name) → (found : Option (List ℕ))

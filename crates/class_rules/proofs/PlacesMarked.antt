@@ -4,6 +4,7 @@ use Rattle.std.specs.Prelude.{slice_get}
 use Rattle.std.proofs.Math.ListN.{get_or, set}
 use Rattle.std.proofs.lemmas.Bool.{cases_eq, cases_lt}
 use Rattle.std.proofs.lemmas.Option.{slice_get_within, slice_get_read, same_Some}
+use Rattle.list_lemmas.proofs.ItemsRead.{none_marked as never_true}
 use Rattle.jk_model.specs.declared.instructions.Instr.{Instr}
 use Rattle.jk_model.specs.declared.class_file.Code.{Code}
 use Rattle.jk_model.specs.declared.instructions.SwitchCase.{SwitchCase}
@@ -14,11 +15,6 @@ use Rattle.class_rules.specs.Codes.{HasPlace, ArePlacesOf, ArePlaces, IsBadBranc
 -- the instructions before this one are marked
 abbrev pub AreMarked : List Instr → ℕ → List Bool → Type 0
 AreMarked instrs k places = (i : ℕ) → (slice_get places i ≡ Some true) ↔ HasItemBefore k (λ (x : Instr). x.at ≡ i) instrs
-
-never_true : (n i : ℕ) → slice_get (replicate n false) i ≡ Some true → ⊥
-never_true zero i e = absurd cc
-never_true (suc n) zero e = absurd cc
-never_true (suc n) (suc i) e = never_true n i e
 
 pub none_marked : (instrs : List Instr) (places : List Bool) (n : ℕ) → places ≡ replicate n false → AreMarked instrs 0 places
 none_marked instrs places n e i = (

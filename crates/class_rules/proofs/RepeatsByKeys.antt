@@ -3,12 +3,13 @@ use Rattle.std.proofs.Common.{◌≡◌, ℕ, ◌+◌, ◌<◌, zero, suc, List,
 use Rattle.std.specs.List.{list_any}
 use Rattle.std.specs.Ordering.{is_eq, nat_cmp, ordering_then}
 use Rattle.std.specs.declared.cmp.Ordering.{Ordering}
-use Rattle.std.specs.declared.cmp.Ordering.TheVariants.{Equal, Less, Greater}
+use Rattle.std.specs.declared.cmp.Ordering.TheVariants.{Equal}
 use Rattle.std.proofs.lemmas.Bool.{cases_eq}
 use Rattle.std.proofs.lemmas.Cmp.{tied_itself, nat_cmp_total}
 use Rattle.std.proofs.lemmas.List.Folds.{list_any_more}
 use Rattle.std.proofs.lemmas.Map.Lookups.{exact_pairs, exact_unsigned}
 use Rattle.std.proofs.lemmas.Option.{slice_get_within, get_or_from_slice_get}
+use Rattle.list_lemmas.proofs.TestsAndOrders.{equal_by as equal_from_is_eq}
 use Rattle.jk_model.specs.declared.class_file.MemberInfo.{MemberInfo}
 use Rattle.jk_model_classes.specs.Items.{HasItemBefore}
 use Rattle.class_rules.specs.declared.texts.TextFacts.{TextFacts}
@@ -61,11 +62,6 @@ is_key q (Some k) = is_eq (pair_cmp k q)
 
 abbrev pub has_key : List (Option TextFacts) → ℕ × ℕ → MemberInfo → Bool
 has_key facts q m = is_key q (key_of facts m)
-
-pub equal_from_is_eq : (o : Ordering) → is_eq o ≡ true → o ≡ Equal
-equal_from_is_eq Less h = absurd cc
-equal_from_is_eq Equal h = refl
-equal_from_is_eq Greater h = absurd cc
 
 key_from_test : (q : ℕ × ℕ) (o : Option (ℕ × ℕ)) → is_key q o ≡ true → o ≡ Some q
 key_from_test q None h = absurd cc

@@ -1,32 +1,15 @@
 -- A walk over a list finds an item that is so, or has seen that none is.
-use Rattle.std.proofs.Common.{◌≡◌, ℕ, ◌+◌, ◌<◌, ◌≤◌, inl, inr, ◌↔◌, Bool, true, false, IsTrue, List, length, Some, None, refl, sym, ◌∙◌, subst, arith}
-use Rattle.std.specs.Prelude.{slice_get, not}
+use Rattle.std.proofs.Common.{◌≡◌, ℕ, ◌+◌, ◌<◌, ◌≤◌, ◌↔◌, Bool, true, false, IsTrue, List, length, Some, None, refl, sym, ◌∙◌}
+use Rattle.std.specs.Prelude.{not}
 use Rattle.std.proofs.Math.ListN.{get_or}
-use Rattle.std.proofs.lemmas.Bool.{cases_lt, iff_false}
-use Rattle.std.proofs.lemmas.Option.{slice_get_within, slice_get_read, slice_get-get_or, same_Some}
+use Rattle.std.proofs.lemmas.Bool.{iff_false}
+use Rattle.std.proofs.lemmas.Option.{slice_get_read, slice_get-get_or, same_Some}
 use Rattle.jk_model_classes.specs.Items.{HasItem, HasItemBefore}
+use Rattle.class_lemmas.proofs.SomeItem.{none_more, none_at_all}
 use Rattle.class_rules.specs.Walks.{IsLeastItem}
 
 found_at : {X : Type 0} (P : X → Type 0) (xs : List X) (k : ℕ) (x : X) → k < length xs → x ≡ get_or xs k x → P x → HasItem P xs
 found_at P xs k x within is p = (k, x, slice_get_read xs (length xs) k x refl within is, p)
-
-pub none_yet : {X : Type 0} (P : X → Type 0) (xs : List X) → HasItemBefore 0 P xs → ⊥
-none_yet P xs (i, x, below, at, p) = omega arith
-
-pub none_more : {X : Type 0} (P : X → Type 0) (xs : List X) (k : ℕ) (x : X) → k < length xs → x ≡ get_or xs k x → (P x → ⊥)
-    → (HasItemBefore k P xs → ⊥) → HasItemBefore (k + 1) P xs → ⊥
-none_more P xs k x within is never none (i, y, below, at, p) =
-    elim (cases_lt i k) [
-      | inl less ↦ none (i, y, less, at, p)
-      | inr least ↦
-          let here : i ≡ k = omega arith in
-          let same : y ≡ x = same_Some y x
-          (sym at ∙ subst (λ (n : ℕ). slice_get xs n ≡ Some x) (sym here) (slice_get_read xs (length xs) k x refl within is)) in
-          never (subst P same p)
-    ]
-
-pub none_at_all : {X : Type 0} (P : X → Type 0) (xs : List X) (k : ℕ) → length xs ≤ k → (HasItemBefore k P xs → ⊥) → HasItem P xs → ⊥
-none_at_all P xs k all none (i, x, at, p) = none (i, x, omega (arith, slice_get_within xs i x at), at, p)
 
 -- ---- What the walk answers.
 
@@ -36,10 +19,6 @@ is_found P xs k x within is p = (λ t. found_at P xs k x within is p, λ h. refl
 
 pub is_missed : {X : Type 0} (P : X → Type 0) (xs : List X) (k : ℕ) → length xs ≤ k → (HasItemBefore k P xs → ⊥) → IsTrue false ↔ HasItem P xs
 is_missed P xs k all none = (λ t. absurd cc, λ h. absurd (none_at_all P xs k all none h))
-
--- a test that is false of an item
-pub is_not : (b : Bool) (P : Type 0) → (IsTrue b ↔ P) → b ≡ false → P → ⊥
-is_not b P h e = iff_false h e
 
 -- the same of the opposite test
 pub is_so_if_not : (b : Bool) (P : Type 0) → (IsTrue b ↔ P) → not b ≡ true → P → ⊥

@@ -6,18 +6,6 @@ use Rattle.jk_model.specs.declared.descriptors.Base.TheVariants.{Byte, Char, Dou
 use Rattle.jk_model.specs.declared.descriptors.FieldType.{FieldType}
 use Rattle.jk_model.specs.declared.descriptors.MethodType.{MethodType}
 use Rattle.jk_model.specs.Descriptors.{base_text, field_text, result_text, IsMethodText}
-use Rattle.jk_model.specs.Text.{IsUnit, Spells}
-
-some_bytes : (front : List ℕ) (u : ℕ) → IsUnit front u → 1 ≤ length front
-some_bytes [] u h = absurd h
-some_bytes (a ∷ front) u h = omega arith
-
-pub units_within : (bytes units : List ℕ) → Spells bytes units → length units ≤ length bytes
-units_within bytes [] h = omega arith
-units_within bytes (u ∷ units) (front, rest, one, e, h) =
-    let others = units_within rest units h in
-    let first = some_bytes front u one in
-    omega (arith, ap length e, length-append front rest)
 
 some_of_base : (base : Base) → 1 ≤ length (base_text base)
 some_of_base Byte = omega arith

@@ -2,26 +2,17 @@
 use Rattle.std.proofs.Common.{◌≡◌, ℕ, ◌+◌, ◌<◌, ◌⊎◌, inl, inr, zero, suc, List, [], ◌∷◌, ◌++◌, length, slice_get, refl, sym, ◌∙◌, ap, subst, arith, length-append, Option, Some, None, MatchOption, bytes_eq}
 use Rattle.std.proofs.lemmas.Bool.{cases_Bool, cases_eq}
 use Rattle.std.proofs.lemmas.Slice.Eq.{bytes_eq-Decides}
-use Rattle.std.specs.List.{AllByRecursion}
 use Rattle.jk_model.specs.ClassFile.{IsGoodEntry}
 use Rattle.jk_model.specs.Text.{Spells}
 use Rattle.jk_model.specs.declared.class_file.PoolEntry.{PoolEntry}
 use Rattle.jk_model.specs.declared.class_file.PoolEntry.TheVariants.{Utf8}
 use Rattle.jk_model_classes.specs.Members.{TextAt}
+use Rattle.class_lemmas.proofs.OneText.{one_text}
 use Rattle.class_rules.specs.SeenTexts.{IsJudged, IsAdded, IsKept, IsText}
 use Rattle.class_rules.specs.Texts.{AreFacts, AreFactsAt, AreFactsOf}
 use Rattle.class_rules.specs.declared.texts.TextFacts.{TextFacts}
-use Rattle.class_rules.proofs.OneText.{one_text}
 
 -- ---- What holds of each item.
-
-pub all_at : {X : Type 0} (P : X → Type 0) (xs : List X) (i : ℕ) (x : X) → AllByRecursion P xs → slice_get xs i ≡ Some x → P x
-all_at P [] i x h at = absurd cc
-all_at P (y ∷ xs) zero x h at =
-    let here : Some y ≡ Some x = at in
-    let same : y ≡ x = cc in
-    subst P same h.0
-all_at P (y ∷ xs) (suc i) x h at = all_at P xs i x h.1 at
 
 pub text_from_good : (pool : List PoolEntry) (e : PoolEntry) → IsGoodEntry pool e → IsText e
 text_from_good pool (Utf8 bytes) h = h

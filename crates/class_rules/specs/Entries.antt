@@ -3,8 +3,7 @@ use Rattle.std.specs.Prelude.{◌≡◌, ℕ, ◌⊎◌, List, Option, Some, Non
 use Rattle.jk_model.specs.declared.class_file.PoolEntry.{PoolEntry}
 use Rattle.jk_model.specs.declared.class_file.PoolEntry.TheVariants.{Class, FieldRef, MethodRef, InterfaceMethodRef}
 use Rattle.jk_model_classes.specs.ClassNames.{IsClassEntryName, IsReferenceName}
-use Rattle.jk_model_classes.specs.Members.{TextAt, NameAndTypeAt, MemberKind}
-use Rattle.jk_model_classes.specs.Members.{Field as FieldKind, Method as MethodKind, InterfaceMethod as InterfaceMethodKind}
+use Rattle.jk_model_classes.specs.Members.{TextAt, NameAndTypeAt, MemberKind, Field as FieldKind, Method as MethodKind, InterfaceMethod as InterfaceMethodKind}
 use Rattle.jk_model_classes.specs.MemberDescriptors.{IsReferenceDescriptor, IsFloatArray, IsFloatReference}
 use Rattle.class_rules.specs.declared.known_pool.ReferenceKind.{ReferenceKind}
 use Rattle.class_rules.specs.declared.known_pool.ReferenceKind.TheVariants.{Field, Method, InterfaceMethod}

@@ -1,8 +1,8 @@
 -- By what isn't Exceptions, or else by these.
 use Rattle.std.proofs.Common.{inl, refl}
+use Rattle.list_lemmas.proofs.AnswersTold.{not_so as is_not}
 use Rattle.class_rules.specs.Attributes.{HasWrongCode, HasWrongExceptions}
 use Rattle.class_rules.proofs.MethodsByFlags.{or_else_answer}
-use Rattle.class_rules.proofs.SomeItem.{is_not}
 use Rattle.class_rules.proofs.attributes.has_wrong_attributes.Goals as goal
 
 pub returns-then-has_wrong : goal.returns-then-has_wrong

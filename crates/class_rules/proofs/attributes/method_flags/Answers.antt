@@ -1,6 +1,6 @@
 -- Those of `<clinit>` are ignored.
 use Rattle.std.proofs.Common.{inl, inr, refl}
-use Rattle.class_rules.proofs.SomeItem.{is_not}
+use Rattle.list_lemmas.proofs.AnswersTold.{not_so as is_not}
 use Rattle.class_rules.proofs.attributes.method_flags.Goals as goal
 
 pub returns-then-is_word : goal.returns-then-is_word

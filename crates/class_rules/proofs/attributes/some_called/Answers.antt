@@ -1,7 +1,9 @@
 -- One is found, or none is so.
 use Rattle.std.proofs.Common.{arith}
+use Rattle.list_lemmas.proofs.AnswersTold.{not_so as is_not}
+use Rattle.class_lemmas.proofs.SomeItem.{none_yet, none_more}
 use Rattle.class_rules.specs.Attributes.{IsCalledBy}
-use Rattle.class_rules.proofs.SomeItem.{none_yet, none_more, is_found, is_missed, is_not}
+use Rattle.class_rules.proofs.SomeItem.{is_found, is_missed}
 use Rattle.class_rules.proofs.attributes.some_called.Goals as goal
 
 pub loop-a-init : goal.loop-a-init

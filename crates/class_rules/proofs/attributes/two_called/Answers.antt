@@ -1,7 +1,7 @@
 -- A second is found, or there is none.
 use Rattle.std.proofs.Common.{arith}
+use Rattle.list_lemmas.proofs.AnswersTold.{not_so as is_not}
 use Rattle.class_rules.specs.Attributes.{IsCalledBy}
-use Rattle.class_rules.proofs.SomeItem.{is_not}
 use Rattle.class_rules.proofs.TwoItems.{seen_none, still_seen, first_seen, second_seen, seen_at_end}
 use Rattle.class_rules.proofs.attributes.two_called.Goals as goal
 use Rattle.class_rules.proofs.attributes.two_called.Goals.{then-is_called+else-seen, else-is_called}

@@ -1,9 +1,10 @@
 -- The first is found, or there is none.
 use Rattle.std.proofs.Common.{◌≡◌, true, false, Option, sym, ◌∙◌, arith}
 use Rattle.std.specs.Prelude.{IsTrue}
+use Rattle.class_lemmas.proofs.SomeItem.{none_yet}
 use Rattle.class_rules.specs.CodeRules.{breaks}
 use Rattle.class_rules.specs.declared.codes.CodeJudgment.{CodeJudgment}
-use Rattle.class_rules.proofs.SomeItem.{none_yet, none_more_copied, is_first_copied, is_nowhere}
+use Rattle.class_rules.proofs.SomeItem.{none_more_copied, is_first_copied, is_nowhere}
 use Rattle.class_rules.proofs.code_rules.first_code.Goals as goal
 
 pub loop-i-init : goal.loop-i-init

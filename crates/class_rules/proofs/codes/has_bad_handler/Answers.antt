@@ -2,7 +2,8 @@
 use Rattle.std.proofs.Common.{arith}
 use Rattle.jk_model.specs.declared.class_file.Handler.{Handler}
 use Rattle.jk_model_classes.specs.MemberCode.{IsGoodHandler}
-use Rattle.class_rules.proofs.SomeItem.{none_yet, none_more_copied, is_found_copied, is_missed}
+use Rattle.class_lemmas.proofs.SomeItem.{none_yet}
+use Rattle.class_rules.proofs.SomeItem.{none_more_copied, is_found_copied, is_missed}
 use Rattle.class_rules.proofs.codes.has_bad_handler.Goals as goal
 
 pub loop-h-init : goal.loop-h-init

@@ -1,6 +1,6 @@
 -- What leads nowhere else and names the entry that it needs is bad by what is left.
+use Rattle.list_lemmas.proofs.AnswersTold.{not_so as is_not}
 use Rattle.class_rules.proofs.CodeIsJudged.{out_is_bad, entry_is_bad, misuse_is_bad}
-use Rattle.class_rules.proofs.SomeItem.{is_not}
 use Rattle.class_rules.proofs.codes.is_bad_instr.Goals as goal
 
 pub returns-then-leads_out : goal.returns-then-leads_out

@@ -1,7 +1,9 @@
 -- The first is found, or there is none.
 use Rattle.std.proofs.Common.{arith}
+use Rattle.list_lemmas.proofs.AnswersTold.{not_so as is_not}
+use Rattle.class_lemmas.proofs.SomeItem.{none_yet, none_more}
 use Rattle.class_rules.specs.FlagRules.{HasFlagged}
-use Rattle.class_rules.proofs.SomeItem.{none_yet, none_more, is_first, is_nowhere, is_not}
+use Rattle.class_rules.proofs.SomeItem.{is_first, is_nowhere}
 use Rattle.class_rules.proofs.flag_rules.first_flagged.Goals as goal
 
 pub loop-i-init : goal.loop-i-init

@@ -1,10 +1,11 @@
 -- The one Code is read, or there is none.
 use Rattle.std.proofs.Common.{length, refl, arith}
 use Rattle.std.proofs.lemmas.Option.{slice_get_read}
+use Rattle.list_lemmas.proofs.AnswersTold.{not_so as is_not}
+use Rattle.class_lemmas.proofs.SomeItem.{none_yet, none_more}
 use Rattle.class_rules.specs.Attributes.{IsCalledBy}
 use Rattle.class_rules.specs.declared.texts.Word.TheVariants.{Code}
 use Rattle.class_rules.proofs.MethodHasOneCode.{code_found, no_code}
-use Rattle.class_rules.proofs.SomeItem.{none_yet, none_more, is_not}
 use Rattle.class_rules.proofs.method_codes.one_code.Goals as goal
 
 pub code_of-requires : goal.code_of-requires

@@ -1,6 +1,6 @@
 -- A text has a byte or more for each unit.
 use Rattle.std.proofs.Common.{arith}
-use Rattle.class_rules.proofs.TextsAreLong.{units_within}
+use Rattle.model_lemmas.proofs.TextsAreLong.{units_within}
 use Rattle.class_rules.proofs.texts.units_of_text.Goals as goal
 
 pub returns-in-Ok-clause-short : goal.returns-in-Ok-clause-short

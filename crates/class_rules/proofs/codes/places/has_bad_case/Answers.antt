@@ -1,8 +1,9 @@
 -- One is found, or none is so.
 use Rattle.std.proofs.Common.{arith}
 use Rattle.jk_model.specs.declared.instructions.SwitchCase.{SwitchCase}
+use Rattle.class_lemmas.proofs.SomeItem.{none_yet}
 use Rattle.class_rules.specs.Codes.{HasPlace}
-use Rattle.class_rules.proofs.SomeItem.{none_yet, none_more_copied, is_found_copied, is_missed}
+use Rattle.class_rules.proofs.SomeItem.{none_more_copied, is_found_copied, is_missed}
 use Rattle.class_rules.proofs.codes.places.has_bad_case.Goals as goal
 
 pub loop-case-init : goal.loop-case-init

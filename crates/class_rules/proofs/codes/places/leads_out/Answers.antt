@@ -1,7 +1,7 @@
 -- By the first operand, or by a case.
 use Rattle.std.proofs.Common.{refl}
+use Rattle.list_lemmas.proofs.AnswersTold.{not_so as is_not}
 use Rattle.class_rules.proofs.PlacesMarked.{bad_branch_leads_out, case_leads_out}
-use Rattle.class_rules.proofs.SomeItem.{is_not}
 use Rattle.class_rules.proofs.codes.places.leads_out.Goals as goal
 
 pub returns-then-is_bad_branch : goal.returns-then-is_bad_branch
