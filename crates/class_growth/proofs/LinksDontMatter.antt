@@ -12,9 +12,11 @@ use Rattle.jk_model_classes.specs.declared.records.MethodRecord.{MethodRecord}
 use Rattle.jk_model_classes.specs.declared.records.TypeRef.{TypeRef}
 use Rattle.jk_model_classes.specs.Classes.{GetsLinks, AreOrdered, StandsAbove, superclasses, IsSubclass, IsInterface, with_interfaces, own_interfaces, Implements, field_walk, method_walk}
 use Rattle.jk_model_classes.specs.Lookups.{FieldIs, MethodIs, FlagsAre, AreInOnePackage, FindsField, FindsMethod, Selects, class_of}
+use Rattle.class_lemmas.proofs.LowerClassesDecide.{superclasses-agree, with_interfaces-agree, own_interfaces-agree, field_walk-agree}
+use Rattle.class_lemmas.proofs.LowerClassesDecide as Lower
 use Rattle.class_growth.specs.OtherLinks.{without_links, DifferInLinks}
 use Rattle.class_growth.proofs.RecordsAgree.{AgreeAt, record-there, field-there, method-there, flags-there, package-there, is_interface-there}
-use Rattle.class_growth.proofs.WalksAgree.{AgreeBelow, superclasses-agree, with_interfaces-agree, own_interfaces-agree, field_walk-agree, method_walk-agree, subclass-there, implements-there}
+use Rattle.class_growth.proofs.WalksAgree.{AgreeBelow, without_links_agree, method_walk-agree, subclass-there, implements-there}
 use Rattle.class_growth.proofs.MembersFound.{finds_field-there, finds_method-there, selects-there}
 
 -- ---- One class gets other links.
@@ -40,6 +42,9 @@ module _ (old new : List ClassRecord) (links : DifferInLinks old new) where
   agree_below : (n : ℕ) → AgreeBelow n old new
   agree_below n c below = agree-everywhere c
 
+  lower_agree : (n : ℕ) → Lower.AgreeBelow n old new
+  lower_agree n = without_links_agree n old new (agree_below n)
+
   pub is_interface-linked : (c : ClassId) → IsInterface old c → IsInterface new c
   is_interface-linked c h = is_interface-there old new c (agree-everywhere c) h
 
@@ -61,16 +66,16 @@ module _ (old new : List ClassRecord) (links : DifferInLinks old new) where
       low = omega arith
 
       pub superclasses-linked : superclasses new c ≡ superclasses old c
-      superclasses-linked = sym (superclasses-agree (suc c.0) old new ordered (agree_below (suc c.0)) c low)
+      superclasses-linked = sym (superclasses-agree (suc c.0) old new ordered (lower_agree (suc c.0)) c low)
 
       pub with_interfaces-linked : with_interfaces new c ≡ with_interfaces old c
-      with_interfaces-linked = sym (with_interfaces-agree (suc c.0) old new ordered (agree_below (suc c.0)) c low)
+      with_interfaces-linked = sym (with_interfaces-agree (suc c.0) old new ordered (lower_agree (suc c.0)) c low)
 
       pub own_interfaces-linked : own_interfaces new c ≡ own_interfaces old c
-      own_interfaces-linked = sym (own_interfaces-agree (suc c.0) old new ordered (agree_below (suc c.0)) c low)
+      own_interfaces-linked = sym (own_interfaces-agree (suc c.0) old new ordered (lower_agree (suc c.0)) c low)
 
       pub field_walk-linked : field_walk new c ≡ field_walk old c
-      field_walk-linked = sym (field_walk-agree (suc c.0) old new ordered (agree_below (suc c.0)) c low)
+      field_walk-linked = sym (field_walk-agree (suc c.0) old new ordered (lower_agree (suc c.0)) c low)
 
       pub method_walk-linked : method_walk new c ≡ method_walk old c
       method_walk-linked = sym (method_walk-agree (suc c.0) old new ordered (agree_below (suc c.0)) c low)

@@ -1,6 +1,7 @@
 -- Which member a name and a type find, and which method a call runs, is the same over two lists of records that agree below a
 -- number but for links, for a class below that number.
 use Rattle.std.proofs.Common.{◌≡◌, ℕ, suc, ◌<◌, List, Option, Some, None, Contains, refl, sym, subst, inl, inr, arith}
+use Rattle.list_lemmas.proofs.ItemsOfLists.{Contains-at}
 use Rattle.jk_model.specs.declared.descriptors.MethodType.{MethodType}
 use Rattle.jk_model.specs.declared.identifiers.ClassId.{ClassId}
 use Rattle.jk_model.specs.declared.identifiers.MemberId.{MemberId}
@@ -8,9 +9,9 @@ use Rattle.jk_model_classes.specs.declared.records.ClassRecord.{ClassRecord}
 use Rattle.jk_model_classes.specs.declared.records.TypeRef.{TypeRef}
 use Rattle.jk_model_classes.specs.Classes.{AreOrdered, field_walk, method_walk, superclasses}
 use Rattle.jk_model_classes.specs.Lookups.{IsFieldOf, IsMethodOf, IsFirstOn, FindsOn, FindsField, FindsMethod, IsAbstract, IsUnlessAbstract, IsOverriddenIn, RunsFor, Selects}
-use Rattle.class_growth.proofs.ItemsOfLists.{Contains-at}
 use Rattle.class_growth.proofs.RecordsAgree.{AgreeAt, field-there, method-there, package-there, is_interface-there}
-use Rattle.class_growth.proofs.WalksAgree.{AgreeBelow, superclasses-below, field_walk-below, method_walk-below, superclasses-agree, field_walk-agree, method_walk-agree}
+use Rattle.class_lemmas.proofs.LowerClassesDecide.{superclasses-agree, field_walk-agree}
+use Rattle.class_growth.proofs.WalksAgree.{AgreeBelow, superclasses-below, field_walk-below, method_walk-below, method_walk-agree, without_links_agree}
 
 -- ---- A walk on which two words for "such a member" say the same.
 
@@ -54,7 +55,7 @@ module _ (n : ℕ) (a b : List ClassRecord) (ordered : AreOrdered a) (agree : Ag
 
   pub finds_field-there : (name : List ℕ) (kind : TypeRef) (found : Option MemberId) → FindsField a c name kind found → FindsField b c name kind found
   finds_field-there name kind found h =
-      subst (λ walk. FindsOn (IsFieldOf b name kind) walk found) (field_walk-agree n a b ordered agree c below)
+      subst (λ walk. FindsOn (IsFieldOf b name kind) walk found) (field_walk-agree n a b ordered (without_links_agree n a b agree) c below)
       (finds-same (IsFieldOf a name kind) (IsFieldOf b name kind) (field_walk a c)
       (λ m on. is_field-there a b name kind m (on_fields m on)) (λ m on. is_field-there b a name kind m (sym (on_fields m on))) found h)
 
@@ -62,7 +63,7 @@ module _ (n : ℕ) (a b : List ClassRecord) (ordered : AreOrdered a) (agree : Ag
   finds_field-back name kind found h =
       finds-same (IsFieldOf b name kind) (IsFieldOf a name kind) (field_walk a c)
       (λ m on. is_field-there b a name kind m (sym (on_fields m on))) (λ m on. is_field-there a b name kind m (on_fields m on)) found
-      (subst (λ walk. FindsOn (IsFieldOf b name kind) walk found) (sym (field_walk-agree n a b ordered agree c below)) h)
+      (subst (λ walk. FindsOn (IsFieldOf b name kind) walk found) (sym (field_walk-agree n a b ordered (without_links_agree n a b agree) c below)) h)
 
   pub finds_method-there : (name : List ℕ) (kind : MethodType) (found : Option MemberId) → FindsMethod a c name kind found
       → FindsMethod b c name kind found
@@ -125,7 +126,7 @@ module _ (n : ℕ) (a b : List ClassRecord) (ordered : AreOrdered a) (agree : Ag
     pub selects-there : Selects a c m selected → Selects b c m selected
     selects-there (found, on, unless) = (
       found,
-      subst (λ walk. FindsOn (RunsFor b m) walk found) (superclasses-agree n a b ordered agree c below)
+      subst (λ walk. FindsOn (RunsFor b m) walk found) (superclasses-agree n a b ordered (without_links_agree n a b agree) c below)
           (finds-same (RunsFor a m) (RunsFor b m) (superclasses a c)
           (λ other at. runs-there a b m other (agree m.class low) (on_way_up other.class at))
           (λ other at. runs-there b a m other (sym (agree m.class low)) (sym (on_way_up other.class at))) found on),
@@ -135,7 +136,7 @@ module _ (n : ℕ) (a b : List ClassRecord) (ordered : AreOrdered a) (agree : Ag
     pub selects-back : Selects b c m selected → Selects a c m selected
     selects-back (found, on, unless) =
         let here : FindsOn (RunsFor b m) (superclasses a c) found
-        = subst (λ walk. FindsOn (RunsFor b m) walk found) (sym (superclasses-agree n a b ordered agree c below)) on in (
+        = subst (λ walk. FindsOn (RunsFor b m) walk found) (sym (superclasses-agree n a b ordered (without_links_agree n a b agree) c below)) on in (
           found,
           finds-same (RunsFor b m) (RunsFor a m) (superclasses a c)
               (λ other at. runs-there b a m other (sym (agree m.class low)) (sym (on_way_up other.class at)))

@@ -3,6 +3,8 @@
 use Rattle.std.proofs.Common.{◌≡◌, ℕ, zero, suc, ◌+◌, List, [], ◌∷◌, ◌++◌, length, Option, Some, None, flat_map, Contains, refl, sym, subst, inl, inr, arith, length-append}
 use Rattle.std.specs.Option.{option_map_or}
 use Rattle.std.proofs.lemmas.Option.{slice_get_within}
+use Rattle.list_lemmas.proofs.ItemsByPlace.{slice_get-front, slice_get-longer}
+use Rattle.list_lemmas.proofs.ItemsOfLists.{Contains-here, Contains-there, Contains-cases, Contains-none, Contains-flat_map_from, Contains-flat_map}
 use Rattle.jk_model.specs.declared.descriptors.MethodType.{MethodType}
 use Rattle.jk_model.specs.declared.identifiers.ClassId.{ClassId}
 use Rattle.jk_model.specs.declared.identifiers.MemberId.{MemberId}
@@ -14,13 +16,17 @@ use Rattle.jk_model_classes.specs.declared.records.Member.TheVariants.{Field, Me
 use Rattle.jk_model_classes.specs.declared.records.TypeRef.{TypeRef}
 use Rattle.jk_model_classes.specs.Classes.{record_of, HasClass, parents_of, AreOrdered, superclasses_within, superclasses, IsSubclass, IsInterface, with_interfaces, own_interfaces, Implements, field_walk, method_walk}
 use Rattle.jk_model_classes.specs.Lookups.{FieldIs, MethodIs, FlagsAre, AreInOnePackage, FindsField, FindsMethod, Selects, class_of}
-use Rattle.class_growth.proofs.ItemsOfLists.{slice_get-front, slice_get-longer, Contains-here, Contains-there, Contains-cases, Contains-none, Contains-flat_map, Contains-flat_map_from}
+use Rattle.class_lemmas.proofs.LowerClassesDecide.{superclasses-agree, with_interfaces-agree, own_interfaces-agree, field_walk-agree}
+use Rattle.class_lemmas.proofs.LowerClassesDecide as Lower
 use Rattle.class_growth.proofs.RecordsAgree.{agree-from_same, field-there, method-there, flags-there, package-there, is_interface-there}
-use Rattle.class_growth.proofs.WalksAgree.{AgreeBelow, superclasses-agree, with_interfaces-agree, own_interfaces-agree, field_walk-agree, method_walk-agree, subclass-back, implements-there, implements-back}
+use Rattle.class_growth.proofs.WalksAgree.{AgreeBelow, without_links_agree, method_walk-agree, subclass-back, implements-there, implements-back}
 use Rattle.class_growth.proofs.MembersFound.{finds_field-there, finds_field-back, finds_method-there, finds_method-back, selects-there, selects-back}
 
 pub agree-more : (classes more : List ClassRecord) → AgreeBelow (length classes) classes (classes ++ more)
 agree-more classes more c below = agree-from_same classes (classes ++ more) c (sym (slice_get-front classes more c.0 below))
+
+pub lower_agree-more : (classes more : List ClassRecord) → Lower.AgreeBelow (length classes) classes (classes ++ more)
+lower_agree-more classes more = without_links_agree (length classes) classes (classes ++ more) (agree-more classes more)
 
 pub ordered-before : (classes more : List ClassRecord) → AreOrdered (classes ++ more) → AreOrdered classes
 ordered-before classes more ordered c r is = ordered c r (slice_get-longer classes more c.0 r is)
@@ -112,16 +118,16 @@ module _ (classes more : List ClassRecord) where
 
 module _ (classes more : List ClassRecord) (ordered : AreOrdered classes) (c : ClassId) (there : HasClass classes c) where
   pub superclasses-kept : superclasses (classes ++ more) c ≡ superclasses classes c
-  superclasses-kept = sym (superclasses-agree (length classes) classes (classes ++ more) ordered (agree-more classes more) c there)
+  superclasses-kept = sym (superclasses-agree (length classes) classes (classes ++ more) ordered (lower_agree-more classes more) c there)
 
   pub with_interfaces-kept : with_interfaces (classes ++ more) c ≡ with_interfaces classes c
-  with_interfaces-kept = sym (with_interfaces-agree (length classes) classes (classes ++ more) ordered (agree-more classes more) c there)
+  with_interfaces-kept = sym (with_interfaces-agree (length classes) classes (classes ++ more) ordered (lower_agree-more classes more) c there)
 
   pub own_interfaces-kept : own_interfaces (classes ++ more) c ≡ own_interfaces classes c
-  own_interfaces-kept = sym (own_interfaces-agree (length classes) classes (classes ++ more) ordered (agree-more classes more) c there)
+  own_interfaces-kept = sym (own_interfaces-agree (length classes) classes (classes ++ more) ordered (lower_agree-more classes more) c there)
 
   pub field_walk-kept : field_walk (classes ++ more) c ≡ field_walk classes c
-  field_walk-kept = sym (field_walk-agree (length classes) classes (classes ++ more) ordered (agree-more classes more) c there)
+  field_walk-kept = sym (field_walk-agree (length classes) classes (classes ++ more) ordered (lower_agree-more classes more) c there)
 
   pub method_walk-kept : method_walk (classes ++ more) c ≡ method_walk classes c
   method_walk-kept = sym (method_walk-agree (length classes) classes (classes ++ more) ordered (agree-more classes more) c there)

@@ -1,7 +1,8 @@
 -- Two lists of records that agree at a class but for its links say the same of its members, its flags and its package, and of
 -- what is directly above it.
-use Rattle.std.proofs.Common.{◌≡◌, ℕ, IsTrue, List, [], ◌∷◌, Option, Some, None, slice_get, refl, sym, ap, subst, ◌∙◌}
+use Rattle.std.proofs.Common.{◌≡◌, ℕ, IsTrue, List, [], ◌∷◌, map, filter, Option, Some, None, slice_get, refl, sym, ap, subst, ◌∙◌}
 use Rattle.std.specs.Prelude.{option_map}
+use Rattle.std.specs.List.{enumerate_from}
 use Rattle.std.specs.Option.{option_map_or}
 use Rattle.std.proofs.lemmas.Option.{same_Some}
 use Rattle.jk_model.specs.Flags.{has, INTERFACE}
@@ -13,6 +14,7 @@ use Rattle.jk_model_classes.specs.declared.records.MethodRecord.{MethodRecord}
 use Rattle.jk_model_classes.specs.declared.records.Member.{Member}
 use Rattle.jk_model_classes.specs.declared.records.Member.TheVariants.{Field, Method}
 use Rattle.jk_model_classes.specs.Classes.{record_of, parents_of, listed_interfaces, is_interface_record, IsInterface}
+use Rattle.jk_model_classes.specs.Layouts.{InstanceField, is_instance_field, own_fields, type_words}
 use Rattle.class_growth.specs.OtherLinks.{without_links}
 use Rattle.jk_model_classes.specs.Lookups.{FieldIs, MethodIs, FlagsAre, AreInOnePackage, IsPackageOf, class_of}
 
@@ -62,6 +64,19 @@ module _ (a b : List ClassRecord) (c : ClassId) (agree : AgreeAt a b c) where
   pub interfaces-agree : listed_interfaces a c ≡ listed_interfaces b c
   interfaces-agree =
       says interfaces_in (λ o. elim o as (λ o. interfaces_in o ≡ interfaces_in (option_map without_links o)) [ None ↦ refl | Some r ↦ refl ])
+
+  abbrev fields_in : Option ClassRecord → List InstanceField
+  fields_in o =
+      option_map_or
+      (λ (r : ClassRecord). map
+      (λ (p : ℕ × FieldRecord). record { member = record { class = c; index = p.0 }; words = type_words p.1.kind })
+      (filter is_instance_field (enumerate_from 0 r.fields)))
+      o []
+
+  pub own_fields-agree : own_fields a c ≡ own_fields b c
+  own_fields-agree =
+      says fields_in
+      (λ o. elim o as (λ o. fields_in o ≡ fields_in (option_map without_links o)) [ None ↦ refl | Some r ↦ refl ])
 
 -- ---- Members.
 

@@ -1,6 +1,7 @@
 -- The scope of a method's code stays its scope with more classes behind, and of a class that was there it was its scope before.
 -- Among closed classes, whatever class a scope mentions is there.
 use Rattle.std.proofs.Common.{◌≡◌, ℕ, List, ◌++◌, Some, slice_get, Contains, refl, sym, subst, ◌∙◌}
+use Rattle.list_lemmas.proofs.ItemsOfLists.{Contains-at}
 use Rattle.jk_model.specs.declared.identifiers.MemberId.{MemberId}
 use Rattle.jk_model_classes.specs.declared.records.Caught.{Caught}
 use Rattle.jk_model_classes.specs.declared.records.ClassRecord.{ClassRecord}
@@ -12,7 +13,6 @@ use Rattle.jk_model_classes.specs.Lookups.{FieldIs, MethodIs}
 use Rattle.jk_model_typing.specs.Scopes.{CodeScope, IsScopeOf}
 use Rattle.class_growth.specs.ClosedClasses.{HasType, HasLink, HasCaught, HasClassesOfMethod, IsClosed}
 use Rattle.class_growth.specs.ScopesOver.{among}
-use Rattle.class_growth.proofs.ItemsOfLists.{Contains-at}
 use Rattle.class_growth.proofs.MoreClasses.{record-kept, record-still, has_class-by_record}
 
 module _ (classes more : List ClassRecord) (m : MemberId) (s : CodeScope) where

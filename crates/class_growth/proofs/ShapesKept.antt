@@ -4,6 +4,8 @@ use Rattle.std.proofs.Common.{◌≡◌, ℕ, zero, suc, ◌+◌, Bool, true, fa
 use Rattle.std.specs.Prelude.{◌&&◌, ⊤, nat_le, find, option_map}
 use Rattle.std.specs.List.{AllByRecursion, list_all}
 use Rattle.std.specs.Option.{option_map_or, unwrap_or}
+use Rattle.std.proofs.lemmas.Bool.{and_parts}
+use Rattle.list_lemmas.proofs.ItemsOfLists.{Contains-here, Contains-there}
 use Rattle.jk_model.specs.declared.identifiers.ClassId.{ClassId}
 use Rattle.jk_model.specs.declared.identifiers.MemberId.{MemberId}
 use Rattle.jk_model.specs.declared.instructions.Instr.{Instr}
@@ -26,7 +28,6 @@ use Rattle.jk_model_typing.specs.Rows.{HasShape, UsesField, UsesMethod, Answers,
 use Rattle.jk_model_typing.specs.Scopes.{CodeScope, LeadsToLink, parameter_values, result_values}
 use Rattle.class_growth.specs.ClosedClasses.{HasType, HasClassesOfMethod}
 use Rattle.class_growth.specs.ScopesOver.{with_more}
-use Rattle.class_growth.proofs.ItemsOfLists.{Contains-here, Contains-there}
 use Rattle.class_growth.proofs.MoreClasses.{field-still, method-still, subclass-still}
 use Rattle.class_growth.proofs.TypesKept.{of_type-kept, of_class-kept, value_of-kept}
 use Rattle.class_growth.proofs.ScopesKept.{IsClosedScope, field-closed, method-closed}
@@ -65,10 +66,6 @@ group_names_none (LoadsLocal demand) = names_none demand
 group_names_none (StoresLocal demand) = names_none demand
 group_names_none _ = true
 
-both_true : (a b : Bool) → (a && b) ≡ true → (a ≡ true) × (b ≡ true)
-both_true true b h = (refl, h)
-both_true false b h = absurd cc
-
 module _ {F : Type 0} (test : F → Bool) (other : F) where
   passes_at : (b : Bool) (r : Row F) (o : Option (Row F)) → test r.format ≡ true → test (unwrap_or (option_map (λ r. r.format) o) other) ≡ true
       → test (unwrap_or (option_map (λ r. r.format) (if b then Some r else o)) other) ≡ true
@@ -79,7 +76,7 @@ module _ {F : Type 0} (test : F → Bool) (other : F) where
       → test (format_among other rows op) ≡ true
   passes_among [] op none all = none
   passes_among (r ∷ rows) op none all =
-      let both = both_true (test r.format) (list_all (λ (r : Row F). test r.format) rows) all in
+      let both = and_parts (test r.format) (list_all (λ (r : Row F). test r.format) rows) all in
       passes_at (nat_le r.first op && nat_le op r.last) r (find (λ (r : Row F). nat_le r.first op && nat_le op r.last) rows) both.0
       (passes_among rows op none both.1)
 
@@ -95,7 +92,7 @@ module _ (classes : List ClassRecord) where
   demands_none : (ds : List Demand) → list_all names_none ds ≡ true → AllByRecursion (HasDemand classes) ds
   demands_none [] h = tt
   demands_none (d ∷ ds) h =
-      let both = both_true (names_none d) (list_all names_none ds) h in
+      let both = and_parts (names_none d) (list_all names_none ds) h in
       (demand_none d both.0, demands_none ds both.1)
 
   shape_none : (shape : Shape) → shape_names_none shape ≡ true → HasShapes classes shape

@@ -1,8 +1,10 @@
 -- The system classes by themselves are closed: each class that their table names is one of the table.
-use Rattle.std.proofs.Common.{◌≡◌, ℕ, ◌<◌, List, [], ◌∷◌, length, map, Option, Some, None, Contains, refl, sym, ap, subst, ◌∙◌, inl, inr}
+use Rattle.std.proofs.Common.{◌≡◌, ℕ, ◌<◌, List, [], ◌∷◌, length, map, Option, Some, None, Contains, refl, sym, ap, subst, ◌∙◌, inl, inr, arith}
 use Rattle.std.specs.Prelude.{option_map, option_and_then, bytes_eq, position, Bool}
 use Rattle.std.proofs.lemmas.List.Quantifiers.{position-Some}
 use Rattle.std.proofs.lemmas.Option.{same_Some, slice_get_within}
+use Rattle.list_lemmas.proofs.ItemsOfLists.{Contains-cases, Contains-none, place_of}
+use Rattle.list_lemmas.proofs.ItemsByPlace.{item_there}
 use Rattle.jk_model.specs.declared.descriptors.Base.{Base as ABase}
 use Rattle.jk_model.specs.declared.descriptors.Base.TheVariants as Said
 use Rattle.jk_model.specs.declared.descriptors.FieldType.{FieldType}
@@ -12,10 +14,9 @@ use Rattle.jk_model_classes.specs.declared.records.BaseRef.{BaseRef}
 use Rattle.jk_model_classes.specs.declared.records.ClassRecord.{ClassRecord}
 use Rattle.jk_model_classes.specs.declared.records.MethodRecord.{MethodRecord}
 use Rattle.jk_model_classes.specs.declared.records.TypeRef.{TypeRef}
-use Rattle.jk_model_classes.specs.Classes.{HasClass}
+use Rattle.jk_model_classes.specs.Classes.{HasClass, record_of}
 use Rattle.jk_model_classes.specs.SystemRecords.{IsBaseFor, IsTypeFor, AreTypesFor, IsResultFor, IsSystemMethodAt, IsSystemRecord, AreSystemRecords, system_meaning}
 use Rattle.class_growth.specs.ClosedClasses.{HasBase, HasType, HasClassesOfMethod, HasClassesOf, IsClosed}
-use Rattle.class_growth.proofs.ItemsOfLists.{Contains-cases, Contains-none, item-at, place-of}
 
 -- ---- Types whose names mean classes that are there.
 
@@ -40,8 +41,8 @@ module _ (classes : List ClassRecord) (meaning : List ℕ → Option ClassId) (t
   pub types-meant : (types : List FieldType) (refs : List TypeRef) → AreTypesFor meaning types refs → (ref : TypeRef) → Contains refs ref
       → HasType classes ref
   types-meant types refs are ref on =
-      let at = place-of refs ref on in
-      let said = item-at types at.0 (rw (← are.as_many) (slice_get_within refs at.0 ref at.1)) in
+      let at = place_of refs ref on in
+      let said = item_there types at.0 (rw (← are.as_many) (slice_get_within refs at.0 ref at.1)) in
       type-meant said.0 ref (are.each at.0 said.0 ref said.1 at.1)
 
   pub result-meant : (o : Option FieldType) (result : Option TypeRef) → IsResultFor meaning o result → (ref : TypeRef) → result ≡ Some ref
@@ -103,13 +104,13 @@ module _ (classes : List ClassRecord) (system : AreSystemRecords classes) where
             let found = interface_name r.interfaces entry.interfaces is.interfaces i on in
             named_there found.0 i.0 found.1;
         fields = λ field on.
-            let at = place-of r.fields field on in
-            let said = item-at entry.fields at.0 (rw (← is.field_count) (slice_get_within r.fields at.0 field at.1)) in
+            let at = place_of r.fields field on in
+            let said = item_there entry.fields at.0 (rw (← is.field_count) (slice_get_within r.fields at.0 field at.1)) in
             let of = is.fields at.0 said.0 field said.1 at.1 in
             type-meant classes system_meaning meant of.type field.kind of.kind;
         methods = λ method on.
-            let at = place-of r.methods method on in
-            let said = item-at entry.methods at.0 (rw (← is.method_count) (slice_get_within r.methods at.0 method at.1)) in
+            let at = place_of r.methods method on in
+            let said = item_there entry.methods at.0 (rw (← is.method_count) (slice_get_within r.methods at.0 method at.1)) in
             method_there _ said.0 method (is.methods at.0 said.0 method said.1 at.1);
         links = λ link on. absurd (Contains-none link (rw is.links at on));
       }
@@ -118,6 +119,16 @@ module _ (classes : List ClassRecord) (system : AreSystemRecords classes) where
   system-closed =
       record {
         each = λ c r is.
-            let entry = item-at system_classes c.0 (rw (← system.as_many) (slice_get_within classes c.0 r is)) in
+            let entry = item_there system_classes c.0 (rw (← system.as_many) (slice_get_within classes c.0 r is)) in
             record_there c.0 entry.0 r (system.each c.0 entry.0 r entry.1 is);
       }
+
+-- ---- They stand alone.
+
+-- system classes refer to none, and are no domain's
+pub system_alone : (classes : List ClassRecord) → AreSystemRecords classes → (c : ClassId) (r : ClassRecord) → record_of classes c ≡ Some r
+    → (r.references ≡ []) × (r.home ≡ None)
+system_alone classes system c r at =
+    let entry = item_there system_classes c.0 (omega (arith, system.as_many, slice_get_within classes c.0 r at)) in
+    let is = system.each c.0 entry.0 r entry.1 at in
+    (is.references, is.home)

@@ -157,13 +157,6 @@ name_at table i c told = by_place (slice_get table i) refl told
     by_place None at e = cc
     by_place (Some x) at e = record { entry = x; there = at; means = sym (same_Some c x.class e) }
 
-pub no_name : (table : List NamedClass) (i : ℕ) → None ≡ option_map (λ (e : NamedClass). e.class) (slice_get table i) → i < length table → ⊥
-no_name table i told low = by_place (slice_get table i) refl told
-  where
-    by_place : (r : Option NamedClass) → slice_get table i ≡ r → None ≡ option_map (λ (e : NamedClass). e.class) r → ⊥
-    by_place None at e = let some = slice_get-get_or table i (record { name = []; class = record { 0 = 0 } }) low in cc
-    by_place (Some x) at e = cc
-
 pub name_is_named : (table : List NamedClass) (i : ℕ) (e : NamedClass) → slice_get table i ≡ Some e → IsNamed table e.class
 name_is_named table i e at = (e.name, Contains-at table i (record { name = e.name; class = e.class }) at)
 

@@ -17,6 +17,7 @@ use Rattle.std.proofs.lemmas.Map.Lookups.{exact_unsigned}
 use Rattle.std.proofs.lemmas.Option.{slice_get_within, slice_get-get_or, get_or_from_slice_get, same_Some}
 use Rattle.jk_model.specs.Flags.{has}
 use Rattle.list_lemmas.proofs.ItemsByPlace.{old_or_last, comes_from, mapped_at}
+use Rattle.list_lemmas.proofs.LastItems.{enumerate_from-push}
 use Rattle.jk_model.specs.declared.values.Value.{Value}
 use Rattle.jk_model.specs.declared.values.Value.TheVariants as Held
 use Rattle.jk_model_classes.specs.declared.records.FieldRecord.{FieldRecord}
@@ -157,12 +158,6 @@ one_value_more (g ∷ fs) (v ∷ vs) (suc i) f d low at =
     ap (λ (ys : List StaticField). record g { value = v } ∷ ys) (one_value_more fs vs i f d (omega arith) at)
 
 -- ---- How the fields begin.
-
-enumerate_from-push : {X : Type 0} (n : ℕ) (xs : List X) (y : X) → enumerate_from n (xs ++ y ∷ []) ≡ enumerate_from n xs ++ (n + length xs, y) ∷ []
-enumerate_from-push n [] y = let e : n ≡ n + 0 = omega arith in ap (λ k. (k, y) ∷ []) e
-enumerate_from-push n (x ∷ xs) y =
-    let e : (n + 1) + length xs ≡ n + suc (length xs) = omega arith in
-    ap (λ rest. (n, x) ∷ rest) (enumerate_from-push (n + 1) xs y ∙ ap (λ k. enumerate_from (n + 1) xs ++ (k, y) ∷ []) e)
 
 statics-push : (fs : List FieldRecord) (f : FieldRecord)
     → statics_from 0 (fs ++ f ∷ []) ≡ statics_from 0 fs ++ map first_static (filter is_static_field ((length fs, f) ∷ []))

@@ -14,7 +14,6 @@ mod PlaceOfAText
 mod PlacesInLists
 mod RestoredState
 mod SameElements
-pub mod StatesKept
 mod TextAdded
 mod TextsInTurn
 mod WhatIsThere

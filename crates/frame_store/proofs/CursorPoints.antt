@@ -2,7 +2,7 @@
 use Rattle.std.proofs.Common.{◌≡◌, ◌*◌, ◌<◌, ◌-◌, ℕ, List, ◌∷◌, ◌++◌, [], length, arith, Option, Some, None, IsSome, is_some, nat_eq, option_map, slice_get, refl, sym, ap, subst, zero, suc, ◌∙◌}
 use Rattle.std.specs.HashMap.{WritesThrough}
 use Rattle.std.proofs.lemmas.List.{length_push}
-use Rattle.std.proofs.lemmas.Option.{slice_get-map, slice_get_within}
+use Rattle.std.proofs.lemmas.Option.{slice_get-map, slice_get_within, same_Some}
 use Rattle.std.specs.Map.{values_of}
 use Rattle.jk_model.specs.declared.identifiers.SegmentNo.{SegmentNo}
 use Rattle.jk_model_frames.specs.Frames.{FrameState}
@@ -22,7 +22,7 @@ use Rattle.frame_store.specs.DomainMoves.{depth_of, frames_of, locals_at, start_
 use Rattle.frame_store.specs.StoreContents.{content_of, IsStore, IsFound, IsStanding, StandsAt}
 use Rattle.frame_store.specs.StoreIsContent.{stands}
 use Rattle.frame_store.specs.Cursors.{HasDomainAt, HasTopAt, HasValuesAt, IsTopAt, PointsAt}
-use Rattle.frame_store.proofs.StoreChanges.{same_some, found_top_is, get_here}
+use Rattle.frame_store.proofs.StoreChanges.{found_top_is, get_here}
 use Rattle.frame_store.proofs.TopIsWritten.{is_top_frame}
 use Rattle.frame_store.proofs.WrittenAt.{read_at}
 
@@ -71,7 +71,7 @@ module _ {S : Type 0} (m : IndexMap ℕ DomainFrames S) (t : SegmentTable) (owed
     pub reads_at : (x : DomainFrames) → slice_get (values_of es) at ≡ Some x → (d : ℕ) (stands : StandsAt m d at) → x ≡ stands.domain
     reads_at x e d stands =
         let here = second_at m.entries at d stands.domain stands.entry in
-        same_some x stands.domain (sym e ∙ ap (λ (q : List (ℕ × DomainFrames)). slice_get (values_of q) at) same ∙ sym here)
+        same_Some x stands.domain (sym e ∙ ap (λ (q : List (ℕ × DomainFrames)). slice_get (values_of q) at) same ∙ sym here)
 
   -- where a call reads the domain at the place
   module _ (x : DomainFrames) (reads : (d : ℕ) (stands : StandsAt m d at) → x ≡ stands.domain) where
@@ -98,13 +98,13 @@ module _ {S : Type 0} (m : IndexMap ℕ DomainFrames S) (t : SegmentTable) (s : 
     (values_are : HasValuesAt x c) (place_is : table.place_in t s ≡ Some c.place) where
   module _ (z : DomainFrames) (i : ℕ) (g : IsFound m t s z i) where
     same_place : (let here : Place = record { domain = g.domain; slot = i } in let there : Place = record { domain = f.domain; slot = slot } in here ≡ there)
-    same_place = same_some _ _ (sym g.at ∙ f.at)
+    same_place = same_Some _ _ (sym g.at ∙ f.at)
 
     same_domain : g.domain ≡ f.domain
     same_domain = ap (λ (q : Place). q.domain) same_place
 
     same_frames : z ≡ x
-    same_frames = same_some z x (sym g.is ∙ ap (get nat_eq m) same_domain ∙ f.is)
+    same_frames = same_Some z x (sym g.is ∙ ap (get nat_eq m) same_domain ∙ f.is)
 
     entry_at : slice_get m.entries c.domain ≡ Some (g.domain, z)
     entry_at = entry_is ∙ ap (λ d. Some (d, x)) (sym same_domain) ∙ ap (λ (w : DomainFrames). Some (g.domain, w)) (sym same_frames)

@@ -5,6 +5,7 @@ use Rattle.std.specs.Map.{values_of, keys_of, lookup}
 use Rattle.std.specs.List.{swap_remove}
 use Rattle.std.proofs.lemmas.Bool.{cases_eq, false≢true}
 use Rattle.std.proofs.lemmas.List.Sums.{sum_by-cons, sum_by-swap_remove}
+use Rattle.std.proofs.lemmas.Option.{same_Some}
 use Rattle.indexmap.proofs.MapLemmas.{swap_remove_entry-found, value_index, some_index}
 use Rattle.jk_model.specs.declared.identifiers.DomainId.{DomainId}
 use Rattle.indexmap.specs.IndexMap.{IndexMap, get, values, swap_remove_entry}
@@ -25,12 +26,9 @@ sum_values : (f : DomainFrames → ℕ) (es : List (ℕ × DomainFrames)) → su
 sum_values f [] = refl
 sum_values f (e ∷ es) = sum_by-cons f e.1 (values_of es) ∙ ap (λ k. f e.1 + k) (sum_values f es) ∙ sym (sum_by-cons (λ (y : ℕ × DomainFrames). f y.1) e es)
 
-some_same : {X : Type 0} (a b : X) → Some a ≡ Some b → a ≡ b
-some_same a b e = cc
-
 value_here : {X : Type 0} (es : List (ℕ × X)) (i : ℕ) (d : ℕ × X) (x : X) → slice_get (values_of es) i ≡ Some x → (i < length es) × ((get_or es i d).1 ≡ x)
 value_here [] i d x e = absurd (cc)
-value_here (y ∷ es) zero d x e = (omega arith, some_same y.1 x e)
+value_here (y ∷ es) zero d x e = (omega arith, same_Some y.1 x e)
 value_here (y ∷ es) (suc i) d x e = let r = value_here es i d x e in (omega (arith, r.0), r.1)
 
 sum_without : (f : DomainFrames → ℕ) (t : ℕ → Bool) (es : List (ℕ × DomainFrames)) (d : ℕ) (x : DomainFrames) (o : Option ℕ) → lookup t es ≡ Some x

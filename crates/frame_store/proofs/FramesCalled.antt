@@ -1,6 +1,8 @@
 -- A frame is called: it is put on top, the arguments come into its locals, and then they are off the frame below.
 use Rattle.std.proofs.Common.{◌≡◌, ◌*◌, ℕ, ◌+◌, ◌-◌, ◌^◌, ◌<◌, ◌≤◌, List, [], ◌∷◌, ◌++◌, length, replicate, set, Some, slice_get, refl, sym, ap, subst, append_assoc, arith, ◌∙◌}
 use Rattle.std.proofs.lemmas.List.{append-nil, length-append, length-replicate}
+use Rattle.std.proofs.lemmas.Option.{same_Some}
+use Rattle.list_lemmas.proofs.LastItems.{one_last}
 use Rattle.jk_model.specs.declared.frames.FrameHead.{FrameHead}
 use Rattle.jk_model.specs.declared.values.Value.{Value}
 use Rattle.jk_model.specs.declared.values.Value.TheVariants.{Unset}
@@ -11,14 +13,13 @@ use Rattle.frame_store.specs.ChainMoves.{count, place, MovesTop}
 use Rattle.frame_store.specs.DomainMoves.{depth_of, frames_of, lower_of, start_of, top_of, top_number, value_at, HasTop, IsTopOf, IsFrameNumber, Becomes, HasGiven, MayGive, GivesTo}
 use Rattle.frame_store.specs.Builds.{get-build, length-build}
 use Rattle.frame_store.proofs.TopIsWritten.{frames_more, is_frame, top_is_frame}
-use Rattle.frame_store.proofs.StoreChanges.{last_same, same_some}
 use Rattle.frame_store.proofs.ArgumentsInLocals.{get_next, locals_fit, locals_length, none_given, one_given, same_back, set_at, takes_local}
 
 -- where the lower frames of two domains are the same, so is each
 lower_value : (x y : DomainFrames) (i k : ℕ) → k < depth_of x i - 1 → k < depth_of y i - 1 → lower_of x i ≡ lower_of y i
     → value_at x (place x.frames i k) ≡ value_at y (place y.frames i k)
 lower_value x y i k x_lt y_lt same =
-    same_some _ _
+    same_Some _ _
     (sym (get-build (λ j. value_at x (place x.frames i j)) (depth_of x i - 1) k x_lt)
     ∙ ap (λ (l : List FrameState). slice_get l k) same
     ∙ get-build (λ j. value_at y (place y.frames i j)) (depth_of y i - 1) k y_lt)
@@ -33,7 +34,7 @@ module _ (d e : DomainFrames) (i : ℕ) (f : FrameState) (used : ℕ) (top : Has
   top_kept = (let same = b.same_chunks in let in_d = top.0 in omega arith, let in_d = top.1 in omega (arith, depth_kept))
 
   both : (lower_of e i ≡ lower_of d i) × (top_of e i ≡ f)
-  both = last_same (lower_of e i) (lower_of d i) (top_of e i) f (sym (frames_more e i top_kept) ∙ b.becomes)
+  both = one_last (lower_of e i) (lower_of d i) (top_of e i) f (sym (frames_more e i top_kept) ∙ b.becomes)
 
   pub lower_kept : lower_of e i ≡ lower_of d i
   lower_kept = both.0
@@ -190,7 +191,7 @@ module _ (d : DomainFrames) (caller frame many : ℕ) (may : MayGive d caller fr
       module _ (first : ℕ) (first_is : first ≡ length may.below) (v : Value) (read : slice_get (value_at now caller).stack (first + k) ≡ Some v) where
         v_is : more.next ≡ v
         v_is =
-            same_some _ _
+            same_Some _ _
             (sym (get_next (may.below ++ some.done) more.next more.after (first + k)
             (omega (arith, length-append may.below some.done, first_is, some.as_many)))
             ∙ sym (ap (λ (l : List Value). slice_get l (first + k)) stack_split) ∙ read)
@@ -263,7 +264,7 @@ module _ (d e : DomainFrames) (i frame : ℕ) (head : FrameHead) (many used : �
   top_there = (let same = b.same_chunks in let in_d = top.0 in omega arith, omega (arith, one_deeper))
 
   pub on_top : (lower_of e i ≡ frames_of d i) × (top_of e i ≡ new_frame head)
-  on_top = last_same (lower_of e i) (frames_of d i) (top_of e i) (new_frame head) (sym (frames_more e i top_there) ∙ b.becomes)
+  on_top = one_last (lower_of e i) (frames_of d i) (top_of e i) (new_frame head) (sym (frames_more e i top_there) ∙ b.becomes)
 
   pub frame_top : frame ≡ top_number e i
   frame_top =
@@ -282,7 +283,7 @@ module _ (d e : DomainFrames) (i frame : ℕ) (head : FrameHead) (many used : �
   pub caller_was : value_at e caller ≡ top_of d i
   caller_was =
       let some = top.1 in
-      same_some _ _
+      same_Some _ _
       (ap (λ n. Some (value_at e n)) (sym caller_at)
       ∙ sym (get-build (λ j. value_at e (place e.frames i j)) (depth_of e i - 1) (depth_of d i - 1) (omega (arith, one_deeper)))
       ∙ ap (λ (l : List FrameState). slice_get l (depth_of d i - 1)) on_top.0

@@ -1,6 +1,6 @@
 -- A position of a stack has the node that says so, and no other.
 use Rattle.std.proofs.Common.{◌≡◌, ℕ, zero, suc, ◌<◌, ◌≤◌, Bool, true, false, cond, List, [], ◌∷◌, length, nat_eq, ◌&&◌, refl, sym, ◌∙◌, arith}
-use Rattle.std.proofs.lemmas.Bool.{eqb-true}
+use Rattle.std.proofs.lemmas.Bool.{eqb-true, and_parts}
 use Rattle.std.proofs.lemmas.Bool.Decides.{nat_tests}
 use Rattle.frame_store.specs.declared.chains.Node.{Node}
 use Rattle.frame_store.specs.Chains.{node_at, place_of}
@@ -17,16 +17,11 @@ AreApart nodes =
     (b c : ℕ) → b < length nodes → c < length nodes → (node_at nodes b).stack ≡ (node_at nodes c).stack
     → (node_at nodes b).position ≡ (node_at nodes c).position → b ≡ c
 
-both : (s t : Bool) → (s && t) ≡ true → (s ≡ true) × (t ≡ true)
-both true true e = (refl, refl)
-both true false e = cc
-both false t e = cc
-
 found_step : (x : Node) (xs : List Node) (i p : ℕ) (t : Bool) → (nat_eq x.stack i && nat_eq x.position p) ≡ t
     → (place_of xs i p < length xs → IsNodeOf xs (place_of xs i p) i p)
     → cond t 0 (suc (place_of xs i p)) < length (x ∷ xs) → IsNodeOf (x ∷ xs) (cond t 0 (suc (place_of xs i p))) i p
 found_step x xs i p true e rest h =
-    let b = both (nat_eq x.stack i) (nat_eq x.position p) e in
+    let b = and_parts (nat_eq x.stack i) (nat_eq x.position p) e in
     record { within = h; stack = eqb-true x.stack i b.0; position = eqb-true x.position p b.1 }
 found_step x xs i p false e rest h =
     let r = rest (omega arith) in

@@ -1,5 +1,5 @@
 -- A segment begins in its domain and in the table.
-use Rattle.std.proofs.Common.{◌≡◌, ◌≢◌, ℕ, ◌+◌, ◌-◌, ◌<◌, ◌≤◌, ◌^◌, cond, List, [], ◌∷◌, Option, Some, None, is_some, option_map, nat_eq, refl, sym, ap, subst, arith, ◌∙◌, inl, inr, sum_by, Result, Ok, Err, OnErr}
+use Rattle.std.proofs.Common.{◌≡◌, ◌≢◌, ℕ, ◌+◌, ◌-◌, ◌<◌, ◌≤◌, ◌^◌, cond, List, [], ◌∷◌, Option, Some, None, is_some, option_map, nat_eq, refl, sym, ap, subst, arith, ◌∙◌, inl, inr, sum_by}
 use Rattle.std.specs.Option.{option_map_or}
 use Rattle.std.specs.HashMap.{WritesThrough}
 use Rattle.std.specs.Map.{values_of}
@@ -28,10 +28,6 @@ use Rattle.frame_store.specs.StoreContents.{content_of, stored, owed_by, IsStore
 use Rattle.frame_store.specs.StoreIsContent.{stands}
 use Rattle.frame_store.proofs.MovesKeepChains.{count_le}
 use Rattle.frame_store.proofs.StoreChanges.{segment_in, read_some, lt_by}
-
-pub to_err : {T E : Type 0} (r : Result T E) (P : Type 0) → P → OnErr r P
-to_err (Ok x) P h = tt
-to_err (Err e) P h = h
 
 lt_le : (a b c : ℕ) → a ≤ b → b < c → a < c
 lt_le a b c h k = omega arith

@@ -20,6 +20,8 @@ use Rattle.frame_store.specs.TableMoves as table
 use Rattle.frame_store.specs.DomainMoves.{depth_of, frames_of, top_of, lower_of, value_at, IsSlot, HasTop, Becomes}
 use Rattle.frame_store.specs.ChainMoves.{place}
 use Rattle.std.proofs.lemmas.List.{length_push}
+use Rattle.std.proofs.lemmas.Option.{same_Some}
+use Rattle.list_lemmas.proofs.LastItems.{one_last}
 use Rattle.frame_store.specs.StoreContents.{content_of, stored, owed_by, IsStore, IsFound, IsStanding}
 use Rattle.frame_store.specs.StoreIsContent.{placed}
 use Rattle.frame_store.specs.Builds.{length-build}
@@ -158,20 +160,6 @@ module _ {S : Type 0} (m n : IndexMap ℕ DomainFrames S) (t : SegmentTable) (ow
 
 -- ---- A segment and its top frame.
 
-pub same_some : {A : Type 0} (a b : A) → Some a ≡ Some b → a ≡ b
-same_some a b e = cc
-
-pub last_same : {A : Type 0} (xs ys : List A) (a b : A) → xs ++ a ∷ [] ≡ ys ++ b ∷ [] → (xs ≡ ys) × (a ≡ b)
-last_same [] [] a b e = (refl, cc)
-last_same [] (y ∷ []) a b e = absurd (cc)
-last_same [] (y ∷ z ∷ ys) a b e = absurd (cc)
-last_same (x ∷ []) [] a b e = absurd (cc)
-last_same (x ∷ z ∷ xs) [] a b e = absurd (cc)
-last_same (x ∷ xs) (y ∷ ys) a b e =
-    let r = last_same xs ys a b cc in
-    let head : x ≡ y = cc in
-    (ap (λ k. k ∷ xs) head ∙ ap (λ k. y ∷ k) r.0, r.1)
-
 some_by : (a b : ℕ) → a ≡ b + 1 → 0 < a
 some_by a b e = omega arith
 
@@ -208,7 +196,7 @@ module _ {S : Type 0} (m : IndexMap ℕ DomainFrames S) (t : SegmentTable) (owed
 
     top_frames : (g : FrameState) (top : TopFrame (content_of m t) s g) → frames_of x i ≡ top.lower ++ g ∷ []
     top_frames g top =
-        let same = same_some (segment_in x f.domain i) top.segment (sym found_segment ∙ top.is_there) in
+        let same = same_Some (segment_in x f.domain i) top.segment (sym found_segment ∙ top.is_there) in
         ap (λ (k : StoredSegment). k.frames) same ∙ top.frames
 
     pub found_top : (g : FrameState) → TopFrame (content_of m t) s g → HasTop x i
@@ -221,4 +209,4 @@ module _ {S : Type 0} (m : IndexMap ℕ DomainFrames S) (t : SegmentTable) (owed
     )
 
     pub found_top_is : (g : FrameState) (top : TopFrame (content_of m t) s g) → (top.lower ≡ lower_of x i) × (g ≡ top_of x i)
-    found_top_is g top = last_same top.lower (lower_of x i) g (top_of x i) (sym (top_frames g top) ∙ frames_more x i (found_top g top))
+    found_top_is g top = one_last top.lower (lower_of x i) g (top_of x i) (sym (top_frames g top) ∙ frames_more x i (found_top g top))

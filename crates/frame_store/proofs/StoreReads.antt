@@ -1,5 +1,6 @@
 -- A frame of a segment by how many are below it.
 use Rattle.std.proofs.Common.{◌≡◌, ℕ, zero, suc, ◌-◌, ◌<◌, ◌≤◌, List, [], ◌∷◌, length, Some, None, slice_get, refl, sym, ap, arith, ◌∙◌}
+use Rattle.std.proofs.lemmas.Option.{slice_get_within, same_Some}
 use Rattle.jk_model.specs.declared.identifiers.SegmentNo.{SegmentNo}
 use Rattle.jk_model_frames.specs.Frames.{FrameState}
 use Rattle.indexmap.specs.IndexMap.{IndexMap}
@@ -10,12 +11,7 @@ use Rattle.frame_store.specs.ChainMoves.{place}
 use Rattle.frame_store.specs.DomainMoves.{depth_of, frames_of, value_at}
 use Rattle.frame_store.specs.StoreContents.{content_of, IsStore, IsFound}
 use Rattle.frame_store.specs.Builds.{length-build}
-use Rattle.frame_store.proofs.StoreChanges.{segment_in, found_segment, same_some}
-
-pub get_low : {A : Type 0} (xs : List A) (n : ℕ) (x : A) → slice_get xs n ≡ Some x → n < length xs
-get_low [] n x e = absurd (cc)
-get_low (y ∷ xs) zero x e = omega arith
-get_low (y ∷ xs) (suc n) x e = omega (arith, get_low xs n x e)
+use Rattle.frame_store.proofs.StoreChanges.{segment_in, found_segment}
 
 pub get_past : {A : Type 0} (xs : List A) (n : ℕ) → length xs ≤ n → slice_get xs n ≡ None
 get_past [] n le = refl
@@ -41,13 +37,13 @@ module _ {S : Type 0} (m : IndexMap ℕ DomainFrames S) (t : SegmentTable) (owed
     (f : IsFound m t s.0 x i) (n : ℕ) (g : FrameState) (at : FrameAt (content_of m t) s n g) where
   get_is : slice_get (frames_of x i) n ≡ Some g
   get_is =
-      let same = same_some (segment_in x f.domain i) at.0 (sym (found_segment m t owed s h x i f) ∙ at.1) in
+      let same = same_Some (segment_in x f.domain i) at.0 (sym (found_segment m t owed s h x i f) ∙ at.1) in
       ap (λ (k : StoredSegment). slice_get k.frames n) same ∙ at.2
 
   pub frame_low : n < depth_of x i
   frame_low =
-      low_by n (length (frames_of x i)) (depth_of x i) (get_low (frames_of x i) n g get_is)
+      low_by n (length (frames_of x i)) (depth_of x i) (slice_get_within (frames_of x i) n g get_is)
       (length-build (λ k. value_at x (place x.frames i k)) (depth_of x i))
 
   pub frame_is : (v : FrameState) → slice_get (frames_of x i) n ≡ Some v → g ≡ v
-  frame_is v e = same_some g v (sym get_is ∙ e)
+  frame_is v e = same_Some g v (sym get_is ∙ e)

@@ -3,6 +3,7 @@ use Rattle.std.proofs.Common.{◌≡◌, ℕ, ◌+◌, ◌-◌, List, [], ◌∷
 use Rattle.std.specs.Option.{option_map_or}
 use Rattle.std.specs.HashMap.{WritesThrough}
 use Rattle.std.proofs.lemmas.Bool.{cases_eq}
+use Rattle.std.proofs.lemmas.Option.{same_Some}
 use Rattle.jk_model.specs.declared.frames.FrameHead.{FrameHead}
 use Rattle.jk_model.specs.declared.identifiers.SegmentNo.{SegmentNo}
 use Rattle.jk_model_frames.specs.Frames.{FrameState, called_frame, new_frame, head_chunks}
@@ -15,7 +16,7 @@ use Rattle.frame_store.specs.TableMoves as table
 use Rattle.frame_store.specs.DomainMoves.{frames_of, top_of, lower_of, HasTop, Becomes, CallsOn}
 use Rattle.frame_store.specs.StoreContents.{content_of, stored, IsFound, IsStore}
 use Rattle.frame_store.proofs.TopIsWritten.{frames_more}
-use Rattle.frame_store.proofs.StoreChanges.{segment_in, found_top_is, get_here, get_other, same_some, store_changes, used_is, segment_is}
+use Rattle.frame_store.proofs.StoreChanges.{segment_in, found_top_is, get_here, get_other, store_changes, used_is, segment_is}
 
 module _ {S : Type 0} (m n : IndexMap ℕ DomainFrames S) (t : SegmentTable) (owed : ℕ) (s : SegmentNo) (p : Place) (x y : DomainFrames) (h : IsStore m t owed)
     (at : table.place_in t s.0 ≡ Some p) (is : get nat_eq m p.domain ≡ Some x) (wrote : WritesThrough nat_eq (nat_eq p.domain) m y n) where
@@ -70,7 +71,7 @@ module _ {S : Type 0} (m n : IndexMap ℕ DomainFrames S) (t : SegmentTable) (ow
   steps_call head count calls f top below given stack many =
       let found : IsFound m t s.0 x p.slot = record { domain = p.domain; at = at; is = is } in
       let same = found_top_is m t owed s h x p.slot found f top in
-      let segment = same_some segment_here top.segment (sym (segment_is m n t owed s p x y h at is wrote) ∙ top.is_there) in
+      let segment = same_Some segment_here top.segment (sym (segment_is m n t owed s p x y h at is wrote) ∙ top.is_there) in
       let frames : List FrameState → FrameState → List FrameState = λ lower (g : FrameState). lower ++ record g { stack = below } ∷ called_frame head given ∷ [] in
       let c = store_changes m n t owed s p x y h at is wrote (frames (lower_of x p.slot) (top_of x p.slot)) (x.used + head_chunks head)
       (calls below given (ap (λ (g : FrameState). g.stack) (sym same.1) ∙ stack) many) in

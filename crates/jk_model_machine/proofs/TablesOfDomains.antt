@@ -3,8 +3,8 @@ use Rattle.std.proofs.Common.{◌≡◌, List, [], ◌∷◌, ◌++◌, inl, inr
 use Rattle.std.specs.Prelude.{option_map}
 use Rattle.std.proofs.lemmas.List.{map-append}
 use Rattle.std.proofs.lemmas.Option.{slice_get-map}
+use Rattle.list_lemmas.proofs.ItemsOfLists.{Contains-here, Contains-there, Contains-cases, Contains-none, Contains-at, place_of}
 use Rattle.jk_model_classes.specs.Worlds.{NamedClass}
-use Rattle.class_growth.proofs.ItemsOfLists.{Contains-at, Contains-cases, Contains-here, Contains-none, Contains-there, place-of}
 use Rattle.jk_model_machine.specs.Machine.{DomainState, tables_of}
 
 abbrev table_of : DomainState → List NamedClass
@@ -12,7 +12,7 @@ table_of d = d.table
 
 pub table-among : (domains : List DomainState) (d : DomainState) → Contains domains d → Contains (tables_of domains) d.table
 table-among domains d on =
-    let place = place-of domains d on in
+    let place = place_of domains d on in
     Contains-at (tables_of domains) place.0 d.table (slice_get-map table_of domains place.0 ∙ ap (option_map table_of) place.1)
 
 -- a domain that has the table

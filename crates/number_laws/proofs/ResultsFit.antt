@@ -1,66 +1,28 @@
 -- A value that is returned fits the type of the method's result.
-use Rattle.std.proofs.Common.{◌≡◌, ◌⊎◌, inl, inr, ℕ, List, [], ◌∷◌, ◌++◌, ◌==◌, ◌||◌, Bool, true, false, Some, None, IsTrue, refl, sym, subst, ◌∙◌}
+use Rattle.std.proofs.Common.{◌≡◌, ◌⊎◌, inl, inr, ℕ, List, [], ◌∷◌, ◌++◌, ◌==◌, Some, None, IsTrue, refl, sym, subst, ◌∙◌}
+use Rattle.list_lemmas.proofs.EndsOfLists.{one_split}
 use Rattle.jk_model.specs.declared.instructions.Instr.{Instr}
 use Rattle.jk_model.specs.declared.steps.After.{After}
 use Rattle.jk_model.specs.declared.steps.After.TheVariants as Next
 use Rattle.jk_model.specs.declared.values.Value.{Value}
-use Rattle.jk_model.specs.declared.values.Value.TheVariants as Held
-use Rattle.jk_model_classes.specs.declared.records.TypeRef.{TypeRef}
 use Rattle.jk_model_classes.specs.Classes.{AreOrdered}
 use Rattle.jk_model_typing.specs.declared.frames.Demand.{Demand}
 use Rattle.jk_model_typing.specs.declared.frames.Demand.TheVariants.{Fitting}
 use Rattle.jk_model_typing.specs.declared.frames.FrameType.{FrameType}
 use Rattle.jk_model_typing.specs.declared.frames.VType.{VType}
-use Rattle.jk_model_typing.specs.declared.frames.VType.TheVariants.{Unusable, Int, Long, Null, Ref, Fresh, FreshThis}
-use Rattle.jk_model_typing.specs.FrameTypes.{Fits}
+use Rattle.jk_model_typing.specs.declared.frames.VType.TheVariants.{Int, Long, Ref}
 use Rattle.jk_model_typing.specs.Groups.{Group, Shape, ReturnsInt, ReturnsLong, ReturnsReference, Takes, group_of}
 use Rattle.jk_model_typing.specs.Rows.{AllMeet, Does, HasShape, Meets}
 use Rattle.jk_model_typing.specs.Scopes.{CodeScope}
 use Rattle.jk_model_frames.specs.Frames.{FrameState}
 use Rattle.jk_model_domains.specs.NumberRows.{NumberRow, Replaces, divides_by_zero, exchanges, is_return_of_value, jumps, returns, returns_nothing, switches, uses_local}
-use Rattle.jk_model_domains.specs.Objects.{CAPABILITY, NamedObject, class_type, type_of}
+use Rattle.jk_model_domains.specs.Objects.{NamedObject}
 use Rattle.jk_model_domains.specs.ValueTypes.{EachValueFits, ValueFits}
-use Rattle.type_frames.proofs.OrderOfTypes.{RefFits-trans}
 use Rattle.number_laws.specs.FrameLaws.{FitsResult, IsTyped}
 use Rattle.number_laws.specs.NumberOpcodes.{value_return_opcodes}
-use Rattle.number_laws.proofs.EachOpcode.{each_among}
-use Rattle.number_laws.proofs.SameEnds.{one_split}
+use Rattle.number_laws.proofs.EachOpcode.{each_among, three_ways}
+use Rattle.number_laws.proofs.ValuesAbove.{value-above}
 use Rattle.number_laws.proofs.ValuesFit.{end_fits, fits-length, fits_int, fits_long}
-
-three_ways : (a b c : Bool) → IsTrue (a || b || c) → IsTrue (a || (b || (c || false)))
-three_ways true b c h = refl
-three_ways false true c h = refl
-three_ways false false true h = refl
-three_ways false false false h = absurd cc
-
-module _ (s : CodeScope) (heap : List NamedObject) where
-  fits_null : (v : Value) (t : TypeRef) → ValueFits s heap v Null → ValueFits s heap v (Ref t)
-  fits_null (Held.Int n) t h = absurd h
-  fits_null (Held.Long n) t h = absurd h
-  fits_null Held.Null t h = tt
-  fits_null (Held.Obj a) t h = absurd h.2
-  fits_null (Held.Cap k) t h = absurd h
-  fits_null Held.Unset t h = absurd h
-
-  fits_ref : AreOrdered s.classes → (v : Value) (a t : TypeRef) → ValueFits s heap v (Ref a) → Fits s.classes (Ref a) (Ref t)
-      → ValueFits s heap v (Ref t)
-  fits_ref ordered (Held.Int n) a t h k = absurd h
-  fits_ref ordered (Held.Long n) a t h k = absurd h
-  fits_ref ordered Held.Null a t h k = tt
-  fits_ref ordered (Held.Obj x) a t h k = (h.0, h.1, RefFits-trans s.classes ordered (type_of h.0) a t h.2 k)
-  fits_ref ordered (Held.Cap c) a t h k = RefFits-trans s.classes ordered (class_type CAPABILITY) a t h k
-  fits_ref ordered Held.Unset a t h k = absurd h
-
-  -- a value of a type fits the references that the type fits
-  fits_above : AreOrdered s.classes → (v : Value) (u : VType) (t : TypeRef) → ValueFits s heap v u → Fits s.classes u (Ref t)
-      → ValueFits s heap v (Ref t)
-  fits_above ordered v Unusable t h k = absurd cc
-  fits_above ordered v Int t h k = absurd cc
-  fits_above ordered v Long t h k = absurd cc
-  fits_above ordered v Null t h k = fits_null v t h
-  fits_above ordered v (Ref a) t h k = fits_ref ordered v a t h k
-  fits_above ordered v (Fresh p) t h k = absurd cc
-  fits_above ordered v FreshThis t h k = absurd cc
 
 module _ (s : CodeScope) (heap : List NamedObject) (place : ℕ) (i : Instr) (f g : FrameState) (before after : FrameType)
     (typed : IsTyped s heap place i f before after) where
@@ -99,7 +61,7 @@ module _ (s : CodeScope) (heap : List NamedObject) (place : ℕ) (i : Instr) (f 
         | inr (inr e) ↦
             (let is = subst (λ (p : Group). HasShape s i p typed.row.shape) e typed.row.shape_is in
             let top = taken_meets (Fitting (Ref is.0)) v is.2 rep in
-            let ref : ValueFits s heap v (Ref is.0) = fits_above s heap ordered v top.0 is.0 top.2 top.1 in
+            let ref : ValueFits s heap v (Ref is.0) = value-above s heap ordered v top.0 (Ref is.0) top.2 top.1 in
             (is.1.0, is.1.1, subst (ValueFits s heap v) is.1.2 ref))
       ]
 

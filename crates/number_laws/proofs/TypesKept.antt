@@ -5,12 +5,12 @@ use Rattle.std.specs.Option.{option_map_or}
 use Rattle.std.proofs.lemmas.List.{append-nil}
 use Rattle.std.proofs.lemmas.List.Sums.{sum_by-cons}
 use Rattle.std.proofs.lemmas.Option.{same_Some}
+use Rattle.list_lemmas.proofs.EndsOfLists.{one_split}
 use Rattle.jk_model.specs.declared.instructions.Instr.{Instr}
 use Rattle.jk_model.specs.declared.steps.After.{After}
 use Rattle.jk_model.specs.declared.steps.After.TheVariants as Next
 use Rattle.jk_model.specs.declared.values.Value.{Value}
 use Rattle.jk_model.specs.declared.values.Value.TheVariants as Held
-use Rattle.jk_model_classes.specs.declared.records.Link.{Link}
 use Rattle.jk_model_classes.specs.declared.records.Link.TheVariants as To
 use Rattle.jk_model_classes.specs.MemberCode.{is_jump, is_switch}
 use Rattle.jk_model_typing.specs.declared.frames.Demand.{Demand}
@@ -20,19 +20,19 @@ use Rattle.jk_model_typing.specs.declared.frames.VType.{VType}
 use Rattle.jk_model_typing.specs.declared.frames.VType.TheVariants.{Unusable, Int, Long, Null, Ref, Fresh, FreshThis}
 use Rattle.jk_model_typing.specs.FrameTypes.{IsUsable, slots, slots_of}
 use Rattle.jk_model_typing.specs.Groups.{Group, Shape, Always, LoadsLocal, StoresLocal, Takes, Drops, Copies, Swaps, group_of, int, long, takes}
-use Rattle.jk_model_typing.specs.Rows.{AllMeet, Does, HasShape, cut, cut_before, with_local}
+use Rattle.jk_model_typing.specs.Rows.{Does, HasShape, cut, cut_before, with_local}
 use Rattle.jk_model_typing.specs.Scopes.{CodeScope, LeadsToLink}
 use Rattle.jk_model_typing.specs.Typing.{GoesOnAt, leaves_line}
+use Rattle.typing_lemmas.proofs.OneScope.{one_link}
 use Rattle.jk_model_frames.specs.Frames.{FrameState}
 use Rattle.jk_model_domains.specs.NumberRows.{Calculates, Decides, Exchanges, HasRow, IsConversion, Moves, NumberRow, Pushes, Replaces, UsesLocal, comparisons, copies, drops, exchanges, int_divisions, int_operations, is_load, is_store_of_top, jumps, divides_by_zero, long_divisions, long_operations, long_shifts, place_after, returns, returns_nothing, switches, switch_target, uses_local, value_slots, values_slots, with_value}
 use Rattle.jk_model_domains.specs.Objects.{NamedObject}
 use Rattle.jk_model_domains.specs.ValueTypes.{EachValueFits, FrameHolds, ValueFits}
 use Rattle.number_laws.specs.FrameLaws.{IsTyped}
 use Rattle.number_laws.specs.NumberOpcodes.{load_opcodes, store_opcodes, switch_opcodes}
-use Rattle.number_laws.proofs.FrameParts.{with_stack}
-use Rattle.number_laws.proofs.FrameParts.{same_index, short_value}
-use Rattle.number_laws.proofs.EachOpcode.{each_among}
-use Rattle.number_laws.proofs.SameEnds.{one_split}
+use Rattle.number_laws.proofs.FrameParts.{with_stack, same_index, short_value}
+use Rattle.number_laws.proofs.EachOpcode.{each_among, three_ways}
+use Rattle.number_laws.proofs.EntriesExchanged.{exchange_kept, takes_kept}
 use Rattle.number_laws.proofs.SlotsOfValues.{same_length}
 use Rattle.number_laws.proofs.JumpsGoOn.{jump_goes_on, switch_goes_on}
 use Rattle.number_laws.proofs.ValuesFit.{end_fits, fits-append, fits-length, fits-slots, long_fits, usable-append, value_at, value_slots-fit}
@@ -48,23 +48,6 @@ row_holds {X = X} P rows op x all h = at rows h.0 all h.1 h.2
     at [] k each lt e = absurd (omega arith)
     at (r ∷ rs) zero each lt e = let Q : ℕ × X → Type 0 = λ q. P q.0 q.1 in subst Q e each.0
     at (r ∷ rs) (suc k) each lt e = at rs k each.1 (omega arith) e
-
-three_ways : (a b c : Bool) → IsTrue (a || b || c) → IsTrue (a || (b || (c || false)))
-three_ways true b c h = refl
-three_ways false true c h = refl
-three_ways false false true h = refl
-three_ways false false false h = absurd cc
-
-one_link : (s : CodeScope) (i : Instr) (a b : Link) → LeadsToLink s i a → LeadsToLink s i b → a ≡ b
-one_link s i a b h k =
-    let same = same_index i.a h.0 k.0 h.1 k.1 in
-    same_Some a b (sym (subst (λ (n : ℕ). slice_get s.links n ≡ Some a) same h.2) ∙ k.2)
-
-as_many : (s : CodeScope) (ds : List Demand) (ts : List VType) → AllMeet s ds ts → length ds ≡ length ts
-as_many s [] [] h = refl
-as_many s [] (t ∷ ts) h = absurd h
-as_many s (d ∷ ds) [] h = absurd h
-as_many s (d ∷ ds) (t ∷ ts) h = ap suc (as_many s ds ts h.1)
 
 -- ---- Locals.
 
@@ -140,28 +123,6 @@ module _ (s : CodeScope) (heap : List NamedObject) (place : ℕ) (i : Instr) (f 
   does_always : (x : Shape) → group_of i.op ≡ Always x → Does s place x before after
   does_always x e =
       subst (λ (y : Shape). Does s place y before after) (subst (λ (p : Group). HasShape s i p typed.row.shape) e typed.row.shape_is) typed.row.does
-
-  -- entries are taken, and others are put in their place
-  exchange_kept : (below old gives : List VType) (taken pushed : List Value) → before.stack ≡ below ++ old
-      → after.stack ≡ below ++ gives → after.locals ≡ before.locals → Replaces f g taken pushed → length taken ≡ length old
-      → (EachValueFits s heap taken old → EachValueFits s heap pushed gives) → FrameHolds s heap g after
-  exchange_kept below old gives taken pushed stack now locals rep many fit =
-      let split = end_fits s heap f.stack below old (subst (EachValueFits s heap f.stack) stack typed.holds.stack) in
-      let whole : rep.below ++ taken ≡ split.front ++ split.back = sym rep.before ∙ split.whole in
-      let both = one_split rep.below split.front taken split.back whole (many ∙ sym (fits-length s heap split.back old split.back_fits)) in
-      let low : EachValueFits s heap rep.below below = subst (λ (vs : List Value). EachValueFits s heap vs below) (sym both.0) split.front_fits in
-      let top : EachValueFits s heap taken old = subst (λ (vs : List Value). EachValueFits s heap vs old) (sym both.1) split.back_fits in
-      let new : EachValueFits s heap (rep.below ++ pushed) (below ++ gives) = fits-append s heap rep.below pushed below gives low (fit top) in
-      let stacks : EachValueFits s heap (rep.below ++ pushed) after.stack = subst (EachValueFits s heap (rep.below ++ pushed)) (sym now) new in
-      let ls : EachValueFits s heap f.locals after.locals = subst (EachValueFits s heap f.locals) (sym locals) typed.holds.locals in
-      let there : FrameHolds s heap (with_stack f (rep.below ++ pushed)) after = record { locals = ls; stack = stacks } in
-      subst (λ (x : FrameState). FrameHolds s heap x after) (sym rep.after) there
-
-  takes_kept : (ds : List Demand) (gives : List VType) (taken pushed : List Value) → Does s place (Takes ds gives) before after
-      → Replaces f g taken pushed → length taken ≡ length ds → EachValueFits s heap pushed gives → FrameHolds s heap g after
-  takes_kept ds gives taken pushed does rep many fit =
-      exchange_kept does.0 does.1 gives taken pushed does.2 (ap (λ (t : FrameType). t.stack) does.4) (ap (λ (t : FrameType). t.locals) does.4) rep
-      (many ∙ as_many s ds does.1 does.3) (λ h. fit)
 
   -- by slots, the entries that are taken are as many as their types
   as_many_by_slots : (below old : List VType) (taken pushed : List Value) → before.stack ≡ below ++ old → Replaces f g taken pushed
@@ -317,7 +278,8 @@ module _ (s : CodeScope) (heap : List NamedObject) (place : ℕ) (i : Instr) (f 
       → Replaces f g taken pushed → FrameHolds s heap g after
   drops_kept n taken pushed e same none rep =
       let does = does_always (Drops n) e in
-      exchange_kept does.0 does.1 [] taken pushed does.2 (ap (λ (t : FrameType). t.stack) does.4 ∙ sym (append-nil does.0))
+      exchange_kept s heap place f g before after typed.holds does.0 does.1 [] taken pushed does.2
+      (ap (λ (t : FrameType). t.stack) does.4 ∙ sym (append-nil does.0))
       (ap (λ (t : FrameType). t.locals) does.4) rep (as_many_by_slots does.0 does.1 taken pushed does.2 rep (same ∙ sym does.3))
       (λ h. subst (λ (vs : List Value). EachValueFits s heap vs []) (sym none) tt)
 
@@ -333,7 +295,8 @@ module _ (s : CodeScope) (heap : List NamedObject) (place : ℕ) (i : Instr) (f 
       let sums : values_slots taken ≡ slots (does.1 ++ does.2) =
       ap values_slots et ∙ value_sums skipped copied ∙ ap (λ (k : ℕ). k + values_slots copied) (em ∙ sym does.4)
       ∙ ap (λ (k : ℕ). slots does.1 + k) (en ∙ sym does.5) ∙ sym (type_sums does.1 does.2) in
-      exchange_kept does.0 (does.1 ++ does.2) (does.2 ++ does.1 ++ does.2) taken pushed stack now (ap (λ (t : FrameType). t.locals) does.6) rep
+      exchange_kept s heap place f g before after typed.holds does.0 (does.1 ++ does.2) (does.2 ++ does.1 ++ does.2) taken pushed stack now
+      (ap (λ (t : FrameType). t.locals) does.6) rep
       (as_many_by_slots does.0 (does.1 ++ does.2) taken pushed stack rep sums)
       (λ h. copied_fit does.0 does.1 does.2 stack h (em ∙ sym does.4) (en ∙ sym does.5))
     where
@@ -364,7 +327,8 @@ module _ (s : CodeScope) (heap : List NamedObject) (place : ℕ) (i : Instr) (f 
       → Replaces f g taken pushed → FrameHolds s heap g after
   swap_kept v w taken pushed e et ep rep =
       let does = does_always Swaps e in
-      exchange_kept does.0 (does.1 ∷ does.2 ∷ []) (does.2 ∷ does.1 ∷ []) taken pushed does.3 (ap (λ (t : FrameType). t.stack) does.6)
+      exchange_kept s heap place f g before after typed.holds does.0 (does.1 ∷ does.2 ∷ []) (does.2 ∷ does.1 ∷ []) taken pushed does.3
+      (ap (λ (t : FrameType). t.stack) does.6)
       (ap (λ (t : FrameType). t.locals) does.6) rep (ap length et)
       (λ h. let two = subst (λ (vs : List Value). EachValueFits s heap vs (does.1 ∷ does.2 ∷ [])) et h in
       subst (λ (vs : List Value). EachValueFits s heap vs (does.2 ∷ does.1 ∷ [])) (sym ep) (two.1.0, (two.0, tt)))
@@ -385,7 +349,7 @@ module _ (s : CodeScope) (heap : List NamedObject) (place : ℕ) (i : Instr) (f 
 
   plain_kept : (taken pushed : List Value) → IsPlain taken pushed → Replaces f g taken pushed
       → FrameHolds s heap g after × (leaves_line i.op ≡ false)
-  plain_kept taken pushed h rep = (takes_kept h.ds h.gives taken pushed h.does rep h.many h.fit, h.line)
+  plain_kept taken pushed h rep = (takes_kept s heap place f g before after typed.holds h.ds h.gives taken pushed h.does rep h.many h.fit, h.line)
 
   exchanges_kept : (taken pushed : List Value) → Exchanges s i taken pushed → Replaces f g taken pushed
       → FrameHolds s heap g after × (leaves_line i.op ≡ false)
@@ -473,7 +437,7 @@ module _ (s : CodeScope) (heap : List NamedObject) (place : ℕ) (i : Instr) (f 
       → (group_of i.op ≡ takes ds []) × (leaves_line i.op ≡ false) × IsTrue (is_jump i.op) → length taken ≡ length ds
       → Replaces f g taken [] → place_after place holds i.a ≡ pos next → FrameHolds s heap g after × GoesOnAt place i (pos next)
   jump_kept ds taken next holds h many rep at =
-      (takes_kept ds [] taken [] (does_always (Takes ds []) h.0) rep many tt, goes next holds h.1 h.2 at)
+      (takes_kept s heap place f g before after typed.holds ds [] taken [] (does_always (Takes ds []) h.0) rep many tt, goes next holds h.1 h.2 at)
 
   jumps_kept : (taken : List Value) (holds : Bool) (next : ℕ) → Decides i.op taken holds → Replaces f g taken []
       → place_after place holds i.a ≡ pos next → FrameHolds s heap g after × GoesOnAt place i (pos next)
@@ -513,7 +477,7 @@ module _ (s : CodeScope) (heap : List NamedObject) (place : ℕ) (i : Instr) (f 
       jump_kept (AnyReference ∷ []) taken next holds (ap group_of h.1, ap leaves_line h.1, ap is_jump h.1) (ap length h.2) rep at
   jumps_kept taken holds next (inr (inr (inr (inr (inr (inr h)))))) rep at =
       let goto : place_after place true i.a ≡ pos next = subst (λ (b : Bool). place_after place b i.a ≡ pos next) h.2 at in (
-        takes_kept [] [] taken [] (does_always (Takes [] []) (ap group_of h.0)) rep (ap length h.1) tt,
+        takes_kept s heap place f g before after typed.holds [] [] taken [] (does_always (Takes [] []) (ap group_of h.0)) rep (ap length h.1) tt,
         subst (GoesOnAt place i) goto (jump_goes_on place i (ap is_jump h.0)),
       )
 
@@ -527,7 +491,7 @@ module _ (s : CodeScope) (heap : List NamedObject) (place : ℕ) (i : Instr) (f 
   switch_kept key next op rep at =
       let group = each_among (λ (k : ℕ). group_of k ≡ takes (int ∷ []) []) switch_opcodes i.op (refl, (refl, tt))
       (two_ways (i.op == 0xaa) (i.op == 0xab) op) in (
-        takes_kept (int ∷ []) [] (Held.Int key ∷ []) [] (does_always (Takes (int ∷ []) []) group) rep refl tt,
+        takes_kept s heap place f g before after typed.holds (int ∷ []) [] (Held.Int key ∷ []) [] (does_always (Takes (int ∷ []) []) group) rep refl tt,
         subst (GoesOnAt place i) at (switch_goes_on place i key op),
       )
 

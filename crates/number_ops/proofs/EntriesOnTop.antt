@@ -1,12 +1,12 @@
 -- Entries that are taken and pushed one after another are taken and pushed together, and what is on top then.
 use Rattle.std.proofs.Common.{◌≡◌, ℕ, ◌+◌, ◌≤◌, List, [], ◌∷◌, ◌++◌, length, refl, sym, ap, subst, ◌∙◌, append_assoc, arith}
 use Rattle.std.proofs.lemmas.List.{append-nil, length-append}
+use Rattle.list_lemmas.proofs.EndsOfLists.{one_split}
 use Rattle.jk_model.specs.declared.identifiers.SegmentNo.{SegmentNo}
 use Rattle.jk_model.specs.declared.values.Value.{Value}
 use Rattle.jk_model_frames.specs.Frames.{FrameState}
 use Rattle.frame_store.specs.FrameContents.{FrameContent, TopFrame}
 use Rattle.number_ops.specs.TopChanges.{OnTop, OnTopWithRoom, Turns}
-use Rattle.number_laws.proofs.SameEnds.{one_split}
 use Rattle.number_laws.proofs.FrameParts.{with_stack}
 use Rattle.number_ops.proofs.TopFrames.{joined, met_between, same_top, stays, top_after}
 

@@ -11,4 +11,4 @@ mod OpcodesAmong
 mod PartsOfOpcodes
 mod SlotsTaken
 mod StepsDone
-mod TopFrames
+pub mod TopFrames

@@ -1,17 +1,17 @@
 -- A segment has one top frame, and what changes it twice changes it once.
 use Rattle.std.proofs.Common.{◌≡◌, List, [], ◌∷◌, ◌++◌, Some, refl, sym, ap, subst, ◌∙◌}
 use Rattle.std.proofs.lemmas.Option.{same_Some}
+use Rattle.list_lemmas.proofs.LastItems.{one_last}
 use Rattle.jk_model.specs.declared.identifiers.SegmentNo.{SegmentNo}
 use Rattle.jk_model_frames.specs.Frames.{FrameState}
 use Rattle.frame_store.specs.FrameContents.{Changes, FrameContent, KeepsDomains, SetsTop, StoredSegment, TopFrame}
-use Rattle.number_laws.proofs.SameEnds.{one_top}
 use Rattle.number_ops.specs.TopChanges.{Becomes}
 
 pub same_top : (c : FrameContent) (s : SegmentNo) (f g : FrameState) → TopFrame c s f → TopFrame c s g → f ≡ g
 same_top c s f g a b =
     let segments : a.segment ≡ b.segment = same_Some a.segment b.segment (sym a.is_there ∙ b.is_there) in
     let lists : a.lower ++ f ∷ [] ≡ b.lower ++ g ∷ [] = sym a.frames ∙ ap (λ (x : StoredSegment). x.frames) segments ∙ b.frames in
-    (one_top a.lower b.lower f g lists).1
+    (one_last a.lower b.lower f g lists).1
 
 pub top_after : (old new : FrameContent) (s : SegmentNo) (g : FrameState) → SetsTop old new s g → TopFrame new s g
 top_after old new s g h = record {
@@ -21,7 +21,7 @@ top_after old new s g h = record {
   frames = refl;
 }
 
-both_keep : (a b c : FrameContent) → KeepsDomains a b → KeepsDomains b c → KeepsDomains a c
+pub both_keep : (a b c : FrameContent) → KeepsDomains a b → KeepsDomains b c → KeepsDomains a c
 both_keep a b c first second = record {
   pages = second.pages ∙ first.pages;
   took_all = second.took_all ∙ first.took_all;
@@ -36,7 +36,7 @@ then_sets a b c s g h first second =
     let whole : StoredSegment = record top.segment { frames = top.lower ++ g ∷ [] } in
     let same : whole ≡ next.segment = same_Some whole next.segment (sym first.2.becomes ∙ next.is_there) in
     let lists : top.lower ++ g ∷ [] ≡ next.lower ++ second.0 ∷ [] = ap (λ (x : StoredSegment). x.frames) same ∙ next.frames in
-    let lower : top.lower ≡ next.lower = (one_top top.lower next.lower g second.0 lists).0 in
+    let lower : top.lower ≡ next.lower = (one_last top.lower next.lower g second.0 lists).0 in
     let there : Changes b c s top.segment.domain
     (Some (let x : StoredSegment = record top.segment { frames = next.lower ++ h ∷ [] } in x)) (b.used top.segment.domain) =
     subst (λ (x : StoredSegment). Changes b c s x.domain

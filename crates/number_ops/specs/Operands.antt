@@ -5,7 +5,6 @@ use Rattle.jk_model.specs.declared.identifiers.SegmentNo.{SegmentNo}
 use Rattle.jk_model.specs.declared.instructions.Instr.{Instr}
 use Rattle.jk_model.specs.declared.values.Value.{Value}
 use Rattle.jk_model.specs.declared.values.Value.TheVariants as Held
-use Rattle.jk_model_typing.specs.declared.frames.VType.TheVariants.{Int, Long}
 use Rattle.jk_model.specs.declared.instructions.SwitchCase.{SwitchCase}
 use Rattle.jk_model.specs.declared.identifiers.MemberId.{MemberId}
 use Rattle.jk_model.specs.declared.opcodes.TheConstants.{LDC_W, LDC2_W}

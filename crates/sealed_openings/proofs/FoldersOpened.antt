@@ -1,9 +1,10 @@
 -- A sealed machine with the classes of an accepted folder, and with the folder's domain opened, is sealed.
-use Rattle.std.proofs.Common.{◌≡◌, ℕ, zero, suc, true, List, [], ◌∷◌, ◌++◌, length, map, Contains, Some, slice_get, refl, sym, ap, subst, ◌∙◌}
+use Rattle.std.proofs.Common.{◌≡◌, ℕ, true, List, [], ◌∷◌, ◌++◌, Contains, refl, sym, ap, subst, ◌∙◌}
 use Rattle.std.proofs.lemmas.List.Elements.{Contains-append_right}
 use Rattle.std.proofs.lemmas.Option.{same_Some}
+use Rattle.list_lemmas.proofs.ItemsOfLists.{Contains-here, place_of}
+use Rattle.list_lemmas.proofs.ItemsByPlace.{mapped_at}
 use Rattle.jk_model.specs.declared.identifiers.ClassId.{ClassId}
-use Rattle.jk_model.specs.declared.identifiers.ThreadNo.{ThreadNo}
 use Rattle.jk_model.specs.declared.script.Quotas.{Quotas}
 use Rattle.jk_model_classes.specs.declared.records.ClassRecord.{ClassRecord}
 use Rattle.jk_model_classes.specs.declared.sharing.Offer.{Offer}
@@ -17,7 +18,6 @@ use Rattle.jk_model_sound_classes.specs.SoundClasses.{AreSoundClasses}
 use Rattle.jk_model_machine.specs.Machine.{DomainState, Inside, Machine, is_live_domain, tables_of, world_of}
 use Rattle.jk_model_machine.specs.Sealed.{IsSealed, IsSealedInside}
 use Rattle.jk_model_machine.proofs.TablesOfDomains.{table-among, tables-behind}
-use Rattle.class_growth.proofs.ItemsOfLists.{Contains-at, Contains-here, place-of}
 use Rattle.sound_folders.specs.LinkedWorlds.{Accepts, AreLinked}
 use Rattle.sound_folders.proofs.NewClasses.{added, all}
 use Rattle.sound_folders.proofs.SoundAgain.{accepted-linked, accepted-sound}
@@ -29,11 +29,6 @@ use Rattle.sealed_openings.proofs.OpeningsSealed.{opening-sealed}
 use Rattle.sealed_openings.proofs.UntouchedClasses.{none-in_progress}
 
 -- ---- Names.
-
-mapped-at : {X Y : Type 0} (f : X → Y) (xs : List X) (k : ℕ) (x : X) → slice_get xs k ≡ Some x → slice_get (map f xs) k ≡ Some (f x)
-mapped-at f [] k x e = absurd cc
-mapped-at f (y ∷ xs) zero x e = ap (λ z. Some (f z)) (same_Some y x e)
-mapped-at f (y ∷ xs) (suc k) x e = mapped-at f xs k x e
 
 module _ {f : FolderFiles} {m : Machine} {name : List ℕ} {first : ClassId} {table : List NamedClass} {offers : List Offer} {stubs : List Stub}
     {w : WorldRecord} (a : Accepts f (world_of m) name first table offers stubs w) (sealed : IsSealed m)
@@ -56,12 +51,12 @@ module _ {f : FolderFiles} {m : Machine} {name : List ℕ} {first : ClassId} {ta
 
   not-live : (e : DomainState) → Contains m.domains e → is_live_domain e ≡ true → e.name ≡ name → ⊥
   not-live e on live same_name =
-      let place = place-of m.domains e on in
+      let place = place_of m.domains e on in
       a.loads.not_live (
         record { 0 = place.0 },
         (
           record { id = e.number; name = e.name; live = is_live_domain e; table = e.table; offers = e.offers },
-          mapped-at (λ (x : DomainState). record { id = x.number; name = x.name; live = is_live_domain x; table = x.table; offers = x.offers })
+          mapped_at (λ (x : DomainState). record { id = x.number; name = x.name; live = is_live_domain x; table = x.table; offers = x.offers })
               m.domains place.0 e place.1,
           live,
           same_name,

@@ -1,9 +1,11 @@
 -- What a domain has inside stays sealed with more classes behind those that its names mean.
-use Rattle.std.proofs.Common.{◌≡◌, ℕ, zero, suc, ◌+◌, ◌<◌, ◌==◌, List, [], ◌∷◌, ◌++◌, length, map, filter, find, flat_map, Contains, Option, Some, None, slice_get, refl, sym, ap, subst, ◌∙◌, arith}
+use Rattle.std.proofs.Common.{◌≡◌, ℕ, zero, suc, ◌+◌, ◌<◌, ◌==◌, List, [], ◌∷◌, ◌++◌, length, map, filter, flat_map, Contains, Option, Some, None, slice_get, refl, sym, ap, subst, ◌∙◌, arith}
 use Rattle.std.specs.Prelude.{option_and_then}
 use Rattle.std.specs.List.{AllByRecursion, enumerate_from}
 use Rattle.std.specs.Option.{option_map_or}
 use Rattle.std.proofs.lemmas.Bool.{eqb-true}
+use Rattle.list_lemmas.proofs.ItemsOfLists.{Contains-at, each-of, each-weaker}
+use Rattle.list_lemmas.proofs.LastItems.{each-append}
 use Rattle.jk_model.specs.declared.identifiers.ClassId.{ClassId}
 use Rattle.jk_model.specs.declared.identifiers.MemberId.{MemberId}
 use Rattle.jk_model.specs.declared.values.Value.{Value}
@@ -22,7 +24,6 @@ use Rattle.jk_model_sound_classes.specs.SoundClasses.{IsNamedBase}
 use Rattle.jk_model_machine.specs.Machine.{DomainState, Inside}
 use Rattle.jk_model_machine.specs.Sealed.{HasFields, IsKnownValue, IsSealedInside, IsSealedObject}
 use Rattle.class_growth.specs.ClosedClasses.{HasBase, IsClosed}
-use Rattle.class_growth.proofs.ItemsOfLists.{Contains-at, each-of, each-weaker}
 use Rattle.class_growth.proofs.LayoutsKept.{instance_fields-kept}
 use Rattle.class_growth.proofs.MoreClasses.{field-before, has_class-by_record}
 use Rattle.class_growth.proofs.OwnStatesKept.{own_state-still}
@@ -37,12 +38,6 @@ module _ {X Y : Type 0} (P : Y → Type 0) where
   each-mapped g h [] = tt
   each-mapped g h (x ∷ xs) = (h x, each-mapped g h xs)
 
-module _ {Y : Type 0} (P : Y → Type 0) where
-  each-append : (xs ys : List Y) → AllByRecursion P xs → AllByRecursion P ys → AllByRecursion P (xs ++ ys)
-  each-append [] ys h k = k
-  each-append (x ∷ xs) ys h k = (h.0, each-append xs ys h.1 k)
-
-module _ {X Y : Type 0} (P : Y → Type 0) where
   each-flat_map : (f : X → List Y) → ((x : X) → AllByRecursion P (f x)) → (xs : List X) → AllByRecursion P (flat_map f xs)
   each-flat_map f h [] = tt
   each-flat_map f h (x ∷ xs) = each-append P (f x) (flat_map f xs) (h x) (each-flat_map f h xs)

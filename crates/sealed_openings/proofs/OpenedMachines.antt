@@ -1,9 +1,11 @@
 -- A sealed machine with more classes behind and one more domain is sealed: nothing of the new domain runs yet.
-use Rattle.std.proofs.Common.{◌≡◌, ◌≢◌, ℕ, ◌+◌, ◌<◌, ◌≤◌, ◌==◌, ◌⊎◌, inl, inr, Bool, true, false, List, [], ◌∷◌, ◌++◌, length, sum_by, Contains, Option, Some, None, slice_get, refl, sym, ap, subst, ◌∙◌, arith, if◌then◌else◌}
+use Rattle.std.proofs.Common.{◌≡◌, ◌≢◌, ℕ, ◌<◌, ◌≤◌, ◌==◌, inl, inr, true, false, List, [], ◌∷◌, ◌++◌, length, sum_by, Contains, Some, slice_get, refl, sym, ap, subst, ◌∙◌, arith, if◌then◌else◌}
 use Rattle.std.proofs.lemmas.Bool.{eqb-true}
 use Rattle.std.proofs.lemmas.List.Elements.{Contains-push_cases}
 use Rattle.std.proofs.lemmas.List.Sums.{sum_by-cons}
 use Rattle.std.proofs.lemmas.Option.{slice_get_within}
+use Rattle.list_lemmas.proofs.ItemsByPlace.{slice_get-longer}
+use Rattle.list_lemmas.proofs.ItemsOfLists.{Contains-here, Contains-there, Contains-at}
 use Rattle.jk_model.specs.declared.identifiers.ClassId.{ClassId}
 use Rattle.jk_model.specs.declared.identifiers.ThreadNo.{ThreadNo}
 use Rattle.jk_model_classes.specs.declared.records.ClassRecord.{ClassRecord}
@@ -14,11 +16,10 @@ use Rattle.jk_model_domains.specs.declared.states.ClassState.TheVariants as Stat
 use Rattle.jk_model_domains.specs.OwnStates.{OwnState, state_of}
 use Rattle.jk_model_frames.specs.Frames.{segment_chunks}
 use Rattle.jk_model_sound_classes.specs.SoundClasses.{AreSoundClasses}
-use Rattle.jk_model_machine.specs.Machine.{DomainState, Inside, Machine, Segment, Thread, chunks_of, chunks_used, is_live_domain, tables_of}
+use Rattle.jk_model_machine.specs.Machine.{DomainState, Machine, Segment, Thread, chunks_of, chunks_used, is_live_domain, tables_of}
 use Rattle.jk_model_machine.specs.Sealed.{IsSealed, IsSealedInside, IsSealedSegment, in_progress_by, initialisers_of, segment_initialisers}
 use Rattle.jk_model_machine.proofs.TablesOfDomains.{table-among}
 use Rattle.class_growth.specs.ClosedClasses.{IsClosed}
-use Rattle.class_growth.proofs.ItemsOfLists.{Contains-at, Contains-here, Contains-there, slice_get-longer}
 use Rattle.class_growth.proofs.MoreClasses.{has_class-by_record}
 use Rattle.sealed_steps.proofs.OneItemChanged.{IsOldOrLast, if-false, not_true, push-cases}
 use Rattle.step_progress.specs.BuiltCodes.{with_opened}

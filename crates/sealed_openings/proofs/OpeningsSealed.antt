@@ -1,19 +1,19 @@
 -- What a domain has inside that was just opened is sealed: a PrintStream, texts, and static fields as they begin.
-use Rattle.std.proofs.Common.{◌≡◌, ◌≢◌, ℕ, ◌<◌, ◌==◌, inl, inr, List, [], length, take, find, Contains, Option, Some, None, slice_get, refl, sym, ap, subst, ◌∙◌, arith}
+use Rattle.std.proofs.Common.{◌≡◌, ℕ, ◌<◌, ◌==◌, inl, inr, List, [], length, take, find, Contains, Option, Some, None, slice_get, refl, sym, ap, subst, ◌∙◌, arith}
 use Rattle.std.specs.Prelude.{option_map}
 use Rattle.std.proofs.lemmas.Bool.{eqb-true}
 use Rattle.std.proofs.lemmas.Option.{same_Some}
+use Rattle.list_lemmas.proofs.ItemsOfLists.{place_of}
 use Rattle.jk_model.specs.declared.identifiers.ClassId.{ClassId}
 use Rattle.jk_model.specs.SystemTable.{system_classes}
 use Rattle.jk_model_classes.specs.declared.records.ClassRecord.{ClassRecord}
 use Rattle.jk_model_classes.specs.Layouts.{InstanceField}
 use Rattle.jk_model_classes.specs.SystemRecords.{AreSystemRecords}
-use Rattle.jk_model_classes.specs.Worlds.{IsNamed, NamedClass}
+use Rattle.jk_model_classes.specs.Worlds.{IsNamed}
 use Rattle.jk_model_typing.specs.FrameTypes.{STRING}
 use Rattle.jk_model_domains.specs.Objects.{NamedObject, Object, Plain, Text, PRINT_STREAM, object_named}
 use Rattle.jk_model_machine.specs.Machine.{DomainState, Inside}
 use Rattle.jk_model_machine.specs.Sealed.{HasFields, IsSealedInside, IsSealedObject}
-use Rattle.class_growth.proofs.ItemsOfLists.{Contains-at, place-of}
 use Rattle.sealed_steps.proofs.OneItemChanged.{find-place}
 use Rattle.sealed_openings.specs.FieldConstants.{HaveSuitingConstants}
 use Rattle.sealed_openings.specs.OpenedDomains.{IsOpening}
@@ -31,7 +31,7 @@ object-there heap differ e a object on name named = by (find (λ (x : NamedObjec
     by None found is = absurd cc
     by (Some x) found is =
         let at = find-place (λ (y : NamedObject). y.name == a) heap x found in
-        let place = place-of heap e on in
+        let place = place_of heap e on in
         let same : at.0 ≡ place.0 = differ at.0 place.0 x e at.1 place.1 (eqb-true x.name a at.2 ∙ sym name) in
         let here : slice_get heap place.0 ≡ Some x = subst (λ (i : ℕ). slice_get heap i ≡ Some x) same at.1 in
         let one : x ≡ e = same_Some x e (sym here ∙ place.1) in

@@ -4,6 +4,7 @@ use Rattle.std.specs.Prelude.{option_map, option_and_then}
 use Rattle.std.specs.List.{AllByRecursion, enumerate_from}
 use Rattle.std.proofs.lemmas.Bool.{eqb-true}
 use Rattle.std.proofs.lemmas.Option.{same_Some}
+use Rattle.list_lemmas.proofs.ItemsOfLists.{Contains-at, each-of}
 use Rattle.jk_model.specs.declared.identifiers.MemberId.{MemberId}
 use Rattle.jk_model.specs.declared.values.Value.{Value}
 use Rattle.jk_model_classes.specs.declared.records.BaseRef.{BaseRef}
@@ -20,7 +21,6 @@ use Rattle.jk_model_domains.specs.OwnStates.{ClassPart, StaticField, first_stati
 use Rattle.jk_model_domains.specs.ValueTypes.{HoldsDeclared}
 use Rattle.jk_model_machine.specs.Machine.{Inside}
 use Rattle.jk_model_machine.specs.Sealed.{IsKnownValue}
-use Rattle.class_growth.proofs.ItemsOfLists.{Contains-at, each-of}
 use Rattle.sealed_steps.proofs.OneItemChanged.{find-place}
 use Rattle.sealed_openings.specs.FieldConstants.{HaveSuitingConstants, SuitsType}
 use Rattle.sealed_openings.specs.OpenedDomains.{IsOpening}

@@ -1,9 +1,11 @@
 -- An object of java/io/PrintStream has no fields.
-use Rattle.std.proofs.Common.{◌≡◌, ℕ, zero, suc, ◌+◌, ◌<◌, List, [], ◌∷◌, ◌++◌, length, take, map, filter, flat_map, Option, Some, None, slice_get, refl, sym, ap, subst, ◌∙◌, arith}
+use Rattle.std.proofs.Common.{◌≡◌, ℕ, zero, suc, List, [], ◌∷◌, ◌++◌, length, take, map, filter, flat_map, Option, Some, None, slice_get, refl, sym, ap, subst, ◌∙◌, arith}
 use Rattle.std.specs.Prelude.{option_map}
 use Rattle.std.specs.List.{enumerate_from}
 use Rattle.std.specs.Option.{option_map_or}
 use Rattle.std.proofs.lemmas.Option.{same_Some, slice_get_within}
+use Rattle.list_lemmas.proofs.ItemsByPlace.{item_there}
+use Rattle.list_lemmas.proofs.FoundItems.{maps_nothing}
 use Rattle.jk_model.specs.declared.identifiers.ClassId.{ClassId}
 use Rattle.jk_model.specs.SystemTable.{SystemClass, system_classes}
 use Rattle.jk_model_classes.specs.declared.records.ClassRecord.{ClassRecord}
@@ -12,7 +14,6 @@ use Rattle.jk_model_classes.specs.Classes.{parents_of, record_of}
 use Rattle.jk_model_classes.specs.Layouts.{InstanceField, fields_within, instance_fields, is_instance_field, own_fields, type_words}
 use Rattle.jk_model_classes.specs.SystemRecords.{AreSystemRecords, IsSystemRecord}
 use Rattle.jk_model_domains.specs.Objects.{PRINT_STREAM}
-use Rattle.class_growth.proofs.ItemsOfLists.{item-at, slice_get-longer}
 
 empty-list : {X : Type 0} (xs : List X) → length xs ≡ 0 → xs ≡ []
 empty-list [] e = refl
@@ -23,10 +24,6 @@ slice_get-of_take xs zero k x e = absurd cc
 slice_get-of_take [] (suc n) k x e = e
 slice_get-of_take (y ∷ xs) (suc n) zero x e = e
 slice_get-of_take (y ∷ xs) (suc n) (suc k) x e = slice_get-of_take xs n k x e
-
-none-mapped : {A B : Type 0} (g : A → B) (o : Option A) → None ≡ option_map g o → o ≡ None
-none-mapped g None e = refl
-none-mapped g (Some x) e = absurd cc
 
 some-mapped : {A B : Type 0} (g : A → B) (o : Option A) (b : B) → Some b ≡ option_map g o → (a : A) × (o ≡ Some a) × (g a ≡ b)
 some-mapped g None b e = absurd cc
@@ -78,7 +75,7 @@ module _ (classes : List ClassRecord) where
     system-at : (n : ℕ) (entry : SystemClass) → slice_get system_classes n ≡ Some entry → SystemAt n entry
     system-at n entry at =
         let low = slice_get_within system_classes n entry at in
-        let found = item-at (take (length system_classes) classes) n (omega (arith, low, system.as_many)) in
+        let found = item_there (take (length system_classes) classes) n (omega (arith, low, system.as_many)) in
         record {
           of = found.0;
           is = slice_get-of_take classes (length system_classes) n found.0 found.1;
@@ -92,7 +89,7 @@ module _ (classes : List ClassRecord) where
         let none : stream.of.fields ≡ [] = empty-list stream.of.fields stream.says.field_count in
         let none_above : object.of.fields ≡ [] = empty-list object.of.fields object.says.field_count in
         let up = some-mapped (λ (c : ClassId). c.0) stream.of.parent 0 (sym stream.says.parent) in
-        let top : object.of.parent ≡ None = none-mapped (λ (c : ClassId). c.0) object.of.parent (sym object.says.parent) in
+        let top : object.of.parent ≡ None = maps_nothing (λ (c : ClassId). c.0) object.of.parent (sym object.says.parent) in
         let there : record_of classes up.0 ≡ Some object.of = subst (λ (i : ℕ). slice_get classes i ≡ Some object.of) (sym up.2) object.is in
         let fields : fields_within (suc (suc 5)) classes PRINT_STREAM ≡ [] =
         none-below 5 PRINT_STREAM up.0 stream.of object.of stream.is none up.1 there none_above top in

@@ -1,12 +1,11 @@
 -- Where no class of a domain is touched, none is in progress.
-use Rattle.std.proofs.Common.{◌≡◌, ◌==◌, List, find, Contains, Option, Some, None, refl, sym, ◌∙◌}
+use Rattle.std.proofs.Common.{◌≡◌, ◌==◌, Contains, Option, Some, None, refl, sym, ◌∙◌}
 use Rattle.std.specs.Option.{option_map_or}
+use Rattle.list_lemmas.proofs.ItemsOfLists.{Contains-at}
 use Rattle.jk_model.specs.declared.identifiers.ClassId.{ClassId}
 use Rattle.jk_model.specs.declared.identifiers.ThreadNo.{ThreadNo}
-use Rattle.jk_model_domains.specs.declared.states.ClassState.{ClassState}
 use Rattle.jk_model_domains.specs.declared.states.ClassState.TheVariants as State
 use Rattle.jk_model_domains.specs.OwnStates.{ClassPart, OwnState, part_of, state_of}
-use Rattle.class_growth.proofs.ItemsOfLists.{Contains-at}
 use Rattle.sealed_steps.proofs.OneItemChanged.{find-place}
 
 done-apart : (t : ThreadNo) → State.Done ≡ State.InProgress t → ⊥

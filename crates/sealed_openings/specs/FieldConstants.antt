@@ -1,5 +1,5 @@
 -- Constants of fields that are numbers of their fields' types.
-use Rattle.std.specs.Prelude.{◌≡◌, ℕ, ⊤, List, Contains, Some}
+use Rattle.std.specs.Prelude.{◌≡◌, ⊤, List, Contains, Some}
 use Rattle.jk_model.specs.declared.identifiers.ClassId.{ClassId}
 use Rattle.jk_model_classes.specs.declared.records.BaseRef.{BaseRef}
 use Rattle.jk_model_classes.specs.declared.records.BaseRef.TheVariants as Base

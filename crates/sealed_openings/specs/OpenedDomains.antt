@@ -1,6 +1,6 @@
 -- A domain that was just opened. Its heap has a PrintStream and one text for each literal of its classes; what it costs isn't
 -- counted so far, and standing throwables are no objects.
-use Rattle.std.specs.Prelude.{◌≡◌, ℕ, ◌⊎◌, List, [], ◌∷◌, ◌++◌, length, Contains, Option, Some, None, slice_get, option_map}
+use Rattle.std.specs.Prelude.{◌≡◌, ℕ, ◌⊎◌, List, [], ◌∷◌, ◌++◌, length, Contains, Option, Some, slice_get}
 use Rattle.jk_model.specs.declared.script.Quotas.{Quotas}
 use Rattle.jk_model_classes.specs.declared.records.ClassRecord.{ClassRecord}
 use Rattle.jk_model_classes.specs.declared.sharing.Offer.{Offer}

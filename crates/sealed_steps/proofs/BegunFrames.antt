@@ -4,26 +4,26 @@ use Rattle.std.specs.List.{AllByRecursion}
 use Rattle.jk_model.specs.declared.identifiers.MemberId.{MemberId}
 use Rattle.jk_model.specs.declared.values.Value.{Value}
 use Rattle.jk_model.specs.declared.values.Value.TheVariants as Held
-use Rattle.jk_model_classes.specs.declared.records.BaseRef.{BaseRef}
-use Rattle.jk_model_classes.specs.declared.records.BaseRef.TheVariants as Base
 use Rattle.jk_model_classes.specs.declared.records.ClassRecord.{ClassRecord}
 use Rattle.jk_model_classes.specs.declared.records.TypeRef.{TypeRef}
 use Rattle.jk_model_classes.specs.Classes.{AreOrdered}
 use Rattle.jk_model_typing.specs.declared.frames.FrameType.{FrameType}
 use Rattle.jk_model_typing.specs.declared.frames.VType.{VType}
 use Rattle.jk_model_typing.specs.declared.frames.VType.TheVariants.{Unusable, Long}
-use Rattle.jk_model_typing.specs.FrameTypes.{IsUsable, dims_value, value_of}
+use Rattle.jk_model_typing.specs.FrameTypes.{IsUsable, value_of}
 use Rattle.jk_model_typing.specs.Scopes.{CodeScope, IsScopeOf, is_static, own_receiver, parameter_values}
 use Rattle.jk_model_typing.specs.Typing.{FitsAt, FrameAt, IsStart, as_locals as type_locals}
+use Rattle.typing_lemmas.proofs.OneScope.{one-scope}
+use Rattle.typing_lemmas.proofs.TypesOfValues.{usable-value}
 use Rattle.jk_model_frames.specs.Frames.{FrameState}
 use Rattle.jk_model_domains.specs.Objects.{NamedObject}
 use Rattle.jk_model_domains.specs.ValueTypes.{EachValueFits, ValueFits}
+use Rattle.number_laws.proofs.ValuesFit.{fits-length, fits-append}
 use Rattle.jk_model_sound_classes.specs.VerifiedMethods.{IsVerified}
 use Rattle.jk_model_machine.specs.Executions.{as_locals}
 use Rattle.jk_model_machine.specs.Sealed.{FitsHere}
 use Rattle.sealed_steps.proofs.OneItemChanged.{if-true}
-use Rattle.sealed_steps.proofs.OneScope.{one-scope}
-use Rattle.sealed_steps.proofs.ValuesAbove.{fits-append, fits-length, values-above}
+use Rattle.sealed_steps.proofs.ValuesAbove.{values-above}
 
 -- ---- Values that fit.
 
@@ -51,12 +51,6 @@ module _ (s : CodeScope) (heap : List NamedObject) where
       (each_wide-fits vs ts h.1 u.1)
 
 -- ---- The types of parameters.
-
-usable-value : (classes : List ClassRecord) (dims : ℕ) (base : BaseRef) → IsUsable (dims_value classes dims base)
-usable-value classes zero (Base.Class c) = tt
-usable-value classes zero Base.Long = tt
-usable-value classes zero base = tt
-usable-value classes (suc dims) base = tt
 
 usable-values : (classes : List ClassRecord) (types : List TypeRef) → AllByRecursion IsUsable (map (value_of classes) types)
 usable-values classes [] = tt

@@ -3,6 +3,7 @@ use Rattle.std.proofs.Common.{◌≡◌, inl, inr, ℕ, ◌+◌, not, pos, List,
 use Rattle.std.specs.Option.{option_map_or}
 use Rattle.std.proofs.lemmas.List.{length-append}
 use Rattle.std.proofs.lemmas.Option.{same_Some}
+use Rattle.list_lemmas.proofs.TestsAndOrders.{same_pos}
 use Rattle.jk_model.specs.declared.identifiers.MemberId.{MemberId}
 use Rattle.jk_model.specs.declared.instructions.Instr.{Instr}
 use Rattle.jk_model.specs.declared.values.Value.{Value}
@@ -11,6 +12,7 @@ use Rattle.jk_model_classes.specs.declared.records.MethodRecord.{MethodRecord}
 use Rattle.jk_model_classes.specs.declared.records.TypeRef.{TypeRef}
 use Rattle.jk_model_classes.specs.Classes.{AreOrdered}
 use Rattle.jk_model_classes.specs.Lookups.{MethodIs}
+use Rattle.class_lemmas.proofs.OneRecord.{one_method}
 use Rattle.jk_model_typing.specs.declared.frames.FrameType.{FrameType}
 use Rattle.jk_model_typing.specs.declared.frames.VType.{VType}
 use Rattle.jk_model_typing.specs.FrameTypes.{value_of}
@@ -26,11 +28,11 @@ use Rattle.jk_model_machine.specs.Initialising.{RunsCode}
 use Rattle.jk_model_machine.specs.Sealed.{FitsAsTop, FitsAtCall, FitsHere}
 use Rattle.jk_model_machine.specs.Steps.{resumed}
 use Rattle.number_laws.specs.FrameLaws.{FitsResult}
-use Rattle.sealed_steps.proofs.OneMeaning.{same_pos}
-use Rattle.sealed_steps.proofs.OneScope.{one-method}
-use Rattle.sealed_steps.proofs.RowsFit.{as_many, demands, method-one}
+use Rattle.number_laws.proofs.EntriesExchanged.{as_many}
+use Rattle.number_laws.proofs.ValuesFit.{fits-append}
+use Rattle.sealed_steps.proofs.RowsFit.{demands, method-one}
 use Rattle.sealed_steps.proofs.StandsHere.{fits-on, some-method, typed-here}
-use Rattle.sealed_steps.proofs.ValuesAbove.{fits-append, value-elsewhere}
+use Rattle.sealed_steps.proofs.ValuesAbove.{value-elsewhere}
 
 -- ---- What typing leaves at a call is one.
 
@@ -87,7 +89,7 @@ module _ (classes : List ClassRecord) (heap : List NamedObject) (ordered : AreOr
       let member : m ≡ code.method = same_Some m code.method (sym is_method ∙ code.is_method) in
       let named : MethodIs classes m at.called = subst (λ (x : List ClassRecord). MethodIs x m at.called) at.typing.is_scope.all at.names.2 in
       let called : MethodIs classes code.method at.called = subst (λ (x : MemberId). MethodIs classes x at.called) member named in
-      one-method classes code.method at.called code.scope.method called (code.is_scope.class, code.is_scope.class_is, code.is_scope.method)
+      one_method classes code.method at.called code.scope.method called (code.is_scope.class, code.is_scope.class_is, code.is_scope.method)
 
   -- the result on the stack
   abbrev pushed : Option Value → List Value

@@ -6,6 +6,7 @@ use Rattle.std.specs.Option.{option_map_or}
 use Rattle.std.proofs.lemmas.List.Elements.{Contains-append_cases}
 use Rattle.std.proofs.lemmas.Option.{none-some, slice_get_within}
 use Rattle.list_lemmas.proofs.ItemsOfLists.{Contains-cases, Contains-flat_map_from, Contains-none, each-of}
+use Rattle.list_lemmas.proofs.ItemsByPlace.{item_there}
 use Rattle.jk_model.specs.declared.identifiers.ClassId.{ClassId}
 use Rattle.jk_model.specs.declared.identifiers.DomainId.{DomainId}
 use Rattle.jk_model.specs.declared.identifiers.MemberId.{MemberId}
@@ -19,7 +20,6 @@ use Rattle.jk_model_classes.specs.Classes.{OBJECT, ParentIsBelow, class_method_w
 use Rattle.jk_model_classes.specs.Lookups.{MethodIs}
 use Rattle.jk_model_classes.specs.Worlds.{IsNamed, NamedClass}
 use Rattle.jk_model_sound_classes.specs.SoundClasses.{AreSoundClasses, IsClosedTable}
-use Rattle.sealed_steps.proofs.OneItemChanged.{item-at}
 
 -- ---- Walks.
 
@@ -121,9 +121,9 @@ module _ (classes : List ClassRecord) (tables : List (List NamedClass)) (sound :
       let is : record_of classes OBJECT ≡ Some r = subst (λ (c : ClassId). record_of classes c ≡ Some r) object of in
       let front = object-of_system r is in
       let some = slice_get_within (take (length system_classes) classes) 0 r front in
-      let entry = item-at system_classes 0 (subst (λ (n : ℕ). 0 < n) sound.system.as_many some) in
+      let entry = item_there system_classes 0 (subst (λ (n : ℕ). 0 < n) sound.system.as_many some) in
       let system = sound.system.each 0 entry.0 r entry.1 front in
-      let said = item-at entry.0.methods m.index (subst (λ (n : ℕ). m.index < n) system.method_count (slice_get_within r.methods m.index method at)) in
+      let said = item_there entry.0.methods m.index (subst (λ (n : ℕ). m.index < n) system.method_count (slice_get_within r.methods m.index method at)) in
       let of_system = system.methods m.index said.0 method said.1 at in
       linked_or_not method.body code _ body of_system.body
     where

@@ -1,5 +1,6 @@
 -- A step leaves the classes, and what the domains' names mean, as they were.
 use Rattle.std.proofs.Common.{◌≡◌, inl, inr, ℕ, ◌⊎◌, List, set, Contains, Some, refl, sym, ap, subst, ◌∙◌}
+use Rattle.list_lemmas.proofs.ItemsOfLists.{Contains-at, place_of}
 use Rattle.jk_model.specs.declared.identifiers.ClassId.{ClassId}
 use Rattle.jk_model.specs.declared.output.Line.{Line}
 use Rattle.jk_model.specs.declared.steps.Raise.{Raise}
@@ -12,12 +13,12 @@ use Rattle.jk_model_machine.specs.Machine.{DomainState, Inside, Machine, with_do
 use Rattle.jk_model_machine.specs.Places.{RunningSegment}
 use Rattle.jk_model_machine.specs.Steps.{ActingFrame, Acts, Follows, RaisesPending, Steps, Throws, Touches, with_own, calls, does, ends, ends_initialiser, goes_on, meets_broken, need_falls, returns, says, throws, touches, NeedFalls}
 use Rattle.jk_model_machine.proofs.TablesOfDomains.{table-among, table-from}
-use Rattle.sealed_steps.proofs.OneItemChanged.{Contains-at, place-of, set-cases}
+use Rattle.sealed_steps.proofs.OneItemChanged.{set-cases}
 use Rattle.sealed_steps.proofs.ThrowsSealed.{pays-only}
 
 new-or-old : {X : Type 0} (xs : List X) (k : ℕ) (y x : X) → Contains (set xs k y) x → (y ≡ x) ⊎ Contains xs x
 new-or-old xs k y x h =
-    let at = place-of (set xs k y) x h in
+    let at = place_of (set xs k y) x h in
     elim (set-cases xs k y at.0 x at.1) [
       | inl new ↦ inl new.1
       | inr old ↦ inr (Contains-at xs at.0 x old.1)

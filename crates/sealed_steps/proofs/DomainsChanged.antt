@@ -4,7 +4,7 @@ use Rattle.std.proofs.Common.{◌≡◌, ◌≢◌, ℕ, ◌==◌, inl, inr, Boo
 use Rattle.std.specs.List.{AllByRecursion}
 use Rattle.std.proofs.lemmas.Bool.{cases_eq}
 use Rattle.std.proofs.lemmas.Option.{same_Some}
-use Rattle.list_lemmas.proofs.ItemsOfLists.{each-weaker}
+use Rattle.list_lemmas.proofs.ItemsOfLists.{each-weaker, Contains-at, place_of}
 use Rattle.jk_model.specs.declared.identifiers.ClassId.{ClassId}
 use Rattle.jk_model.specs.declared.identifiers.DomainId.{DomainId}
 use Rattle.jk_model.specs.declared.identifiers.MemberId.{MemberId}
@@ -19,7 +19,7 @@ use Rattle.jk_model_machine.specs.Machine.{DomainState, Inside, Machine, Segment
 use Rattle.jk_model_machine.specs.Places.{RunningSegment}
 use Rattle.jk_model_machine.specs.Sealed.{FramesFit, IsAtHome, IsKnownIn, IsSealed, IsSealedInside, IsSealedSegment, KnowsClassOf, NamesKnown, in_progress_by, initialisers_of}
 use Rattle.sealed_steps.specs.TopChanges.{ChangesInside}
-use Rattle.sealed_steps.proofs.OneItemChanged.{Contains-at, IsNewOrOld, if-false, if-true, place-of, set-cases, slice_get-elsewhere, slice_get-set}
+use Rattle.sealed_steps.proofs.OneItemChanged.{IsNewOrOld, if-false, if-true, set-cases, slice_get-elsewhere, slice_get-set}
 
 -- the machine with this domain at its number, and with these threads
 abbrev pub with_threads : Machine → DomainState → List Thread → Machine
@@ -102,7 +102,7 @@ module _ (m : Machine) (t : ℕ) (p : RunningSegment m t) (d : DomainState) (ins
       → ((i : ℕ) (e : DomainState) (x : Inside) → i ≢ d.number.0 → slice_get m.domains i ≡ Some e → e.inside ≡ Some x → P e x)
       → (e : DomainState) (x : Inside) → Contains (with_domain d m.domains) e → e.inside ≡ Some x → P e x
   each-domain P new old e x on has =
-      let at = place-of (with_domain d m.domains) e on in
+      let at = place_of (with_domain d m.domains) e on in
       elim (domain-cases at.0 e at.1) [
         | inl (same, is) ↦
             let there : d.inside ≡ Some x = subst (λ (y : DomainState). y.inside ≡ Some x) (sym is) has in

@@ -2,7 +2,7 @@
 use Rattle.std.proofs.Common.{◌≡◌, ◌≢◌, ℕ, ◌+◌, ◌-◌, ◌<◌, ◌≤◌, inl, inr, true, false, List, [], ◌∷◌, ◌++◌, Contains, Some, slice_get, set, count_by, refl, sym, ap, subst, ◌∙◌, arith}
 use Rattle.std.proofs.lemmas.Bool.{cases_eq}
 use Rattle.std.proofs.lemmas.Option.{same_Some}
-use Rattle.list_lemmas.proofs.ItemsOfLists.{Contains-here, only_in}
+use Rattle.list_lemmas.proofs.ItemsOfLists.{Contains-here, only_in, Contains-at, place_of}
 use Rattle.jk_model.specs.declared.identifiers.ClassId.{ClassId}
 use Rattle.jk_model.specs.declared.identifiers.DomainId.{DomainId}
 use Rattle.jk_model.specs.declared.identifiers.ThreadNo.{ThreadNo}
@@ -15,7 +15,7 @@ use Rattle.jk_model_machine.specs.Places.{RunningSegment, with_frames}
 use Rattle.jk_model_machine.specs.Sealed.{IsSealed, IsSealedSegment, in_progress_by, initialises, initialisers_of}
 use Rattle.sealed_steps.specs.TopChanges.{ChangesFrames, ChangesInside}
 use Rattle.sealed_steps.proofs.DomainsChanged.{changed-at, domain-at, domain-cases, domain_names-differ, domains-numbered, each-domain, home-moved, in_progress-live, initialisers-still, insides-sealed, number-is, segment-still, with_threads}
-use Rattle.sealed_steps.proofs.OneItemChanged.{Contains-at, only_at, place-of, set-cases, slice_get-elsewhere, slice_get-set, sum_by-changed}
+use Rattle.sealed_steps.proofs.OneItemChanged.{only_at, set-cases, slice_get-elsewhere, slice_get-set, sum_by-changed}
 use Rattle.sealed_steps.proofs.RunningSegmentAlone.{RunsAlone, chunks-elsewhere, chunks-here, initialisers-elsewhere, initialisers-here, runs-alone, thread_chunks}
 use Rattle.sealed_steps.proofs.ThreadsByNumber.{live-at, live-place, same-place, with_thread-set}
 
@@ -66,7 +66,7 @@ module _ (m : Machine) (t : ℕ) (p : RunningSegment m t) (d : DomainState) (ins
       → ((i : ℕ) (thread : Thread) → i ≢ runs.place → slice_get m.threads i ≡ Some thread → P thread)
       → (thread : Thread) → Contains threads_after thread → P thread
   each_thread P new old thread on =
-      let at = place-of threads_after thread on in
+      let at = place_of threads_after thread on in
       elim (set-cases m.threads runs.place thread_after at.0 thread at.1) [
         | inl (same, is) ↦ subst P is new
         | inr (differ, is) ↦ old at.0 thread differ is
@@ -254,7 +254,7 @@ module _ (m : Machine) (t : ℕ) (p : RunningSegment m t) (d : DomainState) (ins
 
   chunks_after : (e : DomainState) → Contains (with_domain d m.domains) e → chunks_used after e.number ≤ e.quotas.chunks
   chunks_after e on =
-      let at = place-of (with_domain d m.domains) e on in
+      let at = place_of (with_domain d m.domains) e on in
       elim (domain-cases m t p d inside sealed changes at.0 e at.1) [
         | inl (same, is) ↦
             subst (λ (x : DomainState). chunks_used after x.number ≤ x.quotas.chunks) is

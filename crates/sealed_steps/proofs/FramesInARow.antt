@@ -4,6 +4,7 @@ use Rattle.std.specs.Prelude.{count_by}
 use Rattle.std.specs.List.{AllByRecursion}
 use Rattle.std.proofs.lemmas.List.Sums.{sum_by_push}
 use Rattle.std.proofs.lemmas.Option.{same_Some}
+use Rattle.list_lemmas.proofs.LastItems.{each-append}
 use Rattle.jk_model.specs.declared.identifiers.ClassId.{ClassId}
 use Rattle.jk_model_classes.specs.declared.records.ClassRecord.{ClassRecord}
 use Rattle.jk_model_frames.specs.Frames.{FrameState, frames_chunks, head_chunks}
@@ -13,16 +14,12 @@ use Rattle.jk_model_machine.specs.Sealed.{FitsAsCaller, FitsAsTop, FramesFit, in
 -- ---- What holds of each.
 
 module _ {X : Type 0} (P : X → Type 0) where
-  pub all-append : (xs ys : List X) → AllByRecursion P xs → AllByRecursion P ys → AllByRecursion P (xs ++ ys)
-  all-append [] ys h k = k
-  all-append (x ∷ xs) ys h k = (h.0, all-append xs ys h.1 k)
-
   pub all-parts : (xs ys : List X) → AllByRecursion P (xs ++ ys) → AllByRecursion P xs × AllByRecursion P ys
   all-parts [] ys h = (tt, h)
   all-parts (x ∷ xs) ys h = let more = all-parts xs ys h.1 in ((h.0, more.0), more.1)
 
   pub all-push : (xs : List X) (y : X) → AllByRecursion P xs → P y → AllByRecursion P (xs ++ y ∷ [])
-  all-push xs y h k = all-append xs (y ∷ []) h (k, tt)
+  all-push xs y h k = each-append P xs (y ∷ []) h (k, tt)
 
   pub all-pop : (xs : List X) (y : X) → AllByRecursion P (xs ++ y ∷ []) → AllByRecursion P xs × P y
   all-pop xs y h = let parts = all-parts xs (y ∷ []) h in (parts.0, parts.1.0)

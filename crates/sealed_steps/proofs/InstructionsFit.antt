@@ -7,7 +7,8 @@ use Rattle.std.proofs.lemmas.List.{append-nil}
 use Rattle.std.proofs.lemmas.Option.{same_Some}
 use Rattle.std.proofs.lemmas.Slice.Eq.{bytes_eq-Decides}
 use Rattle.list_lemmas.proofs.ItemsByPlace.{slice_get-take}
-use Rattle.list_lemmas.proofs.ItemsOfLists.{Contains-here, Contains-there}
+use Rattle.list_lemmas.proofs.ItemsOfLists.{Contains-here, Contains-there, Contains-at}
+use Rattle.list_lemmas.proofs.LastItems.{each-append}
 use Rattle.jk_model.specs.declared.frames.FrameHead.{FrameHead}
 use Rattle.jk_model.specs.declared.identifiers.ClassId.{ClassId}
 use Rattle.jk_model.specs.declared.identifiers.MemberId.{MemberId}
@@ -33,6 +34,7 @@ use Rattle.jk_model_typing.specs.declared.frames.FrameType.{FrameType}
 use Rattle.jk_model_typing.specs.FrameTypes.{array_type, erased_class, string, value_of}
 use Rattle.jk_model_typing.specs.Scopes.{CodeScope, LeadsToLink, parameter_values, result_values}
 use Rattle.jk_model_typing.specs.Typing.{GoesOnAt}
+use Rattle.typing_lemmas.proofs.OneScope.{scope_of, scope}
 use Rattle.jk_model_frames.specs.Frames.{FrameState, head_chunks}
 use Rattle.jk_model_domains.specs.NumberRows.{NumberRow, Replaces}
 use Rattle.jk_model_domains.specs.Objects.{NamedObject, Plain, Text, PRINT_STREAM, class_type, object_named}
@@ -46,14 +48,12 @@ use Rattle.jk_model_machine.specs.Machine.{DomainState, Inside}
 use Rattle.jk_model_machine.specs.Sealed.{FitsAsCaller, FitsAsTop, FitsAtCall, FitsHere, HasTyping, IsAtHome, IsKnownIn, IsKnownValue, IsSealedInside, KnowsClassOf, NamesKnown, in_progress_by}
 use Rattle.jk_model_machine.specs.Steps.{at_place}
 use Rattle.sealed_steps.proofs.BegunFrames.{IsBegun, begun-fits}
-use Rattle.sealed_steps.proofs.FramesInARow.{all-append}
 use Rattle.number_laws.proofs.HeadsStay.{head-kept, number-head}
 use Rattle.sealed_steps.proofs.NamesStayKnown.{AreKnown, locals-known, number-known, replaced-known, returned-known, taken-known, unset-known}
 use Rattle.number_laws.specs.FrameLaws.{FitsResult, IsTyped}
 use Rattle.sealed_steps.proofs.NumberLaws.{NumberLaws}
-use Rattle.sealed_steps.proofs.OneMeaning.{one_field, scope, scope_of}
+use Rattle.sealed_steps.proofs.OneMeaning.{one_field}
 use Rattle.sealed_steps.proofs.RowsFit.{AtCall, calls_static-kept, gets_static-kept, loads_text-kept, println-kept, puts_static-kept}
-use Rattle.sealed_steps.proofs.OneItemChanged.{Contains-at}
 use Rattle.sealed_steps.proofs.StandsHere.{Stands, goes-on, ordered-here, some-method}
 use Rattle.sealed_steps.proofs.StatesOfClasses.{progress-unvalued, static-sealed}
 use Rattle.sealed_steps.proofs.SystemMembers.{println_answers_nothing, static_kind, stream_erased}
@@ -363,7 +363,7 @@ module _ (laws : NumberLaws) (classes : List ClassRecord) (tables : List (List N
           let named : IsNamed d.table h.member.class = method-known classes d closed f home code h.names.0 h.member h.names.1 in
           let given_known = taken-known old.heap f w.frame given [] known rep in
           let free_locals : ℕ = h.code.max_locals - length (flat_map as_locals given) in
-          let locals = all-append (IsKnownValue old.heap) (flat_map as_locals given) (replicate free_locals Held.Unset)
+          let locals = each-append (IsKnownValue old.heap) (flat_map as_locals given) (replicate free_locals Held.Unset)
           (locals-known old.heap given given_known) (unset-known old.heap free_locals) in
           let well : IsCalledWell classes d old.heap w.frame called = record {
             below = inr (plain, ap (λ (x : FrameHead). x.need) head ∙ no_need, (h.member, method, caller-fits w h.member h.method given h.op h.names rep at));

@@ -2,6 +2,7 @@
 use Rattle.std.proofs.Common.{◌≡◌, inl, inr, ℕ, zero, suc, List, [], ◌∷◌, ◌++◌, replicate, set, Some, sym, subst}
 use Rattle.std.specs.Prelude.{flat_map}
 use Rattle.std.specs.List.{AllByRecursion}
+use Rattle.list_lemmas.proofs.LastItems.{each-append}
 use Rattle.jk_model.specs.declared.instructions.Instr.{Instr}
 use Rattle.jk_model.specs.declared.steps.After.{After}
 use Rattle.jk_model.specs.declared.steps.After.TheVariants as Next
@@ -13,7 +14,7 @@ use Rattle.jk_model_domains.specs.NumberRows.{Calculates, Exchanges, IsConversio
 use Rattle.jk_model_domains.specs.Objects.{NamedObject}
 use Rattle.jk_model_machine.specs.Executions.{as_locals}
 use Rattle.jk_model_machine.specs.Sealed.{IsKnownValue, NamesKnown}
-use Rattle.sealed_steps.proofs.FramesInARow.{all-append, all-at, all-parts}
+use Rattle.sealed_steps.proofs.FramesInARow.{all-at, all-parts}
 
 module _ (heap : List NamedObject) where
   abbrev pub AreKnown : List Value → Type 0
@@ -41,7 +42,7 @@ module _ (heap : List NamedObject) where
   -- arguments in the locals
   pub locals-known : (vs : List Value) → AreKnown vs → AreKnown (flat_map as_locals vs)
   locals-known [] h = tt
-  locals-known (v ∷ vs) h = all-append (IsKnownValue heap) (as_locals v) (flat_map as_locals vs) (one v h.0) (locals-known vs h.1)
+  locals-known (v ∷ vs) h = each-append (IsKnownValue heap) (as_locals v) (flat_map as_locals vs) (one v h.0) (locals-known vs h.1)
     where
       one : (w : Value) → IsKnownValue heap w → AreKnown (as_locals w)
       one (Held.Long x) k = (tt, (tt, tt))
@@ -61,7 +62,7 @@ module _ (heap : List NamedObject) where
   replaced-known f g taken pushed h rep k =
       let below = (all-parts (IsKnownValue heap) rep.below taken (subst AreKnown rep.before h.1)).0 in
       let there : NamesKnown heap (let x : FrameState = record f { stack = rep.below ++ pushed } in x) =
-      (h.0, all-append (IsKnownValue heap) rep.below pushed below k) in
+      (h.0, each-append (IsKnownValue heap) rep.below pushed below k) in
       subst (NamesKnown heap) (sym rep.after) there
 
   -- ---- Instructions on numbers.
@@ -82,7 +83,7 @@ module _ (heap : List NamedObject) where
   moves-known op taken pushed k (inr (inl h)) =
       let parts = all-parts (IsKnownValue heap) h.2 h.3 (subst AreKnown h.7 k) in
       subst AreKnown (sym h.8)
-      (all-append (IsKnownValue heap) (h.3 ++ h.2) h.3 (all-append (IsKnownValue heap) h.3 h.2 parts.1 parts.0) parts.1)
+      (each-append (IsKnownValue heap) (h.3 ++ h.2) h.3 (each-append (IsKnownValue heap) h.3 h.2 parts.1 parts.0) parts.1)
   moves-known op taken pushed k (inr (inr h)) =
       let two : AreKnown (h.1.0 ∷ h.1.1 ∷ []) = subst AreKnown h.1.4 k in
       subst AreKnown (sym h.1.5) (two.1.0, (two.0, tt))
@@ -118,7 +119,7 @@ module _ (heap : List NamedObject) where
   local-known i f g h (inl u) =
       let v = u.1 in
       let one = all-at (IsKnownValue heap) f.locals u.0 v h.0 u.4 in
-      subst (NamesKnown heap) (sym u.5) (h.0, all-append (IsKnownValue heap) f.stack (v ∷ []) h.1 (one, tt))
+      subst (NamesKnown heap) (sym u.5) (h.0, each-append (IsKnownValue heap) f.stack (v ∷ []) h.1 (one, tt))
   local-known i f g h (inr (inl u)) =
       let parts = all-parts (IsKnownValue heap) u.2 (u.1 ∷ []) (subst AreKnown u.5 h.1) in
       subst (NamesKnown heap) (sym u.6) (with-known f.locals u.0 u.1 h.0 parts.1.0, parts.0)

@@ -2,6 +2,8 @@
 use Rattle.std.proofs.Common.{◌≡◌, ◌≢◌, inl, inr, ℕ, true, ◌+◌, ◌-◌, ◌≤◌, ◌⊎◌, List, [], ◌∷◌, ◌++◌, length, map, replicate, Option, Some, None, refl, sym, ap, subst, ◌∙◌, arith}
 use Rattle.std.specs.Prelude.{flat_map}
 use Rattle.std.proofs.lemmas.Bool.{eq-eqb}
+use Rattle.list_lemmas.proofs.ItemsOfLists.{Contains-at}
+use Rattle.list_lemmas.proofs.LastItems.{last_of}
 use Rattle.jk_model.specs.declared.frames.FrameHead.{FrameHead}
 use Rattle.jk_model.specs.declared.identifiers.ClassId.{ClassId}
 use Rattle.jk_model.specs.declared.identifiers.MemberId.{MemberId}
@@ -16,6 +18,7 @@ use Rattle.jk_model_classes.specs.declared.records.TypeRef.{TypeRef}
 use Rattle.jk_model_classes.specs.Worlds.{IsNamed, NamedClass}
 use Rattle.jk_model_typing.specs.FrameTypes.{value_of}
 use Rattle.jk_model_typing.specs.Scopes.{CodeScope}
+use Rattle.typing_lemmas.proofs.OneScope.{scope_of, scope}
 use Rattle.jk_model_domains.specs.declared.states.ClassState.TheVariants as State
 use Rattle.jk_model_frames.specs.Frames.{FrameState, head_chunks, new_frame}
 use Rattle.jk_model_domains.specs.Objects.{NamedObject}
@@ -35,19 +38,10 @@ use Rattle.sealed_steps.proofs.FramesChanged.{frames-sealed}
 use Rattle.sealed_steps.proofs.FramesInARow.{LowestIsPlain, count-push, is_for, lowest-one, one_if}
 use Rattle.sealed_steps.proofs.FramesPushedAndTaken.{top-covered, top-ended, top-replaced}
 use Rattle.sealed_steps.proofs.NamesStayKnown.{unset-known}
-use Rattle.sealed_steps.proofs.OneMeaning.{scope, scope_of}
-use Rattle.sealed_steps.proofs.OneItemChanged.{Contains-at}
 use Rattle.sealed_steps.proofs.RunningFacts.{RunningFacts, TopFacts, running-facts, thread_no, top-facts}
 use Rattle.sealed_steps.proofs.StatesOfClasses.{begun-others, begun-progress, done-rests, ended-others, ended-progress, state-sealed}
 use Rattle.sealed_steps.proofs.TablesClosed.{needs-known, parent-known}
 use Rattle.sealed_steps.proofs.ThrowsSealed.{inside-kept, inside-set, throws-sealed}
-
--- a list with something in it has a last item
-last-of : {X : Type 0} (x : X) (xs : List X) → (lower : List X) × (below : X) × (x ∷ xs ≡ lower ++ below ∷ [])
-last-of x [] = ([], x, refl)
-last-of x (y ∷ xs) =
-    let rest = last-of y xs in
-    (x ∷ rest.0, rest.1, ap (λ zs. x ∷ zs) rest.2)
 
 -- ---- The frame that initialises a class.
 
@@ -224,7 +218,7 @@ module _ (m : Machine) (t : ℕ) (sealed : IsSealed m) (sound : AreSoundClasses 
         let both : Some c ≡ None = sym e ∙ lowest-one a.running.frame low in
         absurd cc
     ends c (x ∷ callers) are e =
-        let last = last-of x callers in
+        let last = last_of x callers in
         ends-with c last.0 last.1 e (are ∙ last.2)
 
     pub need-sealed : IsSealed new

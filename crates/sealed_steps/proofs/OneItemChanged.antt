@@ -1,10 +1,12 @@
 -- A list in which one item is changed, and one in which only some items are kept: which item stands where, and what sums
 -- come to.
-use Rattle.std.proofs.Common.{◌≡◌, ◌≢◌, ℕ, zero, suc, ◌+◌, ◌<◌, ◌≤◌, ◌⊎◌, inl, inr, Bool, true, false, not, cond, if◌then◌else◌, List, [], ◌∷◌, ◌++◌, length, map, set, filter, find, sum_by, Contains, Option, Some, slice_get, refl, sym, ap, subst, ◌∙◌, arith}
+use Rattle.std.proofs.Common.{◌≡◌, ◌≢◌, ℕ, zero, suc, ◌+◌, ◌<◌, ◌≤◌, ◌⊎◌, inl, inr, Bool, true, false, not, cond, if◌then◌else◌, List, [], ◌∷◌, ◌++◌, length, map, set, filter, find, sum_by, Option, Some, slice_get, refl, sym, ap, subst, ◌∙◌, arith}
 use Rattle.std.proofs.lemmas.List.Filters.{sum_by-filter_both}
 use Rattle.std.proofs.lemmas.List.Sums.{sum_by-set}
-use Rattle.std.proofs.lemmas.Option.{get_or_from_slice_get, same_Some, slice_get-get_or, slice_get_within}
-use Rattle.list_lemmas.proofs.ItemsByPlace.{slice_get-front, slice_get-push_cases, slice_get-set_other, slice_get-set_same}
+use Rattle.std.proofs.lemmas.Option.{get_or_from_slice_get, same_Some, slice_get_within}
+use Rattle.list_lemmas.proofs.ItemsByPlace.{slice_get-push_cases, slice_get-set_other, slice_get-set_same}
+pub use Rattle.list_lemmas.proofs.ItemsOfLists.{Contains-at, place_of as place-of}
+pub use Rattle.list_lemmas.proofs.ItemsByPlace.{item_there as item-at, slice_get-longer}
 
 -- ---- Tests.
 
@@ -20,23 +22,8 @@ pub not_true : (b : Bool) → (b ≡ true → ⊥) → b ≡ false
 not_true true h = absurd (h refl)
 not_true false h = refl
 
-pub not-false : (b : Bool) → not b ≡ true → b ≡ false
-not-false true e = absurd cc
-not-false false e = refl
-
 module _ {X : Type 0} where
   -- ---- Places.
-
-  pub Contains-at : (xs : List X) (k : ℕ) (x : X) → slice_get xs k ≡ Some x → Contains xs x
-  Contains-at xs k x e = (k, slice_get_within xs k x e, get_or_from_slice_get xs k x x e)
-
-  pub place-of : (xs : List X) (x : X) → Contains xs x → (k : ℕ) × (slice_get xs k ≡ Some x)
-  place-of xs x (k, within, e) = (k, slice_get-get_or xs k x within ∙ ap Some e)
-
-  pub item-at : (xs : List X) (k : ℕ) → k < length xs → (x : X) × (slice_get xs k ≡ Some x)
-  item-at [] k h = absurd (omega arith)
-  item-at (x ∷ xs) zero h = (x, refl)
-  item-at (x ∷ xs) (suc k) h = item-at xs k (omega arith)
 
   -- of one item alone
   pub only_at : (x y : X) (k : ℕ) → slice_get (x ∷ []) k ≡ Some y → (k ≡ 0) × (x ≡ y)
@@ -47,9 +34,6 @@ module _ {X : Type 0} where
   only_end [] x y e = (refl, cc)
   only_end (z ∷ []) x y e = absurd cc
   only_end (z ∷ w ∷ lower) x y e = absurd cc
-
-  pub slice_get-longer : (xs ys : List X) (k : ℕ) (x : X) → slice_get xs k ≡ Some x → slice_get (xs ++ ys) k ≡ Some x
-  slice_get-longer xs ys k x e = slice_get-front xs ys k (slice_get_within xs k x e) ∙ e
 
   -- with one more item behind: an item that was there, or the new one
   abbrev pub IsOldOrLast : List X → X → ℕ → X → Type 0

@@ -12,6 +12,7 @@ use Rattle.jk_model_classes.specs.declared.records.MethodRecord.{MethodRecord}
 use Rattle.jk_model_classes.specs.declared.records.TypeRef.{TypeRef}
 use Rattle.jk_model_classes.specs.Classes.{AreOrdered}
 use Rattle.jk_model_classes.specs.Lookups.{FieldIs, MethodIs}
+use Rattle.class_lemmas.proofs.OneRecord.{one_method}
 use Rattle.jk_model_typing.specs.declared.frames.Demand.{Demand}
 use Rattle.jk_model_typing.specs.declared.frames.Demand.TheVariants.{Fitting, Receiver}
 use Rattle.jk_model_typing.specs.declared.frames.FrameType.{FrameType}
@@ -21,31 +22,17 @@ use Rattle.jk_model_typing.specs.Groups.{Shape, Takes, group_of}
 use Rattle.jk_model_typing.specs.Rows.{AllMeet, Does, HasShape, Row, arguments}
 use Rattle.jk_model_typing.specs.Scopes.{CodeScope, LeadsToLink, parameter_values, result_values}
 use Rattle.jk_model_typing.specs.Typing.{GoesOnAt, leaves_line}
+use Rattle.typing_lemmas.proofs.OneScope.{one_link}
 use Rattle.jk_model_frames.specs.Frames.{FrameState}
 use Rattle.jk_model_domains.specs.NumberRows.{Replaces}
 use Rattle.jk_model_domains.specs.Objects.{NamedObject}
 use Rattle.jk_model_domains.specs.ValueTypes.{EachValueFits, FrameHolds, ValueFits}
+use Rattle.number_laws.proofs.EntriesExchanged.{takes_kept}
 use Rattle.jk_model_sound_classes.specs.NamedMembers.{NamesField, NamesMethod}
-use Rattle.sealed_steps.proofs.OneMeaning.{one_field, one_link}
-use Rattle.sealed_steps.proofs.OneScope.{one-method}
-use Rattle.sealed_steps.proofs.ValuesAbove.{fits-append, fits-parts, value-above}
-
-pub as_many : (s : CodeScope) (ds : List Demand) (ts : List VType) → AllMeet s ds ts → length ds ≡ length ts
-as_many s [] [] h = refl
-as_many s [] (t ∷ ts) h = absurd h
-as_many s (d ∷ ds) [] h = absurd h
-as_many s (d ∷ ds) (t ∷ ts) h = ap suc (as_many s ds ts h.1)
-
--- values of types that meet demands for fitting types fit these
-pub all-fitting : (s : CodeScope) (heap : List NamedObject) → AreOrdered s.classes → (vs : List Value) (olds ts : List VType)
-    → EachValueFits s heap vs olds → AllMeet s (map Fitting ts) olds → EachValueFits s heap vs ts
-all-fitting s heap ordered [] [] [] h k = tt
-all-fitting s heap ordered [] [] (t ∷ ts) h k = absurd k
-all-fitting s heap ordered [] (o ∷ olds) ts h k = absurd h
-all-fitting s heap ordered (v ∷ vs) [] ts h k = absurd h
-all-fitting s heap ordered (v ∷ vs) (o ∷ olds) [] h k = absurd k
-all-fitting s heap ordered (v ∷ vs) (o ∷ olds) (t ∷ ts) h k =
-    (value-above s heap ordered v o t h.0 k.0, all-fitting s heap ordered vs olds ts h.1 k.1)
+use Rattle.sealed_steps.proofs.OneMeaning.{one_field}
+use Rattle.sealed_steps.proofs.ValuesAbove.{fits-parts}
+pub use Rattle.number_laws.proofs.EntriesExchanged.{as_many}
+pub use Rattle.number_laws.proofs.ValuesAbove.{all-fitting}
 
 pub demands : (s : CodeScope) (ts : List TypeRef) → length (map Fitting (map (value_of s.classes) ts)) ≡ length ts
 demands s [] = refl
@@ -63,7 +50,7 @@ pub method-one : (s : CodeScope) (i : Instr) (m : MemberId) (method : MethodReco
 method-one s i m method h n other k =
     let links = one_link s i (To.Method k.0 n) (To.Method h.0 m) k.1 h.1 in
     let same : n ≡ m = cc in
-    one-method s.classes m other method (subst (λ (x : MemberId). MethodIs s.classes x other) same k.2) h.2
+    one_method s.classes m other method (subst (λ (x : MemberId). MethodIs s.classes x other) same k.2) h.2
 
 module _ (s : CodeScope) (heap : List NamedObject) (place : ℕ) (i : Instr) (f g : FrameState) (before after : FrameType)
     (holds : FrameHolds s heap f before) where
@@ -85,17 +72,6 @@ module _ (s : CodeScope) (heap : List NamedObject) (place : ℕ) (i : Instr) (f 
       let parts = fits-parts s heap rep.below taken does.0 does.1 (many ∙ as_many s ds does.1 does.3) whole in
       record { below = does.0; olds = does.1; left = does.4; meet = does.3; low_fit = parts.0; fit = parts.1 }
 
-  pub takes-kept : (ds : List Demand) (gives : List VType) (taken pushed : List Value) → Does s place (Takes ds gives) before after
-      → Replaces f g taken pushed → length taken ≡ length ds → EachValueFits s heap pushed gives → FrameHolds s heap g after
-  takes-kept ds gives taken pushed does rep many fit =
-      let t = are-taken ds gives taken pushed does rep many in
-      let kept : FrameHolds s heap (let x : FrameState = record f { stack = rep.below ++ pushed } in x)
-      (let x : FrameType = record before { stack = t.below ++ gives } in x) = record {
-        locals = holds.locals;
-        stack = fits-append s heap rep.below pushed t.below gives t.low_fit fit;
-      } in
-      subst (λ (x : FrameState). FrameHolds s heap x after) (sym rep.after) (subst (FrameHolds s heap _) (sym t.left) kept)
-
   next-goes : (op : ℕ) → i.op ≡ op → leaves_line op ≡ false → GoesOnAt place i (pos (place + 1))
   next-goes op e line = inl (ap not (ap leaves_line e ∙ line), refl)
 
@@ -106,7 +82,9 @@ module _ (s : CodeScope) (heap : List NamedObject) (place : ℕ) (i : Instr) (f 
   loads_text-kept row text object op names fits rep = (
     elim (subst (λ (k : ℕ). HasShape s i (group_of k) row.shape) op row.shape_is) [
       | inl h ↦ (let same = one_link s i (To.Int h.0) (To.Text text) h.1 names in absurd cc)
-      | inr h ↦ takes-kept [] (string ∷ []) [] (Held.Obj object ∷ []) (subst (λ (y : Shape). Does s place y before after) h.2 row.does) rep refl (fits, tt)
+      | inr h ↦
+          takes_kept s heap place f g before after holds [] (string ∷ []) [] (Held.Obj object ∷ [])
+          (subst (λ (y : Shape). Does s place y before after) h.2 row.does) rep refl (fits, tt)
     ],
     next-goes 0x13 op refl,
   )
@@ -122,7 +100,7 @@ module _ (s : CodeScope) (heap : List NamedObject) (place : ℕ) (i : Instr) (f 
       let value : ValueFits s heap v (value_of s.classes is.2.kind) =
       subst (λ (x : FieldRecord). ValueFits s heap v (value_of s.classes x.kind)) (sym same) fits in
       let does = subst (λ (y : Shape). Does s place y before after) is.4 row.does in
-      (takes-kept [] (value_of s.classes is.2.kind ∷ []) [] (v ∷ []) does rep refl (value, tt), next-goes 0xb2 op refl)
+      (takes_kept s heap place f g before after holds [] (value_of s.classes is.2.kind ∷ []) [] (v ∷ []) does rep refl (value, tt), next-goes 0xb2 op refl)
 
   pub puts_static-kept : AreOrdered s.classes → (row : Row s place i before after) (m : MemberId) (field : FieldRecord) (v : Value)
       → i.op ≡ 0xb3 → NamesField s i m field → Replaces f g (v ∷ []) []
@@ -134,7 +112,7 @@ module _ (s : CodeScope) (heap : List NamedObject) (place : ℕ) (i : Instr) (f 
       let does = subst (λ (y : Shape). Does s place y before after) is.4 row.does in
       let t = are-taken (Fitting kind ∷ []) [] (v ∷ []) [] does rep refl in
       let fits = all-fitting s heap ordered (v ∷ []) t.olds (kind ∷ []) t.fit t.meet in (
-        takes-kept (Fitting kind ∷ []) [] (v ∷ []) [] does rep refl tt,
+        takes_kept s heap place f g before after holds (Fitting kind ∷ []) [] (v ∷ []) [] does rep refl tt,
         next-goes 0xb3 op refl,
         subst (λ (x : FieldRecord). ValueFits s heap v (value_of s.classes x.kind)) same fits.0,
       )
@@ -150,7 +128,8 @@ module _ (s : CodeScope) (heap : List NamedObject) (place : ℕ) (i : Instr) (f 
       let does = subst (λ (y : Shape). Does s place y before after) is.4 row.does in
       let nothing : result_values s is.2 ≡ [] = ap (result_values s) same ∙ none in
       let equal : length given ≡ length (arguments s is.2) = many ∙ ap (λ (x : MethodRecord). length x.params) (sym same) ∙ sym (demands s is.2.params) in (
-        takes-kept (Receiver is.0 (Method is.1) ∷ arguments s is.2) (result_values s is.2) (receiver ∷ given) [] does rep (ap suc equal)
+        takes_kept s heap place f g before after holds (Receiver is.0 (Method is.1) ∷ arguments s is.2) (result_values s is.2) (receiver ∷ given) [] does
+            rep (ap suc equal)
             (subst (EachValueFits s heap []) (sym nothing) tt),
         next-goes 0xb6 op refl,
       )

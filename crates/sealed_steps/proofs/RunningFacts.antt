@@ -5,13 +5,13 @@ use Rattle.std.specs.Prelude.{count_by}
 use Rattle.std.specs.List.{AllByRecursion}
 use Rattle.std.proofs.lemmas.List.Elements.{Contains-push}
 use Rattle.std.proofs.lemmas.Option.{same_Some}
+use Rattle.list_lemmas.proofs.ItemsOfLists.{Contains-at}
 use Rattle.jk_model.specs.declared.identifiers.ClassId.{ClassId}
 use Rattle.jk_model.specs.declared.identifiers.ThreadNo.{ThreadNo}
 use Rattle.jk_model_frames.specs.Frames.{FrameState}
 use Rattle.jk_model_machine.specs.Machine.{DomainState, Inside, Machine, Segment}
 use Rattle.jk_model_machine.specs.Places.{RunningFrame, RunningSegment}
 use Rattle.jk_model_machine.specs.Sealed.{FitsAsTop, FramesFit, IsAtHome, IsSealed, IsSealedInside, NamesKnown, in_progress_by, initialises}
-use Rattle.sealed_steps.proofs.OneItemChanged.{Contains-at}
 use Rattle.sealed_steps.proofs.RunningSegmentAlone.{RunsAlone, initialisers-here, runs-alone}
 use Rattle.sealed_steps.proofs.FramesInARow.{CallersFit, LowestIsPlain, all-pop, fit-parts}
 

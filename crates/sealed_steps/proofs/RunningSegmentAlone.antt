@@ -1,13 +1,14 @@
 -- In a sealed machine the running segment is the only one of its thread, and what a thread of one segment counts for in a
 -- domain is what that segment counts for.
 use Rattle.std.proofs.Common.{◌≡◌, ◌≢◌, ℕ, ◌==◌, List, [], ◌∷◌, false, sum_by, count_by, Some, slice_get, sym, ap, ◌∙◌, eq-eqb, ne_eqb, arith}
+use Rattle.list_lemmas.proofs.ItemsOfLists.{Contains-at}
 use Rattle.jk_model.specs.declared.identifiers.ClassId.{ClassId}
 use Rattle.jk_model.specs.declared.identifiers.DomainId.{DomainId}
 use Rattle.jk_model_frames.specs.Frames.{segment_chunks}
 use Rattle.jk_model_machine.specs.Machine.{Machine, Segment, Thread, chunks_of}
 use Rattle.jk_model_machine.specs.Places.{RunningSegment}
 use Rattle.jk_model_machine.specs.Sealed.{IsSealed, initialises, initialisers_of, segment_initialisers}
-use Rattle.sealed_steps.proofs.OneItemChanged.{Contains-at, if-false, if-true, only_end}
+use Rattle.sealed_steps.proofs.OneItemChanged.{if-false, if-true, only_end}
 use Rattle.sealed_steps.proofs.ThreadsByNumber.{thread-place}
 
 -- ---- One segment.

@@ -1,6 +1,7 @@
 -- What is known of a frame that runs code and fits: its typing in the scope of that code; and that it fits again where it goes on.
 use Rattle.std.proofs.Common.{◌≡◌, ◌≢◌, inl, inr, ℕ, pos, List, Option, Some, None, slice_get, sym, ap, subst, ◌∙◌}
 use Rattle.std.proofs.lemmas.Option.{same_Some}
+use Rattle.list_lemmas.proofs.TestsAndOrders.{same_pos}
 use Rattle.jk_model.specs.declared.frames.FrameHead.{FrameHead}
 use Rattle.jk_model.specs.declared.identifiers.MemberId.{MemberId}
 use Rattle.jk_model_classes.specs.declared.records.ClassRecord.{ClassRecord}
@@ -9,6 +10,7 @@ use Rattle.jk_model_typing.specs.declared.frames.FrameType.{FrameType}
 use Rattle.jk_model_typing.specs.FrameTypes.{IsFrameOf}
 use Rattle.jk_model_typing.specs.Scopes.{CodeScope, IsScopeOf}
 use Rattle.jk_model_typing.specs.Typing.{FitsAt, FrameAt, GoesOnAt, GoesWell}
+use Rattle.typing_lemmas.proofs.OneScope.{one-scope}
 use Rattle.jk_model_frames.specs.Frames.{FrameState}
 use Rattle.jk_model_domains.specs.Objects.{NamedObject}
 use Rattle.jk_model_domains.specs.ValueTypes.{FrameHolds}
@@ -18,8 +20,6 @@ use Rattle.jk_model_machine.specs.Sealed.{FitsAsTop, FitsHere, HasTyping, IsAtHo
 use Rattle.jk_model_machine.specs.Machine.{DomainState}
 use Rattle.jk_model_machine.specs.Steps.{at_place}
 use Rattle.sealed_steps.proofs.FramesInARow.{LooksAlike}
-use Rattle.sealed_steps.proofs.OneMeaning.{same_pos}
-use Rattle.sealed_steps.proofs.OneScope.{one-scope}
 use Rattle.sealed_steps.proofs.ValuesAbove.{frame-above}
 
 -- The frame's typing in the scope of its code, where this is known of it.

@@ -1,7 +1,8 @@
 -- A start keeps the machine sealed: where it begins a thread, the frame of `main` fits, and its class is one of the domain's names.
-use Rattle.std.proofs.Common.{◌≡◌, ℕ, zero, suc, ◌+◌, ◌-◌, ◌≤◌, ◌&&◌, inl, inr, Bool, true, false, IsTrue, List, [], ◌∷◌, replicate, find, Contains, Option, Some, None, option_map, slice_get, bytes_eq, codes, refl, sym, ap, subst, ◌∙◌}
+use Rattle.std.proofs.Common.{◌≡◌, ℕ, zero, suc, ◌+◌, ◌-◌, ◌≤◌, ◌&&◌, inl, inr, Bool, true, false, IsTrue, List, [], ◌∷◌, replicate, Contains, Option, Some, None, slice_get, bytes_eq, codes, refl, sym, ap, subst, ◌∙◌}
 use Rattle.std.specs.List.{AllByRecursion}
-use Rattle.std.proofs.lemmas.Option.{none-some, same_Some}
+use Rattle.std.proofs.lemmas.Option.{none-some}
+use Rattle.list_lemmas.proofs.ItemsOfLists.{Contains-at}
 use Rattle.jk_model.specs.Flags.{PUBLIC, STATIC, has}
 use Rattle.jk_model.specs.declared.descriptors.MethodType.{MethodType}
 use Rattle.jk_model.specs.declared.frames.FrameHead.{FrameHead}
@@ -14,7 +15,9 @@ use Rattle.jk_model_classes.specs.declared.records.MethodRecord.{MethodRecord}
 use Rattle.jk_model_classes.specs.Classes.{method_walk}
 use Rattle.jk_model_classes.specs.Lookups.{IsFirstOn, IsMethodOf}
 use Rattle.jk_model_classes.specs.SystemRecords.{AreTypesFor}
-use Rattle.jk_model_classes.specs.Worlds.{IsNamed, NamedClass, class_named}
+use Rattle.jk_model_classes.specs.Worlds.{IsNamed}
+use Rattle.class_lemmas.proofs.NamesOfTables.{means_named}
+use Rattle.class_lemmas.proofs.OneRecord.{one_method}
 use Rattle.jk_model_typing.specs.Scopes.{CodeScope, IsScopeOf, parameter_values}
 use Rattle.jk_model_frames.specs.Frames.{FrameState, head_chunks}
 use Rattle.jk_model_domains.specs.Objects.{NamedObject}
@@ -29,8 +32,7 @@ use Rattle.sealed_steps.specs.FirstNumbers.{CountsFromOne}
 use Rattle.sealed_steps.proofs.BegunFrames.{IsBegun, begun-fits}
 use Rattle.sealed_steps.proofs.ClassesAround.{method_walk-named, object-without_code}
 use Rattle.sealed_steps.proofs.MainTakesOneArray.{null-fits_main}
-use Rattle.sealed_steps.proofs.OneItemChanged.{Contains-at, find-place}
-use Rattle.sealed_steps.proofs.OneScope.{one-method}
+use Rattle.sealed_steps.proofs.OneItemChanged.{find-place}
 use Rattle.sealed_steps.proofs.ThreadBegun.{new_thread-sealed}
 
 -- ---- Tests.
@@ -48,18 +50,6 @@ and_right false b h = absurd cc
 inside-of : (o : Option Inside) → elim o as (λ _. Bool) [ Some i ↦ Bool.true | None ↦ Bool.false ] ≡ true → (x : Inside) × (o ≡ Some x)
 inside-of (Some x) live = (x, refl)
 inside-of None live = absurd cc
-
-named-from : (table : List NamedClass) (name : List ℕ) (c : ClassId) → class_named table name ≡ Some c → IsNamed table c
-named-from table name c e = by (find (λ (n : NamedClass). bytes_eq n.name name) table) refl e
-  where
-    by : (o : Option NamedClass) → find (λ (n : NamedClass). bytes_eq n.name name) table ≡ o → option_map (λ (n : NamedClass). n.class) o ≡ Some c
-        → IsNamed table c
-    by (Some n) is found =
-        let at = find-place (λ (n : NamedClass). bytes_eq n.name name) table n is in (
-          n.name,
-          subst (λ (x : ClassId). Contains table (record { name = n.name; class = x })) (same_Some n.class c found) (Contains-at table at.0 n at.1),
-        )
-    by None is found = absurd cc
 
 unset-known : (heap : List NamedObject) (n : ℕ) → AllByRecursion (IsKnownValue heap) (replicate n Held.Unset)
 unset-known heap zero = tt
@@ -90,7 +80,7 @@ module _ (m : Machine) (sound : AreSoundClasses m.classes (tables_of m.domains))
   null-fits : (heap : List NamedObject) → EachValueFits main_scope heap (Held.Null ∷ []) (parameter_values main_scope is.method)
   null-fits heap =
       let suits : IsMethodOf m.classes (codes "main") is.type main = found.member.suits in
-      let one : suits.0 ≡ is.method = one-method m.classes main suits.0 is.method suits.1 is.is_method in
+      let one : suits.0 ≡ is.method = one_method m.classes main suits.0 is.method suits.1 is.is_method in
       let kind : is.method.kind ≡ is.type = ap (λ (x : MethodRecord). x.kind) (sym one) ∙ suits.3 in
       let described = sound.described main is.method is.is_method in
       let types : AreTypesFor described.0 is.type.params is.method.params =
@@ -162,7 +152,7 @@ begins-sealed m new name class words lines sealed numbers sound h =
     let knows = h.has_main.knows in
     subst IsSealed (sym h.leads)
     (begun-sealed m sound knows.named h.has_main.main h.has_main.code h.has_main.is_main h.frame h.begins sealed numbers knows.domain name
-    knows.found (named-from knows.domain.table class knows.named knows.is_named) h.fits)
+    knows.found (means_named knows.domain.table class knows.named knows.is_named) h.fits)
 
 pub start-sealed : (m new : Machine) (name class : List ℕ) (words : List (List ℕ)) (lines : List Line) → IsSealed m → CountsFromOne m
     → AreSoundClasses m.classes (tables_of m.domains) → Starts m name class words lines new → IsSealed new

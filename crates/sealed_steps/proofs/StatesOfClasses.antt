@@ -12,6 +12,7 @@ use Rattle.jk_model_classes.specs.declared.records.ClassRecord.{ClassRecord}
 use Rattle.jk_model_classes.specs.declared.records.FieldRecord.{FieldRecord}
 use Rattle.jk_model_classes.specs.Lookups.{FieldIs}
 use Rattle.jk_model_classes.specs.Worlds.{NamedClass}
+use Rattle.model_lemmas.proofs.SameNumbers.{same_member}
 use Rattle.jk_model_domains.specs.declared.states.ClassState.{ClassState}
 use Rattle.jk_model_domains.specs.declared.states.ClassState.TheVariants as State
 use Rattle.jk_model_domains.specs.OwnStates.{ClassPart, IsOwnState, OwnState, StaticField, state_of, static_in, static_of, with_field, with_part, with_state, with_static}
@@ -101,11 +102,6 @@ field-changed (f ∷ fs) n v k w found = by_tests (f.index == n) (f.index == k) 
     by_tests true false p q rest there = rw q (rest (rw (p, q) at there))
     by_tests false true p q rest there = inl (rw q (rw (p, q) at there))
     by_tests false false p q rest there = rw q (rest (rw (p, q) at there))
-
-same_member : (k m : MemberId) → k.class ≡ m.class → k.index ≡ m.index → k ≡ m
-same_member k m class index =
-    ap (λ (c : ClassId). let x : MemberId = record { class = c; index = k.index } in x) class
-    ∙ ap (λ (n : ℕ). let x : MemberId = record { class = m.class; index = n } in x) index
 
 value-changed : (ps : List ClassPart) (m : MemberId) (v : Value) (k : MemberId) (w : Value)
     → value_in (with_part m.class (valued m v) ps) k ≡ Some w → (value_in ps k ≡ Some w) ⊎ ((k ≡ m) × (w ≡ v))

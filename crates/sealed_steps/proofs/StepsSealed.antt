@@ -2,6 +2,8 @@
 use Rattle.std.proofs.Common.{◌≡◌, inl, inr, ℕ, ◌≤◌, List, [], ◌∷◌, ◌++◌, Option, Some, None, refl, sym, ap, subst, ◌∙◌, arith, append_assoc}
 use Rattle.std.specs.Prelude.{count_by}
 use Rattle.std.specs.List.{AllByRecursion}
+use Rattle.list_lemmas.proofs.ItemsOfLists.{Contains-at}
+use Rattle.list_lemmas.proofs.LastItems.{each-append}
 use Rattle.jk_model.specs.declared.frames.FrameHead.{FrameHead}
 use Rattle.jk_model.specs.declared.identifiers.ClassId.{ClassId}
 use Rattle.jk_model.specs.declared.identifiers.MemberId.{MemberId}
@@ -22,12 +24,11 @@ use Rattle.jk_model_machine.proofs.TablesOfDomains.{table-among}
 use Rattle.sealed_steps.specs.TopChanges.{ChangesFrames, ChangesInside, LeavesNothing}
 use Rattle.sealed_steps.proofs.CallersResume.{AnswersWell, resumes-as-top}
 use Rattle.sealed_steps.proofs.FramesChanged.{frames-sealed}
-use Rattle.sealed_steps.proofs.FramesInARow.{CallersFit, LowestIsPlain, all-append, all-pop, all-push, callers-pop, count-plain, count-same, is_for, lowest-one, one_if}
+use Rattle.sealed_steps.proofs.FramesInARow.{CallersFit, LowestIsPlain, all-pop, all-push, callers-pop, count-plain, count-same, is_for, lowest-one, one_if}
 use Rattle.sealed_steps.proofs.FramesPushedAndTaken.{top-covered, top-ended, top-replaced, top-returned}
 use Rattle.sealed_steps.proofs.InstructionsFit.{FitsOutcome, IsCalledWell, IsKept, instruction-leaves}
 use Rattle.sealed_steps.proofs.NeedsSealed.{broken-sealed, in-progress, need-sealed, touch-sealed}
 use Rattle.sealed_steps.proofs.NumberLaws.{NumberLaws}
-use Rattle.sealed_steps.proofs.OneItemChanged.{Contains-at}
 use Rattle.sealed_steps.proofs.RunningFacts.{RunningFacts, TopFacts, running-facts, thread_no, top-facts}
 use Rattle.sealed_steps.proofs.StandsHere.{alike, home-kept, runs-here, some-method, stands-here}
 use Rattle.sealed_steps.proofs.StatesOfClasses.{done-rests, ended-others, ended-progress, state-sealed}
@@ -105,7 +106,7 @@ module _ (m : Machine) (t : ℕ) (sealed : IsSealed m) (sound : AreSoundClasses 
   result-known : (v : Option Value) → Left (Returns v) → (below : FrameState) → NamesKnown a.place.inside.heap below
       → NamesKnown a.place.inside.heap (resumed v below)
   result-known (Some v) h below known = (known.0, all-push (IsKnownValue a.place.inside.heap) below.stack v known.1 h.1)
-  result-known None h below known = (known.0, all-append (IsKnownValue a.place.inside.heap) below.stack [] known.1 tt)
+  result-known None h below known = (known.0, each-append (IsKnownValue a.place.inside.heap) below.stack [] known.1 tt)
 
   returns-sealed : (v : Option Value) (lower : List FrameState) (below : FrameState) → w.frame.head.initialises ≡ None
       → a.running.callers ≡ lower ++ below ∷ [] → Left (Returns v)

@@ -3,11 +3,13 @@
 use Rattle.std.proofs.Common.{◌≡◌, inl, inr, ℕ, zero, suc, Bool, true, false, not, ◌||◌, ◌==◌, IsTrue, List, [], ◌∷◌, ◌++◌, length, take, replicate, Option, Some, None, slice_get, refl, sym, ap, subst, ◌∙◌, arith}
 use Rattle.std.specs.Prelude.{bytes_eq, codes, flat_map, option_map}
 use Rattle.std.specs.List.{list_all}
-use Rattle.std.proofs.lemmas.Bool.{and_parts, both_ways, not_from_true, or_cases}
+use Rattle.std.proofs.lemmas.Bool.{both_ways, not_from_true, or_cases}
 use Rattle.std.proofs.lemmas.List.{same_from_push}
 use Rattle.std.proofs.lemmas.Option.{same_Some, slice_get_within}
 use Rattle.std.proofs.lemmas.Slice.Eq.{bytes_eq-Decides}
-use Rattle.list_lemmas.proofs.ItemsByPlace.{slice_get-from_take}
+use Rattle.list_lemmas.proofs.ItemsByPlace.{slice_get-from_take, item_there}
+use Rattle.list_lemmas.proofs.ItemsOfLists.{passed_at}
+use Rattle.list_lemmas.proofs.EndsOfLists.{tail_is}
 use Rattle.jk_model.specs.declared.descriptors.Base.{Base as Letter}
 use Rattle.jk_model.specs.declared.descriptors.Base.TheVariants as Said
 use Rattle.jk_model.specs.declared.descriptors.FieldType.{FieldType}
@@ -25,17 +27,6 @@ use Rattle.jk_model_classes.specs.SystemRecords.{AreSystemRecords, IsBaseFor, Is
 use Rattle.jk_model_typing.specs.FrameTypes.{erased_class}
 use Rattle.jk_model_domains.specs.Objects.{PRINT_STREAM, class_type}
 use Rattle.class_lemmas.proofs.OneMember.{same_type}
-use Rattle.sealed_steps.proofs.OneItemChanged.{item-at}
-
--- ---- Lists.
-
-test-at : {X : Type 0} (p : X → Bool) (xs : List X) (k : ℕ) (x : X) → list_all p xs ≡ true → slice_get xs k ≡ Some x → p x ≡ true
-test-at p [] k x all e = absurd cc
-test-at p (y ∷ xs) zero x all e = subst (λ z. p z ≡ true) (same_Some y x e) (and_parts (p y) (list_all p xs) all).0
-test-at p (y ∷ xs) (suc k) x all e = test-at p xs k x (and_parts (p y) (list_all p xs) all).1 e
-
-tail : (x y : ℕ) (xs ys : List ℕ) → x ∷ xs ≡ y ∷ ys → xs ≡ ys
-tail x y xs ys e = cc
 
 -- ---- Descriptors.
 
@@ -47,7 +38,7 @@ STREAM_NAME = codes "java/io/PrintStream"
 
 stream_base : (b : Letter) → STREAM ≡ base_text b → b ≡ Said.Class STREAM_NAME
 stream_base (Said.Class name) e =
-    let whole : STREAM_NAME ++ 59 ∷ [] ≡ name ++ 59 ∷ [] = tail 76 76 (STREAM_NAME ++ 59 ∷ []) (name ++ 59 ∷ []) e in
+    let whole : STREAM_NAME ++ 59 ∷ [] ≡ name ++ 59 ∷ [] = tail_is 76 76 (STREAM_NAME ++ 59 ∷ []) (name ++ 59 ∷ []) e in
     ap (λ (n : List ℕ). Said.Class n) (sym (same_from_push STREAM_NAME name 59 59 whole).0)
 stream_base Said.Byte e = absurd cc
 stream_base Said.Char e = absurd cc
@@ -118,7 +109,7 @@ module _ (classes : List ClassRecord) (system : AreSystemRecords (take (length s
   entry-of : (c : ℕ) (r : ClassRecord) → slice_get (take (length system_classes) classes) c ≡ Some r → Entry c r
   entry-of c r is =
       let low = slice_get_within (take (length system_classes) classes) c r is in
-      let found = item-at system_classes c (omega (arith, low, system.as_many)) in
+      let found = item_there system_classes c (omega (arith, low, system.as_many)) in
       record { entry = found.0; at = found.1; is = system.each c found.0 r found.1 is }
 
   -- ---- System.out.
@@ -148,16 +139,16 @@ module _ (classes : List ClassRecord) (system : AreSystemRecords (take (length s
   static_kind c r i field is there static =
       let e = entry-of c r is in
       let low = slice_get_within r.fields i field there in
-      let found = item-at e.entry.fields i (omega (arith, low, e.is.field_count)) in
-      let row = test-at (λ (x : SystemClass). list_all good_field x.fields) system_classes c e.entry good_fields e.at in
-      let good = test-at good_field e.entry.fields i found.0 row found.1 in
+      let found = item_there e.entry.fields i (omega (arith, low, e.is.field_count)) in
+      let row = passed_at (λ (x : SystemClass). list_all good_field x.fields) system_classes c e.entry good_fields e.at in
+      let good = passed_at good_field e.entry.fields i found.0 row found.1 in
       field_kind found.0 field (e.is.fields i found.0 field found.1 there) good static
 
   -- PrintStream is no interface
   pub stream_erased : erased_class classes PRINT_STREAM ≡ PRINT_STREAM
   stream_erased =
       let many : length system_classes ≡ 45 = refl in
-      let found = item-at (take (length system_classes) classes) 6 (omega (arith, many, system.as_many)) in
+      let found = item_there (take (length system_classes) classes) 6 (omega (arith, many, system.as_many)) in
       let e = entry-of 6 found.0 found.1 in
       let at : Some 1 ≡ Some e.entry.flags = ap (option_map (λ (x : SystemClass). x.flags)) e.at in
       let flags : found.0.flags ≡ 1 = e.is.flags ∙ sym (same_Some 1 e.entry.flags at) in
@@ -173,9 +164,9 @@ module _ (classes : List ClassRecord) (system : AreSystemRecords (take (length s
   println_answers_nothing r i method is there name =
       let e = entry-of 6 r is in
       let low = slice_get_within r.methods i method there in
-      let found = item-at e.entry.methods i (omega (arith, low, e.is.method_count)) in
-      let row = test-at (λ (x : SystemClass). list_all good_method x.methods) system_classes 6 e.entry good_methods e.at in
-      let good = test-at good_method e.entry.methods i found.0 row found.1 in
+      let found = item_there e.entry.methods i (omega (arith, low, e.is.method_count)) in
+      let row = passed_at (λ (x : SystemClass). list_all good_method x.methods) system_classes 6 e.entry good_methods e.at in
+      let good = passed_at good_method e.entry.methods i found.0 row found.1 in
       let of = e.is.methods i found.0 method found.1 there in
       let named : bytes_eq found.0.name (codes "println") ≡ true = (bytes_eq-Decides found.0.name (codes "println")).1 (sym of.name ∙ name) in
       let end : ends found.0.descriptor ≡ true = elim (or_cases (not (bytes_eq found.0.name (codes "println"))) (ends found.0.descriptor) good) [

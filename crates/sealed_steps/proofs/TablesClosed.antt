@@ -1,6 +1,7 @@
 -- The classes that a frame needs, and those of the members that its instruction names, are among the names of its domain.
 use Rattle.std.proofs.Common.{◌≡◌, inl, inr, List, Contains, Some, sym, ap, subst, ◌∙◌}
 use Rattle.std.proofs.lemmas.Option.{same_Some}
+use Rattle.list_lemmas.proofs.ItemsOfLists.{Contains-at}
 use Rattle.jk_model.specs.declared.identifiers.ClassId.{ClassId}
 use Rattle.jk_model.specs.declared.identifiers.MemberId.{MemberId}
 use Rattle.jk_model_classes.specs.declared.records.BaseRef.TheVariants as Base
@@ -16,7 +17,6 @@ use Rattle.jk_model_sound_classes.specs.SoundClasses.{IsClosedTable, KnowsAround
 use Rattle.jk_model_machine.specs.Initialising.{FrameNeeds, InstrNeeds, RunsCode}
 use Rattle.jk_model_machine.specs.Machine.{DomainState}
 use Rattle.jk_model_machine.specs.Sealed.{IsAtHome, IsKnownIn, KnowsClassOf}
-use Rattle.sealed_steps.proofs.OneItemChanged.{Contains-at}
 
 module _ (classes : List ClassRecord) (d : DomainState) (closed : IsClosedTable classes d.table) where
   pub parent-known : (c p : ClassId) (r : ClassRecord) → IsNamed d.table c → record_of classes c ≡ Some r → r.parent ≡ Some p → IsNamed d.table p

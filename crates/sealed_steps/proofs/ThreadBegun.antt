@@ -3,7 +3,8 @@ use Rattle.std.proofs.Common.{◌≡◌, ℕ, suc, ◌+◌, ◌-◌, ◌<◌, �
 use Rattle.std.proofs.lemmas.Bool.{cases_eq}
 use Rattle.std.proofs.lemmas.List.Sums.{sum_by_push}
 use Rattle.std.proofs.lemmas.Option.{same_Some, slice_get_within}
-use Rattle.list_lemmas.proofs.ItemsOfLists.{only_in}
+use Rattle.list_lemmas.proofs.ItemsOfLists.{only_in, Contains-at, place_of}
+use Rattle.list_lemmas.proofs.ItemsByPlace.{slice_get-longer}
 use Rattle.jk_model.specs.declared.identifiers.ClassId.{ClassId}
 use Rattle.jk_model.specs.declared.identifiers.DomainId.{DomainId}
 use Rattle.jk_model.specs.declared.identifiers.SegmentNo.{SegmentNo}
@@ -16,7 +17,7 @@ use Rattle.jk_model_machine.specs.Sealed.{FramesFit, IsAtHome, IsSealed, IsSeale
 use Rattle.jk_model_machine.specs.Starts.{first_segment, with_new_thread}
 use Rattle.sealed_steps.specs.FirstNumbers.{CountsFromOne}
 use Rattle.sealed_steps.proofs.DomainsChanged.{in_progress-none}
-use Rattle.sealed_steps.proofs.OneItemChanged.{Contains-at, only_at, place-of, push-cases, slice_get-longer}
+use Rattle.sealed_steps.proofs.OneItemChanged.{only_at, push-cases}
 use Rattle.sealed_steps.proofs.RunningSegmentAlone.{chunks-elsewhere, chunks-here, initialisers-elsewhere, initialisers-here, thread_chunks}
 use Rattle.sealed_steps.proofs.ThreadsByNumber.{live-at, live-place}
 
@@ -69,7 +70,7 @@ module _ (m : Machine) (d : DomainState) (inside : Inside) (frame : FrameState) 
   each_thread : (P : Thread → Type 0) → P thread_new → ((thread : Thread) → Contains m.threads thread → P thread)
       → (thread : Thread) → Contains threads_after thread → P thread
   each_thread P new old thread on =
-      let at = place-of threads_after thread on in
+      let at = place_of threads_after thread on in
       elim (push-cases m.threads thread_new thread at.0 at.1) [
         | inl was ↦ old thread (Contains-at m.threads at.0 thread was)
         | inr (last, is) ↦ subst P is new
@@ -189,7 +190,7 @@ module _ (m : Machine) (d : DomainState) (inside : Inside) (frame : FrameState) 
 
   chunks_after : (e : DomainState) → Contains m.domains e → chunks_used after e.number ≤ e.quotas.chunks
   chunks_after e on =
-      let at = place-of m.domains e on in
+      let at = place_of m.domains e on in
       let numbered = sealed.numbered at.0 e at.1 in
       elim (cases_eq d.number.0 e.number.0) [
         | inl same ↦

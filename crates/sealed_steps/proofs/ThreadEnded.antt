@@ -2,6 +2,7 @@
 use Rattle.std.proofs.Common.{◌≡◌, ◌≢◌, ℕ, ◌<◌, ◌≤◌, ◌==◌, inl, inr, true, false, not, List, [], ◌∷◌, Contains, Some, slice_get, sym, ap, subst, ◌∙◌, arith}
 use Rattle.std.proofs.lemmas.Bool.{cases_eq}
 use Rattle.std.proofs.lemmas.Option.{same_Some}
+use Rattle.list_lemmas.proofs.ItemsOfLists.{Contains-at, place_of}
 use Rattle.jk_model.specs.declared.identifiers.ClassId.{ClassId}
 use Rattle.jk_model.specs.declared.identifiers.DomainId.{DomainId}
 use Rattle.jk_model.specs.declared.identifiers.ThreadNo.{ThreadNo}
@@ -13,7 +14,7 @@ use Rattle.jk_model_machine.specs.Places.{RunningSegment, without_running}
 use Rattle.jk_model_machine.specs.Sealed.{IsSealed, IsSealedSegment, in_progress_by, initialisers_of}
 use Rattle.sealed_steps.specs.TopChanges.{ChangesInside, LeavesNothing}
 use Rattle.sealed_steps.proofs.DomainsChanged.{domain-at, domain-cases, domain_names-differ, domains-numbered, each-domain, in_progress-live, in_progress-one, initialisers-still, insides-sealed, number-is, segment-still, with_threads}
-use Rattle.sealed_steps.proofs.OneItemChanged.{Contains-at, filter-order, place-of, sum_by-filter}
+use Rattle.sealed_steps.proofs.OneItemChanged.{filter-order, sum_by-filter}
 use Rattle.sealed_steps.proofs.RunningSegmentAlone.{RunsAlone, initialisers-elsewhere, runs-alone, thread_chunks}
 use Rattle.sealed_steps.proofs.ThreadsByNumber.{NumbersRise, live-at, live-place, same-place, without-keeps, without-place}
 
@@ -43,7 +44,7 @@ module _ (m : Machine) (t : ℕ) (p : RunningSegment m t) (d : DomainState) (ins
   each_left : (P : Thread → Type 0) → ((thread : Thread) → Contains m.threads thread → thread.number.0 ≢ t → P thread)
       → (thread : Thread) → Contains threads_after thread → P thread
   each_left P old thread on =
-      let at = place-of threads_after thread on in
+      let at = place_of threads_after thread on in
       let was = without-place t m.threads at.0 thread at.1 in
       old thread (Contains-at m.threads was.0 thread was.1) was.2
 
@@ -110,7 +111,7 @@ module _ (m : Machine) (t : ℕ) (p : RunningSegment m t) (d : DomainState) (ins
 
   chunks_after : (e : DomainState) → Contains (with_domain d m.domains) e → chunks_used after e.number ≤ e.quotas.chunks
   chunks_after e on =
-      let at = place-of (with_domain d m.domains) e on in
+      let at = place_of (with_domain d m.domains) e on in
       let stood = domain-at m t p d inside sealed changes in
       elim (domain-cases m t p d inside sealed changes at.0 e at.1) [
         | inl (same, is) ↦

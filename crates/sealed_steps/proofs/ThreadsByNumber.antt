@@ -2,8 +2,9 @@
 use Rattle.std.proofs.Common.{◌≡◌, ◌≢◌, ℕ, ◌<◌, ◌⊎◌, ◌==◌, inl, inr, Bool, true, not, List, set, Option, Some, None, slice_get, refl, sym, ap, ◌∙◌, eqb, eq-eqb, ne_eqb, eqb-true, arith}
 use Rattle.std.proofs.lemmas.Bool.{cases_eq, cases_lt, eqb-false}
 use Rattle.std.proofs.lemmas.Option.{same_Some}
+use Rattle.list_lemmas.proofs.TestsAndOrders.{not_true}
 use Rattle.jk_model_machine.specs.Machine.{Machine, Thread, is_live_thread, thread_numbered, with_thread, without_thread}
-use Rattle.sealed_steps.proofs.OneItemChanged.{filter-keeps, filter-place, find-place, find-some, map-only_at, not-false}
+use Rattle.sealed_steps.proofs.OneItemChanged.{filter-keeps, filter-place, find-place, find-some, map-only_at}
 
 -- ---- The thread of a number.
 
@@ -70,7 +71,7 @@ pub without-place : (t : ℕ) (threads : List Thread) (i : ℕ) (thread : Thread
     → (k : ℕ) × (slice_get threads k ≡ Some thread) × (thread.number.0 ≢ t)
 without-place t threads i thread e =
     let found = filter-place (λ (other : Thread). not (other.number.0 == t)) threads i thread e in
-    (found.0, found.1, eqb-false thread.number.0 t (not-false (eqb thread.number.0 t) found.2))
+    (found.0, found.1, eqb-false thread.number.0 t (not_true (eqb thread.number.0 t) found.2))
 
 pub without-keeps : (t : ℕ) (threads : List Thread) (k : ℕ) (thread : Thread) → slice_get threads k ≡ Some thread → thread.number.0 ≢ t
     → (j : ℕ) × (slice_get (without_thread t threads) j ≡ Some thread)

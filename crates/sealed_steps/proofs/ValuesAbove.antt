@@ -1,6 +1,6 @@
 -- Values that fit a type fit each type above it, also in the code of another method where the type is a declared one; and they
 -- are what a field of the type holds.
-use Rattle.std.proofs.Common.{◌≡◌, inl, inr, ℕ, zero, suc, List, [], ◌∷◌, ◌++◌, length, map, refl, sym, ap, subst, arith}
+use Rattle.std.proofs.Common.{◌≡◌, ℕ, zero, suc, List, [], ◌∷◌, ◌++◌, length, map, subst, arith}
 use Rattle.std.proofs.lemmas.List.{length-append}
 use Rattle.jk_model.specs.declared.values.Value.{Value}
 use Rattle.jk_model.specs.declared.values.Value.TheVariants as Held
@@ -11,78 +11,38 @@ use Rattle.jk_model_classes.specs.declared.records.TypeRef.{TypeRef}
 use Rattle.jk_model_classes.specs.Classes.{AreOrdered}
 use Rattle.jk_model_typing.specs.declared.frames.FrameType.{FrameType}
 use Rattle.jk_model_typing.specs.declared.frames.VType.{VType}
-use Rattle.jk_model_typing.specs.declared.frames.VType.TheVariants.{Unusable, Null, Ref}
-use Rattle.jk_model_typing.specs.FrameTypes.{EachFits, Fits, FrameFits, RefFits, array_type, value_of}
+use Rattle.jk_model_typing.specs.FrameTypes.{EachFits, FrameFits, array_type, value_of}
 use Rattle.jk_model_typing.specs.Scopes.{CodeScope}
 use Rattle.jk_model_frames.specs.Frames.{FrameState}
-use Rattle.jk_model_domains.specs.Objects.{CAPABILITY, NamedObject, class_type, type_of}
+use Rattle.jk_model_domains.specs.Objects.{NamedObject}
 use Rattle.jk_model_domains.specs.ValueTypes.{EachValueFits, FrameHolds, HoldsDeclared, ValueFits}
-use Rattle.type_frames.proofs.OrderOfTypes.{Fits-cases, RefFits-trans}
+use Rattle.number_laws.proofs.ValuesAbove.{value-above}
+pub use Rattle.number_laws.proofs.ValuesFit.{fits-length}
 
 -- ---- Lists of values.
 
 module _ (s : CodeScope) (heap : List NamedObject) where
-  pub fits-length : (vs : List Value) (ts : List VType) → EachValueFits s heap vs ts → length vs ≡ length ts
-  fits-length [] [] h = refl
-  fits-length [] (t ∷ ts) h = absurd h
-  fits-length (v ∷ vs) [] h = absurd h
-  fits-length (v ∷ vs) (t ∷ ts) h = ap suc (fits-length vs ts h.1)
-
-  pub fits-append : (vs ws : List Value) (ts us : List VType) → EachValueFits s heap vs ts → EachValueFits s heap ws us
-      → EachValueFits s heap (vs ++ ws) (ts ++ us)
-  fits-append [] ws [] us h k = k
-  fits-append [] ws (t ∷ ts) us h k = absurd h
-  fits-append (v ∷ vs) ws [] us h k = absurd h
-  fits-append (v ∷ vs) ws (t ∷ ts) us h k = (h.0, fits-append vs ws ts us h.1 k)
-
   pub fits-parts : (vs ws : List Value) (ts us : List VType) → length ws ≡ length us → EachValueFits s heap (vs ++ ws) (ts ++ us)
       → EachValueFits s heap vs ts × EachValueFits s heap ws us
   fits-parts [] ws [] us n h = (tt, h)
   fits-parts [] ws (t ∷ ts) us n h =
-      let many = fits-length ws (t ∷ (ts ++ us)) h in
+      let many = fits-length s heap ws (t ∷ (ts ++ us)) h in
       absurd (omega (arith, n, many, length-append ts us))
   fits-parts (v ∷ vs) ws [] us n h =
-      let many = fits-length (v ∷ (vs ++ ws)) us h in
+      let many = fits-length s heap (v ∷ (vs ++ ws)) us h in
       absurd (omega (arith, n, many, length-append vs ws))
   fits-parts (v ∷ vs) ws (t ∷ ts) us n h = let more = fits-parts vs ws ts us n h.1 in ((h.0, more.0), more.1)
 
 -- ---- Types above.
 
 module _ (s : CodeScope) (heap : List NamedObject) (ordered : AreOrdered s.classes) where
-  null-above : (v : Value) (t : TypeRef) → ValueFits s heap v Null → ValueFits s heap v (Ref t)
-  null-above (Held.Int n) t h = absurd h
-  null-above (Held.Long n) t h = absurd h
-  null-above Held.Null t h = tt
-  null-above (Held.Obj a) t h = absurd h.2
-  null-above (Held.Cap k) t h = absurd h
-  null-above Held.Unset t h = absurd h
-
-  ref-above : (v : Value) (a t : TypeRef) → ValueFits s heap v (Ref a) → RefFits s.classes a t → ValueFits s heap v (Ref t)
-  ref-above (Held.Int n) a t h k = absurd h
-  ref-above (Held.Long n) a t h k = absurd h
-  ref-above Held.Null a t h k = tt
-  ref-above (Held.Obj x) a t h k = (h.0, h.1, RefFits-trans s.classes ordered (type_of h.0) a t h.2 k)
-  ref-above (Held.Cap c) a t h k = RefFits-trans s.classes ordered (class_type CAPABILITY) a t h k
-  ref-above Held.Unset a t h k = absurd h
-
-  pub value-above : (v : Value) (t u : VType) → ValueFits s heap v t → Fits s.classes t u → ValueFits s heap v u
-  value-above v t u h k = elim (Fits-cases s.classes t u k) [
-    | inl e ↦ subst (ValueFits s heap v) (sym e) (unusable v)
-    | inr (inl e) ↦ subst (ValueFits s heap v) e h
-    | inr (inr (inl (r, null, e))) ↦ subst (ValueFits s heap v) (sym e) (null-above v r (subst (ValueFits s heap v) null h))
-    | inr (inr (inr (x, y, ex, ey, xy))) ↦ subst (ValueFits s heap v) (sym ey) (ref-above v x y (subst (ValueFits s heap v) ex h) xy)
-  ]
-    where
-      unusable : (w : Value) → ValueFits s heap w Unusable
-      unusable w = tt
-
   pub values-above : (vs : List Value) (ts us : List VType) → EachValueFits s heap vs ts → EachFits s.classes ts us → EachValueFits s heap vs us
   values-above [] [] [] h k = tt
   values-above [] [] (u ∷ us) h k = absurd k
   values-above [] (t ∷ ts) us h k = absurd h
   values-above (v ∷ vs) [] us h k = absurd h
   values-above (v ∷ vs) (t ∷ ts) [] h k = absurd k
-  values-above (v ∷ vs) (t ∷ ts) (u ∷ us) h k = (value-above v t u h.0 k.0, values-above vs ts us h.1 k.1)
+  values-above (v ∷ vs) (t ∷ ts) (u ∷ us) h k = (value-above s heap ordered v t u h.0 k.0, values-above vs ts us h.1 k.1)
 
   pub frame-above : (f : FrameState) (t u : FrameType) → FrameHolds s heap f t → FrameFits s.classes t u → FrameHolds s heap f u
   frame-above f t u h k = record {

@@ -1,60 +1,31 @@
 -- No name of a domain is an array's, and so a Class entry whose name means a class refers to that class.
-use Rattle.std.proofs.Common.{◌≡◌, ℕ, zero, suc, ◌<◌, ◌≤◌, ◌⊎◌, inl, inr, List, [], ◌∷◌, ◌++◌, length, replicate, Some, slice_get, Contains, refl, sym, ap, subst, arith}
-use Rattle.std.proofs.lemmas.Bool.{cases_order}
+use Rattle.std.proofs.Common.{◌≡◌, ℕ, ◌<◌, inl, inr, List, length, Some, slice_get, Contains, refl, sym, subst, arith}
 use Rattle.std.proofs.lemmas.Option.{slice_get_within}
+use Rattle.list_lemmas.proofs.ItemsOfLists.{Contains-at}
+use Rattle.list_lemmas.proofs.ItemsByPlace.{item_there}
 use Rattle.jk_model.specs.declared.class_file.ClassFile.{ClassFile}
 use Rattle.jk_model.specs.declared.identifiers.ClassId.{ClassId}
 use Rattle.jk_model.specs.declared.output.Rule.TheVariants.{C13, C7}
-use Rattle.jk_model.specs.Descriptors.{base_text}
 use Rattle.jk_model_classes.specs.declared.records.ClassRecord.{ClassRecord}
 use Rattle.jk_model_classes.specs.declared.sharing.Offer.{Offer}
 use Rattle.jk_model_classes.specs.declared.sharing.Stub.{Stub}
 use Rattle.jk_model_classes.specs.Classes.{record_of}
-use Rattle.jk_model_classes.specs.ClassNames.{BeginsArray, HasBadName, IsArrayDescriptor}
+use Rattle.jk_model_classes.specs.ClassNames.{BeginsArray, HasBadName}
 use Rattle.jk_model_classes.specs.Items.{Entry, Member, Spot}
 use Rattle.jk_model_classes.specs.MemberCode.{IsNative}
 use Rattle.jk_model_classes.specs.Members.{ClassAt}
 use Rattle.jk_model_classes.specs.OneClassRules.{one_class_rules}
 use Rattle.jk_model_classes.specs.References.{IsCalledClass}
 use Rattle.jk_model_classes.specs.Worlds.{NamedClass, WorldRecord}
+use Rattle.model_lemmas.proofs.ClassesInLists.{in_or_not}
+use Rattle.class_lemmas.proofs.ArraysHaveNoNames.{array_begins}
 use Rattle.jk_model_folders.specs.declared.files.FolderFiles.{FolderFiles}
 use Rattle.jk_model_folders.specs.FolderRules.{link_scope}
 use Rattle.jk_model_folders.specs.LinkedClasses.{AreReferences}
 use Rattle.jk_model_folders.specs.Loads.{Loads}
 use Rattle.class_lemmas.proofs.OneText.{one_class}
-use Rattle.class_growth.proofs.ItemsOfLists.{Contains-at, Contains-cases, Contains-here, Contains-none, Contains-there, item-at}
 use Rattle.sound_folders.proofs.NamesOfTables.{system_meant, system_no_array}
 use Rattle.sound_folders.proofs.NewClasses.{meaning}
-
--- ---- Classes in a list.
-
-pub same_number : (c d : ClassId) → c.0 ≡ d.0 → c ≡ d
-same_number c d e = let of : ℕ → ClassId = λ n. record { 0 = n } in ap of e
-
-contained_by : (x c : ClassId) (xs : List ClassId) → (x.0 ≡ c.0) ⊎ ((x.0 < c.0) ⊎ (c.0 < x.0)) → Contains xs c ⊎ (Contains xs c → ⊥)
-    → Contains (x ∷ xs) c ⊎ (Contains (x ∷ xs) c → ⊥)
-contained_by x c xs order (inl later) = inl (Contains-there c x xs later)
-contained_by x c xs (inl same) (inr absent) = inl (subst (Contains (x ∷ xs)) (same_number x c same) (Contains-here x xs))
-contained_by x c xs (inr differ) (inr absent) = inr (λ on. elim (Contains-cases c x xs on) [
-  | inl e ↦ elim differ [
-    | inl low ↦ let number : x.0 ≡ c.0 = ap (λ (y : ClassId). y.0) e in omega (arith, low, number)
-    | inr high ↦ let number : x.0 ≡ c.0 = ap (λ (y : ClassId). y.0) e in omega (arith, high, number)
-  ]
-  | inr later ↦ absent later
-])
-
-contained : (xs : List ClassId) (c : ClassId) → Contains xs c ⊎ (Contains xs c → ⊥)
-contained [] c = inr (λ on. Contains-none c on)
-contained (x ∷ xs) c = contained_by x c xs (cases_order x.0 c.0) (contained xs c)
-
--- ---- Arrays.
-
-begins_by : (d : ℕ) (back units : List ℕ) → 1 ≤ d → units ≡ replicate d 91 ++ back → BeginsArray units
-begins_by zero back units some e = absurd (omega arith)
-begins_by (suc d) back units some e = (replicate d 91 ++ back, e)
-
-array_begins : (units : List ℕ) → IsArrayDescriptor units → BeginsArray units
-array_begins units (t, some, h) = begins_by t.dims (base_text t.base) units some h.1
 
 -- ---- A folder that breaks no rule.
 
@@ -66,12 +37,12 @@ module _ {f : FolderFiles} {w : WorldRecord} {into : List ℕ} {first : ClassId}
 
     good_names : (spot : Spot) → HasBadName c spot → ⊥
     good_names spot bad =
-        let file = item-at f.classes i low in
+        let file = item_there f.classes i low in
         l.none_alone C7 i spot (Contains-at one_class_rules 1 C7 refl) (file.0, c, file.1, at, bad)
 
     pub not_native : (spot : Spot) → IsNative c spot → ⊥
     not_native spot bad =
-        let file = item-at f.classes i low in
+        let file = item_there f.classes i low in
         l.none_alone C13 i spot (Contains-at one_class_rules 7 C13 refl) (file.0, c, file.1, at, bad)
 
     pub own_no_array : (name : List ℕ) → IsCalledClass c name → BeginsArray name → ⊥
@@ -95,7 +66,7 @@ module _ {f : FolderFiles} {w : WorldRecord} {into : List ℕ} {first : ClassId}
     pub entry_refers : (i : ℕ) (c : ClassFile) → slice_get l.files i ≡ Some c → (self : ClassId) (references : List ClassId)
         → AreReferences (link_scope l.placed self) c references → (j : ℕ) (name : List ℕ) (class : ClassId) → ClassAt c.pool j name
         → meaning l name ≡ Some class → Contains references class
-    entry_refers i c at self references refs j name class there meant = elim (contained references class) [
+    entry_refers i c at self references refs j name class there meant = elim (in_or_not references class) [
       | inl listed ↦ listed
       | inr never ↦ absurd (good_names i c at (Entry j) (inl (
         name,

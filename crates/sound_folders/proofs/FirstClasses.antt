@@ -5,21 +5,21 @@ use Rattle.std.specs.List.{AllByRecursion, list_all}
 use Rattle.std.proofs.lemmas.Bool.{and_parts, ltb-true}
 use Rattle.std.proofs.lemmas.List.{take_all}
 use Rattle.std.proofs.lemmas.Option.{slice_get_within, same_Some}
+use Rattle.list_lemmas.proofs.ItemsOfLists.{Contains-none}
+use Rattle.list_lemmas.proofs.ItemsByPlace.{item_there}
 use Rattle.jk_model.specs.declared.identifiers.ClassId.{ClassId}
 use Rattle.jk_model.specs.declared.identifiers.MemberId.{MemberId}
 use Rattle.jk_model.specs.SystemTable.{SystemClass, SystemMethod, interface_numbers, method_number, parent_number, system_classes}
-use Rattle.jk_model_classes.specs.declared.records.Body.TheVariants as Does
 use Rattle.jk_model_classes.specs.declared.records.ClassRecord.{ClassRecord}
-use Rattle.jk_model_classes.specs.declared.records.LinkedCode.{LinkedCode}
 use Rattle.jk_model_classes.specs.declared.records.MethodRecord.{MethodRecord}
 use Rattle.jk_model_classes.specs.Classes.{AreOrdered, IsBelow, ParentIsBelow, record_of}
 use Rattle.jk_model_classes.specs.ClassNames.{BeginsArray}
 use Rattle.jk_model_classes.specs.Lookups.{MethodIs}
 use Rattle.jk_model_classes.specs.SystemRecords.{AreSystemRecords, IsSystemMethodAt, IsSystemRecord, system_meaning}
 use Rattle.jk_model_classes.specs.Worlds.{NamedClass}
+use Rattle.class_lemmas.proofs.CodeOfMethods.{system_has_none}
 use Rattle.jk_model_typing.specs.Scopes.{CodeScope, IsScopeOf}
 use Rattle.jk_model_sound_classes.specs.SoundClasses.{AreSoundClasses}
-use Rattle.class_growth.proofs.ItemsOfLists.{Contains-none, item-at}
 use Rattle.class_growth.proofs.SystemClassesClosed.{system-closed}
 use Rattle.sound_folders.specs.LinkedWorlds.{AreLinked, HaveNamesOf}
 use Rattle.sound_folders.proofs.NamesOfTables.{system_no_array}
@@ -68,27 +68,24 @@ interfaces_by n (i ∷ interfaces) low =
     let parts = and_parts (nat_lt i.0 n) (list_all (is_below n) (map (λ (c : ClassId). Some c.0) interfaces)) low in
     (ltb-true i.0 n parts.0, interfaces_by n interfaces parts.1)
 
-no_code : (number : ℕ) (code : LinkedCode) → Does.System number ≡ Does.Linked code → ⊥
-no_code number code e = cc
-
 module _ (classes : List ClassRecord) (system : AreSystemRecords classes) where
   entry-of : (c : ClassId) (r : ClassRecord) → record_of classes c ≡ Some r
       → (entry : SystemClass) × (slice_get system_classes c.0 ≡ Some entry) × IsSystemRecord c.0 entry r
   entry-of c r is =
-      let entry = item-at system_classes c.0 (omega (arith, slice_get_within classes c.0 r is, system.as_many)) in
+      let entry = item_there system_classes c.0 (omega (arith, slice_get_within classes c.0 r is, system.as_many)) in
       (entry.0, entry.1, system.each c.0 entry.0 r entry.1 is)
 
   method-of : (m : MemberId) (method : MethodRecord) → MethodIs classes m method
       → (number : ℕ) × (entry : SystemMethod) × IsSystemMethodAt number entry method
   method-of m method (r, is, at) =
       let of = entry-of m.class r is in
-      let entry = item-at of.0.methods m.index (omega (arith, slice_get_within r.methods m.index method at, of.2.method_count)) in
+      let entry = item_there of.0.methods m.index (omega (arith, slice_get_within r.methods m.index method at, of.2.method_count)) in
       (method_number m.class.0 m.index, entry.0, of.2.methods m.index entry.0 method entry.1 at)
 
   never_scope : (m : MemberId) (s : CodeScope) → IsScopeOf classes m s → ⊥
   never_scope m s scope =
       let of = method-of m s.method (scope.class, scope.class_is, scope.method) in
-      no_code of.0 s.code (sym of.2.body ∙ scope.body)
+      system_has_none of.0 s.code (sym of.2.body ∙ scope.body)
 
   in_order : AreOrdered classes
   in_order c r is =

@@ -2,6 +2,8 @@
 -- that the entry names, among the classes with their links too.
 use Rattle.std.proofs.Common.{◌≡◌, ℕ, inl, inr, List, [], ◌∷◌, ◌++◌, map, Some, slice_get, Contains, refl, sym, ap, subst, ◌∙◌, arith}
 use Rattle.std.proofs.lemmas.Option.{slice_get_within}
+use Rattle.list_lemmas.proofs.ItemsOfLists.{Contains-at}
+use Rattle.list_lemmas.proofs.ItemsByPlace.{item_there}
 use Rattle.jk_model.specs.declared.class_file.ClassFile.{ClassFile}
 use Rattle.jk_model.specs.declared.class_file.PoolEntry.{PoolEntry}
 use Rattle.jk_model.specs.declared.class_file.PoolEntry.TheVariants as Entry
@@ -22,7 +24,6 @@ use Rattle.jk_model_folders.specs.FolderRules.{link_scope}
 use Rattle.jk_model_folders.specs.LinkedClasses.{AreLinksFor, IsEntryType, IsFieldLink, IsLinkFor, IsMethodLink, without_links}
 use Rattle.jk_model_folders.specs.Loads.{Loads}
 use Rattle.class_growth.specs.OtherLinks.{DifferInLinks}
-use Rattle.class_growth.proofs.ItemsOfLists.{Contains-at, item-at}
 use Rattle.class_growth.proofs.LinksDontMatter.{field_walk-linked, method_walk-linked, ordered-linked}
 use Rattle.sound_folders.proofs.NewClasses.{added, all}
 
@@ -100,7 +101,7 @@ module _ (s : LinkScope) (c : ClassFile) (i : ℕ) where
 
 module _ (s : LinkScope) (c : ClassFile) (links : List Link) (are : AreLinksFor s c links) (i : ℕ) where
   entry-at : (link : Link) → slice_get links i ≡ Some link → (entry : PoolEntry) × (slice_get c.pool i ≡ Some entry)
-  entry-at link at = item-at c.pool i (omega (arith, slice_get_within links i link at, are.as_many))
+  entry-at link at = item_there c.pool i (omega (arith, slice_get_within links i link at, are.as_many))
 
   pub field-found : (class : ClassId) (m : MemberId) → slice_get links i ≡ Some (To.Field class m) → FoundField s c i class m
   field-found class m at =

@@ -1,43 +1,19 @@
 -- What a table of names says: a class has a name there where some name means it. Each system class is meant by its own name, and
 -- none of these names begins as an array's does.
-use Rattle.std.proofs.Common.{◌≡◌, ℕ, zero, suc, ◌+◌, Bool, true, false, cond, not, ◌==◌, ◌&&◌, List, [], ◌∷◌, Option, Some, None, slice_get, Contains, refl, sym, ap, subst, ◌∙◌, arith, true≢false}
+use Rattle.std.proofs.Common.{◌≡◌, ℕ, zero, suc, ◌+◌, Bool, true, false, not, ◌==◌, ◌&&◌, List, [], ◌∷◌, Option, Some, None, slice_get, Contains, refl, sym, ap, subst, ◌∙◌, arith, true≢false}
 use Rattle.std.specs.Prelude.{bytes_eq, find, option_map}
 use Rattle.std.proofs.lemmas.Bool.{and_parts, eqb-true}
 use Rattle.std.proofs.lemmas.List.Quantifiers.{position-Some}
 use Rattle.std.proofs.lemmas.Option.{same_Some, slice_get-get_or}
 use Rattle.std.proofs.lemmas.Slice.Eq.{bytes_eq-Decides}
 use Rattle.std.proofs.Math.ListN.{get_or}
+use Rattle.list_lemmas.proofs.ItemsOfLists.{place_of}
+use Rattle.list_lemmas.proofs.FoundItems.{finds, Finds}
 use Rattle.jk_model.specs.declared.identifiers.ClassId.{ClassId}
 use Rattle.jk_model.specs.SystemTable.{SystemClass, system_classes, number_named}
 use Rattle.jk_model_classes.specs.ClassNames.{BeginsArray}
 use Rattle.jk_model_classes.specs.SystemRecords.{system_meaning}
-use Rattle.jk_model_classes.specs.Worlds.{NamedClass, IsNamed, class_named}
-use Rattle.class_growth.proofs.ItemsOfLists.{Contains-at, place-of}
-
--- ---- The first item that passes a test.
-
-module _ {X : Type 0} where
-  abbrev Finds : (X → Bool) → List X → Option X → Type 0
-  Finds test xs None = (k : ℕ) (x : X) → slice_get xs k ≡ Some x → test x ≡ false
-  Finds test xs (Some x) = (k : ℕ) × (slice_get xs k ≡ Some x) × (test x ≡ true)
-
-  fails_here : (test : X → Bool) (y : X) (ys : List X) → test y ≡ false → Finds test ys None → (k : ℕ) (x : X) → slice_get (y ∷ ys) k ≡ Some x
-      → test x ≡ false
-  fails_here test y ys e h zero x at = subst (λ (z : X). test z ≡ false) (same_Some y x at) e
-  fails_here test y ys e h (suc k) x at = h k x at
-
-  found_later : (test : X → Bool) (y : X) (ys : List X) (o : Option X) → test y ≡ false → Finds test ys o → Finds test (y ∷ ys) o
-  found_later test y ys None e h = λ k x at. fails_here test y ys e h k x at
-  found_later test y ys (Some x) e h = (suc h.0, h.1, h.2)
-
-  found_by : (test : X → Bool) (y : X) (ys : List X) (b : Bool) → test y ≡ b → Finds test ys (find test ys)
-      → Finds test (y ∷ ys) (cond b (Some y) (find test ys))
-  found_by test y ys true e h = (0, refl, e)
-  found_by test y ys false e h = found_later test y ys (find test ys) e h
-
-  finds : (test : X → Bool) (xs : List X) → Finds test xs (find test xs)
-  finds test [] = λ k x e. absurd cc
-  finds test (y ∷ ys) = found_by test y ys (test y) refl (finds test ys)
+use Rattle.jk_model_classes.specs.Worlds.{NamedClass, class_named}
 
 -- ---- Tables.
 
@@ -49,20 +25,12 @@ NamesDiffer table =
 abbrev of_name : List ℕ → NamedClass → Bool
 of_name name e = bytes_eq e.name name
 
-pub named-from : (table : List NamedClass) (name : List ℕ) (c : ClassId) → class_named table name ≡ Some c → IsNamed table c
-named-from table name c e = by (find (of_name name) table) e (finds (of_name name) table)
-  where
-    by : (o : Option NamedClass) → option_map (λ (n : NamedClass). n.class) o ≡ Some c → Finds (of_name name) table o → IsNamed table c
-    by (Some n) class h =
-        (n.name, subst (λ (x : ClassId). Contains table (record { name = n.name; class = x })) (same_Some n.class c class) (Contains-at table h.0 n h.1))
-    by None class h = absurd cc
-
 pub meant-from : (table : List NamedClass) → NamesDiffer table → (name : List ℕ) (c : ClassId) → Contains table (record { name = name; class = c })
     → class_named table name ≡ Some c
 meant-from table differ name c on = by (find (of_name name) table) (finds (of_name name) table)
   where
     at : (k : ℕ) × (slice_get table k ≡ Some (record { name = name; class = c }))
-    at = place-of table (record { name = name; class = c }) on
+    at = place_of table (record { name = name; class = c }) on
 
     by : (o : Option NamedClass) → Finds (of_name name) table o → option_map (λ (n : NamedClass). n.class) o ≡ Some c
     by (Some n) h =

@@ -2,6 +2,8 @@
 -- by the domain's names: those of system classes, of classes that lines bring in, and of the folder's own classes.
 use Rattle.std.proofs.Common.{◌≡◌, ◌≢◌, ℕ, ◌<◌, inl, inr, List, length, take, Option, Some, None, slice_get, Contains, refl, sym, ap, ◌∙◌, arith}
 use Rattle.std.proofs.lemmas.Option.{none-some, slice_get_within}
+use Rattle.list_lemmas.proofs.ItemsOfLists.{Contains-at, place_of}
+use Rattle.list_lemmas.proofs.ItemsByPlace.{item_there, slice_get-in_take, slice_get-behind}
 use Rattle.jk_model.specs.declared.identifiers.ClassId.{ClassId}
 use Rattle.jk_model.specs.declared.identifiers.DomainId.{DomainId}
 use Rattle.jk_model.specs.SystemTable.{system_classes}
@@ -14,16 +16,16 @@ use Rattle.jk_model_classes.specs.Classes.{record_of}
 use Rattle.jk_model_classes.specs.ResolverRules.{ImportsClass, IsReached}
 use Rattle.jk_model_classes.specs.SystemRecords.{system_meaning}
 use Rattle.jk_model_classes.specs.Worlds.{NamedClass, WorldRecord}
+use Rattle.class_lemmas.proofs.ReachedByReferences.{reached_further}
 use Rattle.jk_model_folders.specs.declared.files.FolderFiles.{FolderFiles}
 use Rattle.jk_model_folders.specs.Loads.{Loads, MayLoad}
 use Rattle.class_lemmas.proofs.OneText.{one_class}
-use Rattle.class_growth.proofs.ItemsOfLists.{Contains-at, item-at, place-of, slice_get-append_cases}
+use Rattle.class_growth.proofs.ItemsOfLists.{slice_get-append_cases}
 use Rattle.class_growth.proofs.MoreClasses.{record-still}
 use Rattle.sound_folders.specs.LinkedWorlds.{RefersAround}
 use Rattle.sound_folders.specs.NamesAndTypes.{HasOwnNames, IsCalled, IsSaidBy, SayTypes, SaysReferences}
 use Rattle.sound_folders.proofs.NamesOfTables.{meant-from, system_meant}
 use Rattle.sound_folders.proofs.NewClasses.{OwnFile, added, all, meaning, own_file, system_few}
-use Rattle.sound_folders.proofs.TablesAgain.{reached_further, slice_get-behind, slice_get-take}
 use Rattle.sound_folders.proofs.TypesByNames.{said-by}
 
 module _ {f : FolderFiles} {w : WorldRecord} {into : List ℕ} {first : ClassId} {table : List NamedClass} {offers : List Offer} {stubs : List Stub}
@@ -39,14 +41,14 @@ module _ {f : FolderFiles} {w : WorldRecord} {into : List ℕ} {first : ClassId}
       | inl system ↦
           let entry = system_meant name c system in
           let low = slice_get_within system_classes c.0 entry.0 entry.1 in
-          let r = item-at w.classes c.0 (omega (arith, low, system_few l may)) in
-          let of = may.system.each c.0 entry.0 r.0 entry.1 (slice_get-take w.classes (length system_classes) c.0 r.0 low r.1) in
+          let r = item_there w.classes c.0 (omega (arith, low, system_few l may)) in
+          let of = may.system.each c.0 entry.0 r.0 entry.1 (slice_get-in_take w.classes (length system_classes) c.0 r.0 low r.1) in
           (r.0, record-still w.classes (added l) c r.0 r.1, of.name ∙ entry.2)
       | inr (line, listed, (imported, imports, reached, (r, is, named))) ↦ (r, record-still w.classes (added l) c r is, named)
     ]
     | inr (i, file, at, called, (k, order, number)) ↦
         let low : k < length (added l) = omega (arith, slice_get_within l.placed.order k i order, l.is_placed.as_many, l.is_placed.order.as_many) in
-        let r = item-at (added l) k low in
+        let r = item_there (added l) k low in
         let of = (l.is_placed.records k i file r.0 order at r.1).0 in (
           r.0,
           ap (slice_get (all l)) number ∙ slice_get-behind w.classes (added l) k ∙ r.1,
@@ -66,9 +68,9 @@ module _ {f : FolderFiles} {w : WorldRecord} {into : List ℕ} {first : ClassId}
   front_said : (c : ClassId) (r : ClassRecord) → slice_get front c.0 ≡ Some r → (j : ℕ) (method : MethodRecord) → slice_get r.methods j ≡ Some method
       → IsSaidBy (meaning l) method
   front_said c r is j method at =
-      let entry = item-at system_classes c.0 (omega (arith, slice_get_within front c.0 r is, may.system.as_many)) in
+      let entry = item_there system_classes c.0 (omega (arith, slice_get_within front c.0 r is, may.system.as_many)) in
       let of = may.system.each c.0 entry.0 r entry.1 is in
-      let told = item-at entry.0.methods j (omega (arith, slice_get_within r.methods j method at, of.method_count)) in
+      let told = item_there entry.0.methods j (omega (arith, slice_get_within r.methods j method at, of.method_count)) in
       let said = of.methods j told.0 method told.1 at in
       said-by system_meaning (meaning l) method
       (λ name d named meant. (l.is_placed.table name d).1 (inl ((l.are_outer name d).1 (inl meant)))) (said.params, said.result)
@@ -79,7 +81,7 @@ module _ {f : FolderFiles} {w : WorldRecord} {into : List ℕ} {first : ClassId}
       (at : slice_get r.methods j ≡ Some method) where
     pub own_refers : SaysReferences (all l) r method
     own_refers =
-        let told = item-at own.file.methods j (omega (arith, slice_get_within r.methods j method at, own.is_record.methods.as_many)) in
+        let told = item_there own.file.methods j (omega (arith, slice_get_within r.methods j method at, own.is_record.methods.as_many)) in
         let of = own.is_record.methods.each j told.0 method told.1 at in
         let (units, there, text) = of.kind in
         record {
@@ -94,7 +96,7 @@ module _ {f : FolderFiles} {w : WorldRecord} {into : List ℕ} {first : ClassId}
 
     own_said : IsSaidBy (meaning l) method
     own_said =
-        let told = item-at own.file.methods j (omega (arith, slice_get_within r.methods j method at, own.is_record.methods.as_many)) in
+        let told = item_there own.file.methods j (omega (arith, slice_get_within r.methods j method at, own.is_record.methods.as_many)) in
         let of = own.is_record.methods.each j told.0 method told.1 at in
         (of.params, of.result)
 
@@ -123,13 +125,13 @@ module _ {f : FolderFiles} {w : WorldRecord} {into : List ℕ} {first : ClassId}
 
     pub new_say_types : SayTypes (all l) l.placed.table
     new_say_types m method (r, is, at) (name, on) = elim (slice_get-append_cases w.classes (added l) m.class.0 r is) [
-      | inr later ↦ let place = place-of (added l) r later in own_said place.0 r (own_file l place.0 r place.1) m.index method at
+      | inr later ↦ let place = place_of (added l) r later in own_said place.0 r (own_file l place.0 r place.1) m.index method at
       | inl old ↦ elim ((l.is_placed.table name m.class).0 (meant-from l.placed.table l.is_placed.names_differ name m.class on)) [
         | inl outer ↦ elim ((l.are_outer name m.class).0 outer) [
           | inl system ↦
               let entry = system_meant name m.class system in
               let low = slice_get_within system_classes m.class.0 entry.0 entry.1 in
-              front_said m.class r (slice_get-take w.classes (length system_classes) m.class.0 r low old) m.index method at
+              front_said m.class r (slice_get-in_take w.classes (length system_classes) m.class.0 r low old) m.index method at
           | inr (line, listed, (imported, imports, reached, called)) ↦
               import_said line listed imported imports m.class reached r old m.index method at r.home refl
         ]

@@ -1,7 +1,9 @@
 -- Each class that a folder adds is told by one of its files, and each class that its record mentions is there.
-use Rattle.std.proofs.Common.{◌≡◌, ℕ, zero, suc, ◌+◌, ◌<◌, ◌≤◌, inl, inr, List, ◌++◌, length, map, Option, Some, None, slice_get, Contains, refl, sym, ap, subst, ◌∙◌, arith, length-append, length-take}
+use Rattle.std.proofs.Common.{◌≡◌, ℕ, zero, suc, ◌+◌, ◌-◌, ◌<◌, ◌≤◌, inl, inr, List, ◌++◌, length, map, Option, Some, None, slice_get, Contains, refl, sym, ap, subst, ◌∙◌, arith, length-append, length-take}
 use Rattle.std.proofs.lemmas.List.{length-map}
 use Rattle.std.proofs.lemmas.Option.{same_Some, slice_get_within}
+use Rattle.list_lemmas.proofs.ItemsOfLists.{place_of, each-weaker, each-from}
+use Rattle.list_lemmas.proofs.ItemsByPlace.{item_there, slice_get-behind}
 use Rattle.jk_model.specs.declared.class_file.ClassFile.{ClassFile}
 use Rattle.jk_model.specs.declared.class_file.Code.{Code}
 use Rattle.jk_model.specs.declared.class_file.Handler.{Handler}
@@ -23,16 +25,17 @@ use Rattle.jk_model_classes.specs.declared.records.MethodRecord.{MethodRecord}
 use Rattle.jk_model_classes.specs.declared.records.TypeRef.{TypeRef}
 use Rattle.jk_model_classes.specs.declared.sharing.Offer.{Offer}
 use Rattle.jk_model_classes.specs.declared.sharing.Stub.{Stub}
-use Rattle.jk_model_classes.specs.Classes.{HasClass}
+use Rattle.jk_model_classes.specs.Classes.{HasClass, record_of}
 use Rattle.jk_model_classes.specs.LinkRules.{FindsFieldAt, FindsMethodAt, LinkScope}
-use Rattle.jk_model_classes.specs.Worlds.{NamedClass, WorldRecord, class_named}
+use Rattle.jk_model_classes.specs.Worlds.{NamedClass, NamesClasses, WorldRecord, class_named}
 use Rattle.jk_model_folders.specs.declared.files.FolderFiles.{FolderFiles}
 use Rattle.jk_model_folders.specs.FolderRules.{PlacedFolder, link_scope}
 use Rattle.jk_model_folders.specs.LinkedClasses.{AreLinksFor, IsBodyFor, IsCaughtFor, IsEntryType, IsFieldLink, IsLinkFor, IsMethodFor, IsMethodLink, IsRecordFor, NamesClassAt, without_links}
 use Rattle.jk_model_folders.specs.Loads.{Loads, MayLoad}
+use Rattle.class_lemmas.proofs.CodeOfMethods.{absent_has_none}
 use Rattle.class_growth.specs.ClosedClasses.{HasClassesOf, HasClassesOfMethod, HasLink, HasType, IsClosed}
 use Rattle.class_growth.proofs.ClosedClassesKept.{closed-still}
-use Rattle.class_growth.proofs.ItemsOfLists.{item-at, place-of}
+use Rattle.class_growth.proofs.ItemsOfLists.{slice_get-append_cases}
 use Rattle.class_growth.proofs.MoreClasses.{has_class-still}
 use Rattle.class_growth.proofs.SystemClassesClosed.{MeansThere, result-meant, type-meant, types-meant}
 use Rattle.sound_folders.proofs.NamesOfTables.{system_meant}
@@ -61,10 +64,21 @@ module _ {f : FolderFiles} {w : WorldRecord} {into : List ℕ} {first : ClassId}
   pub own_file : (k : ℕ) (r : ClassRecord) → slice_get added k ≡ Some r → OwnFile (length w.classes) l.files l.placed k r
   own_file k r at =
       let low : k < length l.placed.order = omega (arith, slice_get_within added k r at, l.is_placed.as_many, l.is_placed.order.as_many) in
-      let order = item-at l.placed.order k low in
-      let file = item-at l.files order.0 (l.is_placed.order.places k order.0 order.1) in
+      let order = item_there l.placed.order k low in
+      let file = item_there l.files order.0 (l.is_placed.order.places k order.0 order.1) in
       let both = l.is_placed.records k order.0 file.0 r order.1 file.1 at in
       record { place = order.0; file = file.0; ordered = order.1; listed = file.1; is_record = both.0; links = both.1 }
+
+  -- the file of a record that is new
+  pub own_of : (r : ClassRecord) → Contains added r → (k : ℕ) × OwnFile (length w.classes) l.files l.placed k r
+  own_of r on = let place = place_of added r on in (place.0, own_file place.0 r place.1)
+
+  pub own_at : (c : ClassId) (r : ClassRecord) → length w.classes ≤ c.0 → record_of all c ≡ Some r
+      → (k : ℕ) × OwnFile (length w.classes) l.files l.placed k r
+  own_at c r high is =
+      let k : ℕ = c.0 - length w.classes in
+      let number : length w.classes + (c.0 - length w.classes) ≡ c.0 = omega (arith, high) in
+      (k, own_file k r (sym (slice_get-behind w.classes added k) ∙ ap (slice_get all) number ∙ is))
 
   pub as_many_unlinked : length l.placed.unlinked ≡ length all
   as_many_unlinked =
@@ -96,6 +110,19 @@ module _ {f : FolderFiles} {w : WorldRecord} {into : List ℕ} {first : ClassId}
             l.is_placed.order.as_many,
             length-append w.classes added,
           )
+    ]
+
+    -- each record refers to classes that are there
+    pub names_there : (c : ClassId) (r : ClassRecord) → record_of all c ≡ Some r → NamesClasses all r
+    names_there c r is = elim (slice_get-append_cases w.classes added c.0 r is) [
+      | inl old ↦ record {
+        references = each-weaker (HasClass w.classes) (HasClass all) (has_class-still w.classes added) r.references
+            (may.world.records c r old).references;
+      }
+      | inr later ↦ record {
+        references = each-from (HasClass all) r.references
+            (λ d on. let (i, name, refers, means) = (own_of r later).1.is_record.references.each d on in meant_there name d means);
+      }
     ]
 
     -- ---- One record.
@@ -156,16 +183,13 @@ module _ {f : FolderFiles} {w : WorldRecord} {into : List ℕ} {first : ClassId}
 
       handlers_there : (info : MemberInfo) (flags : ℕ) (body : Body) → IsBodyFor s c info flags body → (code : LinkedCode) (h : Caught)
           → body ≡ Does.Linked code → Contains code.handlers h → (class : ClassId) → h.class ≡ Some class → HasClass all class
-      handlers_there info flags body (inl (abstract, absent)) code h linked on class e = absurd (no_code code (sym absent ∙ linked))
-        where
-          no_code : (a : LinkedCode) → Does.Absent ≡ Does.Linked a → ⊥
-          no_code a same = cc
+      handlers_there info flags body (inl (abstract, absent)) code h linked on class e = absurd (absent_has_none code (sym absent ∙ linked))
       handlers_there info flags body (inr (concrete, (a, of, made, at, called, layout, is, is_made))) code h linked on class e =
-          let place = place-of code.handlers h on in
+          let place = place_of code.handlers h on in
           let same : made ≡ code = same_code code made (sym linked ∙ is_made) in
           let there : slice_get made.handlers place.0 ≡ Some h = subst (λ (x : LinkedCode). slice_get x.handlers place.0 ≡ Some h) (sym same) place.1 in
           let low : place.0 < length of.handlers = omega (arith, slice_get_within made.handlers place.0 h there, is.handlers.as_many) in
-          let told = item-at of.handlers place.0 low in
+          let told = item_there of.handlers place.0 low in
           caught_there of is.decoded told.0 h (is.handlers.each place.0 told.0 h told.1 there) class e
 
       has_classes_of_method : (info : MemberInfo) (method : MethodRecord) → IsMethodFor s c info method → HasClassesOfMethod all method
@@ -183,21 +207,21 @@ module _ {f : FolderFiles} {w : WorldRecord} {into : List ℕ} {first : ClassId}
                 let (q, names, has) = is.parent in
                 subst (HasClass all) (same_Some q p (sym has ∙ e)) (named_there c.super_class q names);
             interfaces = λ i on.
-                let place = place-of r.interfaces i on in
-                let told = item-at c.interfaces place.0 (omega (arith, slice_get_within r.interfaces place.0 i place.1, is.interfaces.as_many)) in
+                let place = place_of r.interfaces i on in
+                let told = item_there c.interfaces place.0 (omega (arith, slice_get_within r.interfaces place.0 i place.1, is.interfaces.as_many)) in
                 named_there told.0 i (is.interfaces.each place.0 told.0 i told.1 place.1);
             fields = λ field on.
-                let place = place-of r.fields field on in
-                let told = item-at c.fields place.0 (omega (arith, slice_get_within r.fields place.0 field place.1, is.fields.as_many)) in
+                let place = place_of r.fields field on in
+                let told = item_there c.fields place.0 (omega (arith, slice_get_within r.fields place.0 field place.1, is.fields.as_many)) in
                 let of = is.fields.each place.0 told.0 field told.1 place.1 in
                 type-meant all meaning meant_there of.type field.kind of.kind;
             methods = λ method on.
-                let place = place-of r.methods method on in
-                let told = item-at c.methods place.0 (omega (arith, slice_get_within r.methods place.0 method place.1, is.methods.as_many)) in
+                let place = place_of r.methods method on in
+                let told = item_there c.methods place.0 (omega (arith, slice_get_within r.methods place.0 method place.1, is.methods.as_many)) in
                 has_classes_of_method told.0 method (is.methods.each place.0 told.0 method told.1 place.1);
             links = λ link on.
-                let place = place-of r.links link on in
-                let told = item-at c.pool place.0 (omega (arith, slice_get_within r.links place.0 link place.1, links.as_many)) in
+                let place = place_of r.links link on in
+                let told = item_there c.pool place.0 (omega (arith, slice_get_within r.links place.0 link place.1, links.as_many)) in
                 link_there place.0 told.0 link (links.each place.0 told.0 link told.1 place.1);
           }
 
@@ -207,6 +231,6 @@ module _ {f : FolderFiles} {w : WorldRecord} {into : List ℕ} {first : ClassId}
     closed-more closed =
         closed-still w.classes added closed
         (λ r on.
-        let place = place-of added r on in
+        let place = place_of added r on in
         let own = own_file place.0 r place.1 in
         has_classes_of (record { 0 = length w.classes + place.0 }) own.file l.placed.home r own.is_record own.links)

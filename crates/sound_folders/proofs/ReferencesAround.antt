@@ -1,6 +1,8 @@
 -- What stands around a class of the folder is among the classes to which its record refers.
 use Rattle.std.proofs.Common.{◌≡◌, ◌≢◌, ℕ, ◌+◌, ◌<◌, inl, inr, List, length, Some, Contains, refl, sym, ap, subst, ◌∙◌, arith}
 use Rattle.std.proofs.lemmas.Option.{slice_get_within}
+use Rattle.list_lemmas.proofs.ItemsOfLists.{place_of, each-from}
+use Rattle.list_lemmas.proofs.ItemsByPlace.{item_there}
 use Rattle.jk_model.specs.declared.descriptors.Base.{Base as ABase}
 use Rattle.jk_model.specs.declared.descriptors.Base.TheVariants as Said
 use Rattle.jk_model.specs.declared.descriptors.FieldType.{FieldType}
@@ -22,7 +24,6 @@ use Rattle.jk_model_folders.specs.declared.files.FolderFiles.{FolderFiles}
 use Rattle.jk_model_folders.specs.FolderRules.{link_scope}
 use Rattle.jk_model_folders.specs.LinkedClasses.{IsEntryType}
 use Rattle.jk_model_folders.specs.Loads.{Loads, MayLoad}
-use Rattle.class_growth.proofs.ItemsOfLists.{each-from, item-at, place-of}
 use Rattle.sound_folders.specs.LinkedWorlds.{RefersAround, RefersToBase}
 use Rattle.sound_folders.proofs.ArraysHaveNoNames.{entry_refers}
 use Rattle.sound_folders.proofs.FoundByLinks.{field-found, field_above, method-found, method_above, type-found}
@@ -74,18 +75,18 @@ module _ {f : FolderFiles} {w : WorldRecord} {into : List ℕ} {first : ClassId}
         interfaces =
             each-from (Contains r.references) r.interfaces
             (λ i on.
-            let place = place-of r.interfaces i on in
+            let place = place_of r.interfaces i on in
             let low : place.0 < length own.file.interfaces =
             omega (arith, slice_get_within r.interfaces place.0 i place.1, own.is_record.interfaces.as_many) in
-            let told = item-at own.file.interfaces place.0 low in
+            let told = item_there own.file.interfaces place.0 low in
             let (name, at, meant) = own.is_record.interfaces.each place.0 told.0 i told.1 place.1 in
             refers told.0 name i at meant);
         entries = λ t on.
-            let place = place-of r.links (To.Class t) on in
+            let place = place_of r.links (To.Class t) on in
             let (units, at, is) = type-found s own.file r.links own.links place.0 t place.1 in
             type_refers place.0 units t at is;
         fields = λ class m on.
-            let place = place-of r.links (To.Field class m) on in
+            let place = place_of r.links (To.Field class m) on in
             let found = field-found s own.file r.links own.links place.0 class m place.1 in
             let (entry, pair, there, at, named) = found.0.is_there in (
               refers entry found.0.target class at (found.0.class_is ∙ ap Some found.1),
@@ -93,12 +94,12 @@ module _ {f : FolderFiles} {w : WorldRecord} {into : List ℕ} {first : ClassId}
                   (field_above l ordered self own.file place.0 m found.0),
             );
         methods = λ class m on.
-            let place = place-of r.links (To.Method class m) on in
+            let place = place_of r.links (To.Method class m) on in
             let found = method-found s own.file r.links own.links place.0 class m place.1 in
             let (entry, pair, there, at, named) = found.0.is_there in (
               refers entry found.0.target class at (found.0.class_is ∙ ap Some found.1),
               subst (λ (x : ClassId). Contains (method_walk (all l) x) m.class) found.1
                   (method_above l ordered self own.file place.0 m found.0),
             );
-        types = λ method on. let place = place-of r.methods method on in own_refers l may k r own place.0 method place.1;
+        types = λ method on. let place = place_of r.methods method on in own_refers l may k r own place.0 method place.1;
       }

@@ -1,9 +1,10 @@
 -- The classes and the names with those of an accepted folder are sound and linked as before.
-use Rattle.std.proofs.Common.{◌≡◌, ◌≢◌, ℕ, ◌+◌, ◌-◌, ◌<◌, ◌≤◌, ◌⊎◌, inl, inr, min, IsTrue, List, [], ◌∷◌, ◌++◌, length, take, Option, Some, None, slice_get, Contains, refl, sym, ap, subst, ◌∙◌, arith}
+use Rattle.std.proofs.Common.{◌≡◌, ◌≢◌, ℕ, ◌<◌, ◌≤◌, ◌⊎◌, inl, inr, min, IsTrue, List, [], ◌∷◌, ◌++◌, length, take, Option, Some, None, slice_get, Contains, refl, sym, ap, subst, ◌∙◌, arith}
 use Rattle.std.proofs.lemmas.Bool.{cases_lt}
 use Rattle.std.proofs.lemmas.List.{take-append-le, take_all, take_min}
 use Rattle.std.proofs.lemmas.List.Elements.{Contains-push_cases}
 use Rattle.std.proofs.lemmas.Option.{slice_get_within}
+use Rattle.list_lemmas.proofs.ItemsByPlace.{item_there}
 use Rattle.jk_model.specs.Flags.{STATIC, has}
 use Rattle.jk_model.specs.declared.identifiers.ClassId.{ClassId}
 use Rattle.jk_model.specs.declared.identifiers.MemberId.{MemberId}
@@ -31,7 +32,7 @@ use Rattle.jk_model_sound_classes.specs.SoundClasses.{AreSoundClasses, IsClosedT
 use Rattle.jk_model_sound_classes.specs.VerifiedMethods.{IsVerified}
 use Rattle.class_growth.specs.ClosedClasses.{IsClosed}
 use Rattle.class_growth.specs.ScopesOver.{among}
-use Rattle.class_growth.proofs.ItemsOfLists.{item-at, place-of, slice_get-append_cases}
+use Rattle.class_growth.proofs.ItemsOfLists.{slice_get-append_cases}
 use Rattle.class_growth.proofs.MoreClasses.{field-before, field_walk-kept, method-before, method_walk-kept, record-still}
 use Rattle.class_growth.proofs.ScopesKept.{closed-scope, scope-before}
 use Rattle.class_growth.proofs.TypingsKept.{typing-still}
@@ -39,10 +40,10 @@ use Rattle.sound_folders.specs.LinkedWorlds.{Accepts, AreLinked, RefersAround}
 use Rattle.sound_folders.specs.NamesAndTypes.{HasOwnNames, IsCalled, SayTypes}
 use Rattle.sound_folders.proofs.ArraysHaveNoNames.{own_no_array}
 use Rattle.sound_folders.proofs.NamesSayTypes.{new_own_names, new_say_types}
-use Rattle.sound_folders.proofs.NewClasses.{OwnFile, added, all, closed-more, meaning, own_file, system_few}
+use Rattle.sound_folders.proofs.NewClasses.{added, all, closed-more, meaning, system_few, own_of, own_at}
 use Rattle.sound_folders.proofs.ReferencesAround.{refers-around}
 use Rattle.sound_folders.proofs.StaticMembers.{calls_static, reads_static}
-use Rattle.sound_folders.proofs.TablesAgain.{new_table_closed, slice_get-behind, system_known}
+use Rattle.sound_folders.proofs.TablesAgain.{new_table_closed, system_known}
 
 -- each method with code of the classes from this one on has a least typing
 abbrev pub AreTyped : ClassId → List ClassRecord → Type 0
@@ -58,31 +59,20 @@ NoInitialisers first classes =
 module _ {f : FolderFiles} {w : WorldRecord} {into : List ℕ} {first : ClassId} {table : List NamedClass} {offers : List Offer} {stubs : List Stub}
     {new : WorldRecord} (l : Loads f w into first table offers stubs new) (may : MayLoad w) (tables : List (List NamedClass))
     (sound : AreSoundClasses w.classes tables) (linked : AreLinked w.classes tables) (ordered : AreOrdered (all l)) where
-  -- the file of a record that is new
-  own_of : (r : ClassRecord) → Contains (added l) r → (k : ℕ) × OwnFile (length w.classes) l.files l.placed k r
-  own_of r on = let place = place-of (added l) r on in (place.0, own_file l place.0 r place.1)
-
-  own_at : (c : ClassId) (r : ClassRecord) → length w.classes ≤ c.0 → record_of (all l) c ≡ Some r
-      → (k : ℕ) × OwnFile (length w.classes) l.files l.placed k r
-  own_at c r high is =
-      let k : ℕ = c.0 - length w.classes in
-      let number : length w.classes + (c.0 - length w.classes) ≡ c.0 = omega (arith, high) in
-      (k, own_file l k r (sym (slice_get-behind w.classes (added l) k) ∙ ap (slice_get (all l)) number ∙ is))
-
   front_same : take (length system_classes) (all l) ≡ take (length system_classes) w.classes
   front_same = take-append-le (length system_classes) w.classes (added l) (system_few l may)
 
   homed-again : (c : ClassId) (r : ClassRecord) → record_of (all l) c ≡ Some r → (r.home ≡ None → ⊥) → (p : ClassId) × (r.parent ≡ Some p)
   homed-again c r is foreign = elim (slice_get-append_cases w.classes (added l) c.0 r is) [
     | inl old ↦ sound.homed c r old foreign
-    | inr later ↦ let parent = (own_of r later).1.is_record.parent in (parent.0, parent.2)
+    | inr later ↦ let parent = (own_of l r later).1.is_record.parent in (parent.0, parent.2)
   ]
 
   of_system-again : (c : ClassId) (r : ClassRecord) → record_of (all l) c ≡ Some r → r.home ≡ None
       → slice_get (take (length system_classes) (all l)) c.0 ≡ Some r
   of_system-again c r is none = elim (slice_get-append_cases w.classes (added l) c.0 r is) [
     | inl old ↦ ap (λ (xs : List ClassRecord). slice_get xs c.0) front_same ∙ sound.of_system c r old none
-    | inr later ↦ let at_home = (own_of r later).1.is_record.at_home in absurd (cc (none, at_home))
+    | inr later ↦ let at_home = (own_of l r later).1.is_record.at_home in absurd (cc (none, at_home))
   ]
 
   described-again : (m : MemberId) (method : MethodRecord) → MethodIs (all l) m method
@@ -90,8 +80,8 @@ module _ {f : FolderFiles} {w : WorldRecord} {into : List ℕ} {first : ClassId}
   described-again m method (r, is, at) = elim (slice_get-append_cases w.classes (added l) m.class.0 r is) [
     | inl old ↦ sound.described m method (r, old, at)
     | inr later ↦
-        let own = (own_of r later).1 in
-        let told = item-at own.file.methods m.index (omega (arith, slice_get_within r.methods m.index method at, own.is_record.methods.as_many)) in
+        let own = (own_of l r later).1 in
+        let told = item_there own.file.methods m.index (omega (arith, slice_get_within r.methods m.index method at, own.is_record.methods.as_many)) in
         (meaning l, (own.is_record.methods.each m.index told.0 method told.1 at).params)
   ]
 
@@ -139,7 +129,7 @@ module _ {f : FolderFiles} {w : WorldRecord} {into : List ℕ} {first : ClassId}
             let was = method-before w.classes (added l) member method there.1 found in
             sound.statics m member (among s w.classes) i method before on op (class, (n, operand, leads), was)
         | inr high ↦
-            let own = own_at m.class scope.class high scope.class_is in
+            let own = own_at l m.class scope.class high scope.class_is in
             let link = subst (λ (xs : List Link). slice_get xs n ≡ Some (To.Method class member)) scope.links leads in
             calls_static l own.0 scope.class own.1 m.index s.method scope.method s.code scope.body i on n operand class member op link method found
       ]
@@ -155,7 +145,7 @@ module _ {f : FolderFiles} {w : WorldRecord} {into : List ℕ} {first : ClassId}
             let was = field-before w.classes (added l) member field there.1 found in
             sound.static_fields m member (among s w.classes) i field before on op (class, (n, operand, leads), was)
         | inr high ↦
-            let own = own_at m.class scope.class high scope.class_is in
+            let own = own_at l m.class scope.class high scope.class_is in
             let link = subst (λ (xs : List Link). slice_get xs n ≡ Some (To.Field class member)) scope.links leads in
             reads_static l own.0 scope.class own.1 m.index s.method scope.method s.code scope.body i on n operand class member op link field found
       ]
@@ -254,11 +244,11 @@ module _ {f : FolderFiles} {w : WorldRecord} {into : List ℕ} {first : ClassId}
         closed = closed-more l may linked.closed;
         around = λ c r is foreign. elim (slice_get-append_cases w.classes (added l) c.0 r is) [
           | inl old ↦ around-still c r old (linked.around c r old foreign)
-          | inr later ↦ let own = own_of r later in refers-around l may linked.names ordered own.0 r own.1
+          | inr later ↦ let own = own_of l r later in refers-around l may linked.names ordered own.0 r own.1
         ];
         names = λ c r is. elim (slice_get-append_cases w.classes (added l) c.0 r is) [
           | inl old ↦ linked.names c r old
-          | inr later ↦ let own = own_of r later in own_no_array l own.1.place own.1.file own.1.listed r.name own.1.is_record.name
+          | inr later ↦ let own = own_of l r later in own_no_array l own.1.place own.1.file own.1.listed r.name own.1.is_record.name
         ];
         knows_system = knows_system-again;
         own_names = own_names-again;

@@ -1,8 +1,11 @@
 -- In a folder that breaks no rule, what invokestatic calls is static, and so is what getstatic reads.
-use Rattle.std.proofs.Common.{◌≡◌, ℕ, pos, ◌+◌, ◌⊎◌, inl, inr, Bool, IsTrue, List, length, Some, slice_get, Contains, refl, sym, subst, ◌∙◌, arith}
-use Rattle.std.specs.Prelude.{◌&&◌, ◌||◌, not}
+use Rattle.std.proofs.Common.{◌≡◌, ℕ, pos, ◌+◌, ◌⊎◌, inl, inr, IsTrue, List, length, Some, slice_get, Contains, refl, sym, subst, ◌∙◌, arith}
+use Rattle.std.specs.Prelude.{◌||◌, not}
 use Rattle.std.proofs.lemmas.Bool.{cases_Bool}
 use Rattle.std.proofs.lemmas.Option.{slice_get_within}
+use Rattle.list_lemmas.proofs.ItemsOfLists.{Contains-at, place_of}
+use Rattle.list_lemmas.proofs.ItemsByPlace.{item_there}
+use Rattle.list_lemmas.proofs.TestsAndOrders.{both_true}
 use Rattle.jk_model.specs.Flags.{ABSTRACT, NATIVE, STATIC, has}
 use Rattle.jk_model.specs.declared.class_file.MemberInfo.{MemberInfo}
 use Rattle.jk_model.specs.declared.identifiers.ClassId.{ClassId}
@@ -23,25 +26,16 @@ use Rattle.jk_model_classes.specs.LinkRules.{FindsWrongField, FindsWrongMethod, 
 use Rattle.jk_model_classes.specs.Lookups.{FieldIs, MethodIs}
 use Rattle.jk_model_classes.specs.MemberCode.{HasCode, HasInstr, is_jump, is_switch}
 use Rattle.jk_model_classes.specs.Worlds.{NamedClass, WorldRecord}
+use Rattle.class_lemmas.proofs.CodeOfMethods.{same_code, absent_has_none}
 use Rattle.jk_model_typing.specs.Scopes.{is_static}
 use Rattle.jk_model_folders.specs.declared.files.FolderFiles.{FolderFiles}
 use Rattle.jk_model_folders.specs.FolderRules.{link_scope, placed_rules}
 use Rattle.jk_model_folders.specs.LinkedClasses.{IsBodyFor}
 use Rattle.jk_model_folders.specs.Loads.{Loads}
-use Rattle.class_growth.proofs.ItemsOfLists.{Contains-at, item-at, place-of}
 use Rattle.class_growth.proofs.LinksDontMatter.{field-linked, method-linked}
 use Rattle.sound_folders.proofs.ArraysHaveNoNames.{not_native}
 use Rattle.sound_folders.proofs.FoundByLinks.{field-found, method-found, only_links}
 use Rattle.sound_folders.proofs.NewClasses.{OwnFile, all}
-
-both_tests : (a b : Bool) → IsTrue a → IsTrue b → IsTrue (a && b)
-both_tests a b x y = rw (x, y) refl
-
-same_code : (a b : LinkedCode) → Does.Linked a ≡ Does.Linked b → a ≡ b
-same_code a b e = cc
-
-no_code : (a : LinkedCode) → Does.Absent ≡ Does.Linked a → ⊥
-no_code a e = cc
 
 module _ {f : FolderFiles} {w : WorldRecord} {into : List ℕ} {first : ClassId} {table : List NamedClass} {offers : List Offer} {stubs : List Stub}
     {new : WorldRecord} (l : Loads f w into first table offers stubs new) (k : ℕ) (r : ClassRecord)
@@ -60,20 +54,20 @@ module _ {f : FolderFiles} {w : WorldRecord} {into : List ℕ} {first : ClassId}
     number = length own.file.fields + j + 1
 
     info : (x : MemberInfo) × (slice_get own.file.methods j ≡ Some x)
-    info = item-at own.file.methods j (omega (arith, slice_get_within r.methods j method at, own.is_record.methods.as_many))
+    info = item_there own.file.methods j (omega (arith, slice_get_within r.methods j method at, own.is_record.methods.as_many))
 
     own_code : (P : Instr → Type 0) → ((x : Instr) → x.op ≡ i.op → x.a ≡ i.a → P x) → (flags : ℕ) → MethodFlags own.file info.0 flags
         → IsBodyFor s own.file info.0 flags method.body → HasCode (HasInstr P) own.file number
-    own_code P so flags counted (inl (abstract, absent)) = absurd (no_code code (sym absent ∙ body))
+    own_code P so flags counted (inl (abstract, absent)) = absurd (absent_has_none code (sym absent ∙ body))
     own_code P so flags counted (inr (concrete, (a, of, made, there, called, layout, is, is_made))) =
         let same : made ≡ code = same_code made code (sym is_made ∙ body) in
-        let place = place-of code.instrs i on in
+        let place = place_of code.instrs i on in
         let here : slice_get made.instrs place.0 ≡ Some i = subst (λ (x : LinkedCode). slice_get x.instrs place.0 ≡ Some i) (sym same) place.1 in
-        let decoded = item-at is.decoded place.0 (omega (arith, slice_get_within made.instrs place.0 i here, is.instrs.as_many)) in
+        let decoded = item_there is.decoded place.0 (omega (arith, slice_get_within made.instrs place.0 i here, is.instrs.as_many)) in
         let instr = is.instrs.each place.0 decoded.0 i decoded.1 here in
         let simple : IsTrue (not (is_jump decoded.0.op || is_switch decoded.0.op)) =
         subst (λ (o : ℕ). IsTrue (not (is_jump o || is_switch o))) instr.op plain in
-        let listed = place-of info.0.attributes a there in
+        let listed = place_of info.0.attributes a there in
         let own_flags : IsTrue (not (has flags NATIVE)) =
         elim (cases_Bool (has flags NATIVE)) [
           | inl native ↦
@@ -86,7 +80,7 @@ module _ {f : FolderFiles} {w : WorldRecord} {into : List ℕ} {first : ClassId}
             at = (j, refl, info.1);
             flags = flags;
             counted = counted;
-            concrete = both_tests (not (has flags ABSTRACT)) (not (has flags NATIVE)) concrete own_flags;
+            concrete = both_true (not (has flags ABSTRACT)) (not (has flags NATIVE)) concrete own_flags;
             body = (listed.0, a, listed.1, (called, layout));
           },
           (is.decoded, is.decodes, (place.0, decoded.0, decoded.1, so decoded.0 (sym instr.op) (sym (instr.names simple)))),

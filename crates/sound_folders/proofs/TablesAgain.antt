@@ -1,6 +1,8 @@
 -- The names of the new domain mean classes that are there, and of each of these the domain knows what is around it.
-use Rattle.std.proofs.Common.{◌≡◌, ◌≢◌, ℕ, zero, suc, ◌+◌, ◌<◌, inl, inr, List, [], ◌∷◌, ◌++◌, length, take, Option, Some, None, slice_get, Contains, refl, sym, ap, subst, ◌∙◌, arith}
+use Rattle.std.proofs.Common.{◌≡◌, ◌≢◌, ℕ, ◌+◌, ◌<◌, inl, inr, List, length, take, Option, Some, None, slice_get, Contains, refl, sym, ap, subst, ◌∙◌, arith}
 use Rattle.std.proofs.lemmas.Option.{none-some, same_Some, slice_get_within}
+use Rattle.list_lemmas.proofs.ItemsOfLists.{Contains-none, place_of, each-of, each-from}
+use Rattle.list_lemmas.proofs.ItemsByPlace.{item_there, slice_get-in_take}
 use Rattle.jk_model.specs.declared.descriptors.Base.{Base as ABase}
 use Rattle.jk_model.specs.declared.descriptors.Base.TheVariants as Said
 use Rattle.jk_model.specs.declared.identifiers.ClassId.{ClassId}
@@ -18,44 +20,25 @@ use Rattle.jk_model_classes.specs.declared.sharing.ResolverLine.{ResolverLine}
 use Rattle.jk_model_classes.specs.declared.sharing.Stub.{Stub}
 use Rattle.jk_model_classes.specs.Classes.{AreOrdered, HasClass, OBJECT, field_walk, method_walk, record_of}
 use Rattle.jk_model_classes.specs.LinkRules.{LinkScope}
-use Rattle.jk_model_classes.specs.ResolverRules.{ImportsClass, IsReached, further, itself}
+use Rattle.jk_model_classes.specs.ResolverRules.{ImportsClass, IsReached}
 use Rattle.jk_model_classes.specs.SystemRecords.{IsBaseFor}
 use Rattle.jk_model_classes.specs.Worlds.{IsNamed, NamedClass, WorldRecord}
+use Rattle.class_lemmas.proofs.NamesOfTables.{means_named}
+use Rattle.class_lemmas.proofs.ReachedByReferences.{reached_further}
 use Rattle.jk_model_folders.specs.declared.files.FolderFiles.{FolderFiles}
 use Rattle.jk_model_folders.specs.FolderRules.{link_scope}
 use Rattle.jk_model_folders.specs.LinkedClasses.{IsEntryType}
 use Rattle.jk_model_folders.specs.Loads.{Loads, MayLoad}
 use Rattle.jk_model_sound_classes.specs.SoundClasses.{IsClosedTable, IsNamedBase}
 use Rattle.class_growth.specs.ClosedClasses.{IsClosed}
-use Rattle.class_growth.proofs.ItemsOfLists.{Contains-none, each-from, each-of, item-at, place-of}
 use Rattle.class_growth.proofs.MoreClasses.{field_walk-kept, method_walk-kept, record-still}
 use Rattle.class_growth.proofs.SystemClassesClosed.{system-closed}
 use Rattle.sound_folders.specs.LinkedWorlds.{RefersAround, RefersToBase}
 use Rattle.sound_folders.proofs.FoundByLinks.{field-found, field_above, method-found, method_above, type-found}
-use Rattle.sound_folders.proofs.NamesOfTables.{meant-from, named-from, system_meant, system_name}
+use Rattle.sound_folders.proofs.NamesOfTables.{meant-from, system_meant, system_name}
 use Rattle.sound_folders.proofs.NewClasses.{OwnFile, added, all, meaning, own_file, system_few}
 use Rattle.sound_folders.proofs.WalksWithin.{StandsWithin, field_walk-within, method_walk-within}
-
--- ---- Lists that begin with others.
-
-pub slice_get-take : {X : Type 0} (xs : List X) (n k : ℕ) (x : X) → k < n → slice_get xs k ≡ Some x → slice_get (take n xs) k ≡ Some x
-slice_get-take [] n k x low e = absurd cc
-slice_get-take (y ∷ xs) zero k x low e = absurd (omega arith)
-slice_get-take (y ∷ xs) (suc n) zero x low e = e
-slice_get-take (y ∷ xs) (suc n) (suc k) x low e = slice_get-take xs n k x (omega arith) e
-
-pub slice_get-behind : {X : Type 0} (xs ys : List X) (k : ℕ) → slice_get (xs ++ ys) (length xs + k) ≡ slice_get ys k
-slice_get-behind [] ys k = let e : 0 + k ≡ k = omega arith in ap (slice_get ys) e
-slice_get-behind (x ∷ xs) ys k =
-    let e : suc (length xs) + k ≡ suc (length xs + k) = omega arith in
-    ap (slice_get (x ∷ (xs ++ ys))) e ∙ slice_get-behind xs ys k
-
--- what is reached from a class by references, and one more
-pub reached_further : (classes : List ClassRecord) (c d e : ClassId) (r : ClassRecord) → IsReached classes c d → record_of classes d ≡ Some r
-    → Contains r.references e → IsReached classes c e
-reached_further classes c d e r (itself a) is on = further a e e r is on (itself e)
-reached_further classes c d e r (further a b z q at listed rest) is on =
-    further a b e q at listed (reached_further classes b z e r rest is on)
+pub use Rattle.list_lemmas.proofs.ItemsByPlace.{slice_get-behind}
 
 -- ---- What a name's class has around it.
 
@@ -104,9 +87,9 @@ module _ {f : FolderFiles} {w : WorldRecord} {into : List ℕ} {first : ClassId}
 
   pub system_known : (c : ClassId) → c.0 < length system_classes → Knows c
   system_known c low =
-      let entry = item-at system_classes c.0 low in
+      let entry = item_there system_classes c.0 low in
       let outer = (l.are_outer entry.0.name c).1 (inl (system_name c entry.0 entry.1)) in
-      named-from l.placed.table entry.0.name c ((l.is_placed.table entry.0.name c).1 (inl outer))
+      means_named l.placed.table entry.0.name c ((l.is_placed.table entry.0.name c).1 (inl outer))
 
   -- ---- A system class.
 
@@ -115,7 +98,7 @@ module _ {f : FolderFiles} {w : WorldRecord} {into : List ℕ} {first : ClassId}
 
   system_near : (c : ClassId) (r : ClassRecord) → slice_get front c.0 ≡ Some r → IsNear (all l) l.placed.table r
   system_near c r is =
-      let entry = item-at system_classes c.0 (omega (arith, slice_get_within front c.0 r is, may.system.as_many)) in
+      let entry = item_there system_classes c.0 (omega (arith, slice_get_within front c.0 r is, may.system.as_many)) in
       let of = may.system.each c.0 entry.0 r entry.1 is in
       let closed = (system-closed front may.system).each c r is in
       let no_link : (link : Link) → Contains r.links link → ⊥ =
@@ -134,8 +117,8 @@ module _ {f : FolderFiles} {w : WorldRecord} {into : List ℕ} {first : ClassId}
   pub system_there : (c : ClassId) → c.0 < length system_classes
       → (r : ClassRecord) × (record_of (all l) c ≡ Some r) × IsNear (all l) l.placed.table r
   system_there c low =
-      let there = item-at w.classes c.0 (omega (arith, system_few l may)) in
-      let is = slice_get-take w.classes (length system_classes) c.0 there.0 low there.1 in
+      let there = item_there w.classes c.0 (omega (arith, system_few l may)) in
+      let is = slice_get-in_take w.classes (length system_classes) c.0 there.0 low there.1 in
       (there.0, record-still w.classes (added l) c there.0 there.1, system_near c there.0 is)
 
   -- ---- A class that a line brings in.
@@ -146,9 +129,9 @@ module _ {f : FolderFiles} {w : WorldRecord} {into : List ℕ} {first : ClassId}
       (line : ResolverLine) (listed : Contains l.lines line) (imported : ClassId) (imports : ImportsClass w into line imported) where
     reached_known : (c : ClassId) → HasClass w.classes c → IsReached w.classes imported c → Knows c
     reached_known c there reached =
-        let of = item-at w.classes c.0 there in
+        let of = item_there w.classes c.0 there in
         let outer = (l.are_outer of.0.name c).1 (inr (line, listed, (imported, imports, reached, (of.0, of.1, refl)))) in
-        named-from l.placed.table of.0.name c ((l.is_placed.table of.0.name c).1 (inl outer))
+        means_named l.placed.table of.0.name c ((l.is_placed.table of.0.name c).1 (inl outer))
 
     module _ (c : ClassId) (r : ClassRecord) (is : record_of w.classes c ≡ Some r) (reached : IsReached w.classes imported c) where
       next_there : (d : ClassId) → Contains r.references d → HasClass w.classes d
@@ -199,7 +182,7 @@ module _ {f : FolderFiles} {w : WorldRecord} {into : List ℕ} {first : ClassId}
     s = link_scope l.placed self
 
     meant_known : (name : List ℕ) (c : ClassId) → meaning l name ≡ Some c → Knows c
-    meant_known name c e = named-from l.placed.table name c e
+    meant_known name c e = means_named l.placed.table name c e
 
     base_meant : (b : ABase) (base : BaseRef) → IsBaseFor (meaning l) b base → IsNamedBase l.placed.table base
     base_meant (Said.Class name) base (class, meant, is) = subst (IsNamedBase l.placed.table) (sym is) (meant_known name class meant)
@@ -227,25 +210,25 @@ module _ {f : FolderFiles} {w : WorldRecord} {into : List ℕ} {first : ClassId}
                 interfaces =
                     each-from Knows r.interfaces
                     (λ i on.
-                    let place = place-of r.interfaces i on in
+                    let place = place_of r.interfaces i on in
                     let low : place.0 < length own.file.interfaces =
                     omega (arith, slice_get_within r.interfaces place.0 i place.1, own.is_record.interfaces.as_many) in
-                    let told = item-at own.file.interfaces place.0 low in
+                    let told = item_there own.file.interfaces place.0 low in
                     let (name, at, meant) = own.is_record.interfaces.each place.0 told.0 i told.1 place.1 in
                     meant_known name i meant);
               };
           types = λ t on.
-              let place = place-of r.links (To.Class t) on in
+              let place = place_of r.links (To.Class t) on in
               let (units, at, is) = type-found s own.file r.links own.links place.0 t place.1 in
               type_known units t is;
           fields = λ class m on.
-              let place = place-of r.links (To.Field class m) on in
+              let place = place_of r.links (To.Field class m) on in
               let found = field-found s own.file r.links own.links place.0 class m place.1 in (
                 meant_known found.0.target class (found.0.class_is ∙ ap Some found.1),
                 subst (λ (x : ClassId). Contains (field_walk (all l) x) m.class) found.1 (field_above l ordered self own.file place.0 m found.0),
               );
           methods = λ class m on.
-              let place = place-of r.links (To.Method class m) on in
+              let place = place_of r.links (To.Method class m) on in
               let found = method-found s own.file r.links own.links place.0 class m place.1 in (
                 meant_known found.0.target class (found.0.class_is ∙ ap Some found.1),
                 subst (λ (x : ClassId). Contains (method_walk (all l) x) m.class) found.1 (method_above l ordered self own.file place.0 m found.0),
@@ -267,7 +250,7 @@ module _ {f : FolderFiles} {w : WorldRecord} {into : List ℕ} {first : ClassId}
       ]
       | inr (i, file, at, called, (k, order, number)) ↦
           let low : k < length (added l) = omega (arith, slice_get_within l.placed.order k i order, l.is_placed.as_many, l.is_placed.order.as_many) in
-          let r = item-at (added l) k low in (
+          let r = item_there (added l) k low in (
             r.0,
             ap (slice_get (all l)) number ∙ slice_get-behind w.classes (added l) k ∙ r.1,
             own_near ordered k r.0 (own_file l k r.0 r.1),

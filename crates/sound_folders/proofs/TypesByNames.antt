@@ -1,6 +1,7 @@
 -- What a descriptor says by a meaning of names: one list of types, and the same by each meaning that agrees on the names in it.
 use Rattle.std.proofs.Common.{◌≡◌, ℕ, suc, inl, inr, List, [], ◌∷◌, length, Option, Some, None, slice_get, refl, sym, ap, subst, ◌∙◌, arith}
 use Rattle.std.proofs.lemmas.Option.{same_Some, slice_get_within}
+use Rattle.list_lemmas.proofs.ItemsByPlace.{item_there}
 use Rattle.jk_model.specs.declared.descriptors.Base.{Base as ABase}
 use Rattle.jk_model.specs.declared.descriptors.Base.TheVariants as Said
 use Rattle.jk_model.specs.declared.descriptors.FieldType.{FieldType}
@@ -13,7 +14,6 @@ use Rattle.jk_model_classes.specs.declared.records.TypeRef.{TypeRef}
 use Rattle.jk_model_classes.specs.Items.{HasItem}
 use Rattle.jk_model_classes.specs.References.{IsOfClass, IsResultOfClass}
 use Rattle.jk_model_classes.specs.SystemRecords.{AreTypesFor, IsBaseFor, IsResultFor, IsTypeFor}
-use Rattle.class_growth.proofs.ItemsOfLists.{item-at}
 use Rattle.sound_folders.specs.NamesAndTypes.{IsSaidBy, NamesInType}
 
 -- ---- By another meaning.
@@ -90,7 +90,7 @@ module _ (M : List ℕ → Option ClassId) where
   types-one types xs ys h k =
       same-items xs ys (h.as_many ∙ sym k.as_many)
       (λ i x y at_x at_y.
-      let t = item-at types i (omega (arith, slice_get_within xs i x at_x, h.as_many)) in
+      let t = item_there types i (omega (arith, slice_get_within xs i x at_x, h.as_many)) in
       type-one t.0 x y (h.each i t.0 x t.1 at_x) (k.each i t.0 y t.1 at_y))
 
   result-one : (type : Option FieldType) (x y : Option TypeRef) → IsResultFor M type x → IsResultFor M type y → x ≡ y

@@ -3,10 +3,10 @@ use Rattle.std.proofs.Common.{◌≡◌, ℕ, zero, suc, ◌+◌, inl, inr, Bool
 use Rattle.std.specs.List.{AllByRecursion}
 use Rattle.std.specs.Option.{option_map_or}
 use Rattle.std.proofs.lemmas.List.Elements.{Contains-append_cases}
+use Rattle.list_lemmas.proofs.ItemsOfLists.{Contains-cases, Contains-none, each-of, Contains-flat_map_from}
 use Rattle.jk_model.specs.declared.identifiers.ClassId.{ClassId}
 use Rattle.jk_model_classes.specs.declared.records.ClassRecord.{ClassRecord}
 use Rattle.jk_model_classes.specs.Classes.{OBJECT, class_method_walk, field_walk, interface_method_walk, is_interface_record, listed_interfaces, method_walk, own_interfaces, parents_of, record_of, superclasses, superclasses_within, with_interfaces, with_interfaces_within}
-use Rattle.class_growth.proofs.ItemsOfLists.{Contains-cases, Contains-flat_map_from, Contains-none, each-of}
 
 -- The parent of the class and its interfaces are within.
 pub record StandsWithin (P : ClassId → Type 0) (r : ClassRecord) : Type 0 where

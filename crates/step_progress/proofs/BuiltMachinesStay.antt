@@ -1,12 +1,12 @@
 -- Steps and starts keep what is asked of a machine's code and texts, and begin no constructor.
-use Rattle.std.proofs.Common.{◌≡◌, ◌≢◌, inl, inr, ℕ, zero, suc, Bool, true, false, not, ◌==◌, List, [], ◌∷◌, ◌++◌, find, Contains, Option, Some, None, slice_get, refl, sym, ap, subst, ◌∙◌, arith}
+use Rattle.std.proofs.Common.{◌≡◌, ◌≢◌, inl, inr, ℕ, Bool, true, false, not, ◌==◌, List, [], ◌∷◌, ◌++◌, find, Contains, Option, Some, None, slice_get, refl, sym, ap, subst, ◌∙◌, arith}
 use Rattle.std.specs.Prelude.{bytes_eq, codes, option_map}
 use Rattle.std.specs.List.{AllByRecursion, list_all}
-use Rattle.std.proofs.lemmas.Bool.{and_parts}
 use Rattle.std.proofs.lemmas.Slice.Eq.{bytes_eq-Decides}
 use Rattle.std.proofs.lemmas.List.Elements.{Contains-append_left, Contains-push, Contains-push_cases}
 use Rattle.std.proofs.lemmas.Option.{same_Some, slice_get_within}
-use Rattle.list_lemmas.proofs.ItemsOfLists.{Contains-none, only_in}
+use Rattle.list_lemmas.proofs.ItemsOfLists.{Contains-none, only_in, Contains-at, passed_at}
+use Rattle.list_lemmas.proofs.ItemsByPlace.{item_there}
 use Rattle.jk_model.specs.declared.frames.FrameHead.{FrameHead}
 use Rattle.jk_model.specs.declared.identifiers.ClassId.{ClassId}
 use Rattle.jk_model.specs.declared.identifiers.MemberId.{MemberId}
@@ -23,7 +23,9 @@ use Rattle.jk_model_classes.specs.SystemRecords.{AreSystemRecords, IsSystemRecor
 use Rattle.jk_model.specs.SystemTable.{SystemClass, SystemMethod, parent_number, system_classes}
 use Rattle.jk_model_typing.specs.FrameTypes.{STRING}
 use Rattle.jk_model_classes.specs.Worlds.{IsNamed, NamedClass}
+use Rattle.class_lemmas.proofs.OneRecord.{one_method}
 use Rattle.jk_model_typing.specs.Scopes.{CodeScope}
+use Rattle.typing_lemmas.proofs.OneScope.{one_link}
 use Rattle.jk_model_frames.specs.Frames.{FrameState, new_frame}
 use Rattle.jk_model_domains.specs.OwnStates.{IsLiteralOf, Literal, literal_named}
 use Rattle.jk_model_sound_classes.specs.NamedMembers.{NamesMethod}
@@ -36,10 +38,9 @@ use Rattle.jk_model_machine.specs.Starts.{Begins, IsMain, Starts, begins, many_t
 use Rattle.jk_model_machine.specs.Steps.{ActingFrame, Steps}
 use Rattle.step_progress.specs.BuiltCodes.{AreBuiltCodes, HaveTexts, IsBuiltInstr, RunNoConstructors, RunsNoConstructor}
 use Rattle.step_progress.proofs.ItemsStay.{in-filtered, in-mapped, in-set}
-use Rattle.step_progress.proofs.ListsSearched.{all-last, contains-at, find-there, item-at}
+use Rattle.step_progress.proofs.ListsSearched.{all-last, find-there}
 use Rattle.step_progress.proofs.MachinesChange.{Changes, HoldsOfFrames, KeepsTexts, ends_thread, keeps_all, sets_frames, step-changes}
 use Rattle.step_progress.proofs.NeededClasses.{no-number, one_method-link, two_codes}
-use Rattle.step_progress.proofs.OneMeaning.{one_link, one_method}
 
 -- ---- No constructor is called.
 
@@ -79,11 +80,11 @@ module _ (m : Machine) (t : ℕ) where
         subst (λ (fs : List FrameState). Contains fs a.running.frame) (sym a.running.are_frames) (Contains-push a.running.callers a.running.frame) in
         let home = all-last (IsAtHome s.domain) a.running.callers a.running.frame (subst (AllByRecursion (IsAtHome s.domain)) a.running.are_frames s.at_home) in
         built.codes s.domain code.method code.scope code.instr
-        (contains-at m.domains p.segment.domain.0 s.domain s.is_domain)
+        (Contains-at m.domains p.segment.domain.0 s.domain s.is_domain)
         (subst (KnowsClassOf s.domain) code.is_method home.0) code.is_scope
         (plain p.thread p.segment a.running.frame there has on code.method code.scope.method code.is_method
         (code.is_scope.class, code.is_scope.class_is, code.is_scope.method))
-        (contains-at code.scope.code.instrs a.running.frame.head.at code.instr code.stands)
+        (Contains-at code.scope.code.instrs a.running.frame.head.at code.instr code.stands)
 
     called-begun : (a : ActingFrame m t) (code : RunsCode m.classes a.running.frame) (free : ℕ) (w new : Working) (g : FrameState)
         → CallsStatic code.scope free code.instr w new (Calls g) → RunsNoConstructor m.classes g
@@ -146,7 +147,7 @@ module _ (m : Machine) (t : ℕ) where
       (sym e) h
 
   domain-there : (p : RunningSegment m t) → Contains m.domains p.domain
-  domain-there p = contains-at m.domains p.segment.domain.0 p.domain p.is_domain
+  domain-there p = Contains-at m.domains p.segment.domain.0 p.domain p.is_domain
 
   set-have_texts : (p : RunningSegment m t) (d : DomainState) → KeepsTexts p d → HaveTexts m → (e : DomainState) (inside : Inside) (text : List ℕ)
       → Contains (with_domain d m.domains) e → e.inside ≡ Some inside → IsLiteralOf m.classes e.table text
@@ -278,11 +279,6 @@ start-texts m new name class words lines have h = start-still HaveTexts m new na
 
 -- ---- The first machine.
 
-item-in : {X : Type 0} (test : X → Bool) (xs : List X) (k : ℕ) (x : X) → list_all test xs ≡ true → slice_get xs k ≡ Some x → test x ≡ true
-item-in test [] k x all e = absurd cc
-item-in test (y ∷ xs) zero x all e = subst (λ z. test z ≡ true) (same_Some y x e) (and_parts (test y) (list_all test xs) all).0
-item-in test (y ∷ xs) (suc k) x all e = item-in test xs k x (and_parts (test y) (list_all test xs) all).1 e
-
 abbrev is_string_number : Option ℕ → Bool
 is_string_number (Some n) = n == 3
 is_string_number None = false
@@ -306,24 +302,24 @@ module _ (classes : List ClassRecord) (system : AreSystemRecords classes) where
   pub entry-of : (c : ℕ) (r : ClassRecord) → slice_get classes c ≡ Some r → Entry c r
   entry-of c r is =
       let low = slice_get_within classes c r is in
-      let found = item-at system_classes c (omega (arith, low, system.as_many)) in
+      let found = item_there system_classes c (omega (arith, low, system.as_many)) in
       record { entry = found.0; at = found.1; is = system.each c found.0 r found.1 is }
 
   pub system-named : (x : MemberId) (method : MethodRecord) → MethodIs classes x method → method.name ≢ CLINIT
   system-named x method (r, is, there) named =
       let e = entry-of x.class.0 r is in
       let low = slice_get_within r.methods x.index method there in
-      let found = item-at e.entry.methods x.index (omega (arith, low, e.is.method_count)) in
-      let row = item-in (λ (c : SystemClass). list_all (λ (e : SystemMethod). not (bytes_eq e.name CLINIT)) c.methods) system_classes x.class.0 e.entry
+      let found = item_there e.entry.methods x.index (omega (arith, low, e.is.method_count)) in
+      let row = passed_at (λ (c : SystemClass). list_all (λ (e : SystemMethod). not (bytes_eq e.name CLINIT)) c.methods) system_classes x.class.0 e.entry
       no_clinit-named e.at in
-      let good = item-in (λ (e : SystemMethod). not (bytes_eq e.name CLINIT)) e.entry.methods x.index found.0 row found.1 in
+      let good = passed_at (λ (e : SystemMethod). not (bytes_eq e.name CLINIT)) e.entry.methods x.index found.0 row found.1 in
       let name = (e.is.methods x.index found.0 method found.1 there).name in
       denied (bytes_eq found.0.name CLINIT) good ((bytes_eq-Decides found.0.name CLINIT).1 (sym name ∙ named))
 
   pub system-parents : (c : ClassId) (r : ClassRecord) → record_of classes c ≡ Some r → r.parent ≢ Some STRING
   system-parents c r is parent =
       let e = entry-of c.0 r is in
-      let good = item-in (λ (c : SystemClass). not (is_string_number (parent_number c))) system_classes c.0 e.entry no_string-parent e.at in
+      let good = passed_at (λ (c : SystemClass). not (is_string_number (parent_number c))) system_classes c.0 e.entry no_string-parent e.at in
       let number : parent_number e.entry ≡ Some 3 = sym e.is.parent ∙ ap (option_map (λ (d : ClassId). d.0)) parent in
       denied (is_string_number (parent_number e.entry)) good (ap is_string_number number)
 

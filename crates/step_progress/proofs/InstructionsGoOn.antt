@@ -2,6 +2,7 @@
 use Rattle.std.proofs.Common.{◌≡◌, ◌≢◌, inl, inr, ℕ, ◌+◌, ◌-◌, ◌≤◌, ◌⊎◌, IsTrue, Bool, true, List, [], ◌∷◌, ◌++◌, length, map, replicate, Contains, Some, refl, sym, ap, subst, ◌∙◌, lit<, arith}
 use Rattle.std.specs.Prelude.{flat_map, if◌then◌else◌}
 use Rattle.std.proofs.lemmas.List.{append-nil}
+use Rattle.list_lemmas.proofs.ItemsOfLists.{Contains-at}
 use Rattle.jk_model.specs.declared.identifiers.MemberId.{MemberId}
 use Rattle.jk_model.specs.declared.instructions.Instr.{Instr}
 use Rattle.jk_model.specs.declared.steps.After.{After}
@@ -26,6 +27,7 @@ use Rattle.jk_model_typing.specs.FrameTypes.{of_class, value_of}
 use Rattle.jk_model_typing.specs.Scopes.{CodeScope, LeadsToLink, is_init, is_static, own_receiver, parameter_values}
 use Rattle.jk_model_typing.specs.Typing as Types
 use Rattle.jk_model_typing.specs.Typing.{IsStart, IsTyping}
+use Rattle.typing_lemmas.proofs.OneScope.{scope_of, scope, one-scope}
 use Rattle.jk_model_frames.specs.Frames.{FrameState, head_chunks}
 use Rattle.jk_model_domains.specs.NumberRows.{IsOnTop, NumberRow, Replaces, exchanges, uses_local, jumps, switches, divides_by_zero, returns, returns_nothing}
 use Rattle.jk_model_domains.specs.Objects.{PRINT_STREAM}
@@ -38,9 +40,8 @@ use Rattle.jk_model_machine.specs.Machine.{Inside}
 use Rattle.step_progress.specs.BuiltCodes.{CallsCode, CallsPrintln, IsBuiltInstr, ReadsSystemOut}
 use Rattle.step_progress.proofs.ArgumentsGiven.{given-static, given-virtual, locals-taken}
 use Rattle.step_progress.proofs.CodeStandsHere.{MayBegin}
-use Rattle.step_progress.proofs.ListsSearched.{contains-at, lower_or_not}
+use Rattle.step_progress.proofs.ListsSearched.{lower_or_not}
 use Rattle.step_progress.proofs.NumbersGoOn.{numbers-go}
-use Rattle.step_progress.proofs.OneMeaning.{one_scope, scope, scope_of}
 use Rattle.step_progress.proofs.PrintedTexts.{ArePrintable}
 use Rattle.step_progress.proofs.ThrowablesLeave.{CanBeRaised}
 
@@ -169,7 +170,7 @@ module _ (classes : List ClassRecord) (tables : List (List NamedClass)) (sound :
       let here = scope classes m.class is.0.links method c in
       let typed = sound.typed m here (scope_of classes m method c is body) in
       let typing = typed.1.typing in
-      let same : typing.scope ≡ here = one_scope classes m typing.scope here typing.scope_is (scope_of classes m method c is body) in
+      let same : typing.scope ≡ here = one-scope classes m typing.scope here typing.scope_is (scope_of classes m method c is body) in
       let start : IsStart here typing.start = subst (λ (s : CodeScope). IsStart s typing.start) same typing.start_is in
       let room = room-by c here typing.start start (no-receiver here (is_static method) static) refl in
       subst (λ (cs : List ClassRecord). length (flat_map Types.as_locals (map (value_of cs) method.params)) ≤ c.max_locals)
@@ -177,7 +178,7 @@ module _ (classes : List ClassRecord) (tables : List (List NamedClass)) (sound :
 
   call-done : CallsCode code.scope code.instr → Some_is_done
   call-done (op, (m, method, c, names, body, plain)) =
-      let in_code : Contains code.scope.code.instrs code.instr = contains-at code.scope.code.instrs f.head.at code.instr code.stands in
+      let in_code : Contains code.scope.code.instrs code.instr = Contains-at code.scope.code.instrs f.head.at code.instr code.stands in
       let static = sound.statics code.method m code.scope code.instr method code.is_scope in_code op names in
       let there : MethodIs classes m method = subst (λ (cs : List ClassRecord). MethodIs cs m method) code.is_scope.all names.2 in
       let g = given-static code.scope inside.heap ordered-here f.head.at code.instr f begins.before begins.after begins.holds begins.row m method op names in

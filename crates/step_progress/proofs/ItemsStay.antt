@@ -1,21 +1,16 @@
 -- What is in a list that was changed was there before, or is what was put there.
-use Rattle.std.proofs.Common.{◌≡◌, inl, inr, ℕ, ◌⊎◌, Bool, true, false, cond, if◌then◌else◌, List, [], ◌∷◌, ◌++◌, map, set, filter, Contains, Some, slice_get, sym, ap, subst, ◌∙◌}
+use Rattle.std.proofs.Common.{◌≡◌, inl, inr, ℕ, ◌⊎◌, Bool, true, false, cond, if◌then◌else◌, List, [], ◌∷◌, ◌++◌, map, set, filter, Contains, sym, subst}
 use Rattle.std.proofs.lemmas.List.Elements.{Contains-append_cases, Contains-append_left, Contains-append_right}
-use Rattle.std.proofs.lemmas.Option.{slice_get-get_or}
 use Rattle.list_lemmas.proofs.ItemsByPlace.{slice_get-set_cases}
-use Rattle.list_lemmas.proofs.ItemsOfLists.{Contains-cases, Contains-here, Contains-none, Contains-there}
-use Rattle.step_progress.proofs.ListsSearched.{contains-at}
+use Rattle.list_lemmas.proofs.ItemsOfLists.{Contains-cases, Contains-here, Contains-none, Contains-there, Contains-at, place_of}
 
 module _ {X : Type 0} where
-  pub place-of : (xs : List X) (x : X) → Contains xs x → (k : ℕ) × (slice_get xs k ≡ Some x)
-  place-of xs x (k, within, e) = (k, slice_get-get_or xs k x within ∙ ap Some e)
-
   pub in-set : (xs : List X) (i : ℕ) (y x : X) → Contains (set xs i y) x → (y ≡ x) ⊎ Contains xs x
   in-set xs i y x h =
-      let at = place-of (set xs i y) x h in
+      let at = place_of (set xs i y) x h in
       elim (slice_get-set_cases xs i at.0 y x at.1) [
         | inl here ↦ inl here.1
-        | inr there ↦ inr (contains-at xs at.0 x there)
+        | inr there ↦ inr (Contains-at xs at.0 x there)
       ]
 
   pub in-mapped : (test : X → Bool) (new : X) (xs : List X) (x : X) → Contains (map (λ y. if test y then new else y) xs) x

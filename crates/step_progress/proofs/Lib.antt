@@ -10,10 +10,8 @@ mod MachinesChange
 pub mod MoreClassesBuilt
 mod NeededClasses
 mod NumbersGoOn
-mod OneMeaning
 mod OpcodesByKind
-mod PrintedTexts
-mod ThreadsStandWell
+pub mod PrintedTexts
+pub mod ThreadsStandWell
 pub mod ThreadsStep
 mod ThrowablesLeave
-mod ValuesOfTypes

@@ -15,6 +15,7 @@ use Rattle.jk_model_frames.specs.Frames.{FrameState, new_frame}
 use Rattle.jk_model_domains.specs.NumberRows.{NumberRow, UsesLocal, divides_by_zero, exchanges, jumps, switches, uses_local}
 use Rattle.jk_model_domains.specs.NumberRows as Rows
 use Rattle.jk_model_domains.specs.OwnStates.{OwnState}
+use Rattle.number_laws.proofs.HeadsStay.{number-head}
 use Rattle.jk_model_machine.specs.Executions.{Calls, CallsStatic, Executes, IsOutcome, GoesOn, Outcome, PrintsLine, Working, calls_static, gets_static, loads_text, numbers, prints_line, puts_static}
 use Rattle.jk_model_machine.specs.Initialising.{IsInitialiserHead, RunsCode}
 use Rattle.jk_model_machine.specs.Machine.{DomainState, Inside, Machine, Segment, Thread}
@@ -66,20 +67,6 @@ leaves-texts classes (f ∷ upper) own thrown new left h =
     leaves-one classes f h.0 h.1 new left h.3 ∙ leaves-texts classes upper own thrown h.0 h.1 h.2
 
 -- ---- What an instruction keeps.
-
-head-local : (i : Instr) (f g : FrameState) → UsesLocal i f g → g.head ≡ f.head
-head-local i f g (inl u) = ap (λ (x : FrameState). x.head) u.5
-head-local i f g (inr (inl u)) = ap (λ (x : FrameState). x.head) u.6
-head-local i f g (inr (inr u)) = ap (λ (x : FrameState). x.head) u.5
-
-number-head : (s : CodeScope) (place : ℕ) (i : Instr) (f g : FrameState) (a : After) → NumberRow s place i f g a → g.head ≡ f.head
-number-head s place i f g a (exchanges taken pushed h rep) = ap (λ (x : FrameState). x.head) rep.after
-number-head s place i f g a (uses_local u) = head-local i f g u
-number-head s place i f g a (jumps taken holds n d rep at) = ap (λ (x : FrameState). x.head) rep.after
-number-head s place i f g a (switches key n op rep at) = ap (λ (x : FrameState). x.head) rep.after
-number-head s place i f g a (divides_by_zero taken d on same) = ap (λ (x : FrameState). x.head) same
-number-head s place i f g a (Rows.returns v op rep) = ap (λ (x : FrameState). x.head) rep.after
-number-head s place i f g a (Rows.returns_nothing op same) = ap (λ (x : FrameState). x.head) same
 
 module _ (s : CodeScope) (free : ℕ) (i : Instr) (w new : Working) (outcome : Outcome) where
   call-head : CallsStatic s free i w new outcome → new.frame.head ≡ w.frame.head

@@ -2,8 +2,8 @@
 use Rattle.std.proofs.Common.{◌≡◌, inl, inr, ℕ, ◌<◌, List, ◌++◌, length, Contains, Some, slice_get, refl, sym, subst, ◌∙◌, arith}
 use Rattle.std.proofs.lemmas.List.Elements.{Contains-push_cases}
 use Rattle.std.proofs.lemmas.Option.{slice_get_within}
-use Rattle.list_lemmas.proofs.ItemsByPlace.{slice_get-front}
-use Rattle.list_lemmas.proofs.ItemsOfLists.{each-of}
+use Rattle.list_lemmas.proofs.ItemsByPlace.{slice_get-front, item_there}
+use Rattle.list_lemmas.proofs.ItemsOfLists.{each-of, Contains-at}
 use Rattle.jk_model.specs.declared.identifiers.ClassId.{ClassId}
 use Rattle.jk_model.specs.declared.identifiers.MemberId.{MemberId}
 use Rattle.jk_model.specs.declared.instructions.Instr.{Instr}
@@ -21,7 +21,7 @@ use Rattle.jk_model_machine.specs.Sealed.{IsAtHome, IsSealed, KnowsClassOf}
 use Rattle.jk_model_machine.proofs.TablesOfDomains.{table-among}
 use Rattle.step_progress.specs.BuiltCodes.{AreAllBuilt, AreBuiltCodes, AreMoreBuilt, HasTexts, HaveTexts, IsBuiltInstr, RunNoConstructors, with_opened}
 use Rattle.step_progress.proofs.BuiltMachinesStay.{entry-of, system-named, system-parents}
-use Rattle.step_progress.proofs.ListsSearched.{contains-at, item-at, lower_or_not}
+use Rattle.step_progress.proofs.ListsSearched.{lower_or_not}
 
 pub all-codes : (classes : List ClassRecord) (domains : List DomainState) → AreAllBuilt classes → AreBuiltCodes classes domains
 all-codes classes domains all = record {
@@ -36,7 +36,7 @@ no-code : (classes : List ClassRecord) → AreSystemRecords classes → (m : Mem
 no-code classes system m s is =
     let e = entry-of classes system m.class.0 is.class is.class_is in
     let low = slice_get_within is.class.methods m.index s.method is.method in
-    let found = item-at e.entry.methods m.index (omega (arith, low, e.is.method_count)) in
+    let found = item_there e.entry.methods m.index (omega (arith, low, e.is.method_count)) in
     let body = (e.is.methods m.index found.0 s.method found.1 is.method).body in
     let both = sym is.body ∙ body in
     absurd cc
@@ -140,6 +140,6 @@ module _ (m : Machine) (more : List ClassRecord) (d : DomainState) (sound : AreS
   opened-plain sealed plain thread s f on has at x method is there =
       let home = sealed.segments thread s on has in
       let knows = each-of (IsAtHome home.domain) s.frames f home.at_home at in
-      let domain = contains-at m.domains s.domain.0 home.domain home.is_domain in
+      let domain = Contains-at m.domains s.domain.0 home.domain home.is_domain in
       let low = named-low home.domain x.class domain (subst (KnowsClassOf home.domain) is knows.0) in
       plain thread s f on has at x method is (method-before m.classes more x method low there)

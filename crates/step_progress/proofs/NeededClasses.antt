@@ -7,13 +7,13 @@ use Rattle.jk_model.specs.declared.instructions.Instr.{Instr}
 use Rattle.jk_model_classes.specs.declared.records.ClassRecord.{ClassRecord}
 use Rattle.jk_model_classes.specs.declared.records.Link.TheVariants as To
 use Rattle.jk_model_typing.specs.Scopes.{CodeScope, LeadsToLink}
+use Rattle.typing_lemmas.proofs.OneScope.{one_link}
 use Rattle.jk_model_frames.specs.Frames.{FrameState}
 use Rattle.jk_model_domains.specs.NumberRows.{IsOfNumbers, number_opcodes}
 use Rattle.jk_model_machine.specs.Initialising.{FrameNeeds, InstrNeeds, RunsCode}
 use Rattle.step_progress.specs.BuiltCodes.{IsBuiltInstr}
 use Rattle.step_progress.proofs.CodeStandsHere.{runs-one}
 use Rattle.step_progress.proofs.ListsSearched.{by-option}
-use Rattle.step_progress.proofs.OneMeaning.{one_link}
 use Rattle.step_progress.proofs.OpcodesByKind.{in-range, is_in}
 
 -- ---- By an instruction.

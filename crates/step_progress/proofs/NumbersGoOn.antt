@@ -31,8 +31,9 @@ use Rattle.jk_model_frames.specs.Frames.{FrameState}
 use Rattle.jk_model_domains.specs.NumberRows.{ARITHMETIC_EXCEPTION, Calculates, Decides, DividesByZero, Exchanges, HasRow, IsConversion, IsOfNumbers, IsOnTop, Moves, NumberRow, Pushes, Replaces, compared, comparisons, copies, distance, divides_by_zero, drops, exchanges, int_divisions, int_operations, is_load, is_null, is_return_of_value, is_same_reference, is_store_of_top, jumps, long_divisions, long_operations, long_shifts, number_opcodes, returns, returns_nothing, shift_zeros, shift_zeros_long, switch_target, switches, uses_local, values_slots, with_value}
 use Rattle.jk_model_domains.specs.Objects.{NamedObject}
 use Rattle.jk_model_domains.specs.ValueTypes.{EachValueFits, FrameHolds, ValueFits}
+use Rattle.number_laws.proofs.ValuesFit.{value_slots-fit, int_fits, fits-slots, end_fits, value_at, are_met, usable-append}
+use Rattle.number_laws.specs.KnownValues.{IsMet, AreMet}
 use Rattle.step_progress.proofs.OpcodesByKind.{constants, conversions, each_among_any, in-range, int_jumps, ints, kinds, listed, locals, longs, moves, other_jumps, returns_of}
-use Rattle.step_progress.proofs.ValuesOfTypes.{AreMet, IsMet, are_met, end_fits, fits-slots, int_fits, usable-append, value_at, value_slots-fit}
 
 abbrev Operation : Type 0
 Operation = ℤ → ℤ → ℤ

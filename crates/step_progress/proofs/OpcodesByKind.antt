@@ -1,17 +1,15 @@
 -- Each opcode of an instruction on numbers that has a row of typing is in one of these lists; and what holds of each opcode of a list
 -- holds of one that is among them.
-use Rattle.std.proofs.Common.{◌≡◌, ℕ, zero, suc, ◌<◌, ◌≤◌, ◌⊎◌, ◌==◌, Bool, true, false, not, ◌&&◌, ◌||◌, nat_le, List, [], ◌∷◌, map, IsTrue, refl, sym, ap, subst, ◌∙◌, inl, inr, get_or, arith, Some, slice_get}
+use Rattle.std.proofs.Common.{◌≡◌, ℕ, zero, suc, ◌<◌, ◌≤◌, ◌⊎◌, Bool, true, false, not, ◌&&◌, ◌||◌, nat_le, List, [], ◌∷◌, map, IsTrue, refl, sym, subst, inl, inr, arith, Some, slice_get}
 use Rattle.std.specs.List.{AllByRecursion, range_with_len}
 use Rattle.std.proofs.lemmas.Grind.{common_steps}
-use Rattle.std.proofs.lemmas.List.FromFn.{get_or-map-range_with_len}
 use Rattle.std.proofs.lemmas.Option.{same_Some}
+use Rattle.list_lemmas.proofs.ItemsByPlace.{agree_within}
 use Rattle.jk_model_classes.specs.Items.{HasItem}
 use Rattle.jk_model_typing.specs.Groups.{has_group}
 use Rattle.jk_model_domains.specs.NumberRows.{number_opcodes}
-
-abbrev pub is_among : List ℕ → ℕ → Bool
-is_among [] op = false
-is_among (k ∷ ks) op = op == k || is_among ks op
+use Rattle.number_laws.proofs.EachOpcode.{each_among}
+use Rattle.number_laws.specs.NumberOpcodes.{is_among}
 
 abbrev pub is_among_any : List (List ℕ) → ℕ → Bool
 is_among_any [] op = false
@@ -63,13 +61,6 @@ kinds = constants ∷ locals ∷ moves ∷ ints ∷ longs ∷ conversions ∷ in
 
 -- ---- No opcode is left out.
 
--- functions that agree on a whole range agree on each number in it
-agree : {X : Type 0} (f g : ℕ → X) (d : X) (n k : ℕ) → map f (range_with_len 0 n) ≡ map g (range_with_len 0 n) → k < n → f k ≡ g k
-agree {X = X} f g d n k same lt =
-    let left = get_or-map-range_with_len f 0 n k k d lt (omega arith) in
-    let right = get_or-map-range_with_len g 0 n k k d lt (omega arith) in
-    sym left ∙ ap (λ (xs : List X). get_or xs k d) same ∙ right
-
 is_listed : ℕ → Bool
 is_listed op = not (is_in number_opcodes op && has_group op) || is_among_any kinds op
 
@@ -88,7 +79,7 @@ by_parts false b c p q h = absurd cc
 pub listed : (op : ℕ) → op < 256 → is_in number_opcodes op ≡ true → has_group op ≡ true → IsTrue (is_among_any kinds op)
 unfolding is_listed always
 listed op lt inside group =
-    by_parts (is_in number_opcodes op) (has_group op) (is_among_any kinds op) inside group (agree is_listed always true 256 op all_listed lt)
+    by_parts (is_in number_opcodes op) (has_group op) (is_among_any kinds op) inside group (agree_within is_listed always true 256 op all_listed lt)
 
 -- an opcode in a range of the table
 pub in-range : (rows : List (ℕ × ℕ)) (op : ℕ) → HasItem (λ (r : ℕ × ℕ). (r.0 ≤ op) × (op ≤ r.1)) rows → is_in rows op ≡ true
@@ -114,17 +105,6 @@ in-range rows op (k, r, at, (low, high)) = place rows k at
     place (x ∷ rs) (suc n) e = or_right (nat_le x.0 op && nat_le op x.1) (is_in rs op) (place rs n e)
 
 -- ---- One of a list.
-
-either : (k op : ℕ) (b : Bool) → IsTrue (op == k || b) → (op ≡ k) ⊎ IsTrue b
-either k op b h = grind (arith, common_steps)
-
-pub each_among : (P : ℕ → Type 0) (ks : List ℕ) (op : ℕ) → AllByRecursion P ks → IsTrue (is_among ks op) → P op
-each_among P [] op all h = absurd cc
-each_among P (k ∷ ks) op all h =
-    elim (either k op (is_among ks op) h) [
-      | inl same ↦ subst P (sym same) all.0
-      | inr more ↦ each_among P ks op all.1 more
-    ]
 
 or_cases : (a b : Bool) → IsTrue (a || b) → IsTrue a ⊎ IsTrue b
 or_cases true b h = inl refl

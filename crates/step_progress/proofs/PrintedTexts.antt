@@ -1,12 +1,10 @@
 -- What println of java/io/PrintStream is given reads as a text.
-use Rattle.std.proofs.Common.{◌≡◌, ◌≢◌, inl, inr, ℕ, zero, suc, ◌+◌, ◌<◌, ◌≤◌, ◌⊎◌, Bool, true, false, not, ◌&&◌, ◌==◌, List, [], ◌∷◌, length, take, map, find, Contains, Option, Some, None, slice_get, refl, sym, ap, subst, ◌∙◌, arith, ℤ}
+use Rattle.std.proofs.Common.{◌≡◌, ◌≢◌, inl, inr, ℕ, zero, suc, ◌+◌, ◌<◌, ◌≤◌, ◌⊎◌, false, ◌==◌, List, [], ◌∷◌, length, take, map, find, Contains, Option, Some, None, slice_get, refl, sym, ap, subst, ◌∙◌, arith, ℤ}
 use Rattle.std.specs.Prelude.{codes, option_map}
-use Rattle.std.specs.List.{AllByRecursion, list_all}
+use Rattle.std.specs.List.{AllByRecursion}
 use Rattle.std.specs.Option.{option_map_or}
-use Rattle.std.proofs.lemmas.Bool.{and_parts}
-use Rattle.std.proofs.lemmas.Grind.{common_steps}
 use Rattle.std.proofs.lemmas.Option.{same_Some, slice_get_within}
-use Rattle.list_lemmas.proofs.ItemsByPlace.{slice_get-from_take}
+use Rattle.list_lemmas.proofs.ItemsByPlace.{slice_get-from_take, item_there}
 use Rattle.jk_model.specs.declared.descriptors.Base.{Base as Letter}
 use Rattle.jk_model.specs.declared.descriptors.Base.TheVariants as Said
 use Rattle.jk_model.specs.declared.descriptors.FieldType.{FieldType}
@@ -14,7 +12,7 @@ use Rattle.jk_model.specs.declared.descriptors.MethodType.{MethodType}
 use Rattle.jk_model.specs.declared.identifiers.ClassId.{ClassId}
 use Rattle.jk_model.specs.declared.values.Value.{Value}
 use Rattle.jk_model.specs.declared.values.Value.TheVariants as Held
-use Rattle.jk_model.specs.Descriptors.{IsClassName, IsMethodText, IsNameUnit}
+use Rattle.jk_model.specs.Descriptors.{IsMethodText}
 use Rattle.jk_model.specs.Flags.{has, INTERFACE}
 use Rattle.jk_model.specs.SystemTable.{SystemClass, SystemMethod, system_classes}
 use Rattle.jk_model_classes.specs.declared.records.BaseRef.TheVariants as Base
@@ -24,6 +22,7 @@ use Rattle.jk_model_classes.specs.declared.records.TypeRef.{TypeRef}
 use Rattle.jk_model_classes.specs.Classes.{AreOrdered, IsSubclass, OBJECT, is_interface_record, parents_of, record_of}
 use Rattle.jk_model_classes.specs.SystemRecords.{AreSystemRecords, AreTypesFor, IsBaseFor, system_meaning}
 use Rattle.jk_model_classes.specs.Worlds.{NamedClass}
+use Rattle.model_lemmas.proofs.NamesByTest.{string_name}
 use Rattle.jk_model_typing.specs.FrameTypes.{RefFits, STRING, array_type, erased_class, value_of}
 use Rattle.jk_model_typing.specs.Scopes.{CodeScope}
 use Rattle.jk_model_domains.specs.Objects.{Array, CAPABILITY, NamedObject, Object, Plain, Task, Text, TASK, class_type, object_named, type_of}
@@ -33,8 +32,8 @@ use Rattle.jk_model_machine.specs.Sealed.{IsSealedObject}
 use Rattle.class_lemmas.proofs.OneMember.{same_type}
 use Rattle.class_table.proofs.StandingAbove.{parent-lower, superclasses-cases}
 use Rattle.descriptors.proofs.NoTextBeginsAnother.{one_method}
-use Rattle.step_progress.proofs.ListsSearched.{find-there, item-at}
-use Rattle.step_progress.proofs.ValuesOfTypes.{int_fits, long_fits}
+use Rattle.number_laws.proofs.ValuesFit.{int_fits, long_fits}
+use Rattle.step_progress.proofs.ListsSearched.{find-there}
 
 -- ---- The types that println takes.
 
@@ -63,30 +62,6 @@ one_param b (t ∷ []) are = let is = are.each 0 (plain b) t refl refl in (t, re
 one_param b (t ∷ u ∷ params) are = let many : length (t ∷ u ∷ params) ≡ length (plain b ∷ []) = are.as_many in absurd (omega arith)
 
 -- ---- Descriptors.
-
-abbrev is_unit : ℕ → Bool
-is_unit u = not (u == 46) && not (u == 59) && not (u == 91) && not (u == 47)
-
-unit : (u : ℕ) → is_unit u ≡ true → IsNameUnit u
-unit u h = (λ e. grind (arith, common_steps), λ e. grind (arith, common_steps), λ e. grind (arith, common_steps), λ e. grind (arith, common_steps))
-
-units : (us : List ℕ) → list_all is_unit us ≡ true → AllByRecursion IsNameUnit us
-units [] h = tt
-units (u ∷ us) h = let parts = and_parts (is_unit u) (list_all is_unit us) h in (unit u parts.0, units us parts.1)
-
-no_name : (u : ℕ) (us : List ℕ) → u ∷ us ≢ []
-no_name u us e = cc
-
-no_names : (u : List ℕ) (us : List (List ℕ)) → u ∷ us ≢ []
-no_names u us e = cc
-
-string_name : IsClassName (codes "java/lang/String")
-string_name = (
-  codes "java" ∷ codes "lang" ∷ codes "String" ∷ [],
-  no_names _ _,
-  ((no_name _ _, units (codes "java") refl), ((no_name _ _, units (codes "lang") refl), ((no_name _ _, units (codes "String") refl), tt))),
-  refl,
-)
 
 -- a printing method of a descriptor takes what the descriptor says
 abbrev TakesPrintable : SystemMethod → Type 0
@@ -154,11 +129,11 @@ module _ (classes : List ClassRecord) (system : AreSystemRecords (take (length s
       → slice_get r.methods i ≡ Some method → ArePrintable method.params
   print-params r i method is there =
       let many : length system_classes ≡ 45 = refl in
-      let entry = item-at system_classes 6 (omega (arith, many)) in
+      let entry = item_there system_classes 6 (omega (arith, many)) in
       let record_is = system.each 6 entry.0 r entry.1 is in
       let same : stream_methods ≡ entry.0.methods = ap (λ (o : Option SystemClass). option_map_or (λ (c : SystemClass). c.methods) o []) entry.1 in
       let low = slice_get_within r.methods i method there in
-      let found = item-at entry.0.methods i (omega (arith, low, record_is.method_count)) in
+      let found = item_there entry.0.methods i (omega (arith, low, record_is.method_count)) in
       let of = record_is.methods i found.0 method found.1 there in
       method-at TakesPrintable entry.0.methods i found.0 (subst (AllByRecursion TakesPrintable) same print-methods) found.1 method.kind method.params
       of.text of.params
@@ -167,8 +142,8 @@ module _ (classes : List ClassRecord) (system : AreSystemRecords (take (length s
   pub string-erased : erased_class classes STRING ≡ STRING
   string-erased =
       let many : length system_classes ≡ 45 = refl in
-      let found = item-at (take (length system_classes) classes) 3 (omega (arith, many, system.as_many)) in
-      let entry = item-at system_classes 3 (omega (arith, many)) in
+      let found = item_there (take (length system_classes) classes) 3 (omega (arith, many, system.as_many)) in
+      let entry = item_there system_classes 3 (omega (arith, many)) in
       let at : Some 1 ≡ Some entry.0.flags = ap (option_map (λ (x : SystemClass). x.flags)) entry.1 in
       let flags : found.0.flags ≡ 1 = (system.each 3 entry.0 found.0 entry.1 found.1).flags ∙ sym (same_Some 1 entry.0.flags at) in
       let here : record_of classes STRING ≡ Some found.0 = slice_get-from_take classes (length system_classes) 3 found.0 found.1 in
@@ -177,6 +152,9 @@ module _ (classes : List ClassRecord) (system : AreSystemRecords (take (length s
       rw plain_class refl
 
 -- ---- Only texts are of java/lang/String.
+
+pub class-one : (c d : ClassId) → class_type c ≡ class_type d → c ≡ d
+class-one c d e = let bases : Base.Class c ≡ Base.Class d = ap (λ (t : TypeRef). t.base) e in cc
 
 module _ (classes : List ClassRecord) (ordered : AreOrdered classes)
     (closed : (c : ClassId) (r : ClassRecord) → record_of classes c ≡ Some r → r.parent ≢ Some STRING) where
@@ -207,9 +185,6 @@ module _ (classes : List ClassRecord) (ordered : AreOrdered classes)
 
   pub only-string : (c : ClassId) → IsSubclass classes c STRING → c ≡ STRING
   only-string c h = only-string-within (suc c.0) c (omega arith) h
-
-  class-one : (c d : ClassId) → class_type c ≡ class_type d → c ≡ d
-  class-one c d e = let bases : Base.Class c ≡ Base.Class d = ap (λ (t : TypeRef). t.base) e in cc
 
   -- a class that fits java/lang/String is java/lang/String
   fits-string : (c : ClassId) → RefFits classes (class_type c) (class_type STRING) → c ≡ STRING

@@ -3,7 +3,7 @@ use Rattle.std.proofs.Common.{◌≡◌, inl, inr, ℕ, false, ◌==◌, List, [
 use Rattle.std.specs.List.{AllByRecursion}
 use Rattle.std.proofs.lemmas.List.{same_from_push}
 use Rattle.std.proofs.lemmas.List.Elements.{Contains-push}
-use Rattle.list_lemmas.proofs.ItemsOfLists.{Contains-here}
+use Rattle.list_lemmas.proofs.ItemsOfLists.{Contains-here, Contains-at}
 use Rattle.jk_model_classes.specs.declared.records.ClassRecord.{ClassRecord}
 use Rattle.jk_model_frames.specs.Frames.{FrameState}
 use Rattle.jk_model_domains.specs.Objects.{NamedObject}
@@ -13,7 +13,7 @@ use Rattle.jk_model_machine.specs.Places.{RunningFrame, RunningSegment}
 use Rattle.jk_model_machine.specs.Sealed.{FitsAsTop, FramesFit, IsAtHome, IsSealed, IsSealedInside, KnowsClassOf}
 use Rattle.step_progress.specs.BuiltCodes.{AreBuiltCodes, IsBuiltInstr, RunNoConstructors, RunsNoConstructor}
 use Rattle.step_progress.proofs.CodeStandsHere.{MayBegin, stands-here}
-use Rattle.step_progress.proofs.ListsSearched.{all-last, by-end, contains-at, find-there}
+use Rattle.step_progress.proofs.ListsSearched.{all-last, by-end, find-there}
 
 pub record Placed {m : Machine} {t : ℕ} (p : RunningSegment m t) : Type 0 where
   pub lowest : p.lower ≡ []
@@ -32,7 +32,7 @@ placed m t sealed plain thread is =
     let one = sealed.live thread there.0 in
     let has : Contains thread.segments one.0 = subst (λ (xs : List Segment). Contains xs one.0) (sym one.1) (Contains-here one.0 []) in
     let s = sealed.segments thread one.0 there.0 has in
-    let domain : Contains m.domains s.domain = contains-at m.domains one.0.domain.0 s.domain s.is_domain in (
+    let domain : Contains m.domains s.domain = Contains-at m.domains one.0.domain.0 s.domain s.is_domain in (
       record {
         thread = thread;
         is_thread = is;
@@ -58,7 +58,7 @@ placed m t sealed plain thread is =
 
 -- ---- The frame on top.
 
-top-fits : (classes : List ClassRecord) (heap : List NamedObject) (callers : List FrameState) (f : FrameState)
+pub top-fits : (classes : List ClassRecord) (heap : List NamedObject) (callers : List FrameState) (f : FrameState)
     → FramesFit classes heap (callers ++ f ∷ []) → FitsAsTop classes heap f
 top-fits classes heap [] f h = h
 top-fits classes heap (c ∷ []) f h = h.1
@@ -100,7 +100,7 @@ stands {m = m} {t = t} {p = p} built here r top none =
     let at = stands-here m.classes p.inside.heap r.frame none top.fits in
     let code = at.0 in
     let named = subst (KnowsClassOf p.domain) code.is_method top.home.0 in
-    let in_code = contains-at code.scope.code.instrs r.frame.head.at code.instr code.stands in
+    let in_code = Contains-at code.scope.code.instrs r.frame.head.at code.instr code.stands in
     let plain = top.plain code.method code.scope.method code.is_method (code.is_scope.class, code.is_scope.class_is, code.is_scope.method) in
     record {
       code = code;

@@ -3,6 +3,8 @@ use Rattle.std.proofs.Common.{◌≡◌, ◌≢◌, inl, inr, ℕ, zero, suc, �
 use Rattle.std.specs.Option.{option_map_or}
 use Rattle.std.proofs.lemmas.Bool.{eqb-true}
 use Rattle.std.proofs.lemmas.Option.{same_Some}
+use Rattle.list_lemmas.proofs.ItemsOfLists.{Contains-at}
+use Rattle.list_lemmas.proofs.TestsAndOrders.{same_or_not}
 use Rattle.jk_model.specs.declared.frames.FrameHead.{FrameHead}
 use Rattle.jk_model.specs.declared.identifiers.ClassId.{ClassId}
 use Rattle.jk_model.specs.declared.identifiers.MemberId.{MemberId}
@@ -20,6 +22,7 @@ use Rattle.jk_model_classes.specs.declared.records.MethodRecord.{MethodRecord}
 use Rattle.jk_model_classes.specs.Classes.{AreOrdered, record_of}
 use Rattle.jk_model_classes.specs.Lookups.{MethodIs}
 use Rattle.jk_model_classes.specs.SystemRecords.{AreSystemRecords}
+use Rattle.model_lemmas.proofs.SameNumbers.{same_class}
 use Rattle.jk_model_typing.specs.FrameTypes.{STRING}
 use Rattle.jk_model_domains.specs.declared.states.ClassState.{ClassState}
 use Rattle.jk_model_domains.specs.declared.states.ClassState.TheVariants as State
@@ -35,7 +38,7 @@ use Rattle.jk_model_machine.specs.Sealed.{IsSealed, IsSealedObject, KnowsClassOf
 use Rattle.jk_model_machine.specs.Steps.{ActingFrame, Acts, Follows, IsHeld, IsInProgressElsewhere, IsReady, Pays, Steps, Throws, calls, does, ends, ends_initialiser, goes_on, meets_broken, need_falls, returns, says, throws, touches}
 use Rattle.step_progress.specs.BuiltCodes.{AreBuiltCodes, HaveTexts, RunNoConstructors}
 use Rattle.step_progress.proofs.InstructionsGoOn.{MayFollow, instr-done}
-use Rattle.step_progress.proofs.ListsSearched.{by-bool, by-end, by-option, class-from, contains-at, find-there, lower_or_not, same_number}
+use Rattle.step_progress.proofs.ListsSearched.{by-bool, by-end, by-option, find-there, lower_or_not}
 use Rattle.step_progress.proofs.NeededClasses.{NeedsOne, frame-needs}
 use Rattle.step_progress.proofs.PrintedTexts.{ArePrintable, print-params, said}
 use Rattle.step_progress.proofs.ThreadsStandWell.{OnTop, Placed, on-top, one-top, placed, stands}
@@ -95,7 +98,7 @@ module _ (m : Machine) (t : ℕ) (sealed : IsSealed m) (sound : AreSoundClasses 
     look-at : NeedsOne m.classes r.frame → Elsewhere ⊎ (Look × NoneElsewhere)
     look-at one = elim (state-cases (state_of own one.class)) [
       | inl fresh ↦ inr (inl (one.class, one.needs, fresh), λ c h k. untouched-idle (state_of own c) k.0 (still fresh c h) k.1)
-      | inr (inl (u, by)) ↦ elim (same_number u.0 t) [
+      | inr (inl (u, by)) ↦ elim (same_or_not u.0 t) [
         | inl mine ↦
             let same : u ≡ thread_no t = ap thread_no mine in
             let ready : state_of own one.class ≡ State.InProgress (thread_no t) = by ∙ ap (λ (x : ThreadNo). State.InProgress x) same in
@@ -158,7 +161,7 @@ module _ (m : Machine) (t : ℕ) (sealed : IsSealed m) (sound : AreSoundClasses 
             absurd cc
         | inr (e, some) ↦
             let there = find-there (λ (x : ClassPart). x.class.0 == c.0) p.inside.own.classes e some in
-            let same : e.class ≡ c = class-from e.class c (eqb-true e.class.0 c.0 there.1) in
+            let same : e.class ≡ c = same_class e.class c (eqb-true e.class.0 c.0 there.1) in
             let part = here.inside.own.each e there.0 in
             let is : record_of m.classes c ≡ Some part.0 = subst (λ (d : ClassId). record_of m.classes d ≡ Some part.0) same part.1.1 in
             (part.0, is, sound.homed c part.0 is part.1.2)
@@ -267,7 +270,7 @@ module _ (m : Machine) (t : ℕ) (sealed : IsSealed m) (sound : AreSoundClasses 
             named,
             code.is_scope.class_is,
             inl (subst (λ (ls : List Link). Contains ls (To.Text text)) code.is_scope.links
-                (contains-at code.scope.links leads.0 (To.Text text) leads.2)),
+                (Contains-at code.scope.links leads.0 (To.Text text) leads.2)),
           ))
           (said code.scope p.inside.heap p.domain.table (subst AreOrdered all sound.ordered)
           (subst (λ (cs : List ClassRecord). AreSystemRecords (take (length system_classes) cs)) all sound.system)

@@ -1,6 +1,6 @@
 -- A throwable of a system class leaves any frames, is of a system class then, and ends the thread.
 use Rattle.std.proofs.Common.{◌≡◌, inl, inr, ℕ, ◌<◌, Bool, List, [], ◌∷◌, length, take, Some, slice_get, refl, arith}
-use Rattle.list_lemmas.proofs.ItemsByPlace.{slice_get-from_take}
+use Rattle.list_lemmas.proofs.ItemsByPlace.{slice_get-from_take, item_there}
 use Rattle.jk_model.specs.declared.identifiers.ClassId.{ClassId}
 use Rattle.jk_model.specs.declared.output.Line.{Line}
 use Rattle.jk_model.specs.declared.output.Line.TheVariants.{EndedBy}
@@ -9,13 +9,14 @@ use Rattle.jk_model.specs.SystemTable.{system_classes}
 use Rattle.jk_model_classes.specs.declared.records.ClassRecord.{ClassRecord}
 use Rattle.jk_model_classes.specs.Classes.{record_of, superclasses}
 use Rattle.jk_model_classes.specs.SystemRecords.{AreSystemRecords}
+use Rattle.model_lemmas.proofs.ClassesInLists.{in_or_not}
 use Rattle.jk_model_domains.specs.declared.states.ClassState.TheVariants as State
 use Rattle.jk_model_frames.specs.Frames.{FrameState}
 use Rattle.jk_model_domains.specs.OwnStates.{OwnState, with_state}
 use Rattle.jk_model_machine.specs.Machine.{DomainState, Inside, Machine}
 use Rattle.jk_model_machine.specs.Places.{RunningSegment, without_running}
 use Rattle.jk_model_machine.specs.Steps.{ERROR, EXCEPTION_IN_INITIALIZER_ERROR, IsThrown, LeavesFrame, LeavesFrames, Throws, with_own}
-use Rattle.step_progress.proofs.ListsSearched.{by-option, in-or-not, item-at}
+use Rattle.step_progress.proofs.ListsSearched.{by-option}
 
 -- one of the classes that stand in front
 abbrev pub IsOfSystem : ClassId → Type 0
@@ -28,7 +29,7 @@ pub system-record : (classes : List ClassRecord) → AreSystemRecords (take (len
     → (r : ClassRecord) × (slice_get (take (length system_classes) classes) c.0 ≡ Some r) × (record_of classes c ≡ Some r)
 system-record classes system c low =
     let many : length system_classes ≡ 45 = refl in
-    let found = item-at (take (length system_classes) classes) c.0 (omega (arith, many, system.as_many, low)) in
+    let found = item_there (take (length system_classes) classes) c.0 (omega (arith, many, system.as_many, low)) in
     (found.0, found.1, slice_get-from_take classes (length system_classes) c.0 found.0 found.1)
 
 -- ---- It leaves frames.
@@ -37,7 +38,7 @@ leaves-one : (classes : List ClassRecord) (f : FrameState) (own : OwnState) (thr
     → (new : OwnState) × (left : ClassId) × LeavesFrame classes f own thrown new left × IsOfSystem left
 leaves-one classes f own thrown low = elim (by-option f.head.initialises) [
   | inl none ↦ (own, thrown, inl (none, refl, refl), low)
-  | inr (c, some) ↦ elim (in-or-not (superclasses classes thrown) ERROR) [
+  | inr (c, some) ↦ elim (in_or_not (superclasses classes thrown) ERROR) [
     | inl error ↦ (with_state own c State.Broken, thrown, inr (c, some, refl, inl (error, refl)), low)
     | inr other ↦ (with_state own c State.Broken, EXCEPTION_IN_INITIALIZER_ERROR, inr (c, some, refl, inr (other, refl)), omega arith)
   ]

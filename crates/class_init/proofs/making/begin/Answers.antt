@@ -1,8 +1,10 @@
 -- One name after the other brings its class.
 use Rattle.std.proofs.Common.{◌≡◌, ◌<◌, Some, length, refl, arith}
 use Rattle.std.proofs.lemmas.Option.{slice_get_read}
+use Rattle.list_lemmas.proofs.FoundItems.{no_entry}
 use Rattle.jk_model_classes.specs.Classes.{HasClass, record_of}
-use Rattle.class_init.proofs.BegunInTurn.{begun_more, begun_none, name_at, name_is_named, no_name}
+use Rattle.jk_model_classes.specs.Worlds.{NamedClass}
+use Rattle.class_init.proofs.BegunInTurn.{begun_more, begun_none, name_at, name_is_named}
 use Rattle.class_init.proofs.making.begin.Goals as goal
 use Rattle.class_init.proofs.making.begin.Goals.{in-Some+in-Some-class+in_ok-add_class, in-Some+in_default-class, in_default}
 
@@ -29,7 +31,7 @@ loop-i-preserved c =
           absurd (cc)
       | in_default w ↦
           let low : c.loop-i.i < length c.args.names.now = omega (arith, c.loop-i-test.true, c.len-i-end.ensures) in
-          absurd (no_name c.args.names.now c.loop-i.i w.in_default.ensures low)
+          absurd (no_entry (λ (e : NamedClass). e.class) c.args.names.now c.loop-i.i w.in_default.ensures low)
     ]
 
 pub returns : goal.returns

@@ -1,5 +1,5 @@
 -- A fresh domain is entered.
-use Rattle.frame_store.proofs.SegmentBegins.{to_err}
+use Rattle.list_lemmas.proofs.FoundItems.{on_err}
 use Rattle.frame_store.proofs.DomainIsEntered.{admits, unentered, not_admitted}
 use Rattle.frame_store.proofs.plain_frames.PlainFramesFrameStore.admit.Goals as goal
 
@@ -7,7 +7,7 @@ pub enter-requires-clause-new : goal.enter-requires-clause-new
 enter-requires-clause-new c = not_admitted c.args.self.now.domains c.args.d.0 c.requires.new
 
 pub returns-in_err-enter-clause-err : goal.returns-in_err-enter-clause-err
-returns-in_err-enter-clause-err c = to_err _ _ (unentered _ _ _ _ c.in_err-enter.ensures.err)
+returns-in_err-enter-clause-err c = on_err _ _ (unentered _ _ _ _ c.in_err-enter.ensures.err)
 
 pub returns-clause-ok : goal.returns-clause-ok
 returns-clause-ok c =

@@ -1,7 +1,8 @@
 -- The segment begins in its domain and in the table.
 use Rattle.std.proofs.Common.{refl, sym}
+use Rattle.list_lemmas.proofs.FoundItems.{on_err}
 use Rattle.frame_store.specs.TableMoves.{place_in}
-use Rattle.frame_store.proofs.SegmentBegins.{live_lt, to_err, no_place, same_content, same_store, begun_store, begun_changes}
+use Rattle.frame_store.proofs.SegmentBegins.{live_lt, no_place, same_content, same_store, begun_store, begun_changes}
 use Rattle.frame_store.proofs.plain_frames.PlainFramesFrameStore.begin.Goals as goal
 
 pub invariant_of-self : goal.invariant_of-self
@@ -20,7 +21,7 @@ returns-in_err-slot-clause-err c =
     let is = sym c.in-Some.ensures.value in
     let y = c.begin.new.self in
     let wrote = c.get_mut.follows.holds y in
-    to_err _ _ (same_content _ _ c.args.d.0 x y is wrote c.in_err-slot.ensures.err st.places)
+    on_err _ _ (same_content _ _ c.args.d.0 x y is wrote c.in_err-slot.ensures.err st.places)
 
 pub insert-requires-clause-new : goal.insert-requires-clause-new
 insert-requires-clause-new c =

@@ -1,6 +1,8 @@
 -- A frame is pushed in the domain.
 use Rattle.std.proofs.Common.{◌≡◌, ℕ, ◌+◌, ◌-◌, ◌<◌, ◌≤◌, ◌++◌, ◌∷◌, ◌∙◌, [], Some, nat_eq, option_map, arith, subst, sym, ap}
 use Rattle.std.specs.Option.{option_map_or}
+use Rattle.std.proofs.lemmas.Option.{same_Some}
+use Rattle.list_lemmas.proofs.FoundItems.{on_err}
 use Rattle.jk_model_frames.specs.Frames.{new_frame, head_chunks}
 use Rattle.frame_store.specs.declared.domain_frames.DomainFrames.{DomainFrames}
 use Rattle.indexmap.specs.IndexMap.{IndexMap, get, with_value_at}
@@ -9,11 +11,10 @@ use Rattle.frame_store.specs.declared.segment_table.SegmentTable.{SegmentTable}
 use Rattle.frame_store.specs.FrameContents.{FrameContent, HasRoomFor, Pushes, StoredSegment, free_chunks}
 use Rattle.frame_store.specs.StoreContents.{content_of, IsFound, IsStore}
 use Rattle.frame_store.specs.DomainMoves.{frames_of, Becomes}
-use Rattle.frame_store.proofs.StoreChanges.{found_segment, found_slot, same_some, segment_in, store_kept}
+use Rattle.frame_store.proofs.StoreChanges.{found_segment, found_slot, segment_in, store_kept}
 use Rattle.frame_store.proofs.WrittenAt.{never_none, read_at, written_at}
 use Rattle.frame_store.proofs.StoreSteps.{steps_push, steps_none}
 use Rattle.frame_store.proofs.SegmentGoes.{either_way}
-use Rattle.frame_store.proofs.SegmentBegins.{to_err}
 use Rattle.frame_store.proofs.CursorPoints.{has_some, some_pushed, found_again}
 use Rattle.frame_store.proofs.plain_frames.PlainFramesFrameStore.push.Goals as goal
 
@@ -57,7 +58,7 @@ returns-in_err-push-in-Some-clause-err c =
     let is = read_at st.domains p.domain at stands x c.in-Some.ensures.value in
     let y = c.push.new.self in
     let wrote = written_at st.domains p.domain at stands y c.get_index_mut.ensures.unique in
-    to_err _ _ (steps_none _ _ st.places st.owed c.args.s p x y st.ok c.whereabouts-place.ensures.place is wrote c.in_err-push-in-Some.ensures.err)
+    on_err _ _ (steps_none _ _ st.places st.owed c.args.s p x y st.ok c.whereabouts-place.ensures.place is wrote c.in_err-push-in-Some.ensures.err)
 
 pub aim-requires-clause-found : goal.aim-requires-clause-found
 aim-requires-clause-found c =
@@ -123,10 +124,10 @@ returns-in_err-push-in-Some-clause-no_room c =
     let found : IsFound st.domains st.places c.args.s.0 x p.slot = record { domain = p.domain; at = c.whereabouts-place.ensures.place; is = is } in
     let never : HasRoomFor (content_of st.domains st.places) c.args.s c.args.head → ⊥ =
     λ room.
-    let same = same_some (segment_in x p.domain p.slot) room.0 (sym (found_segment _ _ _ c.args.s st.ok x p.slot found) ∙ room.1) in
+    let same = same_Some (segment_in x p.domain p.slot) room.0 (sym (found_segment _ _ _ c.args.s st.ok x p.slot found) ∙ room.1) in
     let of_domain : get nat_eq st.domains room.0.domain.0 ≡ Some x = ap (λ (g : StoredSegment). get nat_eq st.domains g.domain.0) (sym same) ∙ is in
     too_many _ _ _ c.in_err-push-in-Some.ensures.no_room room.2 (free_is st.domains st.places room.0.domain x of_domain) in
-    to_err _ _ never
+    on_err _ _ never
 
 pub unreachable-requires : goal.unreachable-requires
 unreachable-requires c =
