@@ -40,7 +40,7 @@ is_marked (t ∷ texts) (false ∷ marks) zero text at on = absurd cc
 is_marked (t ∷ texts) (false ∷ marks) (suc place) text at on = is_marked texts marks place text at on
 
 -- where no two texts are equal, no two marked ones are
-abbrev Differ : List (List ℕ) → Type 0
+abbrev pub Differ : List (List ℕ) → Type 0
 Differ texts = (i j : ℕ) (text : List ℕ) → slice_get texts i ≡ Some text → slice_get texts j ≡ Some text → i ≡ j
 
 rest_differ : (t : List ℕ) (texts : List (List ℕ)) → Differ (t ∷ texts) → Differ texts
@@ -81,11 +81,13 @@ one_mark_more w (t ∷ texts) (true ∷ marks) (suc place) text at off =
     omega (arith, rest, new, old)
 one_mark_more w (t ∷ texts) (false ∷ marks) (suc place) text at off = one_mark_more w texts marks place text at off
 
--- a mark that is there already adds nothing
-pub same_mark : (marks : List Bool) (place : ℕ) → slice_get marks place ≡ Some true → set marks place true ≡ marks
-same_mark [] place on = absurd cc
-same_mark (m ∷ marks) zero on = ap (λ b. b ∷ marks) (sym (same_Some m true on))
-same_mark (m ∷ marks) (suc place) on = ap (λ bs. m ∷ bs) (same_mark marks place on)
+-- a mark stays where another is set
+mark_stays : (marks : List Bool) (i j : ℕ) → slice_get marks j ≡ Some true → slice_get (set marks i true) j ≡ Some true
+mark_stays [] i j e = absurd cc
+mark_stays (m ∷ marks) zero zero e = refl
+mark_stays (m ∷ marks) zero (suc j) e = e
+mark_stays (m ∷ marks) (suc i) zero e = e
+mark_stays (m ∷ marks) (suc i) (suc j) e = mark_stays marks i j e
 
 -- which places are marked then
 pub marked_then : (marks : List Bool) (place k : ℕ) → place < length marks
@@ -100,17 +102,7 @@ marked_then marks place k low = (forth, back)
 
     back : (slice_get marks k ≡ Some true) ⊎ (k ≡ place) → slice_get (set marks place true) k ≡ Some true
     back (inr here) = rw here (slice_get-set_same marks place true low)
-    back (inl on) = by_place (set_keeps marks place k on)
-      where
-        by_place : slice_get (set marks place true) k ≡ Some true → slice_get (set marks place true) k ≡ Some true
-        by_place e = e
-
-        set_keeps : (bs : List Bool) (i j : ℕ) → slice_get bs j ≡ Some true → slice_get (set bs i true) j ≡ Some true
-        set_keeps [] i j e = absurd cc
-        set_keeps (b ∷ bs) zero zero e = refl
-        set_keeps (b ∷ bs) zero (suc j) e = e
-        set_keeps (b ∷ bs) (suc i) zero e = e
-        set_keeps (b ∷ bs) (suc i) (suc j) e = set_keeps bs i j e
+    back (inl on) = mark_stays marks place k on
 
 -- where a mark is taken away, none is there, and no other is new
 pub unmarked_then : (marks : List Bool) (place k : ℕ) → slice_get (set marks place false) k ≡ Some true

@@ -12,10 +12,7 @@ use Rattle.jk_model_domains.specs.OwnStates.{OwnState, literal_named}
 use Rattle.class_init.specs.Literals.{literal_of}
 use Rattle.class_init.specs.MissingTexts.{AreMissing, HasTextConstant, IsCostOfMissing, IsMissing, IsMissingAt, IsMissingOfSome, IsMissingPlace, marked, text_words}
 use Rattle.class_init.proofs.LiteralsByPlace.{named_by_place}
-use Rattle.class_init.proofs.MarkedTexts.{is_marked, marked_at, marked_differ, marked_then, no_mark}
-
-abbrev Differ : List (List ℕ) → Type 0
-Differ texts = (i j : ℕ) (text : List ℕ) → slice_get texts i ≡ Some text → slice_get texts j ≡ Some text → i ≡ j
+use Rattle.class_init.proofs.MarkedTexts.{Differ, is_marked, marked_at, marked_differ, marked_then, no_mark}
 
 abbrev Within : List (List ℕ) → List (ℕ × ℕ) → Type 0
 Within texts names = (place : ℕ) → Contains (keys_of names) place → place < length texts
