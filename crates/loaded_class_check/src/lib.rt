@@ -21,6 +21,8 @@ mod shared_interfaces_tests;
 #[cfg(test)]
 mod shared_values_tests;
 #[cfg(test)]
+mod stub_maker_tests;
+#[cfg(test)]
 mod system_records_tests;
 #[cfg(test)]
 mod system_table_tests;

@@ -5,8 +5,6 @@
 mod remote;
 mod stubs;
 mod targets;
-#[cfg(test)]
-mod tests;
 
 pub use jk_model_classes::Stub;
 pub use stubs::stub_of;

@@ -3,12 +3,12 @@
 
 mod world;
 
-use super::*;
 use class_table::ClassTable;
 use jk_model::{ClassId, MemberId};
 use std::alloc::Global;
 use std::process::Abort;
 use std::test::Fail;
+use stub_maker::*;
 use world::{Row, table};
 
 const PUBLIC: u16 = 0x0001;
