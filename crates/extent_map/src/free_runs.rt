@@ -81,7 +81,8 @@ impl FreeRuns {
         requires at_least_one { 1 ≤ pages }
         requires spare { 1 ≤ self.old.spare }
         // The first place that has so many free pages is answered, or that there is none.
-        ensures place { (out : List Extent) → IsOut self.old out → MatchOption result (HasNoFit self.old.pages out pages) (λ e. IsFirstFit self.old.pages out pages e.first) }
+        ensures place { (out : List Extent) → IsOut self.old out
+            → MatchOption result (HasNoFit self.old.pages out pages) (λ e. IsFirstFit self.old.pages out pages e.first) }
         ensures size { IfSome result (λ e. e.pages ≡ pages) }
         // The extent is out then, after those that are out already.
         ensures out { (out : List Extent) → IsOut self.old out → IfSome result (λ e. IsOut self.new (out ++ e ∷ [])) }

@@ -10,7 +10,8 @@ use jk_model::Extent;
 
 /// The place of the lowest run that has so many pages.
 pub fn fitting(runs: &[Extent], pages: u32) -> Option<usize>
-    ensures { MatchOption result (AreShort pages runs.now) (λ at. (at < length runs.now) × HoldsAt (λ run. pages ≤ run.pages) runs.now at × AreShort pages (drop (at + 1) runs.now)) }
+    ensures { MatchOption result (AreShort pages runs.now)
+        (λ at. (at < length runs.now) × HoldsAt (λ run. pages ≤ run.pages) runs.now at × AreShort pages (drop (at + 1) runs.now)) }
 {
     let mut at = runs.len();
     while at > 0 {
