@@ -6,7 +6,7 @@ use Rattle.jk_model.specs.declared.identifiers.MemberId.{MemberId}
 use Rattle.jk_model.specs.declared.instructions.Instr.{Instr}
 use Rattle.jk_model_classes.specs.declared.records.ClassRecord.{ClassRecord}
 use Rattle.jk_model_typing.specs.Scopes.{CodeScope, IsScopeOf}
-use Rattle.type_rows.proofs.RowsInOneScope.{one-scope}
+use Rattle.typing_lemmas.proofs.OneScope.{one-scope}
 use Rattle.jk_kernel.specs.StandsAt.{StandsIn}
 
 -- a frame of this method is judged in this scope

@@ -1,7 +1,8 @@
 -- Entries that meet demands, taken from the top one after another.
 use Rattle.std.proofs.Common.{◌≡◌, ℕ, zero, suc, ◌+◌, ◌≤◌, true, false, List, [], ◌∷◌, ◌++◌, length, drop, Some, slice_get, refl, sym, ap, subst, ◌∙◌, append_assoc, add-one, arith}
-use Rattle.std.proofs.lemmas.Option.{same_Some}
-use Rattle.std.proofs.lemmas.List.{append-nil, length-append}
+use Rattle.std.proofs.lemmas.List.{append-nil}
+use Rattle.list_lemmas.proofs.EndsOfLists.{one_split}
+use Rattle.list_lemmas.proofs.ItemsByPlace.{drop_next}
 use Rattle.jk_model_typing.specs.declared.frames.VType.{VType}
 use Rattle.jk_model_typing.specs.declared.frames.Demand.{Demand}
 use Rattle.jk_model_typing.specs.Rows.{AllMeet, Meets}
@@ -9,31 +10,6 @@ use Rattle.jk_model_typing.specs.Scopes.{CodeScope}
 use Rattle.type_rows.specs.Steps.{IsTaken}
 
 -- ---- Lists with the same end.
-
-pub one_split : {X : Type 0} (a c b d : List X) → a ++ b ≡ c ++ d → length b ≡ length d → (a ≡ c) × (b ≡ d)
-one_split [] [] b d e n = (refl, e)
-one_split [] (y ∷ c) b d e n = absurd (omega (arith, n, ap length e, length-append (y ∷ c) d))
-one_split (x ∷ a) [] b d e n = absurd (omega (arith, n, ap length e, length-append (x ∷ a) b))
-one_split (x ∷ a) (y ∷ c) b d e n =
-    let rest : a ++ b ≡ c ++ d = cc in
-    let more = one_split a c b d rest n in
-    let head : x ≡ y = cc in
-    (ap2 head more.0, more.1)
-  where
-    ap2 : {X : Type 0} {x y : X} {a c : List X} → x ≡ y → a ≡ c → (x ∷ a) ≡ (y ∷ c)
-    ap2 e f = cc
-
-pub one_top : {X : Type 0} (a c : List X) (x y : X) → a ++ x ∷ [] ≡ c ++ y ∷ [] → (a ≡ c) × (x ≡ y)
-one_top a c x y e =
-    let both = one_split a c (x ∷ []) (y ∷ []) e refl in
-    let rest = both.1 in
-    let same : x ≡ y = cc in
-    (both.0, same)
-
-drop_next : {X : Type 0} (xs : List X) (k : ℕ) (x : X) → slice_get xs k ≡ Some x → drop k xs ≡ x ∷ drop (suc k) xs
-drop_next [] k x e = absurd cc
-drop_next (y ∷ xs) zero x e = ap (λ z. z ∷ xs) (same_Some y x e)
-drop_next (y ∷ xs) (suc k) x e = drop_next xs k x e
 
 pub drop_at : {X : Type 0} (xs : List X) (k : ℕ) (x : X) → slice_get xs k ≡ Some x → drop k xs ≡ x ∷ drop (k + 1) xs
 drop_at xs k x e = rw add-one (drop_next xs k x e)

@@ -11,7 +11,6 @@ mod RowsAreDone
 pub mod RowsAreMonotone
 mod RowsCutStacks
 mod RowsFitLocals
-pub mod RowsInOneScope
 pub mod RowsKeepLocals
 mod RowsMeetDemands
 pub mod RowsStart

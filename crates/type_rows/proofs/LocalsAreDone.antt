@@ -2,6 +2,8 @@
 use Rattle.std.proofs.Common.{◌≡◌, ◌≢◌, ℕ, ◌+◌, ◌≤◌, ◌↔◌, inl, inr, Bool, true, false, IsTrue, List, [], ◌∷◌, ◌++◌, length, Result, Ok, Err, refl, sym, ap, subst, ◌∙◌, append_assoc, arith}
 use Rattle.std.specs.Prelude.{IfOk, Contains}
 use Rattle.std.proofs.lemmas.Bool.Decides.{Decides-eqb}
+use Rattle.list_lemmas.proofs.EndsOfLists.{one_split}
+use Rattle.list_lemmas.proofs.LastItems.{one_last as one_top}
 use Rattle.jk_model.specs.declared.identifiers.ClassId.{ClassId}
 use Rattle.jk_model.specs.declared.identifiers.MemberId.{MemberId}
 use Rattle.jk_model_classes.specs.declared.records.LinkedCode.{LinkedCode}
@@ -14,7 +16,7 @@ use Rattle.jk_model_typing.specs.Groups.{Constructs, Makes, Stores}
 use Rattle.jk_model_typing.specs.Rows.{Meets, is_made_at, is_fresh_this, replaced, with_local}
 use Rattle.jk_model_typing.specs.Scopes.{CodeScope}
 use Rattle.type_rows.specs.Steps.{Constructed, IsConstructed, IsDone, IsStackOf, IsTaken}
-use Rattle.type_rows.proofs.EntriesTaken.{as_many, one_split, one_top}
+use Rattle.type_rows.proofs.EntriesTaken.{as_many}
 use Rattle.type_rows.proofs.LocalsKeepHalves.{Halves, replaced_halves, replaced_many, room_for, stored_halves, stored_many}
 use Rattle.type_rows.proofs.RowsAreDone.{as_room_says, done, front_fits, not_done, some_slots, stack_of}
 

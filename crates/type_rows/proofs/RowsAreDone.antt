@@ -4,6 +4,8 @@ use Rattle.std.specs.Prelude.{IfOk}
 use Rattle.std.proofs.lemmas.List.{append-nil}
 use Rattle.std.proofs.lemmas.List.Sums.{sum_by-append, sum_by-cons}
 use Rattle.std.proofs.Math.Seq.{take-append_seam}
+use Rattle.list_lemmas.proofs.EndsOfLists.{one_split}
+use Rattle.list_lemmas.proofs.LastItems.{one_last as one_top}
 use Rattle.jk_model.proofs.EachItem.{all_append, all_back, all_front}
 use Rattle.jk_model_classes.specs.declared.records.LinkedCode.{LinkedCode}
 use Rattle.jk_model_typing.specs.declared.frames.VType.{VType}
@@ -16,7 +18,7 @@ use Rattle.jk_model_typing.specs.Rows.{Does, IsReferenceArray, element}
 use Rattle.jk_model_typing.specs.Scopes.{CodeScope}
 use Rattle.type_rows.specs.Shapes.{given}
 use Rattle.type_rows.specs.Steps.{HasNoCopy, HasNoTop, IsCopyAt, IsDone, IsStackOf, IsTaken, IsTopAt}
-use Rattle.type_rows.proofs.EntriesTaken.{as_many, one_split, one_top}
+use Rattle.type_rows.proofs.EntriesTaken.{as_many}
 
 -- ---- Frames and stacks.
 

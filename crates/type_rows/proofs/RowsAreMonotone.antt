@@ -3,7 +3,6 @@
 use Rattle.std.proofs.Common.{◌≡◌, ℕ, ◌<◌, inl, inr, Bool, true, false, IsTrue, List, [], ◌∷◌, ◌++◌, length, Some, Contains, refl, sym, ap, ◌∙◌, subst, arith, add-one}
 use Rattle.std.specs.List.{AllByRecursion, slice_get}
 use Rattle.std.proofs.lemmas.Bool.{false≢true}
-use Rattle.list_lemmas.proofs.ItemsOfLists.{Contains-none, Contains-cases, Contains-here, Contains-there}
 use Rattle.jk_model.specs.declared.instructions.Instr.{Instr}
 use Rattle.jk_model.specs.declared.identifiers.ClassId.{ClassId}
 use Rattle.jk_model.specs.declared.identifiers.MemberId.{MemberId}
@@ -16,6 +15,7 @@ use Rattle.jk_model_typing.specs.FrameTypes.{Fits, EachFits, FrameFits, IsFrameO
 use Rattle.jk_model_typing.specs.Groups.{Shape, Takes, Loads, Stores, Increments, Drops, Copies, Swaps, LoadsElement, Makes, Constructs, Leaves}
 use Rattle.jk_model_typing.specs.Rows.{Does, Row, Meets, AllMeet, IsReferenceArray, MakesAt, MayConstruct, IsOwnOrParent, is_made_at, is_fresh_this, replaced, with_local, element}
 use Rattle.jk_model_typing.specs.Scopes.{CodeScope, is_init}
+use Rattle.list_lemmas.proofs.ItemsOfLists.{Contains-none, Contains-cases, Contains-here, Contains-there}
 use Rattle.type_frames.proofs.OrderOfFrames.{EachFits-refl, EachFits-length, EachFits-append, EachFits-left_at, EachFits-usable, EachFits-slots}
 use Rattle.type_rows.proofs.RowsAreDetermined.{row-determined}
 use Rattle.type_rows.proofs.RowsCutStacks.{all_in_parts, EachFits-cut, EachFits-onto, EachFits-none, IsCutLike}

@@ -13,13 +13,13 @@ use Rattle.jk_model_typing.specs.FrameTypes.{EachFits, FrameFits, IsFrameOf, IsU
 use Rattle.jk_model_typing.specs.Rows.{Row}
 use Rattle.jk_model_typing.specs.Scopes.{CodeScope}
 use Rattle.jk_model_typing.specs.Typing.{FrameAt, FitsAt, Covers, GoesOnAt, GoesWell, caught_value, handler_frame, is_store}
+use Rattle.typing_lemmas.proofs.OneScope.{one-scope}
 use Rattle.type_verifier.specs.declared.tasks.Task.{Task}
 use Rattle.type_verifier.specs.Covers.{AreHanded}
 use Rattle.type_verifier.specs.Progress.{AreFrames}
 use Rattle.type_verifier.specs.Tasks.{IsTask, TypesTask, scope_in}
 use Rattle.type_frames.proofs.OrderOfFrames.{EachFits-refl}
 use Rattle.type_rows.proofs.RowsAreMonotone.{row-monotone, row-fits}
-use Rattle.type_rows.proofs.RowsInOneScope.{one-scope}
 use Rattle.type_verifier.proofs.MovesCompose.{FitsAt-below}
 
 -- ---- Handlers.

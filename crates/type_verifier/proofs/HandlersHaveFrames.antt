@@ -9,10 +9,10 @@ use Rattle.jk_model_typing.specs.declared.frames.FrameType.{FrameType}
 use Rattle.jk_model_typing.specs.FrameTypes.{IsFrameOf}
 use Rattle.jk_model_typing.specs.Scopes.{CodeScope}
 use Rattle.jk_model_typing.specs.Typing.{FrameAt, FitsAt, handler_frame, caught_value}
+use Rattle.typing_lemmas.proofs.OneScope.{one-scope}
 use Rattle.type_frames.specs.FrameJoins.{FitOutside}
 use Rattle.type_frames.proofs.HeightsAreBounded.{slots-most}
 use Rattle.type_frames.proofs.OrderOfFrames.{EachFits-length}
-use Rattle.type_rows.proofs.RowsInOneScope.{one-scope}
 use Rattle.type_verifier.specs.declared.tasks.Task.{Task}
 use Rattle.type_verifier.specs.Climbs.{FitsBut}
 use Rattle.type_verifier.specs.Progress.{Moves, Notes}

@@ -5,7 +5,7 @@ use Rattle.jk_model.specs.declared.instructions.Instr.{Instr}
 use Rattle.jk_model_typing.specs.declared.frames.FrameType.{FrameType}
 use Rattle.jk_model_typing.specs.Scopes.{CodeScope}
 use Rattle.jk_model_typing.specs.Typing.{FrameAt, GoesWell}
-use Rattle.type_rows.proofs.RowsInOneScope.{one-scope}
+use Rattle.typing_lemmas.proofs.OneScope.{one-scope}
 use Rattle.type_verifier.specs.declared.tasks.Task.{Task}
 use Rattle.type_verifier.specs.Tasks.{IsTask, TypesTask, scope_in}
 

@@ -6,7 +6,7 @@ use Rattle.jk_model_classes.specs.declared.records.ClassRecord.{ClassRecord}
 use Rattle.jk_model_typing.specs.declared.frames.FrameType.{FrameType}
 use Rattle.jk_model_typing.specs.Scopes.{CodeScope, IsScopeOf}
 use Rattle.jk_model_typing.specs.Typing.{FitsAt, FrameAt, IsStart, IsTyping}
-use Rattle.type_rows.proofs.RowsInOneScope.{one-scope}
+use Rattle.typing_lemmas.proofs.OneScope.{one-scope}
 use Rattle.type_rows.proofs.RowsStart.{start-determined}
 use Rattle.type_verifier.specs.declared.tasks.Task.{Task}
 use Rattle.type_verifier.specs.Progress.{AreFrames, Moves, Notes}

@@ -9,8 +9,8 @@ use Rattle.jk_model.specs.declared.frames.FrameHead.{FrameHead}
 use Rattle.jk_model_frames.specs.Frames.{head_chunks}
 use Rattle.jk_model_typing.specs.Scopes.{CodeScope}
 use Rattle.jk_model_machine.specs.Executions.{call_head}
+use Rattle.typing_lemmas.proofs.OneScope.{one-scope}
 use Rattle.frame_store.specs.FrameContents.{StoredSegment, free_chunks}
-use Rattle.type_rows.proofs.RowsInOneScope.{one-scope}
 use Rattle.type_rows.specs.CodeViews.{scope_of}
 use Rattle.jk_kernel.specs.Calling.{BeginsCall, locals_of}
 use Rattle.jk_kernel.specs.SegmentFrames.{stored}

@@ -11,7 +11,7 @@ use Rattle.jk_model_classes.specs.declared.records.Link.{Link}
 use Rattle.jk_model_classes.specs.declared.records.Link.TheVariants as To
 use Rattle.jk_model_domains.specs.NumberRows.{Pushes}
 use Rattle.jk_model_typing.specs.Scopes.{CodeScope, IsScopeOf, LeadsToLink}
-use Rattle.type_rows.proofs.RowsInOneScope.{one-scope}
+use Rattle.typing_lemmas.proofs.OneScope.{one-scope}
 use Rattle.number_ops.specs.Operands.{HasConstant, IsLinked}
 use Rattle.number_laws.proofs.FrameParts.{same_index}
 use Rattle.number_ops.proofs.constants.constant.Goals as goal

@@ -4,7 +4,7 @@ use Rattle.std.proofs.lemmas.Option.{same_Some}
 use Rattle.jk_model.specs.declared.identifiers.MemberId.{MemberId}
 use Rattle.jk_model_classes.specs.declared.records.ClassRecord.{ClassRecord}
 use Rattle.jk_model_typing.specs.Scopes.{CodeScope, IsScopeOf}
-use Rattle.type_rows.proofs.RowsInOneScope.{one-scope}
+use Rattle.typing_lemmas.proofs.OneScope.{one-scope}
 use Rattle.number_ops.specs.Operands.{HasNumber, IsLinked}
 use Rattle.number_ops.proofs.constants.linked.Goals as goal
 
