@@ -9,14 +9,14 @@ use Rattle.std.specs.declared.cmp.Ordering.TheVariants.{Less, Equal, Greater}
 use Rattle.std.specs.Ordering.{nat_cmp, match_ordering}
 use Rattle.std.specs.BTreeSet.{insert_key}
 use Rattle.std.proofs.lemmas.Map.Lookups.{exact_unsigned}
-use Rattle.list_lemmas.proofs.ItemsByPlace.{slice_get-set_same, slice_get-set_other, slice_get-set_cases}
-use Rattle.list_lemmas.proofs.ItemsOfLists.{Contains-here, Contains-there, Contains-cases}
 use Rattle.jk_model_classes.specs.Classes.{AreOrdered}
 use Rattle.jk_model_typing.specs.declared.frames.FrameType.{FrameType}
 use Rattle.jk_model_typing.specs.FrameTypes.{FrameFits, IsFrameOf}
 use Rattle.jk_model_typing.specs.Typing.{FrameAt, FitsAt}
 use Rattle.type_frames.specs.FrameJoins.{FitOutside}
 use Rattle.type_frames.specs.Heights.{place_height}
+use Rattle.list_lemmas.proofs.ItemsByPlace.{slice_get-set_same, slice_get-set_other, slice_get-set_cases}
+use Rattle.list_lemmas.proofs.ItemsOfLists.{Contains-here, Contains-there, Contains-cases}
 use Rattle.type_verifier.specs.declared.ranges.LocalRange.{LocalRange}
 use Rattle.type_verifier.specs.declared.tasks.Task.{Task}
 use Rattle.type_verifier.specs.Leaders.{Leads}

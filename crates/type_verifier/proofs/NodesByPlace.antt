@@ -4,7 +4,7 @@ use Rattle.std.proofs.lemmas.Bool.{cases_eq}
 use Rattle.std.proofs.lemmas.List.{length-set, length-map}
 use Rattle.std.proofs.lemmas.Option.{same_Some, slice_get_within, slice_get_cases, slice_get-map}
 use Rattle.std.specs.Option.{option_map, option_and_then}
-use Rattle.list_lemmas.proofs.ItemsByPlace.{slice_get-set_same, slice_get-set_other, slice_get-set_cases}
+use Rattle.list_lemmas.proofs.ItemsByPlace.{slice_get-set_same, slice_get-set_other, slice_get-set_cases, set_same}
 use Rattle.type_verifier.specs.declared.covers.Seen.{Seen}
 use Rattle.type_verifier.specs.Climbs.{IsNodeSet, node_in}
 use Rattle.type_verifier.specs.Covers.{Nodes}
@@ -19,11 +19,6 @@ node-row nodes l n slot e = elim (slice_get_cases nodes l).1 [
 
 pub node-level : (nodes : Nodes) (l n : ℕ) (slot : Option Seen) → node_in nodes l n ≡ Some slot → l < length nodes
 node-level nodes l n slot e = let (row, is, at) = node-row nodes l n slot e in slice_get_within nodes l row is
-
-set_same : {X : Type 0} (xs : List X) (i : ℕ) (x : X) → slice_get xs i ≡ Some x → set xs i x ≡ xs
-set_same [] i x e = refl
-set_same {X} (y ∷ ys) zero x e = ap (λ (z : X). z ∷ ys) (sym (same_Some y x e))
-set_same {X} (y ∷ ys) (suc i) x e = ap (λ (zs : List X). y ∷ zs) (set_same ys i x e)
 
 module _ {Row : Type 0} (items : Row → List (Option Seen)) where
   map-at : (rows : List Row) (l : ℕ) (row : Row) → slice_get rows l ≡ Some row → slice_get (map items rows) l ≡ Some (items row)

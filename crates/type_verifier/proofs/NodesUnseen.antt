@@ -1,10 +1,10 @@
 -- Nodes that have seen nothing, row by row, and what a node has that saw nothing before.
 use Rattle.std.proofs.Common.{◌≡◌, ℕ, ◌+◌, Bool, List, [], ◌∷◌, ◌++◌, length, Option, Some, None, slice_get, sym, ap, subst, ◌∙◌, inl, inr, arith, length-append}
 use Rattle.std.proofs.lemmas.Option.{same_Some, slice_get_cases}
-use Rattle.list_lemmas.proofs.ItemsByPlace.{slice_get-push_cases}
 use Rattle.jk_model_classes.specs.declared.records.ClassRecord.{ClassRecord}
 use Rattle.jk_model_typing.specs.declared.frames.VType.{VType}
 use Rattle.jk_model_typing.specs.declared.frames.FrameType.{FrameType}
+use Rattle.list_lemmas.proofs.ItemsByPlace.{slice_get-push_cases}
 use Rattle.type_frames.proofs.OrderOfFrames.{EachFits-refl}
 use Rattle.type_verifier.specs.declared.covers.Seen.{Seen}
 use Rattle.type_verifier.specs.declared.tasks.Task.{Task}

@@ -3,7 +3,6 @@ use Rattle.std.proofs.Common.{◌≡◌, ℕ, ◌+◌, ap, inl, inr, List, lengt
 use Rattle.std.proofs.lemmas.Bool.{cases_eq}
 use Rattle.std.proofs.lemmas.Option.{same_Some, slice_get_within, slice_get-get_or}
 use Rattle.std.proofs.lemmas.List.{length-set}
-use Rattle.list_lemmas.proofs.ItemsByPlace.{slice_get-set_same, slice_get-set_cases}
 use Rattle.jk_model_classes.specs.declared.records.ClassRecord.{ClassRecord}
 use Rattle.jk_model_classes.specs.Classes.{AreOrdered}
 use Rattle.jk_model_typing.specs.declared.frames.VType.{VType}
@@ -12,6 +11,7 @@ use Rattle.jk_model_typing.specs.FrameTypes.{Fits, EachFits, FrameFits}
 use Rattle.type_frames.specs.FrameJoins.{FitOutside, IsFrameJoin}
 use Rattle.type_frames.proofs.OrderOfTypes.{Fits-refl, Fits-trans}
 use Rattle.type_frames.proofs.OrderOfFrames.{EachFits-at, EachFits-from_places, EachFits-length}
+use Rattle.list_lemmas.proofs.ItemsByPlace.{slice_get-set_same, slice_get-set_cases}
 use Rattle.type_verifier.specs.declared.ranges.LocalRange.{LocalRange}
 use Rattle.type_verifier.specs.Ranges.{IsWithin}
 

@@ -1,8 +1,8 @@
 -- What is settled stays settled while frames grow, and what was handed on stays so.
 use Rattle.std.proofs.Common.{◌≡◌, ℕ, suc, inl, inr, Bool, List, Contains, Option, sym, subst, ◌∙◌, [], ◌∷◌, length, arith}
-use Rattle.list_lemmas.proofs.ItemsOfLists.{Contains-cases}
 use Rattle.jk_model.specs.declared.instructions.Instr.{Instr}
 use Rattle.jk_model_classes.specs.Classes.{AreOrdered}
+use Rattle.list_lemmas.proofs.ItemsOfLists.{Contains-cases}
 use Rattle.jk_model_typing.specs.declared.frames.VType.{VType}
 use Rattle.jk_model_typing.specs.declared.frames.FrameType.{FrameType}
 use Rattle.jk_model_typing.specs.Scopes.{CodeScope}

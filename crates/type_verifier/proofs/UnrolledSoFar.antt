@@ -4,6 +4,7 @@ use Rattle.std.specs.Prelude.{slice_get}
 use Rattle.std.proofs.lemmas.Bool.{cases_lt}
 use Rattle.std.proofs.lemmas.List.{length_push}
 use Rattle.std.proofs.lemmas.Option.{same_Some, none-some, slice_get_within}
+use Rattle.list_lemmas.proofs.ItemsByPlace.{slice_get-last, old_or_last as front_or_last}
 use Rattle.jk_model.specs.declared.instructions.Instr.{Instr}
 use Rattle.jk_model_classes.specs.Classes.{AreOrdered}
 use Rattle.jk_model_typing.specs.declared.frames.FrameType.{FrameType}
@@ -14,7 +15,7 @@ use Rattle.type_verifier.specs.Settling.{AreSettled}
 use Rattle.type_verifier.specs.Tasks.{IsTask, scope_in}
 use Rattle.type_verifier.specs.Unrolling.{Leaves}
 use Rattle.type_verifier.proofs.LinesStand.{Stands, nothing_stands, stands_leader, stands_left}
-use Rattle.type_verifier.proofs.OnePlaceMore.{slice_get-front, slice_get-last, front_or_last}
+use Rattle.type_verifier.proofs.OnePlaceMore.{slice_get-front}
 
 -- The first places are done: leaders have their own frames, and others what the line before left; and this is what the last
 -- of them left.

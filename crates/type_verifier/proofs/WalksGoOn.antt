@@ -26,11 +26,6 @@ use Rattle.type_verifier.proofs.SettledStays.{AreHanded-grown, FitsAt-grown, Gro
 
 -- ---- Parts of locals.
 
--- nothing is outside of all
-pub FitOutside-all : (classes : List ClassRecord) (xs ys : List VType) → FitOutside classes 0 (length xs) xs ys
-FitOutside-all classes xs ys k a b at there (inl before) = absurd (omega arith)
-FitOutside-all classes xs ys k a b at there (inr past) = absurd (omega (arith, slice_get_within xs k a at))
-
 -- an end past the last local is at the last
 pub FitOutside-clipped : (classes : List ClassRecord) (first end : ℕ) (xs ys : List VType) → FitOutside classes first end xs ys
     → FitOutside classes first (min (length xs) end) xs ys

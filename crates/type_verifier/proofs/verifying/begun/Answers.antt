@@ -1,11 +1,11 @@
 -- No frames at first, and the start frame.
 use Rattle.std.proofs.Common.{◌≡◌, length, arith}
+use Rattle.type_frames.proofs.RaisedByPlaces.{outside-none as FitOutside-all}
 use Rattle.type_verifier.specs.Progress.{notes_of}
 use Rattle.type_verifier.specs.Tasks.{scope_in}
 use Rattle.type_verifier.proofs.BelowTypings.{fits-within}
 use Rattle.type_verifier.proofs.RangesOfWalks.{known-begun}
 use Rattle.type_verifier.proofs.StartsOfTypings.{AreFrames-none, AreSettled-begun, start-below}
-use Rattle.type_verifier.proofs.WalksGoOn.{FitOutside-all}
 use Rattle.type_verifier.proofs.verifying.begun.Goals as goal
 
 pub returns-then-places-eq0-clause-none : goal.returns-then-places-eq0-clause-none
