@@ -16,6 +16,7 @@ use Rattle.jk_model_classes.specs.declared.records.MethodRecord.{MethodRecord}
 use Rattle.jk_model_classes.specs.declared.records.TypeRef.{TypeRef}
 use Rattle.jk_model_classes.specs.Classes.{record_of, superclasses, own_interfaces, Implements, IsInterface, IsSubclass}
 use Rattle.jk_model_classes.specs.Lookups.{AllowsFrom, AreInOnePackage, FieldIs, IsAbstract, IsFieldOf, IsMethodOf, IsOverriddenIn, IsPackageOf, IsUnmarked, MayAccess, MayAccessClass, MethodIs, RunsFor}
+use Rattle.class_lemmas.proofs.OneRecord.{one_method, one_field}
 use Rattle.member_lookup.proofs.OnePackage.{package-unique}
 use Rattle.decided_lookups.specs.Decisions.{IsDecided}
 use Rattle.decided_lookups.proofs.DecidedParts.{both_decided, class_decided, contains_decided, domain_decided, either_decided, member_decided, number_decided, option_decided, same_decided, some_decided, text_decided, true_decided}
@@ -137,22 +138,12 @@ module _ (classes : List ClassRecord) where
       (some_decided (record_of classes m.class) (λ (r : ClassRecord). (method : MethodRecord) × (slice_get r.methods m.index ≡ Some method) × ⊤)
       (λ r is. some_decided (slice_get r.methods m.index) (λ method. ⊤) (λ method at. inl tt)))
 
-  pub one_field : (m : MemberId) (f g : FieldRecord) → FieldIs classes m f → FieldIs classes m g → f ≡ g
-  one_field m f g (r, is, at) (q, is_too, at_too) =
-      let same : r ≡ q = same_Some r q (sym is ∙ is_too) in
-      same_Some f g (sym at ∙ ap (λ (x : ClassRecord). slice_get x.fields m.index) same ∙ at_too)
-
-  pub one_method : (m : MemberId) (f g : MethodRecord) → MethodIs classes m f → MethodIs classes m g → f ≡ g
-  one_method m f g (r, is, at) (q, is_too, at_too) =
-      let same : r ≡ q = same_Some r q (sym is ∙ is_too) in
-      same_Some f g (sym at ∙ ap (λ (x : ClassRecord). slice_get x.methods m.index) same ∙ at_too)
-
   -- what is said of the record of a member
   field_so : (m : MemberId) (P : FieldRecord → Type 0) → ((field : FieldRecord) → IsDecided (P field))
       → IsDecided ((field : FieldRecord) × FieldIs classes m field × P field)
   field_so m P decide = elim (field_or_none m) [
     | inl (field, is) ↦
-        same_decided (λ holds. (field, is, holds)) (λ (g, is_too, holds). subst P (one_field m g field is_too is) holds) (decide field)
+        same_decided (λ holds. (field, is, holds)) (λ (g, is_too, holds). subst P (one_field classes m g field is_too is) holds) (decide field)
     | inr none ↦ inr (λ (g, is, holds). none (g, is))
   ]
 
@@ -160,7 +151,7 @@ module _ (classes : List ClassRecord) where
       → IsDecided ((method : MethodRecord) × MethodIs classes m method × P method)
   method_so m P decide = elim (method_or_none m) [
     | inl (method, is) ↦
-        same_decided (λ holds. (method, is, holds)) (λ (g, is_too, holds). subst P (one_method m g method is_too is) holds) (decide method)
+        same_decided (λ holds. (method, is, holds)) (λ (g, is_too, holds). subst P (one_method classes m g method is_too is) holds) (decide method)
     | inr none ↦ inr (λ (g, is, holds). none (g, is))
   ]
 
