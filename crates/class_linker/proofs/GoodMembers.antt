@@ -25,13 +25,12 @@ use Rattle.jk_model_classes.specs.MemberDescriptors.{IsFloatBase, IsFloatResult}
 use Rattle.jk_model_classes.specs.Members.{TextAt, ClassAt}
 use Rattle.jk_model_classes.specs.Worlds.{NamedClass, class_named}
 use Rattle.class_lemmas.proofs.ArraysHaveNoNames.{begins_by}
-use Rattle.class_lemmas.proofs.OneText.{one_text, one_class}
+use Rattle.class_lemmas.proofs.OneText.{one_text, one_class, few_units}
 use Rattle.class_linker.specs.KnownCodes.{IsGoodCode}
 use Rattle.class_linker.specs.KnownMembers.{IsGoodField, IsGoodMethod, HasGoodCode}
 use Rattle.class_linker.specs.KnownTypes.{Meaning, IsKnownBase, IsKnownType, IsKnownResult, IsKnownKind}
 use Rattle.class_linker.specs.LinkedFiles.{IsLinkable}
 use Rattle.class_linker.proofs.ShortBodies.{short_body}
-use Rattle.class_linker.proofs.TextsAreSaid.{few_units}
 
 -- ---- Texts.
 

@@ -1,13 +1,12 @@
 -- Two lists that are made item by item: what holds of the items at each place.
-use Rattle.std.proofs.Common.{◌≡◌, ℕ, ◌+◌, ◌<◌, ◌≤◌, inl, inr, List, length, take, get_or, refl, sym, ◌∙◌, subst, arith, Some, slice_get, Result, Ok, Err, IfOk}
+use Rattle.std.proofs.Common.{◌≡◌, ℕ, ◌+◌, ◌<◌, ◌≤◌, inl, inr, List, length, take, get_or, refl, sym, ◌∙◌, subst, arith, Some, slice_get}
 use Rattle.std.specs.Prelude.{Contains}
 use Rattle.std.proofs.lemmas.Bool.{cases_lt}
-use Rattle.std.specs.List.{AllByRecursion, AllZip}
+use Rattle.std.specs.List.{AllZip}
 use Rattle.std.proofs.lemmas.List.{take_all}
 use Rattle.std.proofs.lemmas.Option.{same_Some, slice_get_read, slice_get-get_or}
 use Rattle.std.proofs.lemmas.Slice.Zip.{AllZip-long}
 use Rattle.list_lemmas.proofs.ItemByItem.{zip_at}
-use Rattle.jk_model.proofs.EachItem.{all_at}
 use Rattle.jk_model_folders.specs.LinkedClasses.{GoAlong}
 
 pub along : {X Y : Type 0} (R : X → Y → Type 0) (xs : List X) (ys : List Y) → AllZip R xs ys → GoAlong R xs ys
@@ -18,9 +17,6 @@ pub along_all : {X Y : Type 0} (R : X → Y → Type 0) (xs : List X) (ys : List
 along_all R xs ys i all h = along R xs ys (subst (λ zs. AllZip R zs ys) (take_all i xs all) h)
 
 -- ---- All items of one list.
-
-pub all_read : {X : Type 0} (P : X → Type 0) (xs : List X) (i : ℕ) (d : X) → AllByRecursion P xs → i < length xs → P (get_or xs i d)
-all_read P xs i d h below = all_at P xs i (get_or xs i d) h (slice_get-get_or xs i d below)
 
 pub item_contained : {X : Type 0} (xs : List X) (x : X) → (h : Contains xs x) → slice_get xs h.0 ≡ Some x
 item_contained xs x h = slice_get_read xs (length xs) h.0 x refl h.1 (sym h.2)
@@ -45,9 +41,3 @@ none_more P xs k x at here before j a below found p =
           let one : a ≡ x = same_Some a x (sym found ∙ subst (λ n. slice_get xs n ≡ Some x) (sym place) at) in
           here (subst P one p)
     ]
-
--- ---- What a call answers.
-
-pub ok_map : {T E : Type 0} (P Q : T → Type 0) (r : Result T E) → ((x : T) → P x → Q x) → IfOk r P → IfOk r Q
-ok_map P Q (Ok x) f h = f x h
-ok_map P Q (Err e) f h = tt

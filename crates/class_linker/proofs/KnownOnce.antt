@@ -4,7 +4,6 @@ use Rattle.std.specs.Prelude.{slice_set}
 use Rattle.std.specs.List.{AllZip}
 use Rattle.std.proofs.Math.ListN.{length-set}
 use Rattle.std.proofs.lemmas.Option.{same_Some, slice_get_within}
-use Rattle.list_lemmas.proofs.ItemsByPlace.{slice_get-set_cases}
 use Rattle.jk_model.specs.declared.class_file.PoolEntry.{PoolEntry}
 use Rattle.jk_model.specs.declared.descriptors.FieldType.{FieldType}
 use Rattle.jk_model.specs.declared.descriptors.MethodType.{MethodType}
@@ -12,6 +11,7 @@ use Rattle.jk_model.specs.Descriptors.{IsMethodText}
 use Rattle.jk_model_classes.specs.declared.records.TypeRef.{TypeRef}
 use Rattle.jk_model_classes.specs.Members.{TextAt}
 use Rattle.jk_model_classes.specs.SystemRecords.{IsResultFor, IsTypeFor}
+use Rattle.list_lemmas.proofs.ItemsByPlace.{slice_get-set_cases}
 use Rattle.class_linker.specs.declared.types.MethodKind.{MethodKind}
 use Rattle.class_linker.specs.KnownDescriptors.{AreKindsKnown, AreTypesKnown, IsKindAt, IsTypeAt}
 use Rattle.class_linker.specs.KnownTypes.{Meaning, IsKindOf}

@@ -1,9 +1,9 @@
 -- Entries that are marked in turn.
 use Rattle.std.proofs.Common.{◌≡◌, ◌↔◌, ◌+◌, ◌<◌, ◌≤◌, ◌⊎◌, ℕ, Bool, true, false, List, length, replicate, get_or, inl, inr, refl, sym, ◌∙◌, ap, arith, subst, Some}
 use Rattle.std.specs.Prelude.{IsTrue, slice_get}
-use Rattle.std.proofs.lemmas.List.{get_or-replicate, length-replicate}
-use Rattle.std.proofs.lemmas.Option.{get_or_from_slice_get, slice_get_within}
+use Rattle.std.proofs.lemmas.List.{length-replicate}
 use Rattle.list_lemmas.proofs.ItemsByPlace.{item_read}
+use Rattle.list_lemmas.proofs.ItemsRead.{none_marked as not_true}
 use Rattle.jk_model.specs.declared.class_file.ClassFile.{ClassFile}
 use Rattle.jk_model.specs.declared.class_file.MemberInfo.{MemberInfo}
 use Rattle.jk_model.specs.declared.class_file.PoolEntry.{PoolEntry}
@@ -48,14 +48,6 @@ marks_then P Q R a b c from_p from_q split first second = record {
         ],
       );
 }
-
-not_true : (n i : ℕ) → slice_get (replicate n false) i ≡ Some true → ⊥
-not_true n i at =
-    let within = slice_get_within (replicate n false) i true at in
-    let below : i < n = omega (arith, within, length-replicate n false) in
-    let is = get_or_from_slice_get (replicate n false) i true false at in
-    let both : false ≡ true = sym (get_or-replicate n i false false below) ∙ is in
-    cc
 
 -- what was marked where nothing was before
 pub just_marked : (P : ℕ → Type 0) (pool : List PoolEntry) (before after : List Bool) → before ≡ replicate (length pool) false → Marks P before after

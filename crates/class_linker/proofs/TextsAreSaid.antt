@@ -1,10 +1,9 @@
 -- What a text says is said at its index, and it says one thing.
-use Rattle.std.proofs.Common.{◌≡◌, ℕ, ◌<◌, ◌^◌, inl, inr, List, [], ◌∷◌, ◌++◌, length, Option, Some, None, Result, Ok, Err, sym, ◌∙◌, ap, subst, arith}
+use Rattle.std.proofs.Common.{◌≡◌, ℕ, ◌<◌, inl, inr, List, [], ◌∷◌, ◌++◌, length, Option, Some, None, Result, Ok, Err, sym, ◌∙◌, ap, subst, arith}
 use denote.Ref.{Bor}
 use Rattle.std.specs.Prelude.{slice_get, IfOk, MatchOption}
 use Rattle.std.proofs.lemmas.Option.{same_Some, slice_get_within}
 use Rattle.list_lemmas.proofs.ItemsByPlace.{old_or_new, item_there}
-use Rattle.jk_model.specs.declared.class_file.ClassFile.{ClassFile}
 use Rattle.jk_model.specs.declared.class_file.PoolEntry.{PoolEntry}
 use Rattle.jk_model.specs.declared.class_file.PoolEntry.TheVariants.{Utf8, Class, NameAndType}
 use Rattle.jk_model.specs.declared.descriptors.Base.{Base as ABase}
@@ -12,16 +11,12 @@ use Rattle.jk_model.specs.declared.descriptors.Base.TheVariants as Base
 use Rattle.jk_model.specs.declared.descriptors.FieldType.{FieldType}
 use Rattle.jk_model.specs.declared.descriptors.MethodType.{MethodType}
 use Rattle.jk_model.specs.declared.identifiers.ClassId.{ClassId}
-use Rattle.jk_model.specs.ClassFile.{IsEntry}
 use Rattle.jk_model.specs.Descriptors.{IsFieldText, IsMethodText}
-use Rattle.jk_model.specs.ReadFaults.{IsWritable}
-use Rattle.jk_model.proofs.EachItem.{all_at}
 use Rattle.jk_model_classes.specs.declared.records.BaseRef.{BaseRef}
 use Rattle.jk_model_classes.specs.declared.records.TypeRef.{TypeRef}
 use Rattle.jk_model_classes.specs.Members.{TextAt}
 use Rattle.jk_model_classes.specs.SystemRecords.{IsBaseFor, IsTypeFor}
 use Rattle.jk_model_classes.specs.Worlds.{NamedClass, class_named}
-use Rattle.model_lemmas.proofs.TextsAreLong.{units_within}
 use Rattle.class_lemmas.proofs.OneMember.{same_type}
 use Rattle.class_lemmas.proofs.OneText.{one_text, one_class}
 use Rattle.descriptors.proofs.NoTextBeginsAnother.{one_field, one_method}
@@ -31,15 +26,6 @@ use Rattle.class_linker.specs.declared.said.Said.{Said}
 pub answers_moved : {X : Type 0} (P Q : X → Type 0) (r : Option X) → ((x : X) → P x → Q x) → ((x : X) → Q x → P x) → Answers P r → Answers Q r
 answers_moved P Q None to from h = λ x q. h x (from x q)
 answers_moved P Q (Some x) to from h = to x h
-
--- ---- A text has few units.
-
-pub few_units : (c : ClassFile) (i : ℕ) (units : List ℕ) → IsWritable c → TextAt c.pool i units → length units < 2 ^ 31
-few_units c i units writable (bytes, at, spells) =
-    let entry : IsEntry (Utf8 bytes) = all_at IsEntry c.pool i (Utf8 bytes) writable.is_class.layout.pool.2 at in
-    let small : length bytes < 2 ^ 16 = entry.0 in
-    let within = units_within bytes units spells in
-    omega arith
 
 -- ---- At the index of a text, and where there is none.
 

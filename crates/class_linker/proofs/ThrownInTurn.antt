@@ -6,7 +6,7 @@ use Rattle.std.specs.List.{AllByRecursion, AllZip}
 use Rattle.std.specs.Option.{option_to_list}
 use Rattle.std.proofs.Math.ListN.{get_or}
 use Rattle.std.proofs.lemmas.List.{take_more, take_all}
-use Rattle.std.proofs.lemmas.Option.{same_Some, some_pair_parts}
+use Rattle.std.proofs.lemmas.Option.{same_Some}
 use Rattle.std.proofs.lemmas.Slice.Zip.{AllZip-long}
 use Rattle.list_lemmas.proofs.ItemByItem.{zip_at}
 use Rattle.list_lemmas.proofs.ItemsOfLists.{Contains-at, place_of}
@@ -17,14 +17,14 @@ use Rattle.jk_model.specs.declared.class_file.PoolEntry.{PoolEntry}
 use Rattle.jk_model.specs.declared.class_file.PoolEntry.TheVariants.{Class}
 use Rattle.jk_model.specs.declared.identifiers.ClassId.{ClassId}
 use Rattle.jk_model.specs.declared.output.Rule.TheVariants.{C9}
-use Rattle.jk_model.specs.ClassFile.{u2, IsU2, interfaces_bytes, AreInterfaces, NamesEntry, IsClassEntry}
+use Rattle.jk_model.specs.ClassFile.{interfaces_bytes, AreInterfaces, NamesEntry, IsClassEntry}
 use Rattle.jk_model_classes.specs.Items.{HasItem, Member}
 use Rattle.jk_model_classes.specs.LinkRules.{LinkScope}
 use Rattle.jk_model_classes.specs.MemberAttributes.{AreThrown, IsExceptions}
 use Rattle.jk_model_classes.specs.Worlds.{NamedClass}
 use Rattle.jk_model_folders.specs.LinkedClasses.{AreThrownBy, GoAlong, IsThrown}
+use Rattle.byte_fields.proofs.OneListRead.{read_again, one_list}
 use Rattle.byte_fields.specs.Reading.{number_at, counted_at}
-use Rattle.byte_fields.specs.OneReading.{u2_reader, counted_reader}
 use Rattle.class_linker.specs.LinkedFiles.{HasNames, IsLinkable}
 use Rattle.class_linker.specs.ThrownClasses.{AreClassesIn, AreClassesOf, AreClassesThrown, IsClassOfEntry, IsExceptionsOf}
 use Rattle.class_linker.proofs.ItemsInTurn.{zip_all}
@@ -60,11 +60,6 @@ thrown_all names c indices n thrown end h = subst (λ ws. AreClassesOf names c w
 
 -- ---- The body of an Exceptions.
 
-read_again : (body indices : List ℕ) → AreInterfaces indices → body ≡ interfaces_bytes indices → counted_at (number_at w16) body ≡ Some (indices, [])
-read_again body indices fits e =
-    ap (counted_at (number_at w16)) (e ∙ sym (append-nil (interfaces_bytes indices)))
-    ∙ (counted_reader (number_at w16) u2 IsU2 u2_reader).again indices [] fits
-
 pub reads_thrown : (pool : List PoolEntry) (body : List ℕ) → counted_at (number_at w16) body ≡ None → AreThrown pool body → ⊥
 reads_thrown pool body none (indices, fits, e, all) = let again = read_again body indices fits e in cc
 
@@ -93,10 +88,6 @@ all_or_not pool (i ∷ indices) = elim (named_or_not pool i (slice_get pool i) r
 nothing_or_not : (rest : List ℕ) → (rest ≡ []) ⊎ (rest ≡ [] → ⊥)
 nothing_or_not [] = inl refl
 nothing_or_not (x ∷ rest) = inr (λ e. cc)
-
-one_list : (body indices others rest : List ℕ) → counted_at (number_at w16) body ≡ Some (indices, rest) → AreInterfaces others
-    → body ≡ interfaces_bytes others → (indices ≡ others) × (rest ≡ [])
-one_list body indices others rest read these e = some_pair_parts indices others rest [] (sym read ∙ read_again body others these e)
 
 -- A body that isn't refused is that of the indices that are read from it.
 pub body_read : (pool : List PoolEntry) (body indices rest : List ℕ) → counted_at (number_at w16) body ≡ Some (indices, rest)

@@ -1,12 +1,12 @@
 -- A static field has the constant that its ConstantValue names.
 use Rattle.std.proofs.Common.{List, inl, inr, refl, subst, sym}
 use Rattle.std.specs.Prelude.{IsTrue}
+use Rattle.list_lemmas.proofs.AnswersTold.{ok_map}
 use Rattle.jk_model.specs.Flags.{STATIC, has}
 use Rattle.jk_model.specs.declared.class_file.Attribute.{Attribute}
 use Rattle.jk_model_folders.specs.LinkedClasses.{HasConstantEntry, IsConstantFrom, IsConstantOfField}
 use Rattle.class_linker.specs.KnownConstants.{HasNoBadConstant}
 use Rattle.class_linker.proofs.GoodConstants.{no_bad_constant, text_of_entry}
-use Rattle.class_linker.proofs.ItemByItem.{ok_map}
 use Rattle.class_linker.proofs.constants.constant_of.Goals as goal
 
 pub constant_entry-requires-clause-good : goal.constant_entry-requires-clause-good

@@ -1,12 +1,13 @@
 -- The first Code has a body, and there can't but be one.
 use Rattle.std.proofs.Common.{◌≡◌, ℕ, List, arith, refl, subst, sym, Some, length, slice_get}
 use Rattle.std.proofs.lemmas.Option.{slice_get_read, slice_get_within}
+use Rattle.list_lemmas.proofs.AnswersTold.{ok_map}
 use Rattle.jk_model.specs.declared.class_file.Attribute.{Attribute}
 use Rattle.jk_model.specs.ClassFile.{CodeLayout}
 use Rattle.jk_model_classes.specs.Items.{HasItem}
 use Rattle.jk_model_classes.specs.MemberAttributes.{IsCodeAttribute}
 use Rattle.class_linker.specs.KnownMembers.{IsKnownBody}
-use Rattle.class_linker.proofs.ItemByItem.{none_more, ok_map}
+use Rattle.class_linker.proofs.ItemByItem.{none_more}
 use Rattle.class_linker.proofs.members.method_code.Goals as goal
 
 pub code_of-requires : goal.code_of-requires

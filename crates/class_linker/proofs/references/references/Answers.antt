@@ -2,11 +2,11 @@
 use Rattle.std.proofs.Common.{◌≡◌, eqb, ◌∙◌}
 use Rattle.std.specs.Prelude.{map}
 use Rattle.std.proofs.lemmas.List.Filters.{dedup_is}
+use Rattle.list_lemmas.proofs.AnswersTold.{ok_map}
 use Rattle.jk_model.specs.declared.identifiers.ClassId.{ClassId}
 use Rattle.jk_model_classes.specs.LinkRules.{LinkScope}
 use Rattle.jk_model_folders.specs.LinkedClasses.{AreReferences}
 use Rattle.class_linker.specs.LinkedFiles.{HasNames}
-use Rattle.class_linker.proofs.ItemByItem.{ok_map}
 use Rattle.class_linker.proofs.SortedReferences.{references_sorted}
 use Rattle.class_linker.proofs.references.references.Goals as goal
 

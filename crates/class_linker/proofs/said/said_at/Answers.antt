@@ -1,6 +1,7 @@
 -- The text at the index is read, or there is none.
 use Rattle.std.proofs.Common.{refl}
-use Rattle.class_linker.proofs.TextsAreSaid.{few_units, said_read}
+use Rattle.class_lemmas.proofs.OneText.{few_units}
+use Rattle.class_linker.proofs.TextsAreSaid.{said_read}
 use Rattle.class_linker.proofs.said.said_at.Goals as goal
 
 pub said_by-requires : goal.said_by-requires
