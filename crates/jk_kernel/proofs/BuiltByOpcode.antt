@@ -1,7 +1,9 @@
 -- Which instruction is built is known by its opcode, where that is getstatic or that of a call; what is none of these, and loads no
 -- text, works on numbers.
-use Rattle.std.proofs.Common.{◌≡◌, ◌⊎◌, ℕ, zero, suc, ◌≤◌, inl, inr, Bool, true, false, ◌&&◌, ◌||◌, List, [], ◌∷◌, Some, slice_get, refl, sym, subst, ◌∙◌, arith}
+use Rattle.std.proofs.Common.{◌≡◌, ◌⊎◌, ℕ, zero, suc, ◌≤◌, ◌<◌, inl, inr, Bool, true, false, ◌&&◌, ◌||◌, List, [], ◌∷◌, Some, slice_get, refl, sym, subst, ◌∙◌, arith}
 use Rattle.std.specs.Prelude.{nat_le}
+use Rattle.std.specs.List.{AllByRecursion}
+use Rattle.std.proofs.lemmas.Bool.{cases_lt}
 use Rattle.std.proofs.lemmas.Grind.{common_steps}
 use Rattle.std.proofs.lemmas.Option.{same_Some}
 use Rattle.jk_model.specs.declared.identifiers.ClassId.{ClassId}
@@ -41,6 +43,26 @@ in_range rows op (k, r, at, (low, high)) = place rows k at
         let here : (nat_le x.0 op && nat_le op x.1) ≡ true = subst (λ (y : ℕ × ℕ). (nat_le y.0 op && nat_le op y.1) ≡ true) (sym same) (test r low high) in
         or_left (nat_le x.0 op && nat_le op x.1) (is_in rs op) here
     place (x ∷ rs) (suc n) e = or_right (nat_le x.0 op && nat_le op x.1) (is_in rs op) (place rs n e)
+
+-- outside a range: what isn't below it is above it
+pub apart : (op first last : ℕ) → (first ≤ op → last < op) → (op < first) ⊎ (last < op)
+apart op first last h = elim (cases_lt op first) [
+  | inl under ↦ inl under
+  | inr past ↦ inr (h past)
+]
+
+-- an opcode in none of the ranges
+pub in_none : (rows : List (ℕ × ℕ)) (op : ℕ) → AllByRecursion (λ (r : ℕ × ℕ). (op < r.0) ⊎ (r.1 < op)) rows
+    → HasItem (λ (r : ℕ × ℕ). (r.0 ≤ op) × (op ≤ r.1)) rows → ⊥
+in_none [] op each (k, r, at, bounds) = absurd cc
+in_none (x ∷ rows) op (first, rest) (zero, r, at, (low, high)) =
+    let same : x ≡ r = same_Some x r at in
+    let apart : (op < r.0) ⊎ (r.1 < op) = subst (λ (y : ℕ × ℕ). (op < y.0) ⊎ (y.1 < op)) same first in
+    elim apart [
+      | inl under ↦ omega arith
+      | inr over ↦ omega arith
+    ]
+in_none (x ∷ rows) op (first, rest) (suc k, r, at, bounds) = in_none rows op rest (k, r, at, bounds)
 
 two_codes : (op a b : ℕ) → op ≡ a → op ≡ b → a ≡ b
 two_codes op a b e f = sym e ∙ f
