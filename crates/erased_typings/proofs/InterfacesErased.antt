@@ -6,7 +6,7 @@ use Rattle.std.specs.List.{AllByRecursion}
 use Rattle.std.specs.Option.{option_map_or}
 use Rattle.std.proofs.lemmas.Bool.{false≢true}
 use Rattle.std.proofs.lemmas.Option.{slice_get_within}
-use Rattle.list_lemmas.proofs.ItemsByPlace.{slice_get-from_take}
+use Rattle.list_lemmas.proofs.ItemsByPlace.{slice_get-from_take, item_there}
 use Rattle.jk_model.specs.declared.identifiers.ClassId.{ClassId}
 use Rattle.jk_model.specs.declared.identifiers.MemberId.{MemberId}
 use Rattle.jk_model.specs.SystemTable.{SystemClass, system_classes}
@@ -24,7 +24,6 @@ use Rattle.jk_model_typing.specs.declared.frames.VType.TheVariants.{Ref}
 use Rattle.jk_model_typing.specs.FrameTypes.{erased_base, of_class, of_type, value_of, base_value, dims_value, array_type, throwable, STRING, THROWABLE}
 use Rattle.jk_model_typing.specs.Scopes.{CodeScope}
 use Rattle.jk_model_typing.specs.Typing.{FrameAt, IsLeastTyping}
-use Rattle.class_growth.proofs.ItemsOfLists.{item-at}
 use Rattle.class_table.proofs.StandingAbove.{parent-lower, superclasses-cases}
 use Rattle.erased_typings.specs.ErasedFrames.{HaveClassParents, IsErasedBase, IsErasedType, IsErasedFrame}
 use Rattle.erased_typings.proofs.MarkedTypes.{is_marked, IsPlain, IsPlainFrame, AreMarks}
@@ -42,7 +41,7 @@ module _ (classes : List ClassRecord) (system : AreSystemRecords (take (length s
       → (r : ClassRecord) × (slice_get classes n ≡ Some r) × (r.flags ≡ entry.flags)
   system_flags n entry at =
       let low : n < length (take (length system_classes) classes) = rw (system.as_many) (slice_get_within system_classes n entry at) in
-      let found = item-at (take (length system_classes) classes) n low in
+      let found = item_there (take (length system_classes) classes) n low in
       (found.0, slice_get-from_take classes (length system_classes) n found.0 found.1, (system.each n entry found.0 at found.1).flags)
 
   plain_by : (n : ℕ) (o : Option SystemClass) → slice_get system_classes n ≡ o

@@ -7,21 +7,21 @@ use Rattle.std.specs.Option.{option_map_or}
 use Rattle.std.proofs.lemmas.Bool.{cases_Bool, cases_lt, leb-false, leb-true}
 use Rattle.std.proofs.lemmas.List.{take-append-drop, take_all}
 use Rattle.std.proofs.lemmas.Option.{slice_get_within}
-use Rattle.list_lemmas.proofs.ItemsByPlace.{slice_get-from_take, slice_get-take}
+use Rattle.list_lemmas.proofs.ItemsByPlace.{slice_get-from_take, slice_get-take, item_there}
+use Rattle.list_lemmas.proofs.ItemsOfLists.{Contains-here, Contains-there}
 use Rattle.jk_model.specs.declared.identifiers.ClassId.{ClassId}
 use Rattle.jk_model.specs.declared.identifiers.MemberId.{MemberId}
 use Rattle.jk_model.specs.declared.instructions.Instr.{Instr}
 use Rattle.jk_model.specs.SystemTable.{method_number, system_classes}
 use Rattle.jk_model_classes.specs.declared.records.BaseRef.{BaseRef}
 use Rattle.jk_model_classes.specs.declared.records.BaseRef.TheVariants as Base
-use Rattle.jk_model_classes.specs.declared.records.Body.TheVariants as Does
 use Rattle.jk_model_classes.specs.declared.records.Caught.{Caught}
 use Rattle.jk_model_classes.specs.declared.records.ClassRecord.{ClassRecord}
 use Rattle.jk_model_classes.specs.declared.records.Link.TheVariants as Link
-use Rattle.jk_model_classes.specs.declared.records.LinkedCode.{LinkedCode}
 use Rattle.jk_model_classes.specs.declared.records.TypeRef.{TypeRef}
 use Rattle.jk_model_classes.specs.Classes.{record_of, AreOrdered, HasClass, OBJECT, is_interface_record}
 use Rattle.jk_model_classes.specs.SystemRecords.{AreSystemRecords}
+use Rattle.class_lemmas.proofs.CodeOfMethods.{system_has_none}
 use Rattle.jk_model_typing.specs.declared.frames.FrameType.{FrameType}
 use Rattle.jk_model_typing.specs.declared.frames.VType.{VType}
 use Rattle.jk_model_typing.specs.FrameTypes.{FrameFits, array_type, base_value, dims_value, erased_base, of_class, of_type, throwable, value_of, STRING, THROWABLE}
@@ -34,7 +34,6 @@ use Rattle.class_growth.proofs.ScopesKept.{IsClosedScope, closed-scope, field-cl
 use Rattle.class_growth.proofs.ShapesKept.{parameters-kept}
 use Rattle.class_growth.proofs.TypesKept.{frame_fits-still}
 use Rattle.class_growth.proofs.TypingsKept.{caught_value-kept, own_receiver-kept, typing-still}
-use Rattle.class_growth.proofs.ItemsOfLists.{Contains-here, Contains-there, item-at}
 use Rattle.class_table.proofs.StandingAbove.{superclasses-lower}
 use Rattle.type_frames.proofs.OrderOfFrames.{FrameFits-trans}
 use Rattle.erased_typings.proofs.MarkedTypes.{is_marked, lowered_frame, IsPlain, IsPlainFrame, AreMarks, all-plain, frame-below}
@@ -262,9 +261,6 @@ module _ (classes more : List ClassRecord) (ordered : AreOrdered (classes ++ mor
 
 -- ---- Among some first classes.
 
-no_code : (number : ℕ) (code : LinkedCode) → Does.System number ≡ Does.Linked code → ⊥
-no_code number code e = cc
-
 -- a method with code is of no system class, so that the system classes stand in front of its own
 system_among : (classes : List ClassRecord) (stood : ℕ) (m : MemberId) → AreSystemRecords (take (length system_classes) classes)
     → (s : CodeScope) → IsScopeOf (take stood classes) m s → length system_classes ≤ length (take stood classes)
@@ -276,12 +272,12 @@ system_among classes stood m system s is = elim (cases_lt (length (take stood cl
       let low : m.class.0 < length system_classes = omega (arith, within, few) in
       let front : slice_get (take (length system_classes) classes) m.class.0 ≡ Some is.class =
       slice_get-take classes (length system_classes) m.class.0 low ∙ at in
-      let entry = item-at system_classes m.class.0 low in
+      let entry = item_there system_classes m.class.0 low in
       let said = system.each m.class.0 entry.0 is.class entry.1 front in
       let within_methods = slice_get_within is.class.methods m.index s.method is.method in
-      let method = item-at entry.0.methods m.index (omega (arith, within_methods, said.method_count)) in
+      let method = item_there entry.0.methods m.index (omega (arith, within_methods, said.method_count)) in
       let is_method = said.methods m.index method.0 s.method method.1 is.method in
-      absurd (no_code (method_number m.class.0 m.index) s.code (sym is_method.body ∙ is.body))
+      absurd (system_has_none (method_number m.class.0 m.index) s.code (sym is_method.body ∙ is.body))
 ]
 
 pub least-by_first : (classes : List ClassRecord) (stood : ℕ) (m : MemberId) (frames : List (Option FrameType)) → AreOrdered classes
