@@ -1,9 +1,9 @@
 -- Files are judged in turn, and the first fault so far is kept: that of the earliest rule, and of that rule the first file.
-use Rattle.std.proofs.Common.{◌≡◌, ℕ, zero, suc, ◌+◌, ◌<◌, ◌≤◌, List, [], ◌∷◌, Option, Some, None, slice_get, inl, inr, refl, sym, ap, subst, ◌∙◌, arith}
+use Rattle.std.proofs.Common.{◌≡◌, ℕ, zero, suc, ◌+◌, ◌<◌, ◌≤◌, List, [], ◌∷◌, Option, Some, None, slice_get, refl, ap, ◌∙◌, arith}
 use Rattle.std.specs.Prelude.{Result, Err, nat_lt}
 use Rattle.std.proofs.lemmas.Bool.{cond_both, ltb-true, ltb-false}
 use Rattle.std.proofs.lemmas.Option.{slice_get-get_or}
-use Rattle.std.proofs.Math.Nat.{eq-or-lt_of_le}
+use Rattle.list_lemmas.proofs.AnswersTold.{up_to as upto}
 use Rattle.jk_model.specs.declared.output.Rule.{Rule}
 use Rattle.jk_model_classes.specs.Items.{HasItemBefore, Spot, IsBefore, spot_number}
 use Rattle.jk_model_folders.specs.FolderRules.{BreaksAt, IsFirstBroken, NoneBroken}
@@ -64,15 +64,6 @@ module _ (rules : List Rule) (Broken : BreaksAt) where
   none_yet i below = absurd (omega arith)
 
   -- ---- One file more.
-
-  -- what holds of a file before n and of n holds of each before n + 1
-  upto : (n : ℕ) (P : ℕ → Type 0) → ((i : ℕ) → i < n → P i) → P n → (i : ℕ) → i < n + 1 → P i
-  upto n P below here i lt =
-      let most : i ≤ n = omega arith in
-      elim (eq-or-lt_of_le most) [
-        | inl same ↦ subst P (sym same) here
-        | inr less ↦ below i less
-      ]
 
   pub clean_next : (n : ℕ) (first : Option FileFault) → IsFirstBelow n first → IsCleanAt n → IsFirstBelow (n + 1) first
   clean_next n None h clean = upto n IsCleanAt h clean
