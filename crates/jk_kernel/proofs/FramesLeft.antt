@@ -16,7 +16,7 @@ use Rattle.jk_model_machine.specs.Steps.{LeavesFrames, LeavesInitialiser}
 use Rattle.frame_store.specs.FrameContents.{Ends, FrameAt, FrameContent, HasFrame, StoredSegment}
 use Rattle.jk_kernel.specs.SegmentFrames.{HasKnownFrames, Holds, StateIsKnown}
 use Rattle.jk_kernel.specs.Throwing.{LeavesSegment}
-use Rattle.jk_kernel.proofs.StatesStayKnown.{states_known}
+use Rattle.step_progress.proofs.StatesOfFrames.{states-kept}
 
 -- It left all frames but so many, and is of this class then.
 pub record HasLeft (classes : List ClassRecord) (c : FrameContent) (s : SegmentNo) (start own : OwnState) (raised thrown : ClassId) (left : ℕ) : Type 0 where
@@ -103,9 +103,9 @@ module _ (classes : List ClassRecord) (c : FrameContent) (s : SegmentNo) (start 
         frames = h.frames;
         holds = h.holds;
         few = omega (arith, h.few, next);
-        known = states_known own k State.Broken h.frames h.known;
+        known = states-kept own k State.Broken h.frames h.known;
         leaves = subst (λ (l : List FrameState). LeavesFrames classes l start raised (with_state own k State.Broken) passed)
-            (sym (drop_at h.frames n f.0 f.1)) (own, thrown, above, inr (k, begun, refl, leaves));
+            (sym (drop_at h.frames n f.0 f.1)) (own, thrown, above, inr (k, begun, known_at own h.frames n f.0 h.known f.1 k begun, refl, leaves));
       }
 
   pub left_all : (own : OwnState) (thrown : ClassId) (new : FrameContent) (left : ℕ) → HasLeft classes c s start own raised thrown left → left ≡ 0

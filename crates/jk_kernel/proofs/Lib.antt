@@ -44,7 +44,6 @@ pub mod SegmentsOfAMachine
 pub mod StartsByCase
 pub mod StartsKeepWorlds
 pub mod StartsOfKernels
-pub mod StatesStayKnown
 pub mod StaticCalls
 pub mod StepsByCase
 pub mod StepsOfKernels

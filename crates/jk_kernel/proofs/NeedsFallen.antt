@@ -6,7 +6,7 @@ use Rattle.jk_model.specs.declared.identifiers.MemberId.{MemberId}
 use Rattle.jk_model_classes.specs.Worlds.{DomainRecord, WorldRecord}
 use Rattle.jk_model_domains.specs.declared.states.ClassState.TheVariants as State
 use Rattle.jk_model_frames.specs.Frames.{FrameState}
-use Rattle.jk_model_domains.specs.OwnStates.{OwnState, with_state}
+use Rattle.jk_model_domains.specs.OwnStates.{HasState, OwnState, with_state}
 use Rattle.jk_model_machine.specs.Machine.{DomainState, Machine}
 use Rattle.jk_model_machine.specs.Places.{RunningFrame, RunningSegment, with_frames}
 use Rattle.jk_model_machine.specs.Steps.{IsHeld, IsReady, need_falls}
@@ -60,9 +60,9 @@ module _ (c : FrameContent) (w : WorldRecord) (names : DomainRecord) (d : Domain
             }))))),
       )
 
-  pub class_done : (k : ClassId) → head.method ≡ None → head.initialises ≡ Some k → IsContent c → Pops c new r.segment
+  pub class_done : (k : ClassId) → head.method ≡ None → head.initialises ≡ Some k → HasState p.inside.own k → IsContent c → Pops c new r.segment
       → after ≡ with_own_state paid (with_state paid.own k State.Done) → LeadsOn c new names after m r p []
-  class_done k none begun content pops part =
+  class_done k none begun known content pops part =
       let gets : GetsFrames c new r.segment r.domain p.segment.frames running.callers =
       subst (λ (l : List FrameState). GetsFrames c new r.segment r.domain l running.callers) (sym running.are_frames)
       (popped c new r.segment r.domain running.callers running.frame content holds pops) in
@@ -79,7 +79,7 @@ module _ (c : FrameContent) (w : WorldRecord) (names : DomainRecord) (d : Domain
               silent = refl;
               does = inr (
                 ap (λ (h : FrameHead). h.method) (sym head_is) ∙ none,
-                (k, ap (λ (h : FrameHead). h.initialises) (sym head_is) ∙ begun, ap (λ (x : DomainState). with_frames p x running.callers) whole),
+                (k, ap (λ (h : FrameHead). h.initialises) (sym head_is) ∙ begun, known, ap (λ (x : DomainState). with_frames p x running.callers) whole),
               );
             }))))),
       )

@@ -15,7 +15,7 @@ use Rattle.jk_model_typing.specs.Scopes.{CodeScope}
 use Rattle.jk_model_domains.specs.declared.states.ClassState.TheVariants as State
 use Rattle.jk_model_frames.specs.Frames.{FrameState}
 use Rattle.jk_model_domains.specs.NumberRows.{ARITHMETIC_EXCEPTION}
-use Rattle.jk_model_domains.specs.OwnStates.{OwnState, with_state}
+use Rattle.jk_model_domains.specs.OwnStates.{HasState, OwnState, with_state}
 use Rattle.jk_model_machine.specs.Executions.{Executes, GoesOn, Raises, Returns, Working, numbers}
 use Rattle.jk_model_machine.specs.Machine.{DomainState, Machine, free_chunks}
 use Rattle.jk_model_machine.specs.Places.{RunningSegment, with_frames, without_running}
@@ -32,7 +32,7 @@ use Rattle.jk_kernel.specs.KernelStates.{state_of}
 use Rattle.jk_kernel.specs.LocalSteps.{KeepsPart}
 use Rattle.jk_kernel.specs.SegmentFrames.{GetsFrames, Holds, IsOut}
 use Rattle.jk_kernel.proofs.InstructionsBegin.{callers, done, facts, frame, goes_out_from, head_here, left_class, leads_on, leads_out, no_need_here, own_here, payer_is, throws_here, with_inside}
-use Rattle.jk_kernel.proofs.NumbersBegin.{IsDone, row_ends}
+use Rattle.jk_kernel.proofs.NumbersBegin.{IsDone, known_callers, row_ends}
 use Rattle.jk_kernel.proofs.PartsOfAMachine.{left_keeps_out, with_own_is, with_own_state}
 use Rattle.jk_kernel.proofs.StepsByCase.{StepOf, keeps_all, keeps_own}
 use Rattle.jk_kernel.proofs.StoredFrames.{gets_on, out_then, top_set, top_there}
@@ -104,9 +104,11 @@ module _ {c : FrameContent} {w : WorldRecord} {names : DomainRecord} {d paid : D
         let part : last ≡ with_own_state paid (with_state p.inside.own k State.Done) = did.1 ∙ ap (with_own_state paid) own in
         let state : with_own (state_of names paid) p.inside (with_state p.inside.own k State.Done) ≡ state_of names last =
         sym (with_own_is c w names d r m p next.at paid (with_state p.inside.own k State.Done) next.pays) ∙ ap (state_of names) (sym part) in
+        let on_top : (frame next).head.initialises ≡ Some k = ap (λ (x : FrameHead). x.initialises) (head_here next) ∙ begun in
+        let known : HasState p.inside.own k = subst (λ (o : OwnState). HasState o k) (own_here next) ((known_callers next).1 k on_top) in
         let step = done next (working h.left) (Returns v) returned []
         (with_frames p (with_own (state_of names paid) p.inside (with_state p.inside.own k State.Done)) (callers next))
-        (ends_initialiser v k low below (initialises_left (Some k) begun) are) in
+        (ends_initialiser v k low below (initialises_left (Some k) begun) known are) in
         let steps : Steps m r.thread.0 [] (with_frames p (state_of names last) (callers next)) =
         subst (λ (x : DomainState). Steps m r.thread.0 [] (with_frames p x (callers next))) state step in
         let gets = gets_on c mid new r.segment r.domain (callers next ++ frame next ∷ []) (callers next ++ h.left ∷ []) (callers next) h.gets did.2 in

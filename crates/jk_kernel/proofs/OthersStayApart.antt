@@ -144,14 +144,14 @@ module _ {m : Machine} {t : ℕ} (a : ActingFrame m t) where
   fallen : (class : ClassId) (lines : List Line) (new : Machine) → NeedFalls a class lines new → LeadsTo m t new
   fallen class lines new h = elim h.does [
     | inl (code, leads) ↦ goes_so a.place _ _ pays-number leads
-    | inr (no_code, (c, initialises, leads)) ↦ goes_so a.place _ _ pays-number leads
+    | inr (no_code, (c, initialises, known, leads)) ↦ goes_so a.place _ _ pays-number leads
   ]
 
   followed : (w : Working) (outcome : Outcome) (lines : List Line) (new : Machine) → Follows a w outcome lines new → LeadsTo m t new
   followed w outcome lines new (goes_on n) = goes_so a.place _ _ pays-number refl
   followed w outcome lines new (says text n) = goes_so a.place _ _ pays-number refl
   followed w outcome lines new (calls called) = goes_so a.place _ _ pays-number refl
-  followed w outcome lines new (ends_initialiser v c lower below some e) = goes_so a.place _ _ pays-number refl
+  followed w outcome lines new (ends_initialiser v c lower below some known e) = goes_so a.place _ _ pays-number refl
   followed w outcome lines new (returns v lower below none e) = goes_so a.place _ _ pays-number refl
   followed w outcome lines new (ends v lowest none) = leaves a.place _ pays-number refl
   followed w outcome lines new (throws r said to raises) = thrown a.place a.payer w.inside _ r said to a.pays raises

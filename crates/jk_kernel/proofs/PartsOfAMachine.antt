@@ -39,7 +39,7 @@ left_is_there classes (f ∷ upper) own after thrown left h there other =
     let passed = left_is_there classes upper own h.0 thrown h.1 h.2 there other in
     elim h.3 [
       | inl plain ↦ subst (HasClass classes) (sym plain.2) passed
-      | inr begun ↦ elim begun.3 [
+      | inr begun ↦ elim begun.4 [
         | inl error ↦ subst (HasClass classes) (sym error.1) passed
         | inr replaced ↦ subst (HasClass classes) (sym replaced.1) other
       ]
@@ -53,7 +53,7 @@ left_keeps_out classes (f ∷ upper) own after thrown left h =
     let passed = left_keeps_out classes upper own h.0 thrown h.1 h.2 in
     elim h.3 [
       | inl plain ↦ ap (λ (x : OwnState). x.out) plain.1 ∙ passed
-      | inr begun ↦ ap (λ (x : OwnState). x.out) begun.2 ∙ passed
+      | inr begun ↦ ap (λ (x : OwnState). x.out) begun.3 ∙ passed
     ]
 
 pub record_there : (classes : List ClassRecord) (c : ClassId) → HasClass classes c → (r : ClassRecord) × (record_of classes c ≡ Some r)

@@ -122,6 +122,7 @@ module _ {w : WorldRecord} {parts : List DomainPart} {threads : List (ℕ × Thr
       are_segments = refl;
       domain = state_of names d;
       is_domain = domain-is;
+      numbered = same-id names.id r.domain number-is;
       inside = inside_of d;
       is_inside = refl;
     }

@@ -40,7 +40,7 @@ use Rattle.jk_kernel.specs.StandsAt.{StandsIn}
 use Rattle.jk_kernel.specs.Touching.{ForgetsNeed, Touches}
 use Rattle.jk_kernel.proofs.HeldThreads.{all_ready, broken_look, held, looks_at, needs_it, not_held, untouched_look}
 use Rattle.jk_kernel.proofs.NeedsFallen.{class_done, falls}
-use Rattle.jk_kernel.proofs.PartsOfAMachine.{begins_class, breaks, goes_out, left_is_there, left_keeps_out, overflows, record_there, same_frames, with_own_state}
+use Rattle.jk_kernel.proofs.PartsOfAMachine.{begins_class, breaks, goes_out, left_is_there, left_keeps_out, overflows, own_is, record_there, same_frames, with_own_state}
 use Rattle.jk_kernel.proofs.SegmentsOfAMachine.{frames_fit, known_frames, runs_frame, top_running}
 use Rattle.jk_kernel.proofs.TopFrameFits.{initialises_some, last_fits, stands_somewhere}
 
@@ -238,11 +238,13 @@ module _ (c : FrameContent) (w : WorldRecord) (names : DomainRecord) (d : Domain
         by_case None has =
             let begun = initialises_some m.classes p.inside.heap running.frame fits (ap (λ (h : FrameHead). h.method) head_is ∙ has) in
             let here = ap (λ (h : FrameHead). h.initialises) (sym head_is) ∙ begun.1 in
+            let known : HasState p.inside.own begun.0 =
+            subst (λ (o : OwnState). HasState o begun.0) (sym (own_is c w names d r m p at)) (known_on_top begun.0 here) in
             let h = by_class begun.0 has here in (
               [],
               refl,
               class_done c w names d r m p at paid after new pays (free_to_act (not_waiting e)) running head (sym head_is) k need ready begun.0
-                  has here content h.0 h.1,
+                  has here known content h.0 h.1,
             )
 
     pub keeps_fallen : (paid after : DomainPart) → PaysFor d paid true

@@ -1,6 +1,6 @@
 -- What the instructions do that need no heap, no class and no call: constants, locals, the stack, arithmetic, comparisons,
 -- jumps and returns (the Java Virtual Machine Specification, chapter 6). Numbers wrap in 32 and 64 bits.
-use Rattle.std.specs.Prelude.{◌≡◌, ◌≢◌, ℕ, suc, ◌+◌, ◌/◌, ◌^◌, ◌≤◌, ◌⊎◌, ◌==◌, ◌&&◌, ◌||◌, Bool, true, not, IsTrue, ℤ, pos, negsuc, List, [], ◌∷◌, ◌++◌, Contains, find, Some, None, slice_get, slice_set, sum_by, if◌then◌else◌, int_lt, int_rem, unsigned_abs}
+use Rattle.std.specs.Prelude.{◌≡◌, ◌≢◌, ℕ, suc, ◌+◌, ◌/◌, ◌^◌, ◌≤◌, ◌⊎◌, ◌==◌, ◌&&◌, ◌||◌, Bool, true, not, IsTrue, ℤ, pos, negsuc, List, [], ◌∷◌, ◌++◌, length, Contains, find, Some, None, slice_get, slice_set, sum_by, if◌then◌else◌, int_lt, int_rem, unsigned_abs}
 use Rattle.std.specs.Int.{w8, w16, w32, w64, cast_signed, cast_unsigned, int_bit_and, int_bit_or, int_bit_xor, int_rem_euclid, int_shl, int_shr, int_wrap, int_wrapping_add, int_wrapping_div, int_wrapping_mul, int_wrapping_neg, int_wrapping_sub}
 use Rattle.std.specs.Option.{option_map_or}
 use Rattle.std.specs.Ordering.{int_eq}
@@ -156,13 +156,13 @@ abbrev pub with_value : List Value → ℕ → Value → List Value
 with_value locals n (Long x) = slice_set (slice_set locals n (Long x)) (suc n) Unset
 with_value locals n v = slice_set locals n v
 
--- what locals and stack are after an instruction of locals
+-- what locals and stack are after an instruction of locals, which must be there: of a long that is stored, the next one too
 abbrev pub UsesLocal : Instr → FrameState → FrameState → Type 0
 UsesLocal i f g =
     ((n : ℕ) × (v : Value) × IsTrue (is_load i.op) × (i.a ≡ pos n) × (slice_get f.locals n ≡ Some v)
     × (g ≡ record f { stack = f.stack ++ v ∷ [] }))
     ⊎ ((n : ℕ) × (v : Value) × (below : List Value) × IsTrue (is_store_of_top i.op) × (i.a ≡ pos n) × (f.stack ≡ below ++ v ∷ [])
-    × (g ≡ record f { locals = with_value f.locals n v; stack = below }))
+    × (n + value_slots v ≤ length f.locals) × (g ≡ record f { locals = with_value f.locals n v; stack = below }))
     -- iinc
     ⊎ ((n : ℕ) × (x : ℤ) × (i.op ≡ IINC) × (i.a ≡ pos n) × (slice_get f.locals n ≡ Some (Int x))
     × (g ≡ record f { locals = slice_set f.locals n (Int (int_wrapping_add w32 x i.b)) }))

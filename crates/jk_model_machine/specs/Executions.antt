@@ -29,7 +29,7 @@ pub use Rattle.jk_model_frames.specs.Frames.{as_locals}
 use Rattle.jk_model_frames.specs.Frames.{FrameState, head_chunks}
 use Rattle.jk_model_domains.specs.NumberRows.{IsOnTop, NumberRow, Replaces}
 use Rattle.jk_model_domains.specs.Objects.{NamedObject, Text, PRINT_STREAM, class_type, object_named}
-use Rattle.jk_model_domains.specs.OwnStates.{OwnState, literal_named, static_of, with_static}
+use Rattle.jk_model_domains.specs.OwnStates.{HasStatic, OwnState, literal_named, static_of, with_static}
 use Rattle.jk_model_sound_classes.specs.NamedMembers.{NamesField, NamesMethod}
 use Rattle.jk_model_machine.specs.Machine.{Inside}
 
@@ -117,6 +117,8 @@ pub record PutsStatic (s : CodeScope) (i : Instr) (w new : Working) (outcome : O
   pub names : NamesField s i member field
   pub value : Value
   pub taken : Replaces w.frame new.frame (value ∷ []) []
+  -- the domain has the field
+  pub is_there : HasStatic w.inside.own member
   pub inside : new.inside ≡ record w.inside { own = with_static w.inside.own member (stored field.kind value) }
   pub goes_on : outcome ≡ GoesOn (w.frame.head.at + 1)
 

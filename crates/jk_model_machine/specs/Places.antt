@@ -12,6 +12,8 @@ pub record RunningSegment (m : Machine) (t : ℕ) : Type 0 where
   pub are_segments : thread.segments ≡ lower ++ segment ∷ []
   pub domain : DomainState
   pub is_domain : domain_at m segment.domain ≡ Some domain
+  -- it stands at its number
+  pub numbered : domain.number ≡ segment.domain
   pub inside : Inside
   pub is_inside : domain.inside ≡ Some inside
 

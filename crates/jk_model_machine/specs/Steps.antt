@@ -1,5 +1,6 @@
 -- One step of one thread, as a relation: which lines it may print, and to which machine it may lead. There is one case a rule,
--- in the order of the rules, and each holds only where those before it don't. A state that fits no case has no step.
+-- in the order of the rules, and each holds only where those before it don't. A state that fits no case has no step. Where a step
+-- gives a class another state, the domain has a part for the class.
 use Rattle.std.specs.Prelude.{◌≡◌, ◌≢◌, ℕ, suc, ◌+◌, ◌<◌, ◌≤◌, ◌⊎◌, true, false, List, [], ◌∷◌, ◌++◌, Option, Some, None}
 use Rattle.jk_model.specs.declared.frames.FrameHead.{FrameHead}
 use Rattle.jk_model.specs.declared.identifiers.ClassId.{ClassId}
@@ -15,7 +16,7 @@ use Rattle.jk_model_classes.specs.declared.records.ClassRecord.{ClassRecord}
 use Rattle.jk_model_classes.specs.Classes.{IsSubclass, record_of}
 use Rattle.jk_model_domains.specs.declared.states.ClassState.TheVariants as State
 use Rattle.jk_model_frames.specs.Frames.{FrameState, head_chunks, new_frame}
-use Rattle.jk_model_domains.specs.OwnStates.{OwnState, state_of, with_state}
+use Rattle.jk_model_domains.specs.OwnStates.{HasState, OwnState, state_of, with_state}
 use Rattle.jk_model_machine.specs.Executions.{Calls, Executes, GoesOn, Outcome, Raises, Returns, Says, Working}
 use Rattle.jk_model_machine.specs.Initialising.{FrameNeeds, IsInitialiserHead, RunsCode}
 use Rattle.jk_model_machine.specs.Machine.{DomainState, Inside, Machine, free_chunks, is_live_thread}
@@ -96,7 +97,8 @@ LeavesInitialiser classes thrown left =
 abbrev pub LeavesFrame : List ClassRecord → FrameState → OwnState → ClassId → OwnState → ClassId → Type 0
 LeavesFrame classes f own thrown new left =
     ((f.head.initialises ≡ None) × (new ≡ own) × (left ≡ thrown))
-    ⊎ ((c : ClassId) × (f.head.initialises ≡ Some c) × (new ≡ with_state own c State.Broken) × LeavesInitialiser classes thrown left)
+    ⊎ ((c : ClassId) × (f.head.initialises ≡ Some c) × HasState own c × (new ≡ with_state own c State.Broken)
+    × LeavesInitialiser classes thrown left)
 
 -- It leaves these frames, the last of them first. None of them has a catch entry so far.
 abbrev pub LeavesFrames : List ClassRecord → List FrameState → OwnState → ClassId → OwnState → ClassId → Type 0
@@ -147,8 +149,8 @@ pub record ActingFrame (m : Machine) (t : ℕ) : Type 0 where
 
 -- ---- A class that is needed and isn't ready.
 
--- it is untouched: an initialiser frame is put on top, and the class is in progress; where its chunks don't fit, the class
--- stays untouched
+-- it is untouched, and so has a part: an initialiser frame is put on top, and the class is in progress; where its chunks don't
+-- fit, the class stays untouched
 pub record Touches {m : Machine} {t : ℕ} (a : ActingFrame m t) (class : ClassId) (lines : List Line) (new : Machine) : Type 0 where
   pub untouched : state_of a.place.inside.own class ≡ State.Untouched
   pub head : FrameHead
@@ -182,7 +184,7 @@ pub record NeedFalls {m : Machine} {t : ℕ} (a : ActingFrame m t) (class : Clas
   pub does :
       ((a.running.frame.head.method ≢ None)
       × (new ≡ with_frames a.place a.payer (a.running.callers ++ record a.running.frame { head = record a.running.frame.head { need = None } } ∷ [])))
-      ⊎ ((a.running.frame.head.method ≡ None) × ((c : ClassId) × (a.running.frame.head.initialises ≡ Some c)
+      ⊎ ((a.running.frame.head.method ≡ None) × ((c : ClassId) × (a.running.frame.head.initialises ≡ Some c) × HasState a.place.inside.own c
       × (new ≡ with_frames a.place (with_own a.payer a.place.inside (with_state a.place.inside.own c State.Done)) a.running.callers)))
 
 -- ---- An instruction.
@@ -204,7 +206,7 @@ pub data Follows {m : Machine} {t : ℕ} (a : ActingFrame m t) (w : Working) : O
       (with_frames a.place (record a.payer { inside = Some w.inside }) (a.running.callers ++ w.frame ∷ called ∷ []))
   -- the initialiser of a class ends: the class is done, and the frame below stands where it stood
   ends_initialiser : (v : Option Value) (c : ClassId) (lower : List FrameState) (below : FrameState)
-      → w.frame.head.initialises ≡ Some c → a.running.callers ≡ lower ++ below ∷ [] → Follows a w (Returns v) []
+      → w.frame.head.initialises ≡ Some c → HasState w.inside.own c → a.running.callers ≡ lower ++ below ∷ [] → Follows a w (Returns v) []
       (with_frames a.place (with_own a.payer w.inside (with_state w.inside.own c State.Done)) a.running.callers)
   -- a called method returns: the frame below goes on after its call
   returns : (v : Option Value) (lower : List FrameState) (below : FrameState) → w.frame.head.initialises ≡ None

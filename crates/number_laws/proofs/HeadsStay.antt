@@ -17,7 +17,7 @@ head-kept f g taken pushed rep = ap (λ (x : FrameState). x.head) rep.after
 
 head-local : (i : Instr) (f g : FrameState) → UsesLocal i f g → g.head ≡ f.head
 head-local i f g (inl u) = ap (λ (x : FrameState). x.head) u.5
-head-local i f g (inr (inl u)) = ap (λ (x : FrameState). x.head) u.6
+head-local i f g (inr (inl u)) = ap (λ (x : FrameState). x.head) u.7
 head-local i f g (inr (inr u)) = ap (λ (x : FrameState). x.head) u.5
 
 pub number-head : (s : CodeScope) (place : ℕ) (i : Instr) (f g : FrameState) (a : After) → NumberRow s place i f g a → g.head ≡ f.head
@@ -41,7 +41,7 @@ module _ (f g : FrameState) (h : FrameHead) where
 
   used : (i : Instr) → UsesLocal i f g → UsesLocal i (with_head f h) (with_head g h)
   used i (inl u) = inl (u.0, u.1, u.2, u.3, u.4, ap (λ (x : FrameState). with_head x h) u.5)
-  used i (inr (inl u)) = inr (inl (u.0, u.1, u.2, u.3, u.4, u.5, ap (λ (x : FrameState). with_head x h) u.6))
+  used i (inr (inl u)) = inr (inl (u.0, u.1, u.2, u.3, u.4, u.5, u.6, ap (λ (x : FrameState). with_head x h) u.7))
   used i (inr (inr u)) = inr (inr (u.0, u.1, u.2, u.3, u.4, ap (λ (x : FrameState). with_head x h) u.5))
 
   pub row-with-head : (s : CodeScope) (place : ℕ) (i : Instr) (a : After) → NumberRow s place i f g a

@@ -423,7 +423,7 @@ module _ (s : CodeScope) (heap : List NamedObject) (place : ℕ) (i : Instr) (f 
 
   locals_kept : UsesLocal i f g → FrameHolds s heap g after × (leaves_line i.op ≡ false)
   locals_kept (inl h) = load_kept h.0 h.1 h.2 h.3 h.4 h.5
-  locals_kept (inr (inl h)) = store_kept h.0 h.1 h.2 h.3 h.4 h.5 h.6
+  locals_kept (inr (inl h)) = store_kept h.0 h.1 h.2 h.3 h.4 h.5 h.7
   locals_kept (inr (inr h)) = increment_kept h.0 _ h.2 h.3 h.5
 
   -- ---- Jumps.

@@ -1,13 +1,9 @@
 -- What the typing of instructions says of the top frame: the operands that an instruction asks for are there, and there is
 -- room for what it pushes.
-use Rattle.std.proofs.Common.{◌≡◌, ℕ, zero, suc, ◌+◌, ◌<◌, ◌≤◌, pos, List, [], ◌∷◌, ◌++◌, length, set, Option, Some, None, slice_get, refl, sym, ap, subst, ◌∙◌, append_assoc, arith, inl, inr}
+use Rattle.std.proofs.Common.{◌≡◌, ℕ, ◌+◌, ◌≤◌, pos, List, [], ◌∷◌, ◌++◌, length, Some, refl, sym, ap, subst, ◌∙◌, append_assoc, arith, inl, inr}
 use Rattle.std.specs.List.{AllByRecursion}
-use Rattle.std.specs.Option.{option_map_or}
-use Rattle.std.proofs.Math.ListN.{length-set}
 use Rattle.std.proofs.lemmas.List.{append-nil, length-append}
 use Rattle.std.proofs.lemmas.List.Sums.{sum_by-cons}
-use Rattle.std.proofs.lemmas.Option.{slice_get_within}
-use Rattle.list_lemmas.proofs.ItemsByPlace.{slice_get-set_other, slice_get-set_same}
 use Rattle.jk_model.specs.declared.frames.FrameHead.{FrameHead}
 use Rattle.jk_model.specs.declared.identifiers.SegmentNo.{SegmentNo}
 use Rattle.jk_model.specs.declared.instructions.Instr.{Instr}
@@ -17,10 +13,10 @@ use Rattle.jk_model_typing.specs.declared.frames.Demand.{Demand}
 use Rattle.jk_model_typing.specs.declared.frames.Demand.TheVariants.{Fitting}
 use Rattle.jk_model_typing.specs.declared.frames.FrameType.{FrameType}
 use Rattle.jk_model_typing.specs.declared.frames.VType.{VType}
-use Rattle.jk_model_typing.specs.declared.frames.VType.TheVariants.{Unusable, Int, Long, Null, Ref, Fresh, FreshThis}
+use Rattle.jk_model_typing.specs.declared.frames.VType.TheVariants.{Int, Long, Ref}
 use Rattle.jk_model_typing.specs.FrameTypes.{IsFrameOf, IsUsable, slots, slots_of}
 use Rattle.jk_model_typing.specs.Groups.{Group, Shape, Always, LoadsLocal, StoresLocal, IncrementsLocal, LoadsConstant, LoadsLong, ReturnsInt, ReturnsLong, ReturnsReference, Takes, Drops, Copies, Swaps, Loads, Stores, Increments, group_of}
-use Rattle.jk_model_typing.specs.Rows.{Does, HasShape, cut, cut_before, with_local}
+use Rattle.jk_model_typing.specs.Rows.{Does, HasShape}
 use Rattle.jk_model_typing.specs.Scopes.{CodeScope}
 use Rattle.jk_model_frames.specs.Frames.{FrameState}
 use Rattle.jk_model_domains.specs.Objects.{NamedObject}
@@ -29,29 +25,8 @@ use Rattle.frame_store.specs.FrameContents.{FrameContent, TopFrame}
 use Rattle.number_ops.specs.NumberSteps.{IsReady}
 use Rattle.number_ops.specs.Operands.{Finds, FindsShape, FindsValue}
 use Rattle.number_ops.specs.TopChanges.{OnTopWithRoom}
+use Rattle.typing_lemmas.proofs.LocalsStored.{slots_needed}
 use Rattle.number_laws.proofs.ValuesFit.{are_met, end_fits, fits-length, fits-slots, int_fits, long_slots, usable-append, value_at, value_slots-fit}
-
--- ---- A long that is stored has a local after it.
-
-cut_before-length : (locals : List VType) (n : ℕ) → length (cut_before locals n) ≡ length locals
-cut_before-length locals zero = refl
-cut_before-length locals (suc n) = one (slice_get locals n)
-  where
-    one : (o : Option VType) → length (option_map_or (λ v. set locals n (cut v)) o locals) ≡ length locals
-    one None = refl
-    one (Some v) = length-set locals n (cut v)
-
-local_after_long : (before : List VType) (n : ℕ) → n < length before
-    → ((k : ℕ) → slice_get (with_local before n Long) k ≡ Some Long → slice_get (with_local before n Long) (k + 1) ≡ Some Unusable)
-    → n + 2 ≤ length before
-local_after_long before n within halves =
-    let now : List VType = set (cut_before before n) n Long in
-    let many : length (cut_before before n) ≡ length before = cut_before-length before n in
-    let here : slice_get now n ≡ Some Long = slice_get-set_same (cut_before before n) n Long (omega (arith, many)) in
-    let long : slice_get (with_local before n Long) n ≡ Some Long =
-    slice_get-set_other now (suc n) n Unusable (λ e. absurd (omega (arith, e))) ∙ here in
-    let past : n + 1 < length (with_local before n Long) = slice_get_within (with_local before n Long) (n + 1) Unusable (halves n long) in
-    omega (arith, past, many, length-set now (suc n) Unusable, length-set (cut_before before n) n Long)
 
 module _ (c : FrameContent) (s : SegmentNo) (scope : CodeScope) (heap : List NamedObject) (f : FrameState) (place : ℕ) (i : Instr)
     (before after : FrameType) where
@@ -179,18 +154,6 @@ module _ (c : FrameContent) (s : SegmentNo) (scope : CodeScope) (heap : List Nam
               (ap (λ (t : FrameType). t.stack) does.3);
         },
       )
-
-  slots_needed : (ls now : List VType) (n : ℕ) (v : VType) → n < length ls → now ≡ with_local ls n v
-      → ((k : ℕ) → slice_get now k ≡ Some Long → slice_get now (k + 1) ≡ Some Unusable) → n + slots_of v ≤ length ls
-  slots_needed ls now n Long within is halves =
-      let P : List VType → Type 0 = λ xs. (k : ℕ) → slice_get xs k ≡ Some Long → slice_get xs (k + 1) ≡ Some Unusable in
-      local_after_long ls n within (subst P is halves)
-  slots_needed ls now n Unusable within is halves = omega arith
-  slots_needed ls now n Int within is halves = omega arith
-  slots_needed ls now n Null within is halves = omega arith
-  slots_needed ls now n (Ref t) within is halves = omega arith
-  slots_needed ls now n (Fresh p) within is halves = omega arith
-  slots_needed ls now n FreshThis within is halves = omega arith
 
   finds_stored : Holds → (d : Demand) (n : ℕ) → i.a ≡ pos n → Does scope place (Stores d n) before after → Finds c s i (StoresLocal d)
   finds_stored h d n is does =

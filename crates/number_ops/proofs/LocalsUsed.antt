@@ -9,7 +9,7 @@ use Rattle.jk_model.specs.declared.instructions.Instr.{Instr}
 use Rattle.jk_model.specs.declared.values.Value.{Value}
 use Rattle.jk_model.specs.declared.values.Value.TheVariants.{Int, Long, Unset}
 use Rattle.jk_model_frames.specs.Frames.{FrameState}
-use Rattle.jk_model_domains.specs.NumberRows.{is_load, is_store_of_top, with_value}
+use Rattle.jk_model_domains.specs.NumberRows.{is_load, is_store_of_top, value_slots, with_value}
 use Rattle.number_laws.proofs.FrameParts.{same_index, short_value, with_stack}
 use Rattle.frame_store.specs.FrameContents.{FrameContent, HasLocal, SetsTop, TopFrame}
 use Rattle.number_ops.specs.TopChanges.{Becomes, HasAtMostLocals, HasInLocal, HasLocals, Turns, Uses}
@@ -79,16 +79,27 @@ many_set c d s m k v h sets = record {
 pub local_of_many : (c : FrameContent) (s : SegmentNo) (m k : ℕ) → HasLocals c s m → k < m → HasLocal c s k
 local_of_many c s m k h low = (h.frame, h.top, omega (arith, low, h.many))
 
+-- the local of the instruction, and the value that was taken
+pub many_at : (c : FrameContent) (s : SegmentNo) (n k : ℕ) (v w : Value) → n ≡ k → v ≡ w → HasLocals c s (n + value_slots v)
+    → HasLocals c s (k + value_slots w)
+many_at c s n k v w place value h =
+    subst (λ (x : ℕ). HasLocals c s (x + value_slots w)) place (subst (λ (x : Value). HasLocals c s (n + value_slots x)) value h)
+
 pub within_many : (c : FrameContent) (s : SegmentNo) (n m : ℕ) → HasLocals c s n → HasAtMostLocals c s m → n ≤ m
 within_many c s n m h most =
     let high : length h.frame.locals ≤ m = most h.frame h.top in
     omega (arith, h.many, high)
 
+-- the frame on top is the one that has so many locals
+has_locals : (c : FrameContent) (s : SegmentNo) (n : ℕ) (f : FrameState) → TopFrame c s f → HasLocals c s n → n ≤ length f.locals
+has_locals c s n f top h = subst (λ (x : FrameState). n ≤ length x.locals) (same_top c s h.frame f h.top top) h.many
+
 -- a store after an entry was taken
 stored : (c d e : FrameContent) (s : SegmentNo) (i : Instr) (k : ℕ) (w : Value) (now : List Value → List Value) → (turns : Turns c d s (w ∷ []) [])
     → ((f : FrameState) → TopFrame d s f → SetsTop d e s (let g : FrameState = record f { locals = now f.locals } in g))
-    → ((ls : List Value) → now ls ≡ with_value ls k w) → IsTrue (is_store_of_top i.op) → i.a ≡ pos k → Uses c e s i
-stored c d e s i k w now turns sets same op is =
+    → ((ls : List Value) → now ls ≡ with_value ls k w) → IsTrue (is_store_of_top i.op) → i.a ≡ pos k → HasLocals c s (k + value_slots w)
+    → Uses c e s i
+stored c d e s i k w now turns sets same op is room =
     let top = top_after c d s turns.after turns.becomes.sets in
     let second : Becomes d e s turns.after (let g : FrameState = record turns.after { locals = now turns.after.locals } in g) =
     record { top = top; sets = sets turns.after top } in
@@ -103,6 +114,7 @@ stored c d e s i k w now turns sets same op is =
         op,
         is,
         turns.replaces.before,
+        has_locals c s _ turns.before turns.becomes.top room,
         ap (λ (x : FrameState). let g : FrameState = record x { locals = now x.locals } in g) turns.replaces.after
             ∙ ap (λ (xs : List Value). let g : FrameState = record turns.before { locals = now turns.before.locals; stack = xs } in g)
             (append-nil turns.replaces.below)
@@ -113,9 +125,9 @@ stored c d e s i k w now turns sets same op is =
 
 pub stored_short : (c d e : FrameContent) (s : SegmentNo) (i : Instr) (k : ℕ) (w : Value) → Turns c d s (w ∷ []) []
     → ((f : FrameState) → TopFrame d s f → SetsTop d e s (set_in f k w)) → ((n : ℤ) → w ≡ Long n → ⊥)
-    → IsTrue (is_store_of_top i.op) → i.a ≡ pos k → Uses c e s i
-stored_short c d e s i k w turns sets short op is =
-    stored c d e s i k w (λ ls. set ls k w) turns sets (λ ls. sym (short_value ls k w short)) op is
+    → IsTrue (is_store_of_top i.op) → i.a ≡ pos k → HasLocals c s (k + value_slots w) → Uses c e s i
+stored_short c d e s i k w turns sets short op is room =
+    stored c d e s i k w (λ ls. set ls k w) turns sets (λ ls. sym (short_value ls k w short)) op is room
 
 long_value : (ls : List Value) (k : ℕ) (v : Value) (n : ℤ) → v ≡ Long n → set (set ls k v) (k + 1) Unset ≡ with_value ls k v
 long_value ls k v n e =
@@ -126,9 +138,9 @@ long_value ls k v n e =
 pub stored_long : (c d e f : FrameContent) (s : SegmentNo) (i : Instr) (k : ℕ) (w : Value) (n : ℤ) → Turns c d s (w ∷ []) []
     → ((x : FrameState) → TopFrame d s x → SetsTop d e s (set_in x k w))
     → ((x : FrameState) → TopFrame e s x → SetsTop e f s (set_in x (k + 1) Unset)) → w ≡ Long n
-    → IsTrue (is_store_of_top i.op) → i.a ≡ pos k → Uses c f s i
-stored_long c d e f s i k w n turns first second long op is =
-    stored c d f s i k w (λ ls. set (set ls k w) (k + 1) Unset) turns both (λ ls. long_value ls k w n long) op is
+    → IsTrue (is_store_of_top i.op) → i.a ≡ pos k → HasLocals c s (k + value_slots w) → Uses c f s i
+stored_long c d e f s i k w n turns first second long op is room =
+    stored c d f s i k w (λ ls. set (set ls k w) (k + 1) Unset) turns both (λ ls. long_value ls k w n long) op is room
   where
     both : (x : FrameState) → TopFrame d s x
         → SetsTop d f s (let g : FrameState = record x { locals = set (set x.locals k w) (k + 1) Unset } in g)

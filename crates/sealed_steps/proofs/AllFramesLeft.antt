@@ -44,7 +44,7 @@ module _ (classes : List ClassRecord) where
   leave-sealed d inside f mid own thrown left (inl h) s =
       subst (λ (x : OwnState). IsSealedInside classes d (record inside { own = x })) (sym h.1) s
   leave-sealed d inside f mid own thrown left (inr h) s =
-      subst (λ (x : OwnState). IsSealedInside classes d (record inside { own = x })) (sym h.2)
+      subst (λ (x : OwnState). IsSealedInside classes d (record inside { own = x })) (sym h.3)
       (state-sealed classes d (record inside { own = mid }) s h.0 State.Broken)
 
   pub leaves-sealed : (d : DomainState) (inside : Inside) (frames : List FrameState) (old own : OwnState) (thrown left : ClassId)
@@ -63,7 +63,7 @@ module _ (classes : List ClassRecord) where
       → in_progress_by u own d ≡ in_progress_by u start d
   leave-others t u start f mid own thrown left d apart some (inl h) same = ap (λ (x : OwnState). in_progress_by u x d) h.1 ∙ same
   leave-others t u start f mid own thrown left d apart some (inr h) same =
-      ap (λ (x : OwnState). in_progress_by u x d) h.2 ∙ by_test (d.0 == h.0.0) refl
+      ap (λ (x : OwnState). in_progress_by u x d) h.3 ∙ by_test (d.0 == h.0.0) refl
     where
       by_test : (b : Bool) → d.0 == h.0.0 ≡ b → in_progress_by u (with_state mid h.0 State.Broken) d ≡ in_progress_by u start d
       by_test true e =
@@ -102,7 +102,7 @@ module _ (classes : List ClassRecord) where
   leave-own t f upper old mid own thrown left d (inr h) is = by_test (d.0 == h.0.0) refl is
     where
       new : in_progress_by t own d ≡ in_progress_by t (with_state mid h.0 State.Broken) d
-      new = ap (λ (x : OwnState). in_progress_by t x d) h.2
+      new = ap (λ (x : OwnState). in_progress_by t x d) h.3
 
       other : d.0 == h.0.0 ≡ false → is_for d f.head.initialises ≡ false
       other e = ap (is_for d) h.1 ∙ turned h.0.0 d.0 e

@@ -95,14 +95,14 @@ module _ (m : Machine) (t : ℕ) where
     need-one : (class : ClassId) (lines : List Line) (new : Machine) → NeedFalls a class lines new → ChangesOne m new
     need-one class lines new h = elim h.does [
       | inl stays ↦ one a.place a.payer table _ new refl refl stays.1
-      | inr gone ↦ one a.place (with_own a.payer a.place.inside _) table _ new refl refl gone.1.2
+      | inr gone ↦ one a.place (with_own a.payer a.place.inside _) table _ new refl refl gone.1.3
     ]
 
     follows-one : (w : Working) (outcome : Outcome) (lines : List Line) (new : Machine) → Follows a w outcome lines new → ChangesOne m new
     follows-one w outcome lines new (goes_on n) = one a.place (record a.payer { inside = Some w.inside }) table _ _ refl refl refl
     follows-one w outcome lines new (says text n) = one a.place (record a.payer { inside = Some w.inside }) table _ _ refl refl refl
     follows-one w outcome lines new (calls called) = one a.place (record a.payer { inside = Some w.inside }) table _ _ refl refl refl
-    follows-one w outcome lines new (ends_initialiser v c lower below e are) = one a.place (with_own a.payer w.inside _) table _ _ refl refl refl
+    follows-one w outcome lines new (ends_initialiser v c lower below e known are) = one a.place (with_own a.payer w.inside _) table _ _ refl refl refl
     follows-one w outcome lines new (returns v lower below none are) = one a.place (record a.payer { inside = Some w.inside }) table _ _ refl refl refl
     follows-one w outcome lines new (ends v lowest are) = one a.place (record a.payer { inside = Some w.inside }) table _ _ refl refl refl
     follows-one w outcome lines new (throws r said left h) = throws-one a.place a.payer table w.inside _ r said left h

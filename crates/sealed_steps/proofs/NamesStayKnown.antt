@@ -122,7 +122,7 @@ module _ (heap : List NamedObject) where
       subst (NamesKnown heap) (sym u.5) (h.0, each-append (IsKnownValue heap) f.stack (v ∷ []) h.1 (one, tt))
   local-known i f g h (inr (inl u)) =
       let parts = all-parts (IsKnownValue heap) u.2 (u.1 ∷ []) (subst AreKnown u.5 h.1) in
-      subst (NamesKnown heap) (sym u.6) (with-known f.locals u.0 u.1 h.0 parts.1.0, parts.0)
+      subst (NamesKnown heap) (sym u.7) (with-known f.locals u.0 u.1 h.0 parts.1.0, parts.0)
   local-known i f g h (inr (inr u)) = subst (NamesKnown heap) (sym u.5) (set-known f.locals u.0 _ h.0 tt, h.1)
 
   module _ (s : CodeScope) (place : ℕ) (i : Instr) (f g : FrameState) (h : NamesKnown heap f) where

@@ -224,5 +224,5 @@ module _ (m : Machine) (t : ℕ) (sealed : IsSealed m) (sound : AreSoundClasses 
     pub need-sealed : IsSealed new
     need-sealed = elim h.does [
       | inl does ↦ stays does.0 does.1
-      | inr does ↦ subst IsSealed (sym does.1.2) (ends does.1.0 a.running.callers refl does.1.1)
+      | inr does ↦ subst IsSealed (sym does.1.3) (ends does.1.0 a.running.callers refl does.1.1)
     ]

@@ -50,7 +50,7 @@ falls-counts : (m : Machine) (t : ℕ) (a : ActingFrame m t) (class : ClassId) (
     → NeedFalls a class lines new → CountsFromOne new
 falls-counts m t a class lines new counts h = elim h.does [
   | inl (code, leads) ↦ subst CountsFromOne (sym leads) counts
-  | inr (no_code, (c, initialises, leads)) ↦ subst CountsFromOne (sym leads) counts
+  | inr (no_code, (c, initialises, known, leads)) ↦ subst CountsFromOne (sym leads) counts
 ]
 
 follows-counts : (m : Machine) (t : ℕ) (a : ActingFrame m t) (w : Working) (outcome : Outcome) (lines : List Line) (new : Machine)
@@ -58,7 +58,7 @@ follows-counts : (m : Machine) (t : ℕ) (a : ActingFrame m t) (w : Working) (ou
 follows-counts m t a w outcome lines new counts (goes_on n) = counts
 follows-counts m t a w outcome lines new counts (says text n) = counts
 follows-counts m t a w outcome lines new counts (calls called) = counts
-follows-counts m t a w outcome lines new counts (ends_initialiser v c lower below initialises callers) = counts
+follows-counts m t a w outcome lines new counts (ends_initialiser v c lower below initialises known callers) = counts
 follows-counts m t a w outcome lines new counts (returns v lower below none callers) = counts
 follows-counts m t a w outcome lines new counts (ends v lowest callers) = counts
 follows-counts m t a w outcome lines new counts (throws r said to raises) =

@@ -140,7 +140,7 @@ module _ (m : Machine) (t : ℕ) (sealed : IsSealed m) (sound : AreSoundClasses 
   follows-sealed outcome lines new (goes_on n) h = goes-sealed n h
   follows-sealed outcome lines new (says text n) h = goes-sealed n h
   follows-sealed outcome lines new (calls called) h = calls-sealed called h.0 h.1
-  follows-sealed outcome lines new (ends_initialiser v c lower below e are) h = ends-initialiser-sealed c lower below e are
+  follows-sealed outcome lines new (ends_initialiser v c lower below e known are) h = ends-initialiser-sealed c lower below e are
   follows-sealed outcome lines new (returns v lower below none are) h = returns-sealed v lower below none are h
   follows-sealed outcome lines new (ends v lowest are) h = ends-sealed are
   follows-sealed outcome lines new (throws r said left h) k =

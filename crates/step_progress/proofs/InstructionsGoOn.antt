@@ -287,7 +287,7 @@ module _ (classes : List ClassRecord) (tables : List (List NamedClass)) (sound :
       → IsBuiltInstr code.scope code.instr → Some_is_done
   instr-done texts reads takes (inl number) =
       let row = numbers-go code.scope inside.heap f.head.at code.instr f begins.before begins.after
-      (record { sized = begins.sized; holds = begins.holds; goes_on = begins.goes_on }) begins.row number in
+      (record { sized = begins.sized; room = begins.row.room; holds = begins.holds; goes_on = begins.goes_on }) begins.row number in
       numbers-done code.scope free code.instr inside f row.0 row.1 row.2 (row-ends code.scope f.head.at code.instr f row.0 row.1 row.2)
   instr-done texts reads takes (inr (inl (op, (text, leads)))) =
       let object = texts text leads in

@@ -12,6 +12,7 @@ mod NeededClasses
 mod NumbersGoOn
 mod OpcodesByKind
 pub mod PrintedTexts
+pub mod StatesOfFrames
 pub mod ThreadsStandWell
 pub mod ThreadsStep
 mod ThrowablesLeave

@@ -2,6 +2,7 @@
 use Rattle.std.proofs.Common.{◌≡◌, inl, inr, ℕ, zero, suc, ◌<◌, ◌⊎◌, Bool, true, false, List, [], ◌∷◌, ◌++◌, find, Contains, Option, Some, None, refl, subst, arith}
 use Rattle.std.specs.List.{AllByRecursion}
 use Rattle.std.proofs.lemmas.Option.{same_Some}
+use Rattle.jk_model.specs.declared.identifiers.DomainId.{DomainId}
 use Rattle.list_lemmas.proofs.ItemsOfLists.{Contains-here, Contains-there}
 use Rattle.list_lemmas.proofs.LastItems.{last_of}
 
@@ -37,7 +38,7 @@ pub by-bool : (b : Bool) → (b ≡ true) ⊎ (b ≡ false)
 by-bool true = inl refl
 by-bool false = inr refl
 
--- ---- Numbers and classes are the same or not.
+-- ---- Numbers, classes and domains are the same or not.
 
 pub lower_or_not : (a b : ℕ) → (a < b) ⊎ (a < b → ⊥)
 lower_or_not a zero = inr (λ h. omega (arith, h))
@@ -46,3 +47,6 @@ lower_or_not (suc a) (suc b) = elim (lower_or_not a b) [
   | inl l ↦ inl (omega (arith, l))
   | inr n ↦ inr (λ l. n (omega (arith, l)))
 ]
+
+pub domain-from : (a b : DomainId) → a.0 ≡ b.0 → a ≡ b
+domain-from a b e = ap (λ (n : ℕ). let d : DomainId = record { 0 = n } in d) e

@@ -14,15 +14,16 @@ use Rattle.jk_model_typing.specs.Scopes.{CodeScope}
 use Rattle.jk_model_frames.specs.Frames.{FrameState, new_frame}
 use Rattle.jk_model_domains.specs.NumberRows.{NumberRow, UsesLocal, divides_by_zero, exchanges, jumps, switches, uses_local}
 use Rattle.jk_model_domains.specs.NumberRows as Rows
-use Rattle.jk_model_domains.specs.OwnStates.{OwnState}
+use Rattle.jk_model_domains.specs.OwnStates.{HasState, OwnState}
 use Rattle.number_laws.proofs.HeadsStay.{number-head}
-use Rattle.jk_model_machine.specs.Executions.{Calls, CallsStatic, Executes, IsOutcome, GoesOn, Outcome, PrintsLine, Working, calls_static, gets_static, loads_text, numbers, prints_line, puts_static}
+use Rattle.jk_model_machine.specs.Executions.{Calls, CallsStatic, Executes, IsOutcome, GoesOn, Outcome, PrintsLine, Working, calls_static, gets_static, loads_text, numbers, prints_line, puts_static, stored}
 use Rattle.jk_model_machine.specs.Initialising.{IsInitialiserHead, RunsCode}
 use Rattle.jk_model_machine.specs.Machine.{DomainState, Inside, Machine, Segment, Thread}
 use Rattle.jk_model_machine.specs.Places.{RunningSegment, with_frames, without_running}
 use Rattle.jk_model_machine.specs.Steps.{ActingFrame, Acts, Follows, LeavesFrame, LeavesFrames, NeedFalls, Pays, Steps, Throws, Touches, at_place, calls, does, ends, ends_initialiser, goes_on, meets_broken, need_falls, resumed, returns, says, throws, touches}
 use Rattle.step_progress.proofs.ItemsStay.{Each, each-back, each-both, each-front, each-one}
 use Rattle.step_progress.proofs.ListsSearched.{find-there}
+use Rattle.step_progress.proofs.StatesOfFrames.{static-kept}
 
 -- ---- Texts stay.
 
@@ -58,7 +59,7 @@ module _ {m : Machine} {t : ℕ} (p : RunningSegment m t) (payer : DomainState) 
 leaves-one : (classes : List ClassRecord) (f : FrameState) (own : OwnState) (thrown : ClassId) (new : OwnState) (left : ClassId)
     → LeavesFrame classes f own thrown new left → new.literals ≡ own.literals
 leaves-one classes f own thrown new left (inl h) = ap (λ (x : OwnState). x.literals) h.1
-leaves-one classes f own thrown new left (inr h) = ap (λ (x : OwnState). x.literals) h.2
+leaves-one classes f own thrown new left (inr h) = ap (λ (x : OwnState). x.literals) h.3
 
 leaves-texts : (classes : List ClassRecord) (frames : List FrameState) (own : OwnState) (thrown : ClassId) (new : OwnState) (left : ClassId)
     → LeavesFrames classes frames own thrown new left → new.literals ≡ own.literals
@@ -81,7 +82,7 @@ module _ (s : CodeScope) (free : ℕ) (i : Instr) (w new : Working) (outcome : O
     | inr (some, rep, text) ↦ ap (λ (x : FrameState). x.head) rep.after
   ]
 
-  same-head : Executes s free i w new outcome → new.frame.head ≡ w.frame.head
+  pub same-head : Executes s free i w new outcome → new.frame.head ≡ w.frame.head
   same-head (numbers after row inside is) = number-head s w.frame.head.at i w.frame new.frame after row
   same-head (loads_text h) = ap (λ (x : FrameState). x.head) h.pushed.after
   same-head (gets_static h) = ap (λ (x : FrameState). x.head) h.pushed.after
@@ -96,6 +97,15 @@ module _ (s : CodeScope) (free : ℕ) (i : Instr) (w new : Working) (outcome : O
   same-texts (puts_static h) = ap (λ (x : Inside). x.own.literals) h.inside
   same-texts (calls_static h) = ap (λ (x : Inside). x.own.literals) h.inside
   same-texts (prints_line h) = ap (λ (x : Inside). x.own.literals) h.inside
+
+  pub keeps-states : Executes s free i w new outcome → (c : ClassId) → HasState w.inside.own c → HasState new.inside.own c
+  keeps-states (numbers after row inside is) c known = subst (λ (x : Inside). HasState x.own c) (sym inside) known
+  keeps-states (loads_text h) c known = subst (λ (x : Inside). HasState x.own c) (sym h.inside) known
+  keeps-states (gets_static h) c known = subst (λ (x : Inside). HasState x.own c) (sym h.inside) known
+  keeps-states (puts_static h) c known =
+      subst (λ (x : Inside). HasState x.own c) (sym h.inside) (static-kept w.inside.own h.member (stored h.field.kind h.value) c known)
+  keeps-states (calls_static h) c known = subst (λ (x : Inside). HasState x.own c) (sym h.inside) known
+  keeps-states (prints_line h) c known = subst (λ (x : Inside). HasState x.own c) (sym h.inside) known
 
 -- a call comes from invokestatic alone
 no_call-after : (s : CodeScope) (place : ℕ) (i : Instr) (f g called : FrameState) (after : After) → NumberRow s place i f g after
@@ -177,7 +187,7 @@ module _ (m : Machine) (t : ℕ) (P : FrameState → Type 0) where
       fallen : (c : ClassId) (lines : List Line) (new : Machine) → NeedFalls a c lines new → Changes new
       fallen c lines new k = elim k.does [
         | inl (code, leads) ↦ sets_frames a.place _ _ leads (paid-texts a.place a.payer a.pays) (above _ (h.alike a.running.frame _ refl top))
-        | inr (no_code, (d, initialises, leads)) ↦ sets_frames a.place _ _ leads (set-texts a.place a.payer a.pays _ refl) callers
+        | inr (no_code, (d, initialises, known, leads)) ↦ sets_frames a.place _ _ leads (set-texts a.place a.payer a.pays _ refl) callers
       ]
 
       module _ (code : RunsCode m.classes a.running.frame) (free : ℕ) (w : Working) where
@@ -195,7 +205,7 @@ module _ (m : Machine) (t : ℕ) (P : FrameState → Type 0) where
             (each-both P a.running.callers (w.frame ∷ g ∷ []) callers
             (each-both P (w.frame ∷ []) (g ∷ []) (each-one P w.frame (h.alike a.running.frame w.frame (ap (λ (x : FrameHead). x.method) head) top))
             (each-one P g (h.called a code free _ w g (call-only code.scope free code.instr _ w g ex)))))
-        followed outcome lines new ex head texts (ends_initialiser v c lower below some e) =
+        followed outcome lines new ex head texts (ends_initialiser v c lower below some known e) =
             sets_frames a.place _ _ refl (set-texts a.place a.payer a.pays _ texts) callers
         followed outcome lines new ex head texts (returns v lower below none e) =
             sets_frames a.place _ _ refl (set-texts a.place a.payer a.pays w.inside texts)

@@ -1,5 +1,5 @@
 -- An instruction on numbers has a row of what it does, at a frame that holds a frame type with which the instruction may begin.
-use Rattle.std.proofs.Common.{◌≡◌, ◌≢◌, ℕ, zero, suc, ◌+◌, ◌<◌, ◌≤◌, ◌⊎◌, ◌&&◌, ◌||◌, Bool, true, false, not, ℤ, pos, negsuc, List, [], ◌∷◌, ◌++◌, Option, Some, None, slice_get, slice_set, find, IsTrue, refl, sym, ap, subst, ◌∙◌, inl, inr, append_assoc, lit<, lit≤, arith}
+use Rattle.std.proofs.Common.{◌≡◌, ◌≢◌, ℕ, zero, suc, ◌+◌, ◌<◌, ◌≤◌, ◌⊎◌, ◌&&◌, ◌||◌, Bool, true, false, not, ℤ, pos, negsuc, List, [], ◌∷◌, ◌++◌, length, Option, Some, None, slice_get, slice_set, find, IsTrue, refl, sym, ap, subst, ◌∙◌, inl, inr, append_assoc, lit<, lit≤, arith}
 use Rattle.std.specs.Prelude.{int_lt, int_rem}
 use Rattle.std.specs.Int.{w8, w16, w32, w64, int_bit_and, int_bit_or, int_bit_xor, int_rem_euclid, int_shl, int_shr, int_wrap, int_wrapping_add, int_wrapping_div, int_wrapping_mul, int_wrapping_neg, int_wrapping_sub}
 use Rattle.std.specs.List.{AllByRecursion}
@@ -28,10 +28,11 @@ use Rattle.jk_model_typing.specs.Rows.{Does, HasShape, Row}
 use Rattle.jk_model_typing.specs.Scopes.{CodeScope}
 use Rattle.jk_model_typing.specs.Typing.{GoesOnAt}
 use Rattle.jk_model_frames.specs.Frames.{FrameState}
-use Rattle.jk_model_domains.specs.NumberRows.{ARITHMETIC_EXCEPTION, Calculates, Decides, DividesByZero, Exchanges, HasRow, IsConversion, IsOfNumbers, IsOnTop, Moves, NumberRow, Pushes, Replaces, compared, comparisons, copies, distance, divides_by_zero, drops, exchanges, int_divisions, int_operations, is_load, is_null, is_return_of_value, is_same_reference, is_store_of_top, jumps, long_divisions, long_operations, long_shifts, number_opcodes, returns, returns_nothing, shift_zeros, shift_zeros_long, switch_target, switches, uses_local, values_slots, with_value}
+use Rattle.jk_model_domains.specs.NumberRows.{ARITHMETIC_EXCEPTION, Calculates, Decides, DividesByZero, Exchanges, HasRow, IsConversion, IsOfNumbers, IsOnTop, Moves, NumberRow, Pushes, Replaces, compared, comparisons, copies, distance, divides_by_zero, drops, exchanges, int_divisions, int_operations, is_load, is_null, is_return_of_value, is_same_reference, is_store_of_top, jumps, long_divisions, long_operations, long_shifts, number_opcodes, returns, returns_nothing, shift_zeros, shift_zeros_long, switch_target, switches, uses_local, value_slots, values_slots, with_value}
 use Rattle.jk_model_domains.specs.Objects.{NamedObject}
 use Rattle.jk_model_domains.specs.ValueTypes.{EachValueFits, FrameHolds, ValueFits}
-use Rattle.number_laws.proofs.ValuesFit.{value_slots-fit, int_fits, fits-slots, end_fits, value_at, are_met, usable-append}
+use Rattle.typing_lemmas.proofs.LocalsStored.{slots_needed}
+use Rattle.number_laws.proofs.ValuesFit.{value_slots-fit, int_fits, fits-length, fits-slots, end_fits, value_at, are_met, usable-append}
 use Rattle.number_laws.specs.KnownValues.{IsMet, AreMet}
 use Rattle.step_progress.proofs.OpcodesByKind.{constants, conversions, each_among_any, in-range, int_jumps, ints, kinds, listed, locals, longs, moves, other_jumps, returns_of}
 
@@ -77,6 +78,7 @@ found-case test (x ∷ cs) c e = by_test (test x) refl (found-case test cs c)
 module _ (s : CodeScope) (heap : List NamedObject) (place : ℕ) (i : Instr) (f : FrameState) (before after : FrameType) where
   pub record Begins : Type 0 where
     pub sized : IsFrameOf s.code before
+    pub room : IsFrameOf s.code after
     pub holds : FrameHolds s heap f before
     -- control goes on at places
     pub goes_on : (next : ℤ) → GoesOnAt place i next → (n : ℕ) × (next ≡ pos n)
@@ -193,9 +195,9 @@ module _ (s : CodeScope) (heap : List NamedObject) (place : ℕ) (i : Instr) (f 
         uses_local (inl (t.1.0, local.value, load, t.1.1, local.at, refl)),
       )
 
-  one_value : (vs : List Value) (a : VType) → EachValueFits s heap vs (a ∷ []) → (v : Value) × (vs ≡ v ∷ [])
+  one_value : (vs : List Value) (a : VType) → EachValueFits s heap vs (a ∷ []) → (v : Value) × (vs ≡ v ∷ []) × ValueFits s heap v a
   one_value [] a h = absurd h
-  one_value (v ∷ []) a h = (v, refl)
+  one_value (v ∷ []) a h = (v, refl, h.0)
   one_value (v ∷ w ∷ vs) a h = absurd h.1
 
   stores-case : Begins → (d : Demand) (k : ℕ) → IsTrue (is_store_of_top k) → i.op ≡ k → Of (StoresLocal d) → Goes
@@ -204,10 +206,15 @@ module _ (s : CodeScope) (heap : List NamedObject) (place : ℕ) (i : Instr) (f 
       let split = end_fits s heap f.stack does.0 (does.1 ∷ []) (subst (EachValueFits s heap f.stack) does.2 h.holds.stack) in
       let one = one_value split.back does.1 split.back_fits in
       let stack : f.stack ≡ split.front ++ one.0 ∷ [] = split.whole ∙ ap (λ (xs : List Value). split.front ++ xs) one.1 in
+      let usable = usable-append does.0 (does.1 ∷ []) (subst (AllByRecursion IsUsable) does.2 h.sized.usable) in
+      let many = fits-length s heap f.locals before.locals h.holds.locals in
+      let slot = value_slots-fit s heap one.0 does.1 one.2 usable.1.0 in
+      let needed = slots_needed before.locals after.locals t.1.0 does.1 does.4 (ap (λ (x : FrameType). x.locals) does.5) h.room.halves in
+      let there : t.1.0 + value_slots one.0 ≤ length f.locals = omega (arith, many, slot, needed) in
       let store : IsTrue (is_store_of_top i.op) = subst (λ (op : ℕ). IsTrue (is_store_of_top op)) (sym e) is in (
         record f { locals = with_value f.locals t.1.0 one.0; stack = split.front },
         Next.Goto (place + 1),
-        uses_local (inr (inl (t.1.0, one.0, split.front, store, t.1.1, stack, refl))),
+        uses_local (inr (inl (t.1.0, one.0, split.front, store, t.1.1, stack, there, refl))),
       )
 
   increments-case : Begins → i.op ≡ 0x84 → Of IncrementsLocal → Goes

@@ -13,7 +13,8 @@ use Rattle.jk_model_machine.specs.Places.{RunningFrame, RunningSegment}
 use Rattle.jk_model_machine.specs.Sealed.{FitsAsTop, FramesFit, IsAtHome, IsSealed, IsSealedInside, KnowsClassOf}
 use Rattle.step_progress.specs.BuiltCodes.{AreBuiltCodes, IsBuiltInstr, RunNoConstructors, RunsNoConstructor}
 use Rattle.step_progress.proofs.CodeStandsHere.{MayBegin, stands-here}
-use Rattle.step_progress.proofs.ListsSearched.{all-last, by-end, find-there}
+use Rattle.step_progress.proofs.ListsSearched.{all-last, by-end, domain-from, find-there}
+use Rattle.step_progress.proofs.StatesOfFrames.{StateIsThere, states-there}
 
 pub record Placed {m : Machine} {t : ℕ} (p : RunningSegment m t) : Type 0 where
   pub lowest : p.lower ≡ []
@@ -24,6 +25,7 @@ pub record Placed {m : Machine} {t : ℕ} (p : RunningSegment m t) : Type 0 wher
   pub at_home : AllByRecursion (IsAtHome p.domain) p.segment.frames
   pub plain : (f : FrameState) → Contains p.segment.frames f → RunsNoConstructor m.classes f
   pub low : (f : FrameState) → slice_get p.segment.frames 0 ≡ Some f → f.head.initialises ≡ None
+  pub states : AllByRecursion (StateIsThere p.inside.own) p.segment.frames
 
 pub placed : (m : Machine) (t : ℕ) → IsSealed m → RunNoConstructors m → (thread : Thread) → thread_numbered m t ≡ Some thread
     → (p : RunningSegment m t) × Placed p
@@ -32,7 +34,8 @@ placed m t sealed plain thread is =
     let one = sealed.live thread there.0 in
     let has : Contains thread.segments one.0 = subst (λ (xs : List Segment). Contains xs one.0) (sym one.1) (Contains-here one.0 []) in
     let s = sealed.segments thread one.0 there.0 has in
-    let domain : Contains m.domains s.domain = Contains-at m.domains one.0.domain.0 s.domain s.is_domain in (
+    let domain : Contains m.domains s.domain = Contains-at m.domains one.0.domain.0 s.domain s.is_domain in
+    let number : s.domain.number.0 ≡ one.0.domain.0 = sealed.numbered one.0.domain.0 s.domain s.is_domain in (
       record {
         thread = thread;
         is_thread = is;
@@ -41,6 +44,7 @@ placed m t sealed plain thread is =
         are_segments = one.1;
         domain = s.domain;
         is_domain = s.is_domain;
+        numbered = domain-from s.domain.number one.0.domain number;
         inside = s.inside;
         is_inside = s.is_inside;
       },
@@ -53,6 +57,7 @@ placed m t sealed plain thread is =
         at_home = s.at_home;
         plain = λ f h. plain thread one.0 f there.0 has h;
         low = s.lowest;
+        states = states-there m sealed thread one.0 s.domain s.inside there.0 one.1 domain number s.is_inside;
       },
     )
 
@@ -68,6 +73,7 @@ pub record OnTop {m : Machine} {t : ℕ} {p : RunningSegment m t} (r : RunningFr
   pub fits : FitsAsTop m.classes p.inside.heap r.frame
   pub home : IsAtHome p.domain r.frame
   pub plain : RunsNoConstructor m.classes r.frame
+  pub states : AllByRecursion (StateIsThere p.inside.own) (r.callers ++ r.frame ∷ [])
 
 pub on-top : {m : Machine} {t : ℕ} (p : RunningSegment m t) → Placed p → (r : RunningFrame p) × OnTop r
 on-top {m = m} {t = t} p here = elim (by-end p.segment.frames) [
@@ -79,6 +85,7 @@ on-top {m = m} {t = t} p here = elim (by-end p.segment.frames) [
           fits = top-fits m.classes p.inside.heap callers f (subst (FramesFit m.classes p.inside.heap) e here.fit);
           home = all-last (IsAtHome p.domain) callers f (subst (AllByRecursion (IsAtHome p.domain)) e here.at_home);
           plain = here.plain f (subst (λ (fs : List FrameState). Contains fs f) (sym e) (Contains-push callers f));
+          states = subst (AllByRecursion (StateIsThere p.inside.own)) e here.states;
         },
       )
 ]

@@ -1,5 +1,6 @@
 -- In a sealed machine each thread number has a step.
 use Rattle.std.proofs.Common.{◌≡◌, ◌≢◌, inl, inr, ℕ, zero, suc, ◌⊎◌, Bool, true, false, ◌==◌, List, [], ◌∷◌, ◌++◌, length, take, Contains, Option, Some, None, slice_get, refl, sym, ap, subst, ◌∙◌, lit<, arith}
+use Rattle.std.specs.List.{AllByRecursion}
 use Rattle.std.specs.Option.{option_map_or}
 use Rattle.std.proofs.lemmas.Bool.{eqb-true}
 use Rattle.std.proofs.lemmas.Option.{same_Some}
@@ -28,7 +29,7 @@ use Rattle.jk_model_domains.specs.declared.states.ClassState.{ClassState}
 use Rattle.jk_model_domains.specs.declared.states.ClassState.TheVariants as State
 use Rattle.jk_model_frames.specs.Frames.{FrameState, head_chunks}
 use Rattle.jk_model_domains.specs.Objects.{PRINT_STREAM}
-use Rattle.jk_model_domains.specs.OwnStates.{ClassPart, OwnState, part_of, state_of}
+use Rattle.jk_model_domains.specs.OwnStates.{ClassPart, HasState, OwnState, part_of, state_of}
 use Rattle.jk_model_sound_classes.specs.SoundClasses.{AreSoundClasses}
 use Rattle.jk_model_machine.specs.Executions.{Calls, GoesOn, Outcome, Raises, Returns, Says, Working}
 use Rattle.jk_model_machine.specs.Initialising.{FrameNeeds, HasNoClinit, IsInitialiserHead}
@@ -38,9 +39,11 @@ use Rattle.jk_model_machine.specs.Sealed.{IsSealed, IsSealedObject, KnowsClassOf
 use Rattle.jk_model_machine.specs.Steps.{ActingFrame, Acts, Follows, IsHeld, IsInProgressElsewhere, IsReady, Pays, Steps, Throws, calls, does, ends, ends_initialiser, goes_on, meets_broken, need_falls, returns, says, throws, touches}
 use Rattle.step_progress.specs.BuiltCodes.{AreBuiltCodes, HaveTexts, RunNoConstructors}
 use Rattle.step_progress.proofs.InstructionsGoOn.{MayFollow, instr-done}
-use Rattle.step_progress.proofs.ListsSearched.{by-bool, by-end, by-option, find-there, lower_or_not}
+use Rattle.step_progress.proofs.ListsSearched.{all-last, by-bool, by-end, by-option, find-there, lower_or_not}
+use Rattle.step_progress.proofs.MachinesChange.{keeps-states, same-head}
 use Rattle.step_progress.proofs.NeededClasses.{NeedsOne, frame-needs}
 use Rattle.step_progress.proofs.PrintedTexts.{ArePrintable, print-params, said}
+use Rattle.step_progress.proofs.StatesOfFrames.{StateIsThere, states-after}
 use Rattle.step_progress.proofs.ThreadsStandWell.{OnTop, Placed, on-top, one-top, placed, stands}
 use Rattle.step_progress.proofs.ThrowablesLeave.{CanBeRaised, system-record, throws-there}
 
@@ -132,9 +135,13 @@ module _ (m : Machine) (t : ℕ) (sealed : IsSealed m) (sound : AreSoundClasses 
     not-held awake none (inr (other, c, needs, elsewhere)) =
         none c (subst (λ (f : FrameState). FrameNeeds m.classes f c) (one-top other r) needs) elsewhere
 
-    throw : (payer : DomainState) (inside : Inside) (frames : List FrameState) (raise : Raise) → CanBeRaised raise
-        → (lines : List Line) × (new : Machine) × Throws p payer inside frames raise lines new
-    throw payer inside frames raise can = throws-there p sound.system here.lowest here.no_orphan payer inside frames raise can
+    throw : (payer : DomainState) (inside : Inside) (frames : List FrameState) (raise : Raise) → AllByRecursion (StateIsThere inside.own) frames
+        → CanBeRaised raise → (lines : List Line) × (new : Machine) × Throws p payer inside frames raise lines new
+    throw payer inside frames raise known can = throws-there p sound.system here.lowest here.no_orphan payer inside frames raise known can
+
+    -- a class that the top frame initialises has a part
+    state-on-top : StateIsThere p.inside.own r.frame
+    state-on-top = all-last (StateIsThere p.inside.own) r.callers r.frame top.states
 
     -- ---- A class that isn't ready.
 
@@ -184,7 +191,7 @@ module _ (m : Machine) (t : ℕ) (sealed : IsSealed m) (sound : AreSoundClasses 
           } in
           elim (lower_or_not (free_chunks m p.domain) (head_chunks head)) [
             | inl short ↦
-                let thrown = throw payer p.inside p.segment.frames (Raised.Standing Stand.StackOverflowError) (record { 0 = 41 }, refl, lit< tt) in
+                let thrown = throw payer p.inside p.segment.frames (Raised.Standing Stand.StackOverflowError) here.states (record { 0 = 41 }, refl, lit< tt) in
                 acts thrown.0 thrown.1
                 (touches acting c needs (record { untouched = fresh; head = head; is_head = is_head; does = inr (short, thrown.2) }))
             | inr enough ↦ acts [] _
@@ -198,7 +205,7 @@ module _ (m : Machine) (t : ℕ) (sealed : IsSealed m) (sound : AreSoundClasses 
 
       meet_broken : (c : ClassId) → FrameNeeds m.classes r.frame c → state_of p.inside.own c ≡ State.Broken → StepIsThere
       meet_broken c needs broken =
-          let thrown = throw payer p.inside p.segment.frames (Raised.Fresh (record { 0 = 36 })) (record { 0 = 36 }, refl, lit< tt) in
+          let thrown = throw payer p.inside p.segment.frames (Raised.Fresh (record { 0 = 36 })) here.states (record { 0 = 36 }, refl, lit< tt) in
           acts thrown.0 thrown.1 (meets_broken acting c needs (record { broken = broken; throws = thrown.2 }))
 
       -- ---- A need falls.
@@ -216,7 +223,8 @@ module _ (m : Machine) (t : ℕ) (sealed : IsSealed m) (sound : AreSoundClasses 
       need_ends c some ready = elim (by-option r.frame.head.method) [
         | inl none ↦
             let class = initialises-some none in
-            acts [] _ (need_falls acting c (record { need = some; ready = ready; silent = refl; does = inr (none, (class.0, class.1, refl)) }))
+            let known = state-on-top class.0 class.1 in
+            acts [] _ (need_falls acting c (record { need = some; ready = ready; silent = refl; does = inr (none, (class.0, class.1, known, refl)) }))
         | inr (x, is) ↦
             let apart : r.frame.head.method ≢ None = λ none. (let both : Some x ≡ None = sym is ∙ none in cc) in
             acts [] _ (need_falls acting c (record { need = some; ready = ready; silent = refl; does = inl (apart, refl) }))
@@ -224,12 +232,13 @@ module _ (m : Machine) (t : ℕ) (sealed : IsSealed m) (sound : AreSoundClasses 
 
       -- ---- An instruction.
 
-      follow : (w : Working) (outcome : Outcome) → MayFollow r.frame w.frame outcome
+      follow : (w : Working) (outcome : Outcome) → w.frame.head ≡ r.frame.head
+          → ((c : ClassId) → HasState p.inside.own c → HasState w.inside.own c) → MayFollow r.frame w.frame outcome
           → (lines : List Line) × (new : Machine) × Follows acting w outcome lines new
-      follow w (GoesOn n) h = ([], _, goes_on n)
-      follow w (Says text n) h = (Said p.domain.name text ∷ [], _, says text n)
-      follow w (Calls called) h = ([], _, calls called)
-      follow w (Returns v) h = elim (by-option w.frame.head.initialises) [
+      follow w (GoesOn n) head kept h = ([], _, goes_on n)
+      follow w (Says text n) head kept h = (Said p.domain.name text ∷ [], _, says text n)
+      follow w (Calls called) head kept h = ([], _, calls called)
+      follow w (Returns v) head kept h = elim (by-option w.frame.head.initialises) [
         | inl none ↦ elim (by-end r.callers) [
           | inl alone ↦ (Ended (record { 0 = t }) ∷ [], _, ends v here.lowest alone)
           | inr (lower, below, e) ↦ ([], _, returns v lower below none e)
@@ -241,11 +250,14 @@ module _ (m : Machine) (t : ℕ) (sealed : IsSealed m) (sound : AreSoundClasses 
               let low = here.low r.frame first in
               let both : Some c ≡ None = sym some ∙ ap (λ (x : FrameHead). x.initialises) h ∙ low in
               absurd cc
-          | inr (lower, below, e) ↦ ([], _, ends_initialiser v c lower below some e)
+          | inr (lower, below, e) ↦
+              let known = kept c (state-on-top c (ap (λ (x : FrameHead). x.initialises) (sym head) ∙ some)) in
+              ([], _, ends_initialiser v c lower below some known e)
         ]
       ]
-      follow w (Raises raise) h =
-          let thrown = throw payer w.inside (r.callers ++ w.frame ∷ []) raise h in
+      follow w (Raises raise) head kept h =
+          let known = states-after p.inside.own w.inside.own r.callers r.frame w.frame kept head top.states in
+          let thrown = throw payer w.inside (r.callers ++ w.frame ∷ []) raise known h in
           (thrown.0, thrown.1, throws raise thrown.0 thrown.1 thrown.2)
 
       stream-params : (x : MemberId) (method : MethodRecord) → MethodIs m.classes x method → x.class ≡ PRINT_STREAM → ArePrintable method.params
@@ -277,7 +289,9 @@ module _ (m : Machine) (t : ℕ) (sealed : IsSealed m) (sound : AreSoundClasses 
           (subst (λ (cs : List ClassRecord). (c : ClassId) (z : ClassRecord) → record_of cs c ≡ Some z → z.parent ≢ Some STRING) all built.texts_closed)
           (λ e h. subst (λ (cs : List ClassRecord). IsSealedObject cs p.domain.table p.inside.heap e.object) all (here.inside.objects e h)))
           stream-params s.built in
-          let next = follow done.0 done.1 done.3 in
+          let head = same-head code.scope (free_chunks m p.domain) code.instr _ done.0 done.1 done.2 in
+          let kept = keeps-states code.scope (free_chunks m p.domain) code.instr _ done.0 done.1 done.2 in
+          let next = follow done.0 done.1 head kept done.3 in
           acts next.0 next.1
           (does acting (record {
             no_need = none;
@@ -304,7 +318,7 @@ module _ (m : Machine) (t : ℕ) (sealed : IsSealed m) (sound : AreSoundClasses 
     pending : (free : IsHeld p → ⊥) (payer : DomainState) → Pays p.domain payer → Look → StepIsThere
     pending free payer pays meets = elim (by-bool p.segment.stop) [
       | inl stop ↦
-          let thrown = throw payer p.inside p.segment.frames (Raised.Standing Stand.ThreadDeath) (record { 0 = 34 }, refl, lit< tt) in (
+          let thrown = throw payer p.inside p.segment.frames (Raised.Standing Stand.ThreadDeath) here.states (record { 0 = 34 }, refl, lit< tt) in (
             thrown.0,
             thrown.1,
             inr (inr (inr (inl (record {
@@ -319,7 +333,7 @@ module _ (m : Machine) (t : ℕ) (sealed : IsSealed m) (sound : AreSoundClasses 
           )
       | inr no_stop ↦ elim (by-bool p.segment.revoked) [
         | inl revoked ↦
-            let thrown = throw payer p.inside p.segment.frames (Raised.Standing Stand.Revoked) (record { 0 = 42 }, refl, lit< tt) in (
+            let thrown = throw payer p.inside p.segment.frames (Raised.Standing Stand.Revoked) here.states (record { 0 = 42 }, refl, lit< tt) in (
               thrown.0,
               thrown.1,
               inr (inr (inr (inl (record {

@@ -1,7 +1,7 @@
 -- The local is there, and the one after it where the value is a long.
 use Rattle.std.proofs.Common.{◌+◌, ◌<◌, ap, ◌∙◌, arith}
 use Rattle.jk_model_domains.specs.NumberRows.{value_slots}
-use Rattle.number_ops.proofs.LocalsUsed.{local_of_many, many_after, many_set, stored_long, stored_short, within_many}
+use Rattle.number_ops.proofs.LocalsUsed.{local_of_many, many_after, many_at, many_set, stored_long, stored_short, within_many}
 use Rattle.number_laws.proofs.FrameParts.{same_index}
 use Rattle.number_laws.proofs.SlotsOfValues.{at_least_one}
 use Rattle.number_ops.proofs.SlotsTaken.{popped_is}
@@ -37,10 +37,14 @@ set_local-requires-in-Long g c =
 
 pub returns-in-Long : goal.returns-in-Long
 returns-in-Long g c =
+    let same = same_index _ _ _ c.requires.finds.2 c.local_of-n.ensures in
+    let taken = popped_is _ _ _ _ _ c.requires.finds.3 c.pop-v.ensures in
     stored_long _ _ _ _ _ c.args.i.now c.local_of-n.result _ _ c.pop-v.ensures c.set_local.ensures c.set_local-in-Long.ensures c.in-Long.is
-    c.requires.op c.local_of-n.ensures
+    c.requires.op c.local_of-n.ensures (many_at _ _ _ _ _ _ same taken c.requires.finds.4)
 
 pub returns-in_default : goal.returns-in_default
 returns-in_default g c =
+    let same = same_index _ _ _ c.requires.finds.2 c.local_of-n.ensures in
+    let taken = popped_is _ _ _ _ _ c.requires.finds.3 c.pop-v.ensures in
     stored_short _ _ _ _ c.args.i.now c.local_of-n.result _ c.pop-v.ensures c.set_local.ensures c.in_default.not-Long c.requires.op
-    c.local_of-n.ensures
+    c.local_of-n.ensures (many_at _ _ _ _ _ _ same taken c.requires.finds.4)
