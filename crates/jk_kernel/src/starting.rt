@@ -1,12 +1,13 @@
 //! Starts of threads.
 
-ghost use Rattle.std.specs.Prelude.{◌≡◌, ◌+◌, ◌≤◌, ◌<◌, ◌-◌, ◌^◌, ◌&&◌, ◌∷◌, suc, [], length, take, List as AList, None, Some, Err, IfOk, IfErr, OnOk, OnErr, MatchOption, codes};
+ghost use Rattle.std.specs.Prelude.{◌≡◌, ◌+◌, ◌≤◌, ◌<◌, ◌-◌, ◌^◌, ◌&&◌, ◌∷◌, suc, [], true, length, take, List as AList, None, Some, Err, IfOk, IfErr, OnOk, OnErr, MatchOption, codes};
 ghost use Rattle.jk_model.specs.Descriptors.{IsMethodText};
 ghost use Rattle.jk_model.specs.Flags.{has, PUBLIC, STATIC};
 ghost use Rattle.jk_model.specs.declared.output.Line.{Line};
 ghost use Rattle.jk_model.specs.declared.output.Line.TheVariants as Says;
 ghost use Rattle.jk_model.specs.Outside.{Appends, AppendsPart, HasRisen, NeverFalls};
 ghost use Rattle.jk_model.specs.Output.{text_of};
+ghost use Rattle.jk_model.specs.ScriptGrammar.{is_name};
 ghost use Rattle.jk_model_classes.specs.Worlds.{DomainRecord, class_named, domain_of};
 ghost use Rattle.jk_model_frames.specs.Frames.{head_chunks};
 ghost use Rattle.jk_model_machine.specs.Machine.{started_in};
@@ -77,6 +78,7 @@ impl<F: FrameStore + Drop> Kernel<F> {
         words: &[Bytes],
         out: &mut S,
     ) -> Result<(), EventAnswer>
+        requires named { is_name name.now ≡ true }
         requires no_words { words.now ≡ [] }
         requires class { length class.now ≤ 255 }
         requires thread { self.old.next_thread < 2 ^ 32 - 1 }

@@ -124,7 +124,7 @@ start_built name (class ∷ more) event e one =
     let k = ok_if (nat_le (length class) MAX_WORD) (Ok (Start name class [])) BadName event h.1 in
     let is : event ≡ Start name class [] = cc in
     let short : length class ≤ 255 = grind (arith, nat_tests) in
-    subst IsBuilt (sym is) (short, refl)
+    subst IsBuilt (sym is) (h.0, short, refl)
 
 -- ---- `turn` and `round`.
 

@@ -35,7 +35,7 @@ moment out out_faults asked files_faults = record {
 -- words, and kills, are no events of any script yet.
 abbrev pub IsBuilt : Event → Type 0
 IsBuilt (Domain name quotas) = (is_name name ≡ true) × (1 ≤ quotas.chunks) × (quotas.chunks ≤ 262144)
-IsBuilt (Start name class words) = (length class ≤ 255) × (words ≡ [])
+IsBuilt (Start name class words) = (is_name name ≡ true) × (length class ≤ 255) × (words ≡ [])
 IsBuilt (Turn thread steps) = ⊤
 IsBuilt (Round rounds steps) = ⊤
 IsBuilt (Kill name) = ⊥

@@ -1,8 +1,9 @@
 //! The events of a script, one by one and all of them.
 
-ghost use Rattle.std.specs.Prelude.{◌≡◌, ℕ, suc, ◌<◌, ◌≤◌, ◌^◌, ◌-◌, List, [], length, Err, IsSome};
+ghost use Rattle.std.specs.Prelude.{◌≡◌, ℕ, suc, ◌<◌, ◌≤◌, ◌^◌, ◌-◌, List, [], true, length, Err, IsSome};
 ghost use Rattle.std.specs.List.{AllByRecursion};
 ghost use Rattle.jk_model.specs.Outside.{NeverFalls};
+ghost use Rattle.jk_model.specs.ScriptGrammar.{is_name};
 ghost use Rattle.jk_model_machine.specs.Run.{Rounds, Turns};
 ghost use Rattle.jk_model_machine.specs.Starts.{Starts};
 ghost use Rattle.jk_kernel.specs.Openings.{Opens};
@@ -69,6 +70,7 @@ fn start_thread<S: Sink>(
     words: &[Bytes],
     out: &mut S,
 ) -> Result<(), Stop>
+    requires named { is_name name.now ≡ true }
     requires no_words { words.now ≡ [] }
     requires class { length class.now ≤ 255 }
     requires thread { kernel.old.next_thread < 2 ^ 32 - 1 }
