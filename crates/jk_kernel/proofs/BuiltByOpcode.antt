@@ -14,6 +14,7 @@ use Rattle.jk_model_classes.specs.declared.records.Link.TheVariants as To
 use Rattle.jk_model_classes.specs.declared.records.LinkedCode.{LinkedCode}
 use Rattle.jk_model_classes.specs.declared.records.MethodRecord.{MethodRecord}
 use Rattle.jk_model_classes.specs.Items.{HasItem}
+use Rattle.class_lemmas.proofs.LinksToMembers.{one_linked}
 use Rattle.jk_model_typing.specs.Scopes.{CodeScope, LeadsToLink}
 use Rattle.jk_model_domains.specs.NumberRows.{IsOfNumbers, number_opcodes}
 use Rattle.jk_model_sound_classes.specs.NamedMembers.{NamesMethod}
@@ -66,9 +67,6 @@ in_none (x ∷ rows) op (first, rest) (suc k, r, at, bounds) = in_none rows op r
 
 two_codes : (op a b : ℕ) → op ≡ a → op ≡ b → a ≡ b
 two_codes op a b e f = sym e ∙ f
-
-one_member : (c d : ClassId) (m n : MemberId) → To.Method c m ≡ To.Method d n → m ≡ n
-one_member c d m n e = cc
 
 -- It is no load of a text, no getstatic and no call.
 pub record IsNoOther (s : CodeScope) (i : Instr) : Type 0 where
@@ -128,5 +126,5 @@ module _ (s : CodeScope) (i : Instr) where
   pub call_left : IsBuiltInstr s i → i.op ≡ 0xb8 → (c : ClassId) (member : MemberId) → IsLink s i (To.Method c member) → CallsCodeOf s i member
   call_left built e c member link =
       let call = (calls_code built e).1 in
-      let same : call.0 ≡ member = one_member call.3.0 c call.0 member (link.only (To.Method call.3.0 call.0) call.3.1) in
+      let same : call.0 ≡ member = one_linked call.3.0 c call.0 member (link.only (To.Method call.3.0 call.0) call.3.1) in
       record { method = call.1; code = call.2; names = subst (λ (x : MemberId). NamesMethod s i x call.1) same call.3; body = call.4 }

@@ -6,12 +6,12 @@ use Rattle.jk_model.specs.declared.values.Value.{Value}
 use Rattle.jk_model_classes.specs.declared.records.ClassRecord.{ClassRecord}
 use Rattle.jk_model_typing.specs.FrameTypes.{IsFrameOf}
 use Rattle.jk_model_typing.specs.Scopes.{CodeScope}
+use Rattle.typing_lemmas.proofs.OneScope.{one-scope}
 use Rattle.jk_model_frames.specs.Frames.{FrameState}
 use Rattle.jk_model_domains.specs.Objects.{NamedObject}
+use Rattle.number_laws.proofs.ValuesFit.{fits-length}
 use Rattle.jk_model_machine.specs.Sealed.{FitsHere}
 use Rattle.jk_model_machine.specs.Steps.{resumed}
-use Rattle.sealed_steps.proofs.OneScope.{one-scope}
-use Rattle.sealed_steps.proofs.ValuesAbove.{fits-length}
 use Rattle.jk_kernel.specs.DecodedCodes.{AreDecoded}
 use Rattle.jk_kernel.specs.Returning.{CanResume, results}
 use Rattle.jk_kernel.proofs.TopCode.{few_slots}

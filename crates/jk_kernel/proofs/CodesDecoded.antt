@@ -4,6 +4,8 @@ use Rattle.std.specs.Prelude.{◌+ℤ◌}
 use Rattle.std.proofs.lemmas.Bool.{cases_lt}
 use Rattle.std.proofs.lemmas.Int.{ints}
 use Rattle.std.proofs.lemmas.Option.{none-some, same_Some, slice_get_within}
+use Rattle.list_lemmas.proofs.ItemsByPlace.{slice_get-front, item_there, slice_get-behind}
+use Rattle.list_lemmas.proofs.ItemsOfLists.{place_of}
 use Rattle.jk_model.specs.declared.class_file.ClassFile.{ClassFile}
 use Rattle.jk_model.specs.declared.class_file.MemberInfo.{MemberInfo}
 use Rattle.jk_model.specs.declared.identifiers.ClassId.{ClassId}
@@ -21,14 +23,14 @@ use Rattle.jk_model_classes.specs.declared.sharing.Stub.{Stub}
 use Rattle.jk_model_classes.specs.LinkRules.{LinkScope}
 use Rattle.jk_model_classes.specs.SystemRecords.{AreSystemRecords}
 use Rattle.jk_model_classes.specs.Worlds.{NamedClass, WorldRecord}
+use Rattle.model_lemmas.proofs.PlacesOfInstrs.{as_many as decoded-short}
+use Rattle.class_lemmas.proofs.CodeOfMethods.{system_has_none}
 use Rattle.jk_model_folders.specs.declared.files.FolderFiles.{FolderFiles}
 use Rattle.jk_model_folders.specs.LinkedClasses.{GoAlong, IsBodyFor, IsCaseFor, IsInstrFor}
 use Rattle.jk_model_folders.specs.Loads.{Loads}
 use Rattle.jk_model_machine.specs.Machine.{IsFirstMachine, Machine}
 use Rattle.jk_model_typing.specs.Scopes.{CodeScope, IsScopeOf}
-use Rattle.class_growth.proofs.ItemsOfLists.{item-at, place-of, slice_get-front}
 use Rattle.sound_folders.proofs.NewClasses.{own_file}
-use Rattle.sound_folders.proofs.TablesAgain.{slice_get-behind}
 use Rattle.jk_kernel.specs.DecodedCodes.{AreDecoded, IsDecoded}
 
 abbrev keys_of : List SwitchCase → List ℤ
@@ -86,13 +88,6 @@ one-read : (at : ℕ) (bytes : List ℕ) (i : Instr) → IsInstr at bytes i → 
 one-read at [] i h = absurd h
 one-read at (op ∷ operands) i h = (means-in-order (format_of op) at op operands i h, omega arith)
 
-decoded-short : (at : ℕ) (bytes : List ℕ) (instrs : List Instr) → AreInstrs at bytes instrs → length instrs ≤ length bytes
-decoded-short at bytes [] h = omega arith
-decoded-short at bytes (i ∷ instrs) (front, rest, is, cut, more) =
-    let own = (one-read at front i is).1 in
-    let others = decoded-short (at + length front) rest instrs more in
-    omega (arith, own, others, ap length cut, length-append front rest)
-
 decoded-in-order : (at : ℕ) (bytes : List ℕ) (instrs : List Instr) → AreInstrs at bytes instrs → (k : ℕ) (i : Instr)
     → slice_get instrs k ≡ Some i → IsInOrder i
 decoded-in-order at bytes [] h k i is = absurd (none-some i is)
@@ -125,25 +120,22 @@ body-decoded s c info flags body code (inr (concrete, (a, bytes, linked, has, of
     subst IsDecoded same (record {
       short = omega (arith, short, is_linked.instrs.as_many, layout.code.1);
       keys = λ i on.
-          let place = place-of linked.instrs i on in
-          let told = item-at is_linked.decoded place.0 (omega (arith, slice_get_within linked.instrs place.0 i place.1, is_linked.instrs.as_many)) in
+          let place = place_of linked.instrs i on in
+          let told = item_there is_linked.decoded place.0 (omega (arith, slice_get_within linked.instrs place.0 i place.1, is_linked.instrs.as_many)) in
           placed-in-order is_linked.decoded told.0 i (is_linked.instrs.each place.0 told.0 i told.1 place.1)
           (decoded-in-order 0 bytes.code is_linked.decoded is_linked.decodes place.0 told.0 told.1);
     })
 
 -- ---- The system classes have no code.
 
-no-system-code : (number : ℕ) (code : LinkedCode) → Does.System number ≡ Does.Linked code → ⊥
-no-system-code number code e = cc
-
 system-decoded : (classes : List ClassRecord) → AreSystemRecords classes → AreDecoded classes
 system-decoded classes system m s is =
     let c : ℕ = m.class.0 in
-    let entry = item-at system_classes c (omega (arith, slice_get_within classes c is.class is.class_is, system.as_many)) in
+    let entry = item_there system_classes c (omega (arith, slice_get_within classes c is.class is.class_is, system.as_many)) in
     let of_system = system.each c entry.0 is.class entry.1 is.class_is in
-    let told = item-at entry.0.methods m.index (omega (arith, slice_get_within is.class.methods m.index s.method is.method, of_system.method_count)) in
+    let told = item_there entry.0.methods m.index (omega (arith, slice_get_within is.class.methods m.index s.method is.method, of_system.method_count)) in
     let of_method = of_system.methods m.index told.0 s.method told.1 is.method in
-    absurd (no-system-code _ s.code (sym of_method.body ∙ is.body))
+    absurd (system_has_none _ s.code (sym of_method.body ∙ is.body))
 
 pub decoded-first : (m : Machine) → IsFirstMachine m → AreDecoded m.classes
 decoded-first m first = system-decoded m.classes first.system
@@ -167,7 +159,7 @@ module _ {f : FolderFiles} {old : WorldRecord} {name : List ℕ} {first : ClassI
       let at : slice_get added k ≡ Some is.class = sym (slice_get-behind old.classes added k) ∙ there in
       let of = own_file l k is.class at in
       let methods = of.is_record.methods in
-      let told = item-at of.file.methods m.index (omega (arith, slice_get_within is.class.methods m.index s.method is.method, methods.as_many)) in
+      let told = item_there of.file.methods m.index (omega (arith, slice_get_within is.class.methods m.index s.method is.method, methods.as_many)) in
       let from = methods.each m.index told.0 s.method told.1 is.method in
       body-decoded _ of.file told.0 s.method.flags s.method.body s.code from.body is.body
 

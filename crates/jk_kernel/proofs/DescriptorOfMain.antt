@@ -8,30 +8,7 @@ use Rattle.jk_model.specs.declared.descriptors.Base.TheVariants as Said
 use Rattle.jk_model.specs.declared.descriptors.FieldType.{FieldType}
 use Rattle.jk_model.specs.declared.descriptors.MethodType.{MethodType}
 use Rattle.jk_model.specs.Descriptors.{IsClassName, IsMethodText, IsNameUnit}
-
-abbrev is_unit : ℕ → Bool
-is_unit u = not (u == 46) && not (u == 59) && not (u == 91) && not (u == 47)
-
-unit : (u : ℕ) → is_unit u ≡ true → IsNameUnit u
-unit u h = (λ e. grind (arith, common_steps), λ e. grind (arith, common_steps), λ e. grind (arith, common_steps), λ e. grind (arith, common_steps))
-
-units : (us : List ℕ) → list_all is_unit us ≡ true → AllByRecursion IsNameUnit us
-units [] h = tt
-units (u ∷ us) h = let parts = and_parts (is_unit u) (list_all is_unit us) h in (unit u parts.0, units us parts.1)
-
-no_name : (u : ℕ) (us : List ℕ) → u ∷ us ≢ []
-no_name u us e = cc
-
-no_names : (u : List ℕ) (us : List (List ℕ)) → u ∷ us ≢ []
-no_names u us e = cc
-
-string_name : IsClassName (codes "java/lang/String")
-string_name = (
-  codes "java" ∷ codes "lang" ∷ codes "String" ∷ [],
-  no_names _ _,
-  ((no_name _ _, units (codes "java") refl), ((no_name _ _, units (codes "lang") refl), ((no_name _ _, units (codes "String") refl), tt))),
-  refl,
-)
+use Rattle.model_lemmas.proofs.NamesByTest.{name_unit, name_units, some_units, some_names, string_name}
 
 abbrev texts : FieldType
 texts = record { dims = 1; base = Said.Class (codes "java/lang/String") }

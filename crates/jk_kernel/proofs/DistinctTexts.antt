@@ -3,7 +3,7 @@ use Rattle.std.proofs.Common.{◌≡◌, ℕ, suc, ◌≤◌, Bool, true, false,
 use Rattle.std.specs.List.{AllByRecursion, IsDistinct}
 use Rattle.std.proofs.lemmas.List.{map-id}
 use Rattle.std.proofs.lemmas.Slice.Eq.{bytes_eq-Decides}
-use Rattle.class_growth.proofs.ItemsOfLists.{each-from, place-of}
+use Rattle.list_lemmas.proofs.ItemsOfLists.{place_of, each-from}
 use Rattle.folder_reader.proofs.NoMoreThanFound.{length_within}
 
 abbrev pub DifferByPlace : List (List ℕ) → Type 0
@@ -16,7 +16,7 @@ first-apart t texts differ x on = by (bytes_eq t x) refl
     by false e = e
     by true e =
         let same : t ≡ x = (bytes_eq-Decides t x).0 e in
-        let place = place-of texts x on in
+        let place = place_of texts x on in
         let both : 0 ≡ suc place.0 = differ 0 (suc place.0) x (ap Some same) place.1 in
         absurd cc
 

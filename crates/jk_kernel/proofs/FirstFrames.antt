@@ -7,9 +7,9 @@ use Rattle.jk_model.specs.declared.identifiers.SegmentNo.{SegmentNo}
 use Rattle.jk_model.specs.declared.values.Value.TheVariants as Held
 use Rattle.jk_model_frames.specs.Frames.{FrameState, head_chunks, new_frame}
 use Rattle.frame_store.specs.FrameContents.{Begins, Changes, FrameContent, HasLocal, SetsTop, TopFrame}
+use Rattle.frame_store.proofs.ArgumentsInLocals.{one_given}
 use Rattle.jk_kernel.specs.Calling.{begun}
 use Rattle.jk_kernel.specs.SegmentFrames.{stored}
-use Rattle.jk_kernel.proofs.ArgumentsMoved.{begun_on}
 use Rattle.jk_kernel.proofs.StoredFrames.{changes_on, top_set, top_there}
 
 module _ (old mid : FrameContent) (s : SegmentNo) (d : DomainId) (head : FrameHead) (room : 1 ≤ head.max_locals) (begins : Begins old mid d s head) where
@@ -26,7 +26,7 @@ module _ (old mid : FrameContent) (s : SegmentNo) (d : DomainId) (head : FrameHe
   first-is =
       let all : head.max_locals ≡ head.max_locals - 0 = omega arith in
       ap (λ (n : ℕ). let f : FrameState = record { head = head; locals = set (replicate n Held.Unset) 0 Held.Null; stack = [] } in f) all
-      ∙ begun_on head [] Held.Null room
+      ∙ one_given head [] Held.Null room
 
   pub first-begun : (new : FrameContent) → ((f : FrameState) → TopFrame mid s f → SetsTop mid new s (with_null f))
       → Changes old new s d (Some (stored d (begun head (Held.Null ∷ []) ∷ []))) (old.used d + 1 + head_chunks head)

@@ -1,5 +1,6 @@
 -- A kernel without domains and threads, over a store without either, is sound, and its machine is the first one.
 use Rattle.std.proofs.Common.{◌≡◌, ℕ, List, [], ◌∷◌, length, Contains, Some, None, slice_get, codes, refl, sym, ap, subst, ◌∙◌, arith}
+use Rattle.list_lemmas.proofs.ItemsOfLists.{place_of}
 use Rattle.jk_model.specs.declared.descriptors.MethodType.{MethodType}
 use Rattle.jk_model.specs.declared.identifiers.DomainId.{DomainId}
 use Rattle.jk_model.specs.declared.identifiers.SegmentNo.{SegmentNo}
@@ -8,7 +9,6 @@ use Rattle.jk_model_classes.specs.SystemRecords.{AreSystemRecords}
 use Rattle.jk_model_classes.specs.Worlds.{DomainRecord, IsWorld, WorldRecord}
 use Rattle.jk_model_machine.specs.Machine.{IsFirstMachine}
 use Rattle.frame_store.specs.FrameContents.{FrameContent, IsContent}
-use Rattle.sealed_steps.proofs.OneItemChanged.{place-of}
 use Rattle.jk_kernel.specs.declared.domain_parts.DomainPart.{DomainPart}
 use Rattle.jk_kernel.specs.declared.domain_parts.ThreadPart.{ThreadPart}
 use Rattle.jk_kernel.specs.KernelStates.{machine_of, states_of}
@@ -25,7 +25,7 @@ no-states [] = refl
 no-states (d ∷ ds) = refl
 
 none-within : {X : Type 0} (x : X) → Contains [] x → ⊥
-none-within x among = let place = place-of [] x among in nothing-at place.0 x place.1
+none-within x among = let place = place_of [] x among in nothing-at place.0 x place.1
 
 module _ (w : WorldRecord) (c : FrameContent) (system : AreSystemRecords w.classes) (none : w.domains ≡ []) where
   pub first-machine : (parts : List DomainPart) (threads : List (ℕ × ThreadPart)) → parts ≡ [] → threads ≡ [] → IsFirstMachine

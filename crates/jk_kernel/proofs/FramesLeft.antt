@@ -4,6 +4,7 @@ use Rattle.std.specs.Prelude.{option_map}
 use Rattle.std.specs.List.{AllByRecursion}
 use Rattle.std.proofs.Math.Seq.{drop-length}
 use Rattle.std.proofs.lemmas.Option.{same_Some}
+use Rattle.list_lemmas.proofs.ItemsByPlace.{item_there, drop_next}
 use Rattle.jk_model.specs.declared.frames.FrameHead.{FrameHead}
 use Rattle.jk_model.specs.declared.identifiers.ClassId.{ClassId}
 use Rattle.jk_model.specs.declared.identifiers.DomainId.{DomainId}
@@ -26,16 +27,6 @@ pub record HasLeft (classes : List ClassRecord) (c : FrameContent) (s : SegmentN
   pub few : left ≤ length frames
   pub known : AllByRecursion (StateIsKnown own) frames
   pub leaves : LeavesFrames classes (drop left frames) start raised own thrown
-
-item_at : {X : Type 0} (xs : List X) (n : ℕ) → n < length xs → (x : X) × (slice_get xs n ≡ Some x)
-item_at [] n lt = absurd (omega arith)
-item_at (x ∷ xs) zero lt = (x, refl)
-item_at (x ∷ xs) (suc n) lt = item_at xs n (omega arith)
-
-drop_at : {X : Type 0} (xs : List X) (n : ℕ) (x : X) → slice_get xs n ≡ Some x → drop n xs ≡ x ∷ drop (suc n) xs
-drop_at [] n x e = absurd cc
-drop_at (y ∷ xs) zero x e = ap (λ z. z ∷ xs) (same_Some y x e)
-drop_at (y ∷ xs) (suc n) x e = drop_at xs n x e
 
 known_at : (own : OwnState) (frames : List FrameState) (n : ℕ) (f : FrameState) → AllByRecursion (StateIsKnown own) frames
     → slice_get frames n ≡ Some f → StateIsKnown own f
@@ -61,13 +52,13 @@ module _ (classes : List ClassRecord) (c : FrameContent) (s : SegmentNo) (start 
 
   pub next_frame : (own : OwnState) (thrown : ClassId) (left n : ℕ) → HasLeft classes c s start own raised thrown left → n < left → HasFrame c s n
   next_frame own thrown left n h lt =
-      let f = item_at h.frames n (omega (arith, h.few)) in
+      let f = item_there h.frames n (omega (arith, h.few)) in
       (f.0, (record { domain = h.domain; frames = h.frames }, h.holds, f.1))
 
   pub next_state : (own : OwnState) (thrown : ClassId) (left n : ℕ) (head : FrameHead) (k : ClassId) → HasLeft classes c s start own raised thrown left
       → n < left → ((f : FrameState) → FrameAt c s n f → head ≡ f.head) → head.initialises ≡ Some k → HasState own k
   next_state own thrown left n head k h lt is e =
-      let f = item_at h.frames n (omega (arith, h.few)) in
+      let f = item_there h.frames n (omega (arith, h.few)) in
       let same = is f.0 (record { domain = h.domain; frames = h.frames }, h.holds, f.1) in
       known_at own h.frames n f.0 h.known f.1 k (sym (ap (λ (x : FrameHead). x.initialises) same) ∙ e)
 
@@ -75,7 +66,7 @@ module _ (classes : List ClassRecord) (c : FrameContent) (s : SegmentNo) (start 
       → left ≡ suc n → ((f : FrameState) → FrameAt c s n f → head ≡ f.head) → head.initialises ≡ None
       → HasLeft classes c s start own raised thrown n
   leaves_plain own thrown left n head h next is e =
-      let f = item_at h.frames n (omega (arith, h.few, next)) in
+      let f = item_there h.frames n (omega (arith, h.few, next)) in
       let same = is f.0 (record { domain = h.domain; frames = h.frames }, h.holds, f.1) in
       let plain = sym (ap (λ (x : FrameHead). x.initialises) same) ∙ e in
       let above = subst (λ (k : ℕ). LeavesFrames classes (drop k h.frames) start raised own thrown) next h.leaves in
@@ -85,7 +76,7 @@ module _ (classes : List ClassRecord) (c : FrameContent) (s : SegmentNo) (start 
         holds = h.holds;
         few = omega (arith, h.few, next);
         known = h.known;
-        leaves = subst (λ (l : List FrameState). LeavesFrames classes l start raised own thrown) (sym (drop_at h.frames n f.0 f.1))
+        leaves = subst (λ (l : List FrameState). LeavesFrames classes l start raised own thrown) (sym (drop_next h.frames n f.0 f.1))
             (own, thrown, above, inl (plain, refl, refl));
       }
 
@@ -94,7 +85,7 @@ module _ (classes : List ClassRecord) (c : FrameContent) (s : SegmentNo) (start 
       → head.initialises ≡ Some k → LeavesInitialiser classes thrown passed
       → HasLeft classes c s start (with_state own k State.Broken) raised passed n
   leaves_initialiser own thrown passed left n head k h next is e leaves =
-      let f = item_at h.frames n (omega (arith, h.few, next)) in
+      let f = item_there h.frames n (omega (arith, h.few, next)) in
       let same = is f.0 (record { domain = h.domain; frames = h.frames }, h.holds, f.1) in
       let begun = sym (ap (λ (x : FrameHead). x.initialises) same) ∙ e in
       let above = subst (λ (j : ℕ). LeavesFrames classes (drop j h.frames) start raised own thrown) next h.leaves in
@@ -105,7 +96,7 @@ module _ (classes : List ClassRecord) (c : FrameContent) (s : SegmentNo) (start 
         few = omega (arith, h.few, next);
         known = states-kept own k State.Broken h.frames h.known;
         leaves = subst (λ (l : List FrameState). LeavesFrames classes l start raised (with_state own k State.Broken) passed)
-            (sym (drop_at h.frames n f.0 f.1)) (own, thrown, above, inr (k, begun, known_at own h.frames n f.0 h.known f.1 k begun, refl, leaves));
+            (sym (drop_next h.frames n f.0 f.1)) (own, thrown, above, inr (k, begun, known_at own h.frames n f.0 h.known f.1 k begun, refl, leaves));
       }
 
   pub left_all : (own : OwnState) (thrown : ClassId) (new : FrameContent) (left : ℕ) → HasLeft classes c s start own raised thrown left → left ≡ 0

@@ -3,6 +3,7 @@ use Rattle.std.proofs.Common.{◌≡◌, ◌<◌, ◌+◌, ◌^◌, ℕ, List, [
 use Rattle.std.specs.Prelude.{option_map}
 use Rattle.std.proofs.lemmas.List.{append-nil}
 use Rattle.std.proofs.lemmas.Option.{same_Some}
+use Rattle.list_lemmas.proofs.LastItems.{last_of}
 use Rattle.jk_model.specs.declared.frames.FrameHead.{FrameHead}
 use Rattle.jk_model.specs.declared.identifiers.ClassId.{ClassId}
 use Rattle.jk_model.specs.declared.identifiers.DomainId.{DomainId}
@@ -11,7 +12,7 @@ use Rattle.jk_model.specs.declared.values.Value.{Value}
 use Rattle.jk_model_frames.specs.Frames.{FrameState}
 use Rattle.jk_model_machine.specs.Steps.{resumed}
 use Rattle.frame_store.specs.FrameContents.{FrameContent, SetsTop, StoredSegment, TopFrame}
-use Rattle.jk_kernel.proofs.TopAlone.{same_top}
+use Rattle.number_ops.proofs.TopFrames.{same_top}
 use Rattle.jk_kernel.specs.Returning.{CanResume, TopCanResume}
 use Rattle.jk_kernel.specs.SegmentFrames.{GetsFrames, Holds}
 use Rattle.jk_kernel.proofs.StoredFrames.{gets_on, top_set, top_there}
@@ -80,10 +81,6 @@ room_for c mid s w v head h e is goes =
     (gone head h.frame, on_top c mid s h.domain h.lower h.frame head h.holds is goes, lt)
 
 -- ---- The frame below the top one.
-
-last_of : (x : FrameState) (xs : List FrameState) → (low : List FrameState) × (below : FrameState) × (x ∷ xs ≡ low ++ below ∷ [])
-last_of x [] = ([], x, refl)
-last_of x (y ∷ xs) = let rest = last_of y xs in (x ∷ rest.0, rest.1, ap (λ (l : List FrameState). x ∷ l) rest.2)
 
 pub one_below : (c : FrameContent) (s : SegmentNo) (d : DomainId) (lower : List FrameState) (f : FrameState) (n : ℕ) → Holds c s d (lower ++ f ∷ [])
     → Some n ≡ option_map (λ (g : StoredSegment). length g.frames) (c.segment s) → (n ≡ 1 → ⊥)

@@ -1,5 +1,6 @@
 -- What a look at the class that a frame needs says of the thread: whether it is held, and what it may do.
 use Rattle.std.proofs.Common.{◌≡◌, ◌≢◌, ◌⊎◌, ℕ, true, false, List, Option, Some, None, IfSome, refl, sym, ap, subst, ◌∙◌, inl, inr}
+use Rattle.list_lemmas.proofs.LastItems.{one_last}
 use Rattle.jk_model.specs.declared.frames.FrameHead.{FrameHead}
 use Rattle.jk_model.specs.declared.identifiers.ClassId.{ClassId}
 use Rattle.jk_model.specs.declared.identifiers.ThreadNo.{ThreadNo}
@@ -20,7 +21,6 @@ use Rattle.jk_kernel.specs.declared.domain_parts.DomainPart.{DomainPart}
 use Rattle.jk_kernel.specs.declared.stepping.Runs.{Runs}
 use Rattle.jk_kernel.specs.LocalSteps.{IsAt}
 use Rattle.jk_kernel.specs.Needs.{IsNeeded, Meets}
-use Rattle.jk_kernel.proofs.TopAlone.{one_top}
 
 -- ---- Looks.
 
@@ -102,7 +102,7 @@ module _ (c : FrameContent) (w : WorldRecord) (names : DomainRecord) (d : Domain
   pub not_held : (look ≡ Sees.Waits → ⊥) → IsHeld p → ⊥
   not_held free (inl suspended) = let no : true ≡ false = sym suspended ∙ at.calm.0 in absurd cc
   not_held free (inr waits) =
-      let same = one_top waits.0.callers running.callers waits.0.frame running.frame (sym waits.0.are_frames ∙ running.are_frames) in
+      let same = one_last waits.0.callers running.callers waits.0.frame running.frame (sym waits.0.are_frames ∙ running.are_frames) in
       let here = subst (λ (f : FrameState). FrameNeeds m.classes f waits.1) same.1 waits.2 in
       let state = sym (ap (λ (o : OwnState). state_of o waits.1) own_is) ∙ waits.3.1 in
       free (progress_look r.thread waits.3.0 (state_of d.own waits.1) look state waits.3.2 (looked waits.1 here))

@@ -3,6 +3,7 @@
 use Rattle.std.proofs.Common.{◌≡◌, ◌<◌, ℕ, List, [], ◌∷◌, ◌++◌, length, Contains, Some, None, refl, sym, ap, subst, ◌∙◌, arith}
 use Rattle.std.proofs.lemmas.List.{length-take}
 use Rattle.std.proofs.lemmas.Option.{same_Some}
+use Rattle.list_lemmas.proofs.ItemsOfLists.{Contains-at}
 use Rattle.jk_model.specs.SystemTable.{system_classes}
 use Rattle.jk_model.specs.declared.frames.FrameHead.{FrameHead}
 use Rattle.jk_model.specs.declared.identifiers.ClassId.{ClassId}
@@ -15,6 +16,7 @@ use Rattle.jk_model_classes.specs.declared.records.ClassRecord.{ClassRecord}
 use Rattle.jk_model_classes.specs.Classes.{record_of}
 use Rattle.jk_model_classes.specs.Worlds.{DomainRecord, WorldRecord}
 use Rattle.jk_model_typing.specs.Scopes.{CodeScope, IsScopeOf}
+use Rattle.typing_lemmas.proofs.OneScope.{one-scope}
 use Rattle.jk_model_frames.specs.Frames.{FrameState}
 use Rattle.jk_model_domains.specs.OwnStates.{OwnState}
 use Rattle.jk_model_machine.specs.Executions.{Executes, Outcome, Working}
@@ -23,8 +25,6 @@ use Rattle.jk_model_machine.specs.Machine.{DomainState, Inside, Machine, free_ch
 use Rattle.jk_model_machine.specs.Places.{RunningSegment, with_frames, without_running}
 use Rattle.jk_model_machine.specs.Steps.{ActingFrame, Follows, IsThrown, LeavesFrames, Steps, Throws}
 use Rattle.frame_store.specs.FrameContents.{FrameContent, IsContent, StoredSegment, TopFrame}
-use Rattle.sealed_steps.proofs.OneItemChanged.{Contains-at}
-use Rattle.sealed_steps.proofs.OneScope.{one-scope}
 use Rattle.sealed_steps.proofs.RunningFacts.{TopFacts}
 use Rattle.sealed_steps.proofs.StandsHere.{Stands}
 use Rattle.step_progress.specs.BuiltCodes.{IsBuiltInstr}

@@ -23,10 +23,6 @@ use Rattle.jk_kernel.proofs.RunningThread.{AtWork, PartHere, back-to-map, is-at,
 use Rattle.jk_kernel.proofs.StepsOfKernels.{LeadsKernel, advanced}
 use Rattle.jk_kernel.proofs.ThreadIsGone.{counted}
 
-pub on-err : {T E : Type 0} (r : Result T E) (X : Type 0) → X → OnErr r X
-on-err (Ok t) X x = tt
-on-err (Err e) X x = x
-
 pub on-none : {T : Type 0} (o : Option T) (X : Type 0) → X → IfNone o X
 on-none None X x = x
 on-none (Some t) X x = tt

@@ -8,17 +8,10 @@ use Rattle.std.specs.declared.cmp.Ordering.TheVariants.{Less, Equal, Greater}
 use Rattle.std.proofs.lemmas.Bool.{cases_eq}
 use Rattle.std.proofs.lemmas.Cmp.{nat_cmp_total, tied_itself}
 use Rattle.std.proofs.lemmas.Map.Lookups.{exact_unsigned}
-
-equal-by : (o : Ordering) → is_eq o ≡ true → o ≡ Equal
-equal-by Less e = absurd cc
-equal-by Equal e = refl
-equal-by Greater e = absurd cc
+use Rattle.list_lemmas.proofs.TestsAndOrders.{equal_by, found_itself}
 
 pub key-same : (t k : ℕ) → is_at (nat_cmp t) k ≡ true → t ≡ k
-key-same t k e = exact_unsigned t k (equal-by (nat_cmp t k) e)
-
-pub key-is : (t k : ℕ) → t ≡ k → is_at (nat_cmp t) k ≡ true
-key-is t k e = ap (λ (n : ℕ). is_eq (nat_cmp t n)) (sym e) ∙ ap is_eq (tied_itself nat_cmp_total t)
+key-same t k e = exact_unsigned t k (equal_by (nat_cmp t k) e)
 
 by-test : (t k : ℕ) (b : Bool) → is_at (nat_cmp t) k ≡ b → (t ≢ k) → is_at (nat_cmp t) k ≡ false
 by-test t k true e differ = absurd (differ (key-same t k e))
@@ -27,6 +20,6 @@ by-test t k false e differ = e
 -- whether a thread's number is this one, as the machine and as the map ask it
 pub key-differs : (t k : ℕ) → (k == t) ≡ is_at (nat_cmp t) k
 key-differs t k = elim (cases_eq t k) [
-  | inl same ↦ eq-eqb k t (sym same) ∙ sym (key-is t k same)
+  | inl same ↦ eq-eqb k t (sym same) ∙ sym (found_itself t k same)
   | inr differ ↦ ne_eqb k t (λ same. differ (sym same)) ∙ sym (by-test t k (is_at (nat_cmp t) k) refl differ)
 ]

@@ -1,6 +1,7 @@
 -- The steps that load the object of a text, or System.out.
 use Rattle.std.proofs.Common.{◌≡◌, ◌+◌, ◌≤◌, ℕ, List, [], ◌∷◌, ◌++◌, length, Some, slice_get, refl, sym, ap, subst, ◌∙◌, inl, inr}
 use Rattle.std.proofs.lemmas.List.{append-nil}
+use Rattle.list_lemmas.proofs.ItemsOfLists.{Contains-at}
 use Rattle.jk_model.specs.declared.frames.FrameHead.{FrameHead}
 use Rattle.jk_model.specs.declared.instructions.Instr.{Instr}
 use Rattle.jk_model.specs.declared.values.Value.{Value}
@@ -13,6 +14,7 @@ use Rattle.jk_model_typing.specs.Groups.{Shape, group_of}
 use Rattle.jk_model_typing.specs.Rows.{Does, HasShape}
 use Rattle.jk_model_typing.specs.Scopes.{CodeScope, LeadsToLink}
 use Rattle.jk_model_typing.specs.Typing.{leaves_line}
+use Rattle.typing_lemmas.proofs.OneScope.{one_link}
 use Rattle.jk_model_frames.specs.Frames.{FrameState}
 use Rattle.jk_model_domains.specs.NumberRows.{Replaces}
 use Rattle.jk_model_domains.specs.OwnStates.{IsLiteralOf, OwnState, literal_named}
@@ -22,8 +24,6 @@ use Rattle.jk_model_machine.specs.Places.{RunningSegment}
 use Rattle.jk_model_machine.specs.Sealed.{KnowsClassOf}
 use Rattle.jk_model_machine.specs.Steps.{resumed}
 use Rattle.frame_store.specs.FrameContents.{FrameContent}
-use Rattle.sealed_steps.proofs.OneItemChanged.{Contains-at}
-use Rattle.sealed_steps.proofs.OneMeaning.{one_link}
 use Rattle.jk_kernel.specs.declared.domain_parts.DomainPart.{DomainPart}
 use Rattle.jk_kernel.specs.declared.stepping.Runs.{Runs}
 use Rattle.jk_kernel.specs.Executing.{DoesNext}

@@ -13,7 +13,6 @@ pub mod FramesResumed
 pub mod GoesOnInFrame
 pub mod HeldThreads
 pub mod InstructionsBegin
-pub mod ItemsLent
 pub mod KernelAdvances
 pub mod KeysByNumber
 pub mod KnownObjects
@@ -54,7 +53,6 @@ pub mod ThreadGoesOn
 pub mod ThreadIsGone
 pub mod ThreadIsNew
 pub mod ThreadsOfTheMap
-pub mod TopAlone
 pub mod TopCode
 pub mod TopFrameFits
 pub mod TurnsSoFar

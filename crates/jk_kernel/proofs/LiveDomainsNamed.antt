@@ -2,12 +2,13 @@
 use Rattle.std.proofs.Common.{◌≡◌, ℕ, ◌&&◌, Bool, true, List, Option, Some, None, slice_get, bytes_eq, refl, sym, ap, subst, ◌∙◌, arith}
 use Rattle.std.proofs.lemmas.Option.{same_Some, slice_get_within}
 use Rattle.std.proofs.lemmas.Slice.Eq.{bytes_eq-Decides}
+use Rattle.list_lemmas.proofs.ItemsByPlace.{item_there}
 use Rattle.jk_model.specs.declared.descriptors.MethodType.{MethodType}
 use Rattle.jk_model.specs.declared.identifiers.DomainId.{DomainId}
 use Rattle.jk_model_classes.specs.Worlds.{DomainRecord, IsLiveNamed, WorldRecord}
 use Rattle.jk_model_machine.specs.Machine.{DomainState, Machine, is_live_domain, live_domain}
 use Rattle.frame_store.specs.FrameContents.{FrameContent}
-use Rattle.sealed_steps.proofs.OneItemChanged.{find-place, find-some, item-at}
+use Rattle.sealed_steps.proofs.OneItemChanged.{find-place, find-some}
 use Rattle.jk_kernel.specs.declared.domain_parts.DomainPart.{DomainPart}
 use Rattle.jk_kernel.specs.declared.domain_parts.ThreadPart.{ThreadPart}
 use Rattle.jk_kernel.specs.KernelStates.{machine_of, state_of}
@@ -58,7 +59,7 @@ module _ {w : WorldRecord} {parts : List DomainPart} {threads : List (ℕ × Thr
 
   pub domain-here : (d : DomainId) → IsLiveNamed w name d → (part : DomainPart) × DomainHere d part
   domain-here d (names, is_names, live, named) =
-      let there = item-at parts d.0 (omega (arith, slice_get_within w.domains d.0 names is_names, sound.parts_fit.as_many)) in
+      let there = item_there parts d.0 (omega (arith, slice_get_within w.domains d.0 names is_names, sound.parts_fit.as_many)) in
       let state = state_of names there.0 in
       let at : slice_get now.domains d.0 ≡ Some state = at-state w.domains parts d.0 names there.0 is_names there.1 in
       let passes : has_name state ≡ true = (bytes_eq-Decides names.name name).1 named in

@@ -4,6 +4,7 @@ use Rattle.std.proofs.Common.{◌≡◌, ℕ, ◌≤◌, ◌&&◌, inl, inr, IsT
 use Rattle.std.proofs.lemmas.Bool.{cases_order}
 use Rattle.std.proofs.lemmas.List.{length-append, length-map}
 use Rattle.std.proofs.lemmas.Option.{same_Some}
+use Rattle.list_lemmas.proofs.ItemsOfLists.{Contains-at}
 use Rattle.jk_model.specs.declared.descriptors.MethodType.{MethodType}
 use Rattle.jk_model.specs.declared.identifiers.ClassId.{ClassId}
 use Rattle.jk_model.specs.declared.identifiers.MemberId.{MemberId}
@@ -23,42 +24,11 @@ use Rattle.jk_model_sound_classes.specs.SoundClasses.{AreSoundClasses}
 use Rattle.jk_model_machine.specs.Machine.{Machine, tables_of}
 use Rattle.jk_model_machine.specs.Starts.{IsMain}
 use Rattle.descriptors.proofs.NoTextBeginsAnother.{one_method}
+use Rattle.class_lemmas.proofs.OneRecord.{one_method as one-method}
+use Rattle.class_lemmas.proofs.OneMember.{one_in_class, one_on}
+use Rattle.typing_lemmas.proofs.OneScope.{one-scope}
 use Rattle.sealed_steps.proofs.MainTakesOneArray.{main-params}
-use Rattle.sealed_steps.proofs.OneItemChanged.{Contains-at}
-use Rattle.sealed_steps.proofs.OneScope.{one-method, one-scope}
 use Rattle.jk_kernel.specs.KernelStarts.{HasNoMain}
-
--- ---- The first on a walk.
-
-same-member : (m n : MemberId) → m.class ≡ n.class → m.index ≡ n.index → m ≡ n
-same-member m n e f =
-    ap (λ (k : ClassId). let x : MemberId = record { class = k; index = m.index } in x) e
-    ∙ ap (λ (i : ℕ). let x : MemberId = record { class = n.class; index = i } in x) f
-
-module _ (Suits : MemberId → Type 0) (walk : List ClassId) where
-  one-in_class : (m n : MemberId) → IsFirstOn Suits walk m → IsFirstOn Suits walk n → m.class ≡ n.class → m ≡ n
-  one-in_class m n f g e = elim (cases_order m.index n.index) [
-    | inl same ↦ same-member m n e same
-    | inr other ↦ elim other [
-      | inl before ↦
-          absurd (g.member.first m.index before
-          (subst (λ (k : ClassId). Suits (record { class = k; index = m.index })) e f.member.suits))
-      | inr behind ↦
-          absurd (f.member.first n.index behind
-          (subst (λ (k : ClassId). Suits (record { class = k; index = n.index })) (sym e) g.member.suits))
-    ]
-  ]
-
-  one-first : (m n : MemberId) → IsFirstOn Suits walk m → IsFirstOn Suits walk n → m ≡ n
-  one-first m n f g = elim (cases_order f.place g.place) [
-    | inl same ↦
-        one-in_class m n f g
-        (same_Some m.class n.class (sym f.visited ∙ ap (λ (p : ℕ). slice_get walk p) same ∙ g.visited))
-    | inr other ↦ elim other [
-      | inl before ↦ absurd (g.earlier (f.place, m.class, before, f.visited, (m.index, f.member.suits)))
-      | inr behind ↦ absurd (f.earlier (g.place, n.class, behind, g.visited, (n.index, g.member.suits)))
-    ]
-  ]
 
 -- ---- The scope of a `main`.
 
@@ -96,7 +66,7 @@ module _ (m : Machine) (class : ClassId) (kind : MethodType) (text : IsMethodTex
 
   module _ (found : MemberId) (finds : FindsMethod m.classes class (codes "main") kind (Some found)) where
     main-found : (main : MemberId) (code : LinkedCode) → IsMain m class main code → main ≡ found
-    main-found main code is = one-first SuitsMain (method_walk m.classes class) main found (main-first main code is) finds
+    main-found main code is = one_on SuitsMain (method_walk m.classes class) main found (main-first main code is) finds
 
     -- what is found has no code
     pub no-code : ((s : CodeScope) → IsScopeOf m.classes found s → ⊥) → HasNoMain m class

@@ -4,6 +4,9 @@ use Rattle.std.specs.Prelude.{◌==◌, ◌&&◌, ◌||◌, not}
 use Rattle.std.specs.Option.{option_map_or}
 use Rattle.std.proofs.lemmas.Bool.{cases_Bool}
 use Rattle.std.proofs.lemmas.Option.{same_Some, slice_get_within}
+use Rattle.list_lemmas.proofs.ItemsOfLists.{Contains-at, place_of, each-of}
+use Rattle.list_lemmas.proofs.ItemsByPlace.{item_there, slice_get-behind, slice_get-in_take}
+use Rattle.list_lemmas.proofs.TestsAndOrders.{both_true}
 use Rattle.jk_model.specs.Flags.{ABSTRACT, NATIVE, has}
 use Rattle.jk_model.specs.declared.class_file.MemberInfo.{MemberInfo}
 use Rattle.jk_model.specs.declared.identifiers.ClassId.{ClassId}
@@ -30,6 +33,7 @@ use Rattle.jk_model_classes.specs.Members.{CLINIT, INIT, ReferenceAt}
 use Rattle.jk_model_classes.specs.OneClassRules.{one_class_rules}
 use Rattle.jk_model_classes.specs.References.{IsClosedNamed}
 use Rattle.jk_model_classes.specs.Worlds.{NamedClass, WorldRecord, class_named}
+use Rattle.class_lemmas.proofs.CodeOfMethods.{absent_has_none, same_code}
 use Rattle.jk_model_typing.specs.FrameTypes.{STRING}
 use Rattle.jk_model_typing.specs.Scopes.{CodeScope, IsScopeOf}
 use Rattle.jk_model_domains.specs.NumberRows.{number_opcodes}
@@ -37,13 +41,11 @@ use Rattle.jk_model_folders.specs.declared.files.FolderFiles.{FolderFiles}
 use Rattle.jk_model_folders.specs.FolderRules.{link_scope, name_rules}
 use Rattle.jk_model_folders.specs.LinkedClasses.{IsBodyFor}
 use Rattle.jk_model_folders.specs.Loads.{Loads, MayLoad}
-use Rattle.class_growth.proofs.ItemsOfLists.{Contains-at, each-of, item-at, place-of}
 use Rattle.class_growth.proofs.LinksDontMatter.{method-linked}
 use Rattle.sound_folders.proofs.ArraysHaveNoNames.{not_native}
 use Rattle.sound_folders.proofs.FoundByLinks.{method-found, only_links}
 use Rattle.sound_folders.proofs.NamesOfTables.{system_meant}
-use Rattle.sound_folders.proofs.NewClasses.{OwnFile, added, all, own_file, system_few}
-use Rattle.sound_folders.proofs.TablesAgain.{slice_get-behind}
+use Rattle.sound_folders.proofs.NewClasses.{OwnFile, added, all, own_file, system_few, own_at}
 use Rattle.step_progress.specs.BuiltCodes.{AreMoreBuilt, IsBuiltInstr as Goes}
 use Rattle.jk_kernel.specs.BuiltCode.{AreBuilt, IsBuiltCode, IsBuiltInstr, IsBuiltMethod, built_opcodes}
 
@@ -109,15 +111,6 @@ no-clinit : (name : List ℕ) → name ≡ INIT → name ≢ CLINIT
 no-clinit name init clinit =
     let same : length INIT ≡ length CLINIT = ap length (sym init ∙ clinit) in omega (arith, same)
 
-both-tests : (a b : Bool) → IsTrue a → IsTrue b → IsTrue (a && b)
-both-tests a b x y = rw (x, y) refl
-
-same-code : (a b : LinkedCode) → Does.Linked a ≡ Does.Linked b → a ≡ b
-same-code a b e = cc
-
-no-code : (a : LinkedCode) → Does.Absent ≡ Does.Linked a → ⊥
-no-code a e = cc
-
 -- java/lang/String is closed
 string-closed : (entry : SystemClass) → slice_get system_classes 3 ≡ Some entry → entry.closed ≡ Bool.true
 string-closed entry at = sym (ap (λ (o : Option SystemClass). option_map_or (λ (x : SystemClass). x.closed) o Bool.false) at)
@@ -125,25 +118,10 @@ string-closed entry at = sym (ap (λ (o : Option SystemClass). option_map_or (λ
 calls-by : (op : ℕ) → op ≡ 0xb8 → IsTrue (is_field_access op || is_call op || op == INVOKEINTERFACE)
 calls-by op e = subst (λ (o : ℕ). IsTrue (is_field_access o || is_call o || o == INVOKEINTERFACE)) (sym e) refl
 
-in-front : {X : Type 0} (xs : List X) (n k : ℕ) (x : X) → k < n → slice_get xs k ≡ Some x → slice_get (take n xs) k ≡ Some x
-in-front [] n k x low e = absurd cc
-in-front (y ∷ xs) zero k x low e = absurd (omega arith)
-in-front (y ∷ xs) (suc n) zero x low e = e
-in-front (y ∷ xs) (suc n) (suc k) x low e = in-front xs n k x (omega arith) e
-
 -- ---- The classes of a folder that breaks no rule.
 
 module _ {f : FolderFiles} {w : WorldRecord} {into : List ℕ} {first : ClassId} {table : List NamedClass} {offers : List Offer} {stubs : List Stub}
     {new : WorldRecord} (l : Loads f w into first table offers stubs new) where
-  own-at : (c : ClassId) (r : ClassRecord) → length w.classes ≤ c.0 → record_of (all l) c ≡ Some r
-      → (k : ℕ) × OwnFile (length w.classes) l.files l.placed k r
-  own-at c r high is =
-      let number : length w.classes + (c.0 - length w.classes) ≡ c.0 = omega (arith, high) in (
-        c.0 - length w.classes,
-        own_file l (c.0 - length w.classes) r
-            (sym (slice_get-behind w.classes (added l) (c.0 - length w.classes)) ∙ ap (slice_get (all l)) number ∙ is),
-      )
-
   -- ---- What invokestatic names isn't a constructor.
 
   module _ (k : ℕ) (r : ClassRecord) (own : OwnFile (length w.classes) l.files l.placed k r) (j : ℕ) (method : MethodRecord)
@@ -158,20 +136,20 @@ module _ {f : FolderFiles} {w : WorldRecord} {into : List ℕ} {first : ClassId}
     low = omega (arith, slice_get_within l.files own.place own.file own.listed, l.are_classes.as_many)
 
     info : (x : MemberInfo) × (slice_get own.file.methods j ≡ Some x)
-    info = item-at own.file.methods j (omega (arith, slice_get_within r.methods j method at, own.is_record.methods.as_many))
+    info = item_there own.file.methods j (omega (arith, slice_get_within r.methods j method at, own.is_record.methods.as_many))
 
     own-code : (P : Instr → Type 0) → ((x : Instr) → x.op ≡ i.op → x.a ≡ i.a → P x) → IsTrue (not (is_jump i.op || is_switch i.op)) → (flags : ℕ)
         → MethodFlags own.file info.0 flags → IsBodyFor s own.file info.0 flags method.body → HasCode (HasInstr P) own.file number
-    own-code P so plain flags counted (inl (abstract, absent)) = absurd (no-code code (sym absent ∙ body))
+    own-code P so plain flags counted (inl (abstract, absent)) = absurd (absent_has_none code (sym absent ∙ body))
     own-code P so plain flags counted (inr (concrete, (a, of, made, there, called, layout, is, is_made))) =
-        let same : made ≡ code = same-code made code (sym is_made ∙ body) in
-        let place = place-of code.instrs i on in
+        let same : made ≡ code = same_code made code (sym is_made ∙ body) in
+        let place = place_of code.instrs i on in
         let here : slice_get made.instrs place.0 ≡ Some i = subst (λ (x : LinkedCode). slice_get x.instrs place.0 ≡ Some i) (sym same) place.1 in
-        let decoded = item-at is.decoded place.0 (omega (arith, slice_get_within made.instrs place.0 i here, is.instrs.as_many)) in
+        let decoded = item_there is.decoded place.0 (omega (arith, slice_get_within made.instrs place.0 i here, is.instrs.as_many)) in
         let instr = is.instrs.each place.0 decoded.0 i decoded.1 here in
         let simple : IsTrue (not (is_jump decoded.0.op || is_switch decoded.0.op)) =
         subst (λ (o : ℕ). IsTrue (not (is_jump o || is_switch o))) instr.op plain in
-        let listed = place-of info.0.attributes a there in
+        let listed = place_of info.0.attributes a there in
         let own_flags : IsTrue (not (has flags NATIVE)) =
         elim (cases_Bool (has flags NATIVE)) [
           | inl native ↦ absurd (not_native l own.place own.file own.listed (Member number) (info.0, flags, (j, refl, info.1), counted, native))
@@ -183,7 +161,7 @@ module _ {f : FolderFiles} {w : WorldRecord} {into : List ℕ} {first : ClassId}
             at = (j, refl, info.1);
             flags = flags;
             counted = counted;
-            concrete = both-tests (not (has flags ABSTRACT)) (not (has flags NATIVE)) concrete own_flags;
+            concrete = both_true (not (has flags ABSTRACT)) (not (has flags NATIVE)) concrete own_flags;
             body = (listed.0, a, listed.1, (called, layout));
           },
           (is.decoded, is.decodes, (place.0, decoded.0, decoded.1, so decoded.0 (sym instr.op) (sym (instr.names simple)))),
@@ -191,7 +169,7 @@ module _ {f : FolderFiles} {w : WorldRecord} {into : List ℕ} {first : ClassId}
 
     never-init : HasCode (HasInstr (CallsInit own.file.pool)) own.file number → ⊥
     never-init (of, is_code, (instrs, decodes, (place, instr, there, calls))) =
-        let file = item-at f.classes own.place low in
+        let file = item_there f.classes own.place low in
         l.none_alone C15 own.place (Member number) (Contains-at one_class_rules 9 C15 refl) (
           file.0,
           own.file,
@@ -234,8 +212,8 @@ module _ {f : FolderFiles} {w : WorldRecord} {into : List ℕ} {first : ClassId}
           let meant = system_meant name STRING of_system in
           (3, meant.0, meant.1, (meant.2, string-closed meant.0 meant.1))
       | inr (line, on, (imported, imports, reached, (r, is, called))) ↦
-          let entry = item-at system_classes 3 (omega arith) in
-          let system = may.system.each 3 entry.0 r entry.1 (in-front w.classes (length system_classes) 3 r (omega arith) is) in
+          let entry = item_there system_classes 3 (omega arith) in
+          let system = may.system.each 3 entry.0 r entry.1 (slice_get-in_take w.classes (length system_classes) 3 r (omega arith) is) in
           (3, entry.0, entry.1, (sym system.name ∙ called, string-closed entry.0 entry.1))
     ]
 
@@ -285,7 +263,7 @@ module _ {f : FolderFiles} {w : WorldRecord} {into : List ℕ} {first : ClassId}
     goes m s i high h on (inr (inr (inl out))) = inr (inr (inl out))
     goes m s i high h on (inr (inr (inr (inl println)))) = inr (inr (inr (inl println)))
     goes m s i high h on (inr (inr (inr (inr (op, (member, method, code, (class, (n, operand, leads), is), body, named)))))) =
-        let own = own-at m.class h.class high h.class_is in
+        let own = own_at l m.class h.class high h.class_is in
         let found : MethodIs (all l) member method = subst (λ (xs : List ClassRecord). MethodIs xs member method) h.all is in
         let link = subst (λ (xs : List Link). slice_get xs n ≡ Some (To.Method class member)) h.links leads in
         let other = calls-no-init own.0 h.class own.1 m.index s.method h.method s.code h.body i on n operand class member op link method found in
@@ -299,5 +277,5 @@ module _ {f : FolderFiles} {w : WorldRecord} {into : List ℕ} {first : ClassId}
         | inl init ↦ no-clinit method.name init
         | inr (never, code) ↦ never
       ];
-      texts_closed = λ c r high is. (let own = own-at c r high is in parent-is-open may own.0 r own.1);
+      texts_closed = λ c r high is. (let own = own_at l c r high is in parent-is-open may own.0 r own.1);
     }

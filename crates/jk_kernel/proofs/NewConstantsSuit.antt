@@ -3,6 +3,8 @@ use Rattle.std.proofs.Common.{◌≡◌, ℕ, zero, suc, ◌+◌, ◌<◌, ◌^�
 use Rattle.std.specs.Int.{from_be_bytes, to_be_bytes, w16}
 use Rattle.std.proofs.lemmas.Nat.{from_be_bytes-to_be_bytes_2}
 use Rattle.std.proofs.lemmas.Option.{same_Some, slice_get_within}
+use Rattle.list_lemmas.proofs.ItemsOfLists.{Contains-at, place_of}
+use Rattle.list_lemmas.proofs.ItemsByPlace.{item_there}
 use Rattle.jk_model.specs.declared.class_file.Attribute.{Attribute}
 use Rattle.jk_model.specs.declared.class_file.MemberInfo.{MemberInfo}
 use Rattle.jk_model.specs.declared.class_file.PoolEntry.{PoolEntry}
@@ -33,7 +35,6 @@ use Rattle.jk_model_folders.specs.FolderRules.{link_scope}
 use Rattle.jk_model_folders.specs.LinkedClasses.{IsConstantFrom, IsConstantOfField, IsFieldFor}
 use Rattle.jk_model_folders.specs.Loads.{Loads}
 use Rattle.class_lemmas.proofs.OneText.{one_text}
-use Rattle.class_growth.proofs.ItemsOfLists.{Contains-at, item-at, place-of}
 use Rattle.descriptors.proofs.NoTextBeginsAnother.{one_field}
 use Rattle.sound_folders.proofs.NewClasses.{OwnFile, added, meaning, own_file}
 use Rattle.sealed_openings.specs.FieldConstants.{IsOfInts, SuitsType}
@@ -113,19 +114,19 @@ module _ {f : FolderFiles} {w : WorldRecord} {into : List ℕ} {first : ClassId}
 
       few_entries : length own.file.pool < 2 ^ 16
       few_entries =
-          let file = item-at f.classes own.place low in
+          let file = item_there f.classes own.place low in
           (l.are_classes.each own.place file.0 own.file file.1 own.listed).layout.pool.1
 
       good-constants : HasBadConstant own.file.pool info → ⊥
       good-constants bad =
-          let file = item-at f.classes own.place low in
+          let file = item_there f.classes own.place low in
           l.none_alone C9 own.place (Member (j + 1)) (Contains-at one_class_rules 3 C9 refl)
           (file.0, own.file, file.1, own.listed, inr (inl (info, (j, refl, told), inr bad)))
 
       constant-is : (a : Attribute) → Contains info.attributes a → IsConstantValue own.file.pool a → IsTrue (has info.flags STATIC)
           → (IsConstant own.file.pool info a.body → ⊥) → ⊥
       constant-is a on called static never =
-          let place = place-of info.attributes a on in
+          let place = place_of info.attributes a on in
           good-constants (static, inr (place.0, a, place.1, (called, never)))
 
       suits-constant : (a : Attribute) (index : ℕ) (entry : PoolEntry) → a.body ≡ to_be_bytes w16 index → slice_get own.file.pool index ≡ Some entry
@@ -157,13 +158,13 @@ module _ {f : FolderFiles} {w : WorldRecord} {into : List ℕ} {first : ClassId}
   told-field : (r : ClassRecord) (field : FieldRecord) (k : ℕ) (own : OwnFile (length w.classes) l.files l.placed k r) → Contains r.fields field
       → (j : ℕ) × (info : MemberInfo) × (slice_get own.file.fields j ≡ Some info) × (slice_get r.fields j ≡ Some field)
   told-field r field k own on =
-      let place = place-of r.fields field on in
-      let told = item-at own.file.fields place.0 (omega (arith, slice_get_within r.fields place.0 field place.1, own.is_record.fields.as_many)) in
+      let place = place_of r.fields field on in
+      let told = item_there own.file.fields place.0 (omega (arith, slice_get_within r.fields place.0 field place.1, own.is_record.fields.as_many)) in
       (place.0, told.0, told.1, place.1)
 
   pub new-suiting : (r : ClassRecord) (field : FieldRecord) → Contains (added l) r → Contains r.fields field → SuitsType field.kind field.constant
   new-suiting r field new on =
-      let place = place-of (added l) r new in
+      let place = place_of (added l) r new in
       let own = own_file l place.0 r place.1 in
       let (j, info, told, at) = told-field r field place.0 own on in
       suits place.0 r own j info field told at

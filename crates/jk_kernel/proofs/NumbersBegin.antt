@@ -2,6 +2,7 @@
 use Rattle.std.proofs.Common.{◌≡◌, ◌<◌, ℕ, ℤ, pos, List, [], ◌∷◌, ◌++◌, length, Option, Some, None, refl, sym, ap, subst, ◌∙◌, inl, inr, arith}
 use Rattle.std.specs.List.{AllByRecursion}
 use Rattle.std.proofs.lemmas.Option.{slice_get_within}
+use Rattle.list_lemmas.proofs.ItemsOfLists.{Contains-at}
 use Rattle.jk_model.specs.declared.frames.FrameHead.{FrameHead}
 use Rattle.jk_model.specs.declared.identifiers.MemberId.{MemberId}
 use Rattle.jk_model.specs.declared.instructions.Instr.{Instr}
@@ -31,7 +32,7 @@ use Rattle.number_ops.proofs.HeadAsStored.{in_place}
 use Rattle.sealed_steps.proofs.CallersResume.{AnswersWell, resumes}
 use Rattle.sealed_steps.proofs.FramesInARow.{CallersFit, all-pop, all-push, callers-pop}
 use Rattle.number_laws.proofs.HeadsStay.{number-head}
-use Rattle.sealed_steps.proofs.OneItemChanged.{Contains-at}
+use Rattle.number_ops.proofs.TopFrames.{same_top}
 use Rattle.sealed_steps.proofs.StandsHere.{ordered-here}
 use Rattle.jk_kernel.specs.declared.domain_parts.DomainPart.{DomainPart}
 use Rattle.jk_kernel.specs.declared.stepping.Runs.{Runs}
@@ -44,7 +45,6 @@ use Rattle.jk_kernel.proofs.InstructionsBegin.{callers, code, facts, frame, head
 use Rattle.jk_kernel.proofs.PartsOfAMachine.{paid_own, same_frames}
 use Rattle.jk_kernel.proofs.SegmentsOfAMachine.{known_frames}
 use Rattle.jk_kernel.proofs.StoredFrames.{top_set, top_there}
-use Rattle.jk_kernel.proofs.TopAlone.{same_top}
 
 -- ---- How a row ends.
 

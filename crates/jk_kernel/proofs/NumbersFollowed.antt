@@ -1,5 +1,6 @@
 -- An instruction on numbers, with what followed it, is a step of the machine.
 use Rattle.std.proofs.Common.{◌≡◌, ◌<◌, ℕ, List, [], ◌∷◌, ◌++◌, Option, Some, None, refl, sym, ap, subst, ◌∙◌, arith}
+use Rattle.list_lemmas.proofs.LastItems.{last_of}
 use Rattle.jk_model.specs.declared.frames.FrameHead.{FrameHead}
 use Rattle.jk_model.specs.declared.identifiers.ClassId.{ClassId}
 use Rattle.jk_model.specs.declared.instructions.Instr.{Instr}
@@ -36,10 +37,6 @@ use Rattle.jk_kernel.proofs.NumbersBegin.{IsDone, known_callers, row_ends}
 use Rattle.jk_kernel.proofs.PartsOfAMachine.{left_keeps_out, with_own_is, with_own_state}
 use Rattle.jk_kernel.proofs.StepsByCase.{StepOf, keeps_all, keeps_own}
 use Rattle.jk_kernel.proofs.StoredFrames.{gets_on, out_then, top_set, top_there}
-
-last_of : (x : FrameState) (xs : List FrameState) → (low : List FrameState) × (below : FrameState) × (x ∷ xs ≡ low ++ below ∷ [])
-last_of x [] = ([], x, refl)
-last_of x (y ∷ xs) = let rest = last_of y xs in (x ∷ rest.0, rest.1, ap (λ (l : List FrameState). x ∷ l) rest.2)
 
 -- the frame at a place, without a need
 abbrev moved : FrameState → ℕ → Option ClassId → FrameState

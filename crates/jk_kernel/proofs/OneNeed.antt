@@ -12,6 +12,7 @@ use Rattle.jk_model_classes.specs.declared.records.Link.TheVariants as To
 use Rattle.jk_model_classes.specs.declared.records.TypeRef.{TypeRef}
 use Rattle.jk_model_typing.specs.FrameTypes.{array_type}
 use Rattle.jk_model_typing.specs.Scopes.{CodeScope, LeadsToLink, NamesClass}
+use Rattle.typing_lemmas.proofs.OneScope.{one_link}
 use Rattle.jk_model_frames.specs.Frames.{FrameState}
 use Rattle.jk_model_machine.specs.Initialising.{InstrNeeds, RunsCode}
 use Rattle.jk_kernel.specs.Needs.{IsNeeded}
@@ -20,11 +21,6 @@ use Rattle.jk_kernel.proofs.OnePlace.{one_place}
 
 same_pos : (m n : ℕ) → pos m ≡ pos n → m ≡ n
 same_pos m n e = cc
-
-one_link : (s : CodeScope) (i : Instr) (a b : Link) → LeadsToLink s i a → LeadsToLink s i b → a ≡ b
-one_link s i a b h k =
-    let same = same_pos h.0 k.0 (sym h.1 ∙ k.1) in
-    same_Some a b (sym (subst (λ (n : ℕ). slice_get s.links n ≡ Some a) same h.2) ∙ k.2)
 
 abbrev by_field : CodeScope → Instr → ClassId → Type 0
 by_field s i class = (c : ClassId) × (m : MemberId) × LeadsToLink s i (To.Field c m) × (class ≡ m.class)

@@ -1,10 +1,11 @@
 -- The states of the domains, where one domain's part is changed.
 use Rattle.std.proofs.Common.{◌≡◌, ℕ, zero, suc, List, [], ◌∷◌, length, set, Contains, Some, slice_get, refl, sym, ap, subst, ◌∙◌, arith}
 use Rattle.std.proofs.lemmas.Option.{same_Some, slice_get_within}
+use Rattle.list_lemmas.proofs.ItemsOfLists.{Contains-at, place_of}
+use Rattle.list_lemmas.proofs.ItemsByPlace.{item_there}
 use Rattle.jk_model_classes.specs.Worlds.{DomainRecord}
 use Rattle.jk_model_machine.specs.Machine.{DomainState, tables_of}
 use Rattle.jk_model_machine.proofs.TablesOfDomains.{table-among, table-from}
-use Rattle.sealed_steps.proofs.OneItemChanged.{Contains-at, item-at, place-of}
 use Rattle.sound_folders.specs.LinkedWorlds.{HaveNamesOf}
 use Rattle.jk_kernel.specs.declared.domain_parts.DomainPart.{DomainPart}
 use Rattle.jk_kernel.specs.KernelStates.{state_of, states_of}
@@ -47,16 +48,10 @@ pub names-stay : (ds : List DomainRecord) (old new : List DomainPart) → length
     → HaveNamesOf (tables_of (states_of ds new)) (tables_of (states_of ds old))
 names-stay ds old new many = λ table among.
     let of = table-from (states_of ds new) table among in
-    let place = place-of (states_of ds new) of.0 of.1 in
+    let place = place_of (states_of ds new) of.0 of.1 in
     let is = states-at ds new place.0 of.0 place.1 in
     let low = slice_get_within new place.0 is.part is.is_part in
-    let was = item-at old place.0 (omega (arith, low, many)) in
+    let was = item_there old place.0 (omega (arith, low, many)) in
     let there = Contains-at (states_of ds old) place.0 (state_of is.names was.0) (at-state ds old place.0 is.names was.0 is.is_names was.1) in
     let same : is.names.table ≡ table = ap (λ (d : DomainState). d.table) (sym is.is) ∙ of.2 in
     subst (Contains (tables_of (states_of ds old))) same (table-among (states_of ds old) (state_of is.names was.0) there)
-
--- written back as it was
-pub set-same : {X : Type 0} (xs : List X) (i : ℕ) (x : X) → slice_get xs i ≡ Some x → set xs i x ≡ xs
-set-same [] i x at = absurd cc
-set-same {X = X} (y ∷ xs) zero x at = ap (λ (z : X). z ∷ xs) (sym (same_Some y x at))
-set-same {X = X} (y ∷ xs) (suc i) x at = ap (λ (zs : List X). y ∷ zs) (set-same xs i x at)

@@ -2,17 +2,18 @@
 use Rattle.std.proofs.Common.{◌≡◌, inl, inr, ℕ, zero, suc, ◌+◌, ◌-◌, ◌<◌, ◌≤◌, Bool, true, false, ◌||◌, List, [], ◌++◌, Option, refl, sym, subst, ◌∙◌, append_assoc, arith}
 use Rattle.std.proofs.lemmas.Bool.{cases_lt}
 use Rattle.std.proofs.lemmas.List.{append-nil}
+use Rattle.list_lemmas.proofs.ItemsOfLists.{Contains-at}
 use Rattle.jk_model.specs.declared.output.Line.{Line}
 use Rattle.jk_model.specs.Outside.{Appends}
 use Rattle.jk_model.specs.Output.{text_of}
+use Rattle.jk_model.proofs.AppendsInTurn.{Appends-nil}
 use Rattle.jk_model_machine.specs.Machine.{Machine, is_live_thread}
 use Rattle.jk_model_machine.specs.Run.{Goes, Turns, on, over}
 use Rattle.jk_model_machine.specs.Sealed.{IsSealed}
-use Rattle.sealed_steps.proofs.OneItemChanged.{Contains-at}
 use Rattle.sealed_steps.proofs.ThreadsByNumber.{live-place}
 use Rattle.step_progress.specs.WholeEvents.{MayGoOn}
 use Rattle.jk_kernel.specs.KernelTurns.{RoundsGoOn}
-use Rattle.jk_kernel.proofs.TextsGoOut.{append-nothing, part-later}
+use Rattle.jk_kernel.proofs.TextsGoOut.{part-later}
 use Rattle.jk_kernel.proofs.WaysJoined.{StepOf, TurnsOf, turns-repeat, ways-rest}
 use Rattle.jk_kernel.proofs.WaysSoFar.{Fails, KeepsCounts, Prints, counts-join, step-of-none, text-later}
 
@@ -82,7 +83,7 @@ pub round-begins : (steps : ℕ) (m : Machine) (bytes : Option (List ℕ)) → R
 round-begins steps m bytes = record {
   lines = [];
   goes = λ more last goes. goes;
-  text = append-nothing bytes;
+  text = Appends-nil bytes;
   counts = (refl, refl, refl);
 }
 
@@ -139,10 +140,6 @@ round-failed law steps above t old now last a b c round is turns may =
     )
 
 -- ---- A round in which nothing changes.
-
-pub neither : (a b : Bool) → (a || b) ≡ false → (a ≡ false) × (b ≡ false)
-neither true b e = absurd cc
-neither false b e = (refl, e)
 
 -- up to the thread of this number nothing changed, and nothing does the next time
 abbrev pub RestsSoFar : ℕ → ℕ → Machine → Machine → Type 0

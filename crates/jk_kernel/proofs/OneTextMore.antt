@@ -4,9 +4,9 @@ use Rattle.std.specs.Prelude.{option_map}
 use Rattle.std.proofs.lemmas.List.Elements.{Contains-append_left, Contains-append_right, Contains-push_cases}
 use Rattle.std.proofs.lemmas.Option.{none-some}
 use Rattle.std.proofs.lemmas.Slice.Eq.{bytes_eq-Decides}
+use Rattle.list_lemmas.proofs.ItemsOfLists.{Contains-here, each-from, Contains-at, place_of}
 use Rattle.jk_model_domains.specs.OwnStates.{Literal, OwnState, literal_named}
-use Rattle.class_growth.proofs.ItemsOfLists.{Contains-here, each-from}
-use Rattle.sealed_steps.proofs.OneItemChanged.{Contains-at, find-place, find-some, place-of, push-cases}
+use Rattle.sealed_steps.proofs.OneItemChanged.{find-place, find-some, push-cases}
 use Rattle.jk_kernel.specs.GivenTexts.{AreGivenNames, GivesMore, literals_from}
 use Rattle.jk_kernel.proofs.DistinctTexts.{DifferByPlace, distinct-by-place, no-more}
 use Rattle.jk_kernel.proofs.TextsOpened.{literal-at, literal-for}
@@ -21,7 +21,7 @@ literals-push n (t ∷ texts) text name e =
 module _ (own : OwnState) (texts : List (List ℕ)) (given : AreGivenNames own texts) where
   none-yet : (text : List ℕ) → literal_named own text ≡ None → Contains texts text → ⊥
   none-yet text none on =
-      let place = place-of texts text on in
+      let place = place_of texts text on in
       let l = literal-for 1 texts place.0 text place.1 in
       let at : slice_get own.literals place.0 ≡ Some l.0 = subst (λ (ls : List Literal). slice_get ls place.0 ≡ Some l.0) (sym given.literals) l.1 in
       let found = find-some (λ (x : Literal). bytes_eq x.text text) own.literals place.0 l.0 at ((bytes_eq-Decides l.0.text text).1 l.2) in

@@ -4,6 +4,8 @@ use Rattle.std.specs.Prelude.{filter, sum_by}
 use Rattle.std.specs.Option.{option_map_or}
 use Rattle.std.proofs.lemmas.Bool.{cases_Bool, cases_lt, eq-eqb, eqb-true}
 use Rattle.std.proofs.lemmas.List.{take-append-le, take_all}
+use Rattle.list_lemmas.proofs.ItemsOfLists.{Contains-here, Contains-there, Contains-at}
+use Rattle.list_lemmas.proofs.ItemsByPlace.{take_front}
 use Rattle.jk_model.specs.declared.descriptors.MethodType.{MethodType}
 use Rattle.jk_model.specs.declared.identifiers.DomainId.{DomainId}
 use Rattle.jk_model.specs.declared.identifiers.SegmentNo.{SegmentNo}
@@ -22,7 +24,6 @@ use Rattle.jk_model_machine.specs.Machine.{DomainState, Inside, Machine, Thread,
 use Rattle.frame_store.specs.FrameContents.{FrameContent, IsAdmitted, IsContent, IsSame, StoredSegment}
 use Rattle.folder_loader.specs.declared.answers.Loaded.{Loaded}
 use Rattle.folder_loader.specs.LinkedFolders.{AreTypedFrom}
-use Rattle.class_growth.proofs.ItemsOfLists.{Contains-at, Contains-here, Contains-there}
 use Rattle.sound_folders.specs.LinkedWorlds.{Accepts}
 use Rattle.sound_folders.proofs.NewClasses.{added, all}
 use Rattle.step_progress.specs.BuiltCodes.{AreMoreBuilt}
@@ -45,9 +46,6 @@ use Rattle.jk_kernel.proofs.SameContents.{same-content}
 use Rattle.jk_kernel.proofs.WorldOfKernel.{world-of-kernel}
 
 -- ---- Lists that get one more item.
-
-take-front : {X : Type 0} (xs ys : List X) → take (length xs) (xs ++ ys) ≡ xs
-take-front xs ys = take-append-le (length xs) xs ys (omega arith) ∙ take_all (length xs) xs (omega arith)
 
 states-behind : (ds : List DomainRecord) (ps : List DomainPart) (d : DomainRecord) (p : DomainPart) → length ps ≡ length ds
     → states_of (ds ++ d ∷ []) (ps ++ p ∷ []) ≡ states_of ds ps ++ state_of d p ∷ []
@@ -155,7 +153,7 @@ module _ (w : WorldRecord) (parts : List DomainPart) (threads : List (ℕ × Thr
     pub back-again : (n : ℕ) (mid cut : WorldRecord) → n ≡ length w.classes → mid ≡ new → cut ≡ record mid { classes = take n mid.classes } → cut ≡ w
     back-again n mid cut many same is =
         let front : take n new.classes ≡ w.classes =
-        ap (λ (k : ℕ). take k new.classes) many ∙ ap (take (length w.classes)) same-classes ∙ take-front w.classes (added loads) in
+        ap (λ (k : ℕ). take k new.classes) many ∙ ap (take (length w.classes)) same-classes ∙ take_front w.classes (added loads) in
         is ∙ ap (λ (x : WorldRecord). let y : WorldRecord = record { classes = take n x.classes; domains = x.domains } in y) same
         ∙ ap (λ (xs : List ClassRecord). let x : WorldRecord = record { classes = xs; domains = new.domains } in x) front
         ∙ ap (λ (ds : List DomainRecord). let x : WorldRecord = record { classes = w.classes; domains = ds } in x) same-domains

@@ -1,6 +1,7 @@
 -- The world with the classes of an accepted folder, and with its domain's names, is one in which a folder may be loaded.
 use Rattle.std.proofs.Common.{◌≡◌, ℕ, zero, suc, ◌+◌, ◌<◌, ◌≤◌, ◌⊎◌, inl, inr, true, List, [], ◌∷◌, ◌++◌, length, Some, slice_get, Contains, refl, sym, ap, subst, ◌∙◌, arith, length-append}
 use Rattle.std.proofs.lemmas.Option.{same_Some}
+use Rattle.list_lemmas.proofs.ItemsOfLists.{place_of, each-weaker, each-from}
 use Rattle.jk_model.specs.declared.identifiers.ClassId.{ClassId}
 use Rattle.jk_model.specs.declared.identifiers.DomainId.{DomainId}
 use Rattle.jk_model_classes.specs.declared.records.ClassRecord.{ClassRecord}
@@ -11,10 +12,10 @@ use Rattle.jk_model_classes.specs.Worlds.{DomainRecord, IsLiveNamed, IsNamed, Is
 use Rattle.jk_model_folders.specs.declared.files.FolderFiles.{FolderFiles}
 use Rattle.jk_model_folders.specs.FolderTrees.{AreFiles}
 use Rattle.jk_model_folders.specs.Loads.{Loads, MayLoad}
-use Rattle.class_growth.proofs.ItemsOfLists.{each-from, each-weaker, place-of, slice_get-append_cases}
+use Rattle.class_growth.proofs.ItemsOfLists.{slice_get-append_cases}
 use Rattle.class_growth.proofs.MoreClasses.{has_class-still}
 use Rattle.sound_folders.proofs.NamesOfTables.{meant-from}
-use Rattle.sound_folders.proofs.NewClasses.{added, all, meant_there, own_file}
+use Rattle.sound_folders.proofs.NewClasses.{added, all, meant_there, own_file, names_there}
 
 -- an item of a list with one more is one of the list, or that one at the end
 pub last-or-before : {X : Type 0} (xs : List X) (y : X) (i : ℕ) (x : X) → slice_get (xs ++ y ∷ []) i ≡ Some x
@@ -37,21 +38,6 @@ module _ {f : FolderFiles} {w : WorldRecord} {into : List ℕ} {first : ClassId}
   pub as-many-added : AreFiles f → length (added l) ≤ 512
   as-many-added files = omega (arith, files.few, l.are_classes.as_many, l.is_placed.as_many)
 
-  refers-there : (c : ClassId) (r : ClassRecord) → record_of (all l) c ≡ Some r → NamesClasses (all l) r
-  refers-there c r is = elim (slice_get-append_cases w.classes (added l) c.0 r is) [
-    | inl old ↦ record {
-      references = each-weaker (HasClass w.classes) (HasClass (all l)) (has_class-still w.classes (added l)) r.references
-          (may.world.records c r old).references;
-    }
-    | inr later ↦
-        let place = place-of (added l) r later in
-        let own = own_file l place.0 r place.1 in
-        record {
-          references = each-from (HasClass (all l)) r.references
-              (λ d on. let (i, name, refers, means) = own.is_record.references.each d on in meant_there l may name d means);
-        }
-  ]
-
   home-there : (n : ℕ) → n ≡ length w.domains + 1 → (c : ClassId) (r : ClassRecord) (d : DomainId) → record_of (all l) c ≡ Some r → r.home ≡ Some d
       → d.0 < n
   home-there n more c r d is home = elim (slice_get-append_cases w.classes (added l) c.0 r is) [
@@ -60,7 +46,7 @@ module _ {f : FolderFiles} {w : WorldRecord} {into : List ℕ} {first : ClassId}
       | inr next ↦ omega (arith, next, more)
     ]
     | inr later ↦
-        let place = place-of (added l) r later in
+        let place = place_of (added l) r later in
         let own = own_file l place.0 r place.1 in
         let same : l.placed.home ≡ d = same_Some l.placed.home d (sym own.is_record.at_home ∙ home) in
         omega (arith, ap (λ (x : DomainId). x.0) same, l.is_placed.home, more)
@@ -112,7 +98,7 @@ module _ {f : FolderFiles} {w : WorldRecord} {into : List ℕ} {first : ClassId}
             let (line, listed, (name, to, says, means, goes)) = (l.is_placed.offers o).0 here in
             meant_there l may name o.class means
       ];
-      records = refers-there;
+      records = names_there l may;
       ordered = ordered;
       homes = λ c r x is home. inl (home-there (length opened.domains) one-more c r x is home);
       few_domains = omega (arith, few, one-more);

@@ -1,5 +1,6 @@
 -- A class that is untouched in a domain has a state there, a parent, and no initialiser with code.
 use Rattle.std.proofs.Common.{◌≡◌, ◌==◌, ℕ, List, Option, Some, None, refl, sym, ap, subst, ◌∙◌}
+use Rattle.list_lemmas.proofs.ItemsOfLists.{Contains-at}
 use Rattle.jk_model.specs.declared.identifiers.ClassId.{ClassId}
 use Rattle.jk_model_classes.specs.declared.records.ClassRecord.{ClassRecord}
 use Rattle.jk_model_classes.specs.Worlds.{DomainRecord, IsNamed, NamedClass, WorldRecord}
@@ -13,7 +14,7 @@ use Rattle.jk_kernel.specs.declared.domain_parts.DomainPart.{DomainPart}
 use Rattle.jk_kernel.specs.declared.stepping.Runs.{Runs}
 use Rattle.jk_kernel.specs.LocalSteps.{IsAt}
 use Rattle.jk_kernel.specs.Touching.{IsPlainClass}
-use Rattle.jk_kernel.proofs.SegmentsOfAMachine.{contains_at, domain_there, found_at, is_number}
+use Rattle.jk_kernel.proofs.SegmentsOfAMachine.{domain_there, found_at, is_number}
 
 pub untouched_has_state : (own : OwnState) (k : ClassId) → state_of own k ≡ State.Untouched → HasState own k
 untouched_has_state own k h = by_part (part_of own k) refl h
@@ -33,7 +34,7 @@ module _ (c : FrameContent) (w : WorldRecord) (names : DomainRecord) (d : Domain
       let has = untouched_has_state p.inside.own k (ap (λ (o : OwnState). state_of o k) own ∙ u) in
       let found = found_at (λ (e : ClassPart). e.class.0 == k.0) p.inside.own.classes has.0 has.1 in
       let inside = at.sealed.insides p.domain p.inside (domain_there c w names d r m p at) p.is_inside in
-      let part = inside.own.each has.0 (contains_at p.inside.own.classes found.0 has.0 found.1) in
+      let part = inside.own.each has.0 (Contains-at p.inside.own.classes found.0 has.0 found.1) in
       let same : has.0.class ≡ k = class_is has.0.class k (is_number (λ (e : ClassPart). e.class.0) k.0 p.inside.own.classes has.0 has.1) in
       let table : p.domain.table ≡ names.table = ap (λ (x : DomainState). x.table) at.domain in
       let parent = at.sound.homed has.0.class part.0 part.1.1 part.1.2 in

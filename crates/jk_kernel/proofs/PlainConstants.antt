@@ -3,6 +3,8 @@ use Rattle.std.proofs.Common.{◌≡◌, ℕ, ◌+◌, ◌-◌, ◌≤◌, inl, 
 use Rattle.std.specs.Prelude.{IsTrue}
 use Rattle.std.proofs.lemmas.Bool.{cases_lt}
 use Rattle.std.proofs.lemmas.Option.{slice_get_within}
+use Rattle.list_lemmas.proofs.ItemsByPlace.{slice_get-front, item_there, slice_get-behind}
+use Rattle.list_lemmas.proofs.ItemsOfLists.{place_of, each-of}
 use Rattle.jk_model.specs.Flags.{has, STATIC}
 use Rattle.jk_model.specs.declared.class_file.MemberInfo.{MemberInfo}
 use Rattle.jk_model.specs.declared.class_file.PoolEntry.{PoolEntry}
@@ -21,9 +23,7 @@ use Rattle.jk_model_classes.specs.Worlds.{NamedClass, WorldRecord}
 use Rattle.jk_model_folders.specs.declared.files.FolderFiles.{FolderFiles}
 use Rattle.jk_model_folders.specs.LinkedClasses.{IsConstantOfField}
 use Rattle.jk_model_folders.specs.Loads.{Loads}
-use Rattle.class_growth.proofs.ItemsOfLists.{each-of, item-at, place-of, slice_get-front}
 use Rattle.sound_folders.proofs.NewClasses.{own_file}
-use Rattle.sound_folders.proofs.TablesAgain.{slice_get-behind}
 use Rattle.jk_kernel.specs.BuiltCode.{AreBuilt, HasConstantText, HaveNoTextConstants}
 use Rattle.jk_kernel.specs.GivenTexts.{HaveNoConstantTexts}
 
@@ -32,10 +32,10 @@ no-text text e = cc
 
 pub plain-system : (classes : List ClassRecord) → AreSystemRecords classes → HaveNoTextConstants classes
 plain-system classes system c r field text is on has =
-    let entry = item-at system_classes c.0 (omega (arith, slice_get_within classes c.0 r is, system.as_many)) in
+    let entry = item_there system_classes c.0 (omega (arith, slice_get_within classes c.0 r is, system.as_many)) in
     let of_system = system.each c.0 entry.0 r entry.1 is in
-    let place = place-of r.fields field on in
-    let told = item-at entry.0.fields place.0 (omega (arith, slice_get_within r.fields place.0 field place.1, of_system.field_count)) in
+    let place = place_of r.fields field on in
+    let told = item_there entry.0.fields place.0 (omega (arith, slice_get_within r.fields place.0 field place.1, of_system.field_count)) in
     no-text text (sym (of_system.fields place.0 told.0 field told.1 place.1).constant ∙ has)
 
 pub plain-named : (classes : List ClassRecord) (table : List NamedClass) → HaveNoTextConstants classes → HaveNoConstantTexts classes table
@@ -67,9 +67,9 @@ module _ {f : FolderFiles} {old : WorldRecord} {name : List ℕ} {first : ClassI
       (subst (λ (xs : List ClassRecord). slice_get xs c.0 ≡ Some r) same is) in
       let at : slice_get added k ≡ Some r = sym (slice_get-behind old.classes added k) ∙ there in
       let of = own_file l k r at in
-      let place = place-of r.fields field on in
+      let place = place_of r.fields field on in
       let told =
-      item-at of.file.fields place.0 (omega (arith, slice_get_within r.fields place.0 field place.1, of.is_record.fields.as_many)) in
+      item_there of.file.fields place.0 (omega (arith, slice_get_within r.fields place.0 field place.1, of.is_record.fields.as_many)) in
       let from = of.is_record.fields.each place.0 told.0 field told.1 place.1 in
       let runs = built c r (omega (arith, l.first_is), within) is in
       let none : HasConstantText field → ⊥ = each-of (λ x. HasConstantText x → ⊥) r.fields field runs.fields on in

@@ -18,8 +18,9 @@ use Rattle.jk_model_domains.specs.Objects.{Object, Plain, Text, PRINT_STREAM, cl
 use Rattle.jk_model_domains.specs.ValueTypes.{EachValueFits, ValueFits}
 use Rattle.jk_model_machine.specs.Executions.{IsSaid, ReadsAs, number_text, number_type, truth_text}
 use Rattle.jk_model_machine.specs.Sealed.{IsKnownValue}
+use Rattle.step_progress.proofs.PrintedTexts.{ArePrintable, IsPrintable, string-erased}
 use Rattle.jk_kernel.specs.KernelStates.{heap_of, texts_from}
-use Rattle.jk_kernel.proofs.PrintedTypes.{ArePrinted, IsPrinted, stream_is_no_text, string_is_erased}
+use Rattle.jk_kernel.proofs.PrintedTypes.{stream_is_no_text}
 use Rattle.jk_kernel.proofs.TextsOfAHeap.{named_text}
 
 -- ---- The objects.
@@ -91,13 +92,13 @@ module _ (s : CodeScope) (texts : List (List ℕ)) (ordered : AreOrdered s.class
   reads_string Held.Null known h = (codes "null", (refl, refl))
   reads_string (Held.Obj a) known h =
       let fits : RefFits s.classes (type_of h.0) (class_type STRING) =
-      subst (λ (c : ClassId). RefFits s.classes (type_of h.0) (class_type c)) (string_is_erased s.classes system) h.2 in
+      subst (λ (c : ClassId). RefFits s.classes (type_of h.0) (class_type c)) (string-erased s.classes system) h.2 in
       let text = is_text h.0 (stream_or_text texts a h.0 h.1) fits in
       (text.0, (refl, h.1 ∙ ap Some text.1))
   reads_string (Held.Cap k) known h = absurd known
   reads_string Held.Unset known h = absurd h
 
-  reads_so : (t : TypeRef) (v : Value) → IsPrinted t → IsKnownValue (heap_of texts) v → ValueFits s (heap_of texts) v (value_of s.classes t) → Reads t v
+  reads_so : (t : TypeRef) (v : Value) → IsPrintable t → IsKnownValue (heap_of texts) v → ValueFits s (heap_of texts) v (value_of s.classes t) → Reads t v
   reads_so t v (inl e) known h = reads_int t v (inl e) (an_int v (subst (λ (x : TypeRef). ValueFits s (heap_of texts) v (value_of s.classes x)) e h))
   reads_so t v (inr (inl e)) known h =
       reads_int t v (inr (inl e)) (an_int v (subst (λ (x : TypeRef). ValueFits s (heap_of texts) v (value_of s.classes x)) e h))
@@ -115,7 +116,7 @@ module _ (s : CodeScope) (texts : List (List ℕ)) (ordered : AreOrdered s.class
   abbrev Says : List TypeRef → List Value → Type 0
   Says params given = (text : List ℕ) × IsSaid (heap_of texts) params given text
 
-  pub said_so : (params : List TypeRef) (given : List Value) → ArePrinted params → AllByRecursion (IsKnownValue (heap_of texts)) given
+  pub said_so : (params : List TypeRef) (given : List Value) → ArePrintable params → AllByRecursion (IsKnownValue (heap_of texts)) given
       → EachValueFits s (heap_of texts) given (map (value_of s.classes) params) → Says params given
   said_so params given (inl none) known h =
       subst (λ (ts : List TypeRef). Says ts given) (sym none)

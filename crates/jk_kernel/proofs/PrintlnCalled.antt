@@ -21,6 +21,8 @@ use Rattle.jk_model_classes.specs.Classes.{AreOrdered, record_of}
 use Rattle.jk_model_classes.specs.Lookups.{MethodIs}
 use Rattle.jk_model_classes.specs.SystemRecords.{AreSystemRecords}
 use Rattle.jk_model_classes.specs.Worlds.{DomainRecord, WorldRecord}
+use Rattle.class_lemmas.proofs.OneRecord.{one_method}
+use Rattle.class_lemmas.proofs.LinksToMembers.{one_linked}
 use Rattle.jk_model_typing.specs.declared.frames.Demand.{Demand}
 use Rattle.jk_model_typing.specs.declared.frames.Demand.TheVariants.{Receiver}
 use Rattle.jk_model_typing.specs.declared.frames.VType.{VType}
@@ -41,10 +43,11 @@ use Rattle.jk_model_machine.specs.Sealed.{IsKnownValue}
 use Rattle.jk_model_machine.specs.Steps.{Throws, at_place, resumed, says, throws}
 use Rattle.frame_store.specs.FrameContents.{FrameContent, IsContent}
 use Rattle.type_rows.specs.Operands.{IsLink}
+use Rattle.number_laws.proofs.ValuesFit.{fits-length}
+use Rattle.number_laws.proofs.ValuesAbove.{all-fitting}
 use Rattle.sealed_steps.proofs.FramesInARow.{all-parts}
-use Rattle.sealed_steps.proofs.OneScope.{one-method}
-use Rattle.sealed_steps.proofs.RowsFit.{all-fitting, method-one}
-use Rattle.sealed_steps.proofs.ValuesAbove.{fits-length}
+use Rattle.sealed_steps.proofs.RowsFit.{method-one}
+use Rattle.step_progress.proofs.PrintedTexts.{ArePrintable, print-params}
 use Rattle.jk_kernel.specs.declared.domain_parts.DomainPart.{DomainPart}
 use Rattle.jk_kernel.specs.declared.happened.Happened.TheVariants as Came
 use Rattle.jk_kernel.specs.declared.stepping.Runs.{Runs}
@@ -58,7 +61,7 @@ use Rattle.jk_kernel.specs.SegmentFrames.{GetsFrames}
 use Rattle.jk_kernel.specs.Throwing.{LeavesSegment}
 use Rattle.jk_kernel.proofs.BuiltByOpcode.{calls_println}
 use Rattle.jk_kernel.proofs.PartsOfAMachine.{goes_out, throws_so, with_own_state}
-use Rattle.jk_kernel.proofs.PrintedTypes.{ArePrinted, one_at_most, printed_params}
+use Rattle.jk_kernel.proofs.PrintedTypes.{one_at_most}
 use Rattle.jk_kernel.proofs.PrintedValues.{no_stream_said, said_so}
 use Rattle.jk_kernel.proofs.StepsByCase.{StepOf, left_named}
 use Rattle.jk_kernel.proofs.TopCode.{built, does_so, facts, here, next_place, no_need, now_with, on_top, payer, stack_fits, stands, top}
@@ -112,9 +115,6 @@ module _ (s : CodeScope) (heap : List NamedObject) where
         known = all.1.1;
       }
 
-one_member : (k l : ClassId) (m n : MemberId) → To.Method k m ≡ To.Method l n → m ≡ n
-one_member k l m n e = cc
-
 module _ (c : FrameContent) (w : WorldRecord) (names : DomainRecord) (d paid : DomainPart) (r : Runs) (m : Machine) (p : RunningSegment m r.thread.0)
     (head : FrameHead) (s : CodeScope) (i : Instr) (h : DoesNext c w names d paid r m p head s i) (op : i.op ≡ 0xb6) where
   abbrev f : FrameState
@@ -137,7 +137,7 @@ module _ (c : FrameContent) (w : WorldRecord) (names : DomainRecord) (d paid : D
   println_there k member link =
       let calls = calls_println s i (built c w names d paid r m p head s i h) op in
       let named = calls.1.2 in
-      let same = one_member named.0 k calls.1.0 member (link.only (To.Method named.0 calls.1.0) named.1) in (
+      let same = one_linked named.0 k calls.1.0 member (link.only (To.Method named.0 calls.1.0) named.1) in (
         calls.1.1,
         record {
           called = subst (λ (x : MemberId). NamesMethod s i x calls.1.1) same named;
@@ -156,7 +156,7 @@ module _ (c : FrameContent) (w : WorldRecord) (names : DomainRecord) (d paid : D
   println_is k member method link is =
       let found = println_there k member link in
       let there = subst (λ (l : List ClassRecord). MethodIs l member found.0) world_classes found.1.called.2 in
-      subst (IsPrintln member) (one-method w.classes member found.0 method there is) found.1
+      subst (IsPrintln member) (one_method w.classes member found.0 method there is) found.1
 
   -- ---- Its stream and arguments.
 
@@ -168,7 +168,7 @@ module _ (c : FrameContent) (w : WorldRecord) (names : DomainRecord) (d paid : D
     pub given : List Value
     pub stack : f.stack ≡ below ++ receiver ∷ given
     pub as_many : length given ≡ length method.params
-    pub printed : ArePrinted method.params
+    pub printed : ArePrintable method.params
     pub text : List ℕ
     pub said : IsSaid (heap_of d.texts) method.params given text
 
@@ -183,14 +183,14 @@ module _ (c : FrameContent) (w : WorldRecord) (names : DomainRecord) (d paid : D
       subst (λ (l : List ClassRecord). AreSystemRecords (take (length system_classes) l)) (sym (stands c w names d paid r m p head s i h).is_scope.all)
       h.at.sound.system
 
-  printed_here : (member : MemberId) (method : MethodRecord) → IsPrintln member method → ArePrinted method.params
+  printed_here : (member : MemberId) (method : MethodRecord) → IsPrintln member method → ArePrintable method.params
   printed_here member method is =
       let found = is.called.2 in
       let at : slice_get s.classes 6 ≡ Some found.0 = ap (λ (x : ClassId). record_of s.classes x) (sym is.of_stream) ∙ found.1 in
       let many : length system_classes ≡ 45 = refl in
       let front : slice_get (take (length system_classes) s.classes) 6 ≡ Some found.0 =
       slice_get-take s.classes (length system_classes) 6 (omega (arith, many)) ∙ at in
-      printed_params s.classes system found.0 member.index method front found.2
+      print-params s.classes system found.0 member.index method front found.2
 
   abbrev Here : MethodRecord → Type 0
   Here method = OnStack s (heap_of d.texts) f.stack method

@@ -2,6 +2,7 @@
 use Rattle.std.proofs.Common.{◌≡◌, ℕ, ◌<◌, Bool, true, false, List, [], length, set, get_or, refl, sym, ap, subst, ◌∙◌}
 use Rattle.std.proofs.lemmas.List.{get_or-set_same}
 use Rattle.std.proofs.lemmas.Option.{slice_get_read}
+use Rattle.list_lemmas.proofs.ItemsByPlace.{set_same}
 use Rattle.jk_model.specs.declared.descriptors.MethodType.{MethodType}
 use Rattle.jk_model.specs.declared.output.Line.{Line}
 use Rattle.jk_model_classes.specs.Worlds.{WorldRecord}
@@ -18,7 +19,6 @@ use Rattle.jk_kernel.specs.LocalSteps.{StepsBy}
 use Rattle.jk_kernel.specs.SoundKernels.{IsSoundKernel, IsSoundMachine}
 use Rattle.jk_kernel.specs.StaysApart.{StaysApart, StepsStayApart}
 use Rattle.jk_kernel.proofs.KernelAdvances.{has-part, outcome, sound-after}
-use Rattle.jk_kernel.proofs.OnePartChanged.{set-same}
 use Rattle.jk_kernel.proofs.OthersStayApart.{apart-none}
 use Rattle.jk_kernel.proofs.WaysSoFar.{KeepsCounts}
 
@@ -50,7 +50,7 @@ module _ (w : WorldRecord) (parts : List DomainPart) (threads : List (ℕ × Thr
   parts-stay : Rests → set parts r.domain.0 after ≡ parts
   parts-stay rests =
       ap (set parts r.domain.0) rests.1
-      ∙ set-same parts r.domain.0 d (slice_get_read parts (length parts) r.domain.0 d refl within value)
+      ∙ set_same parts r.domain.0 d (slice_get_read parts (length parts) r.domain.0 d refl within value)
 
   pub quick-sound : (went : Bool) → (went ≡ true → Goes) → (went ≡ false → Rests) → IsSoundKernel w (set parts r.domain.0 after) threads new nt ns kind
   quick-sound true goes rests =

@@ -3,6 +3,7 @@ use Rattle.std.proofs.Common.{◌≡◌, ℕ, zero, suc, ◌-◌, false, List, [
 use Rattle.std.specs.Prelude.{◌==◌}
 use Rattle.std.specs.Option.{option_map, option_map_or}
 use Rattle.std.proofs.lemmas.Option.{same_Some, slice_get-map}
+use Rattle.list_lemmas.proofs.ItemsOfLists.{Contains-at}
 use Rattle.jk_model.specs.declared.descriptors.MethodType.{MethodType}
 use Rattle.jk_model.specs.declared.identifiers.DomainId.{DomainId}
 use Rattle.jk_model.specs.declared.identifiers.SegmentNo.{SegmentNo}
@@ -11,7 +12,7 @@ use Rattle.jk_model_frames.specs.Frames.{FrameState}
 use Rattle.jk_model_machine.specs.Machine.{Machine, Segment, Thread, chunks_used, domain_at, thread_numbered}
 use Rattle.jk_model_machine.specs.Places.{RunningSegment}
 use Rattle.frame_store.specs.FrameContents.{FrameContent}
-use Rattle.sealed_steps.proofs.OneItemChanged.{Contains-at, find-some}
+use Rattle.sealed_steps.proofs.OneItemChanged.{find-some}
 use Rattle.sealed_steps.proofs.ThreadsByNumber.{same-place, thread-place}
 use Rattle.jk_kernel.specs.declared.domain_parts.DomainPart.{DomainPart}
 use Rattle.jk_kernel.specs.declared.domain_parts.ThreadPart.{ThreadPart}

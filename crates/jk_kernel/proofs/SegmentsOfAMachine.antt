@@ -3,6 +3,8 @@ use Rattle.std.proofs.Common.{◌≡◌, ◌==◌, ℕ, zero, suc, Bool, true, f
 use Rattle.std.specs.List.{AllByRecursion}
 use Rattle.std.proofs.lemmas.Bool.{eqb-true}
 use Rattle.std.proofs.lemmas.Option.{get_or_from_slice_get, same_Some, slice_get_within}
+use Rattle.list_lemmas.proofs.ItemsOfLists.{Contains-at}
+use Rattle.list_lemmas.proofs.LastItems.{last_of}
 use Rattle.jk_model.specs.declared.identifiers.DomainId.{DomainId}
 use Rattle.jk_model_classes.specs.Worlds.{DomainRecord, WorldRecord}
 use Rattle.jk_model_frames.specs.Frames.{FrameState}
@@ -27,9 +29,6 @@ found_at q (y ∷ xs) x e = by_test (q y) refl e (found_at q xs x)
     by_test true t h rest = let here : Some y ≡ Some x = rw t at h in (zero, here)
     by_test false t h rest = let there : find q xs ≡ Some x = rw t at h in let next = rest there in (suc next.0, next.1)
 
-pub contains_at : {X : Type 0} (xs : List X) (k : ℕ) (x : X) → slice_get xs k ≡ Some x → Contains xs x
-contains_at xs k x e = (k, slice_get_within xs k x e, get_or_from_slice_get xs k x x e)
-
 pub is_number : {X : Type 0} (number : X → ℕ) (t : ℕ) (xs : List X) (x : X) → find (λ (y : X). number y == t) xs ≡ Some x → number x ≡ t
 is_number number t [] x e = absurd cc
 is_number number t (y ∷ xs) x e = by_test (number y == t) refl e (is_number number t xs x)
@@ -41,25 +40,22 @@ is_number number t (y ∷ xs) x e = by_test (number y == t) refl e (is_number nu
         ap number (sym (same_Some y x here)) ∙ eqb-true (number y) t h
     by_test false h k rest = let there : find (λ (z : _). number z == t) xs ≡ Some x = rw h at k in rest there
 
-last_frame : (x : FrameState) (xs : List FrameState) → (low : List FrameState) × (top : FrameState) × (x ∷ xs ≡ low ++ top ∷ [])
-last_frame x [] = ([], x, refl)
-last_frame x (y ∷ xs) = let rest = last_frame y xs in (x ∷ rest.0, rest.1, ap (λ (l : List FrameState). x ∷ l) rest.2)
 
 module _ (c : FrameContent) (w : WorldRecord) (names : DomainRecord) (d : DomainPart) (r : Runs) (m : Machine) (p : RunningSegment m r.thread.0)
     (at : IsAt c w names d r m p) where
   thread_there : Contains m.threads p.thread
   thread_there =
       let found = found_at (λ (thread : Thread). thread.number.0 == r.thread.0) m.threads p.thread p.is_thread in
-      contains_at m.threads found.0 p.thread found.1
+      Contains-at m.threads found.0 p.thread found.1
 
   alone : p.thread.segments ≡ p.segment ∷ []
   alone = p.are_segments ∙ ap (λ (l : List Segment). l ++ p.segment ∷ []) at.lowest
 
   segment_there : Contains p.thread.segments p.segment
-  segment_there = contains_at p.thread.segments 0 p.segment (ap (λ (l : List Segment). slice_get l 0) alone)
+  segment_there = Contains-at p.thread.segments 0 p.segment (ap (λ (l : List Segment). slice_get l 0) alone)
 
   pub domain_there : Contains m.domains p.domain
-  domain_there = contains_at m.domains p.segment.domain.0 p.domain p.is_domain
+  domain_there = Contains-at m.domains p.segment.domain.0 p.domain p.is_domain
 
   pub frames_fit : FramesFit m.classes p.inside.heap p.segment.frames
   frames_fit =
@@ -74,7 +70,7 @@ module _ (c : FrameContent) (w : WorldRecord) (names : DomainRecord) (d : Domain
     where
       by_frames : (l : List FrameState) → p.segment.frames ≡ l → FramesFit m.classes p.inside.heap p.segment.frames → RunningFrame p
       by_frames [] e fit = absurd (subst (FramesFit m.classes p.inside.heap) e fit)
-      by_frames (f ∷ l) e fit = let top = last_frame f l in record { callers = top.0; frame = top.1; are_frames = e ∙ top.2 }
+      by_frames (f ∷ l) e fit = let top = last_of f l in record { callers = top.0; frame = top.1; are_frames = e ∙ top.2 }
 
   pub top_running : TopFrame c r.segment runs_frame.frame
   top_running = top_there c c r.segment r.domain runs_frame.callers runs_frame.frame (subst (Holds c r.segment r.domain) runs_frame.are_frames at.stored)

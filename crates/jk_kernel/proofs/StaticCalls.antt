@@ -28,6 +28,8 @@ use Rattle.jk_model_typing.specs.Groups.{Shape, group_of}
 use Rattle.jk_model_typing.specs.Rows.{Does, HasShape}
 use Rattle.jk_model_typing.specs.Scopes.{CodeScope, IsScopeOf, is_static, own_receiver, parameter_values}
 use Rattle.jk_model_typing.specs.Typing.{IsStart, as_locals as type_locals}
+use Rattle.typing_lemmas.proofs.OneScope.{scope_of, scope, one-scope}
+use Rattle.typing_lemmas.proofs.TypesOfValues.{usable-value}
 use Rattle.jk_model_frames.specs.Frames.{FrameState, head_chunks}
 use Rattle.jk_model_domains.specs.NumberRows.{Replaces}
 use Rattle.jk_model_domains.specs.Objects.{NamedObject}
@@ -38,12 +40,11 @@ use Rattle.jk_model_machine.specs.Places.{RunningSegment, with_frames, without_r
 use Rattle.jk_model_machine.specs.Steps.{Steps, calls, standing_class, throws}
 use Rattle.frame_store.specs.FrameContents.{FrameContent, IsContent}
 use Rattle.type_rows.specs.Operands.{IsLink}
+use Rattle.number_laws.proofs.ValuesFit.{fits-length}
+use Rattle.number_laws.proofs.ValuesAbove.{all-fitting}
 use Rattle.sealed_steps.proofs.OneItemChanged.{if-true}
-use Rattle.sealed_steps.proofs.OneMeaning.{scope, scope_of}
-use Rattle.sealed_steps.proofs.OneScope.{one-scope}
-use Rattle.sealed_steps.proofs.RowsFit.{all-fitting, method-one}
+use Rattle.sealed_steps.proofs.RowsFit.{method-one}
 use Rattle.sealed_steps.proofs.StandsHere.{ordered-here}
-use Rattle.sealed_steps.proofs.ValuesAbove.{fits-length}
 use Rattle.jk_kernel.specs.declared.domain_parts.DomainPart.{DomainPart}
 use Rattle.jk_kernel.specs.declared.happened.Happened.{Happened}
 use Rattle.jk_kernel.specs.declared.happened.Happened.TheVariants as Came
@@ -60,12 +61,6 @@ use Rattle.jk_kernel.proofs.SegmentsOfAMachine.{known_frames}
 use Rattle.jk_kernel.proofs.StepsByCase.{StepOf, keeps_all, keeps_own}
 
 -- ---- How many locals arguments take.
-
-usable : (classes : List ClassRecord) (dims : ℕ) (base : BaseRef) → IsUsable (dims_value classes dims base)
-usable classes zero (Base.Class c) = tt
-usable classes zero Base.Long = tt
-usable classes zero base = tt
-usable classes (suc dims) base = tt
 
 module _ (s : CodeScope) (heap : List NamedObject) where
   as_wide : (v : Value) (t : VType) → ValueFits s heap v t → IsUsable t → length (as_locals v) ≡ length (type_locals t)
@@ -86,7 +81,7 @@ module _ (s : CodeScope) (heap : List NamedObject) where
       omega (
         arith,
         locals_taken vs ts h.1,
-        as_wide v type h.0 (usable s.classes t.dims t.base),
+        as_wide v type h.0 (usable-value s.classes t.dims t.base),
         length-append (as_locals v) (locals_of vs),
         length-append (type_locals type) (flat_map type_locals (map (value_of s.classes) ts)),
       )

@@ -26,6 +26,7 @@ use Rattle.jk_model_machine.specs.Places.{RunningFrame, RunningSegment}
 use Rattle.jk_model_machine.specs.Sealed.{FitsAsTop, FramesFit}
 use Rattle.jk_model_machine.specs.Steps.{IsHeld, IsReady, NO_CLASS_DEF_FOUND_ERROR, standing_class}
 use Rattle.frame_store.specs.FrameContents.{FrameContent, IsContent, IsSame, Pops, TopFrame}
+use Rattle.step_progress.proofs.ThreadsStandWell.{top-fits}
 use Rattle.jk_kernel.specs.declared.domain_parts.DomainPart.{DomainPart}
 use Rattle.jk_kernel.specs.declared.happened.Happened.{Happened}
 use Rattle.jk_kernel.specs.declared.happened.Happened.TheVariants as Came
@@ -42,7 +43,7 @@ use Rattle.jk_kernel.proofs.HeldThreads.{all_ready, broken_look, held, looks_at,
 use Rattle.jk_kernel.proofs.NeedsFallen.{class_done, falls}
 use Rattle.jk_kernel.proofs.PartsOfAMachine.{begins_class, breaks, goes_out, left_is_there, left_keeps_out, overflows, own_is, record_there, same_frames, with_own_state}
 use Rattle.jk_kernel.proofs.SegmentsOfAMachine.{frames_fit, known_frames, runs_frame, top_running}
-use Rattle.jk_kernel.proofs.TopFrameFits.{initialises_some, last_fits, stands_somewhere}
+use Rattle.jk_kernel.proofs.TopFrameFits.{initialises_some, stands_somewhere}
 
 pub same_content : (c : FrameContent) → IsSame c c
 same_content c = record {
@@ -217,7 +218,7 @@ module _ (c : FrameContent) (w : WorldRecord) (names : DomainRecord) (d : Domain
     not_waiting e other = let both : Sees.Ready ≡ Sees.Waits = sym e ∙ other in absurd cc
 
     fits : FitsAsTop m.classes p.inside.heap running.frame
-    fits = last_fits m.classes p.inside.heap running.callers running.frame
+    fits = top-fits m.classes p.inside.heap running.callers running.frame
         (subst (FramesFit m.classes p.inside.heap) running.are_frames (frames_fit c w names d r m p at))
 
     pub fell : (paid after : DomainPart) (new : FrameContent) (k : ClassId) → IsContent c → look ≡ Sees.Ready → PaysFor d paid true → head.need ≡ Some k

@@ -2,19 +2,15 @@
 use Rattle.std.proofs.Common.{◌≡◌, ◌+◌, ◌-◌, ℕ, List, [], ◌∷◌, ◌++◌, Option, Some, None, refl, sym, ap, subst, ◌∙◌, arith}
 use Rattle.std.proofs.lemmas.List.Sums.{sum_by-append}
 use Rattle.std.proofs.lemmas.Option.{same_Some}
+use Rattle.list_lemmas.proofs.LastItems.{one_last}
 use Rattle.jk_model.specs.declared.frames.FrameHead.{FrameHead}
 use Rattle.jk_model.specs.declared.identifiers.DomainId.{DomainId}
 use Rattle.jk_model.specs.declared.identifiers.SegmentNo.{SegmentNo}
 use Rattle.jk_model_frames.specs.Frames.{FrameState, frames_chunks, head_chunks, new_frame, segment_chunks}
 use Rattle.frame_store.specs.FrameContents.{Changes, Ends, FrameContent, IsContent, IsSame, KeepsDomains, Pops, Pushes, SetsTop, StoredSegment, TopFrame}
-use Rattle.jk_kernel.proofs.TopAlone.{one_top}
+use Rattle.number_ops.proofs.TopFrames.{both_keep}
+use Rattle.sealed_steps.proofs.FramesInARow.{chunks-push}
 use Rattle.jk_kernel.specs.SegmentFrames.{GetsFrames, Holds, IsOut, stored}
-
-pub frames_costs : (lower : List FrameState) (f : FrameState) → frames_chunks (lower ++ f ∷ []) ≡ frames_chunks lower + head_chunks f.head
-frames_costs lower f = sum_by-append (λ (x : FrameState). head_chunks x.head) lower (f ∷ []) ∙ ap (λ (n : ℕ). frames_chunks lower + n) (only f)
-  where
-    only : (f : FrameState) → frames_chunks (f ∷ []) ≡ head_chunks f.head
-    only f = omega arith
 
 segment_is : (c : FrameContent) (s : SegmentNo) (d : DomainId) (frames : List FrameState) (g : StoredSegment) → Holds c s d frames → c.segment s ≡ Some g
     → g ≡ stored d frames
@@ -34,7 +30,7 @@ module _ (c new : FrameContent) (s : SegmentNo) (d : DomainId) where
       record {
         used = c.used d + head_chunks head;
         changes = moved;
-        costs = omega (arith, frames_costs frames (new_frame head));
+        costs = omega (arith, chunks-push frames (new_frame head));
       }
 
   top_is : (lower : List FrameState) (f g : FrameState) → Holds c s d (lower ++ f ∷ []) → (top : TopFrame c s g)
@@ -42,7 +38,7 @@ module _ (c new : FrameContent) (s : SegmentNo) (d : DomainId) where
   top_is lower f g h top =
       let is = segment_is c s d (lower ++ f ∷ []) top.segment h top.is_there in
       let lists : top.lower ++ g ∷ [] ≡ lower ++ f ∷ [] = sym top.frames ∙ ap (λ (x : StoredSegment). x.frames) is in
-      let both = one_top top.lower lower g f lists in
+      let both = one_last top.lower lower g f lists in
       (is, both.0, both.1)
 
   pub top_set : (lower : List FrameState) (f g : FrameState) → Holds c s d (lower ++ f ∷ []) → head_chunks g.head ≡ head_chunks f.head
@@ -56,7 +52,7 @@ module _ (c new : FrameContent) (s : SegmentNo) (d : DomainId) where
       let moved : Changes c new s d (Some (stored d (lower ++ g ∷ []))) (c.used d) =
       subst (λ (x : StoredSegment). Changes c new s x.domain
       (Some (let y : StoredSegment = record x { frames = lower ++ g ∷ [] } in y)) (c.used x.domain)) is.0 there in
-      record { used = c.used d; changes = moved; costs = omega (arith, frames_costs lower f, frames_costs lower g, same) }
+      record { used = c.used d; changes = moved; costs = omega (arith, chunks-push lower f, chunks-push lower g, same) }
 
   pub popped : (lower : List FrameState) (f : FrameState) → IsContent c → Holds c s d (lower ++ f ∷ []) → Pops c new s
       → GetsFrames c new s d (lower ++ f ∷ []) lower
@@ -75,7 +71,7 @@ module _ (c new : FrameContent) (s : SegmentNo) (d : DomainId) where
       record {
         used = c.used d - head_chunks f.head;
         changes = moved;
-        costs = omega (arith, frames_costs lower f, paid);
+        costs = omega (arith, chunks-push lower f, paid);
       }
 
   pub ended : (frames : List FrameState) → IsContent c → Holds c s d frames → Ends c new s → IsOut c new s d frames
@@ -88,18 +84,10 @@ module _ (c new : FrameContent) (s : SegmentNo) (d : DomainId) where
 
 -- ---- Changes in a row.
 
-keeps_on : (a b c : FrameContent) → KeepsDomains a b → KeepsDomains b c → KeepsDomains a c
-keeps_on a b c first second = record {
-  pages = second.pages ∙ first.pages;
-  took_all = second.took_all ∙ first.took_all;
-  quota = λ d. second.quota d ∙ first.quota d;
-  first_page = λ d. second.first_page d ∙ first.first_page d;
-}
-
 pub changes_on : (a b c : FrameContent) (s : SegmentNo) (d : DomainId) (x y : Option StoredSegment) (m n : ℕ) → Changes a b s d x m → Changes b c s d y n
     → Changes a c s d y n
 changes_on a b c s d x y m n first second = record {
-  domains = keeps_on a b c first.domains second.domains;
+  domains = both_keep a b c first.domains second.domains;
   becomes = second.becomes;
   others = λ r ne. second.others r ne ∙ first.others r ne;
   uses = second.uses;
@@ -139,7 +127,7 @@ ends_after_same a b c s same (g, there, changes) = (
   g,
   sym (same.segment s) ∙ there,
   record {
-    domains = keeps_on a b c same.domains changes.domains;
+    domains = both_keep a b c same.domains changes.domains;
     becomes = changes.becomes;
     others = λ r ne. changes.others r ne ∙ same.segment r;
     uses = changes.uses ∙ ap (λ (n : ℕ). n - segment_chunks g.frames) (same.used g.domain);

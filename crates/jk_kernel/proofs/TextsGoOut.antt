@@ -4,18 +4,7 @@ use Rattle.std.proofs.lemmas.List.{append-nil}
 use Rattle.jk_model.specs.declared.output.Line.{Line}
 use Rattle.jk_model.specs.Outside.{Appends, AppendsPart}
 use Rattle.jk_model.specs.Output.{line_text, text_of}
-
-pub append-nothing : (old : Option (List ℕ)) → Appends old old []
-append-nothing None = refl
-append-nothing (Some bytes) = ap Some (sym (append-nil bytes))
-
-pub appends-join : (old mid new : Option (List ℕ)) (a b : List ℕ) → Appends old mid a → Appends mid new b → Appends old new (a ++ b)
-appends-join None None new a b p q = q
-appends-join None (Some x) new a b p q = absurd cc
-appends-join (Some x) None new a b p q = absurd cc
-appends-join (Some x) (Some y) new a b p q =
-    let is : y ≡ x ++ a = cc in
-    q ∙ ap Some (ap (λ (ys : List ℕ). ys ++ b) is ∙ append_assoc x a b)
+use Rattle.jk_model.proofs.AppendsInTurn.{Appends-append}
 
 pub text-join : (a b : List Line) → text_of (a ++ b) ≡ text_of a ++ text_of b
 text-join [] b = refl
@@ -35,5 +24,5 @@ part-later old mid new a b more p (front, (back, is), q) = (
         (text-join b more ∙ ap (λ (xs : List ℕ). xs ++ text_of more) is ∙ append_assoc front back (text_of more))
         ∙ sym (append_assoc (text_of a) front (back ++ text_of more)),
   ),
-  appends-join old mid new (text_of a) front p q,
+  Appends-append old mid new (text_of a) front p q,
 )

@@ -4,14 +4,13 @@ use Rattle.std.specs.Prelude.{option_map}
 use Rattle.std.proofs.lemmas.Bool.{cases_lt}
 use Rattle.std.proofs.lemmas.List.Elements.{Contains-push_cases}
 use Rattle.std.proofs.lemmas.Option.{same_Some, slice_get_within}
+use Rattle.list_lemmas.proofs.ItemsOfLists.{Contains-none, each-of, each-from, Contains-at, place_of}
 use Rattle.jk_model.specs.declared.identifiers.ClassId.{ClassId}
 use Rattle.jk_model_classes.specs.declared.records.ClassRecord.{ClassRecord}
 use Rattle.jk_model_classes.specs.declared.records.Link.{Link}
 use Rattle.jk_model_classes.specs.declared.records.Link.TheVariants as To
 use Rattle.jk_model_classes.specs.Worlds.{NamedClass}
 use Rattle.jk_model_domains.specs.OwnStates.{IsFirstState, IsLiteralOf, OwnState}
-use Rattle.class_growth.proofs.ItemsOfLists.{Contains-none, each-from, each-of}
-use Rattle.sealed_steps.proofs.OneItemChanged.{Contains-at, place-of}
 use Rattle.sealed_openings.specs.OpenedDomains.{IsOpening}
 use Rattle.jk_kernel.specs.BuiltCode.{HaveManyTexts}
 use Rattle.jk_kernel.specs.GivenTexts.{AreGiven, AreGivenNames, GivesMore, HaveNoConstantTexts, IsLinkedText, with_texts}
@@ -151,7 +150,7 @@ module _ (classes : List ClassRecord) (table : List NamedClass) where
     module _ (constants : HaveNoConstantTexts classes table) {new : OwnState} {now : List (List ℕ)} (done : GivesClasses (length table) own [] new now) where
       each-literal : (text : List ℕ) → IsLiteralOf classes table text → Contains now text
       each-literal text (c, r, named, is, inl linked) =
-          let place = place-of table (record { name = named.0; class = c }) named.1 in
+          let place = place_of table (record { name = named.0; class = c }) named.1 in
           done.1 place.0 (record { name = named.0; class = c }) text (slice_get_within table place.0 (record { name = named.0; class = c }) place.1)
           place.1 (r, is, linked)
       each-literal text (c, r, named, is, inr (field, on, constant)) = absurd (constants c r field text named is on constant)

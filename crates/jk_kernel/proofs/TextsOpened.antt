@@ -4,11 +4,12 @@ use Rattle.std.specs.Prelude.{option_map}
 use Rattle.std.proofs.lemmas.Bool.{eqb-true, eq-eqb}
 use Rattle.std.proofs.lemmas.Option.{same_Some}
 use Rattle.std.proofs.lemmas.Slice.Eq.{bytes_eq-Decides}
+use Rattle.list_lemmas.proofs.ItemsOfLists.{Contains-at, place_of}
 use Rattle.jk_model_classes.specs.declared.records.ClassRecord.{ClassRecord}
 use Rattle.jk_model_classes.specs.Worlds.{NamedClass}
 use Rattle.jk_model_domains.specs.Objects.{NamedObject, Object, Plain, Text, PRINT_STREAM, object_named}
 use Rattle.jk_model_domains.specs.OwnStates.{IsFirstState, IsOwnState, Literal, OwnState, literal_named}
-use Rattle.sealed_steps.proofs.OneItemChanged.{Contains-at, find-place, find-some, place-of}
+use Rattle.sealed_steps.proofs.OneItemChanged.{find-place, find-some}
 use Rattle.sealed_openings.specs.OpenedDomains.{IsOpening}
 use Rattle.jk_kernel.specs.GivenTexts.{AreGiven, inside_with, literals_from, with_texts}
 use Rattle.jk_kernel.specs.KernelStates.{heap_of}
@@ -104,7 +105,7 @@ module _ (classes : List ClassRecord) (table : List NamedClass) (own : OwnState)
     texts = first.state.texts;
     texts_differ = first.state.texts_differ;
     literals = λ l on.
-        let place = place-of (literals_from 1 texts) l on in
+        let place = place_of (literals_from 1 texts) l on in
         given.known l.text (Contains-at texts place.0 l.text (literal-at 1 texts place.0 l place.1).0);
     literals_differ = λ i j a b p q e.
         given.differ i j a.text (literal-at 1 texts i a p).0
@@ -114,7 +115,7 @@ module _ (classes : List ClassRecord) (table : List NamedClass) (own : OwnState)
 
   has-object : (text : List ℕ) → Contains texts text → (a : ℕ) × (literal_named (with_texts own texts) text ≡ Some a)
   has-object text on =
-      let place = place-of texts text on in
+      let place = place_of texts text on in
       let l = literal-for 1 texts place.0 text place.1 in
       let found = find-some (λ (x : Literal). bytes_eq x.text text) (literals_from 1 texts) place.0 l.0 l.1 ((bytes_eq-Decides l.0.text text).1 l.2) in
       (found.0.name, ap (option_map (λ (x : Literal). x.name)) found.1)
@@ -129,11 +130,11 @@ module _ (classes : List ClassRecord) (table : List NamedClass) (own : OwnState)
     names_differ = names-differ texts;
     out = subst (λ (n : ℕ). object_named (heap_of texts) n ≡ Some (Plain PRINT_STREAM [])) (sym first.out) refl;
     texts = λ l on.
-        let place = place-of (literals_from 1 texts) l on in
+        let place = place_of (literals_from 1 texts) l on in
         let at = literal-at 1 texts place.0 l place.1 in
         let o = object-for 1 texts place.0 l.text at.0 in
         named-at (heap_of texts) (names-differ texts) (suc place.0) o.0 l.name o.1 (o.3 ∙ sym at.1) ∙ ap (λ (x : Object). Some x) o.2;
     nothing_else = λ o on.
-        let place = place-of (heap_of texts) o on in
+        let place = place_of (heap_of texts) o on in
         elim (stream-or-text texts place.0 o place.1) [ inl stream ↦ inl (stream ∙ sym first.out) | inr text ↦ inr text ];
   }

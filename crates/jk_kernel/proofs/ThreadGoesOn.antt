@@ -6,6 +6,8 @@ use Rattle.std.specs.Option.{option_map_or}
 use Rattle.std.proofs.lemmas.Bool.{cases_eq}
 use Rattle.std.proofs.lemmas.List.{length-set}
 use Rattle.std.proofs.lemmas.Option.{same_Some}
+use Rattle.list_lemmas.proofs.ItemsOfLists.{Contains-at, place_of}
+use Rattle.list_lemmas.proofs.ItemsByPlace.{set_same}
 use Rattle.jk_model.specs.declared.descriptors.MethodType.{MethodType}
 use Rattle.jk_model.specs.declared.identifiers.DomainId.{DomainId}
 use Rattle.jk_model_classes.specs.Worlds.{DomainRecord, WorldRecord}
@@ -14,7 +16,7 @@ use Rattle.jk_model_machine.specs.Machine.{DomainState, Machine, Thread, chunks_
 use Rattle.jk_model_machine.specs.Places.{with_frames}
 use Rattle.step_progress.specs.BuiltCodes.{HaveTexts}
 use Rattle.frame_store.specs.FrameContents.{FrameContent, IsSame, StoredSegment}
-use Rattle.sealed_steps.proofs.OneItemChanged.{Contains-at, if-false, if-true, place-of, set-cases}
+use Rattle.sealed_steps.proofs.OneItemChanged.{if-false, if-true, set-cases}
 use Rattle.sealed_steps.proofs.ThreadsByNumber.{with_thread-set}
 use Rattle.jk_kernel.specs.declared.domain_parts.DomainPart.{DomainPart}
 use Rattle.jk_kernel.specs.declared.domain_parts.ThreadPart.{ThreadPart}
@@ -23,7 +25,7 @@ use Rattle.jk_kernel.specs.KernelStates.{ArePartsOfKernel, frames_in, inside_of,
 use Rattle.jk_kernel.specs.KernelTurns.{entry_of}
 use Rattle.jk_kernel.specs.LocalSteps.{HasFramesNow, KeepsPart}
 use Rattle.jk_kernel.proofs.EntriesChanged.{AgreeBut, count-sum, map-one, map-same, sum-map, sum-one}
-use Rattle.jk_kernel.proofs.OnePartChanged.{at-state, set-same, states-set}
+use Rattle.jk_kernel.proofs.OnePartChanged.{at-state, states-set}
 use Rattle.jk_kernel.proofs.RunningThread.{AtWork, number-is, other-segment, running, same-id, same-no, thread-there, thread-with}
 
 -- what a thread costs a domain
@@ -58,7 +60,7 @@ module _ {w : WorldRecord} {parts : List DomainPart} {threads : List (ℕ × Thr
   pub same-machine : (d : DomainPart) → slice_get parts r.domain.0 ≡ Some d → (new : FrameContent) → IsSame c new
       → machine_of w (set parts r.domain.0 d) threads new nt ns ≡ machine_of w parts threads c nt ns
   same-machine d is_part new same =
-      ap (λ (ps : List DomainPart). machine_of w ps threads new nt ns) (set-same parts r.domain.0 d is_part)
+      ap (λ (ps : List DomainPart). machine_of w ps threads new nt ns) (set_same parts r.domain.0 d is_part)
       ∙ ap (λ (ts : List Thread). record (machine_of w parts threads c nt ns) { threads = ts })
       (map-same (thread_of c) (thread_of new) threads (λ i e at. frames-by c new e (same.segment e.1.segment)))
 
@@ -177,7 +179,7 @@ module _ {w : WorldRecord} {parts : List DomainPart} {threads : List (ℕ × Thr
           (λ i x at. on.1.domains.quota (record { 0 = i }) ∙ a.sound.parts_fit.quotas i x at);
       no_others = λ x past. on.1.domains.quota x
           ∙ a.sound.parts_fit.no_others x (omega (arith, length-set parts r.domain.0 after, past));
-      segments = λ e among. (let place = place-of threads e among in segment-now place.0 e place.1);
+      segments = λ e among. (let place = place_of threads e among in segment-now place.0 e place.1);
       no_other_segments = λ s g at. elim (cases_eq s.0 r.segment.0) [
         | inl same ↦ (entry_of r, Contains-at threads a.place (entry_of r) a.is_entry, sym (same-no s r.segment same))
         | inr differ ↦

@@ -6,6 +6,8 @@ use Rattle.std.specs.Ordering.{nat_cmp}
 use Rattle.std.specs.Option.{option_map_or}
 use Rattle.std.proofs.lemmas.Bool.{cases_eq}
 use Rattle.std.proofs.lemmas.List.{length-set}
+use Rattle.list_lemmas.proofs.ItemsOfLists.{Contains-at, place_of}
+use Rattle.list_lemmas.proofs.TestsAndOrders.{found_itself}
 use Rattle.jk_model.specs.declared.descriptors.MethodType.{MethodType}
 use Rattle.jk_model.specs.declared.identifiers.DomainId.{DomainId}
 use Rattle.jk_model_classes.specs.Worlds.{DomainRecord, WorldRecord}
@@ -13,7 +15,7 @@ use Rattle.jk_model_machine.specs.Machine.{DomainState, Machine, Thread, chunks_
 use Rattle.jk_model_machine.specs.Places.{without_running}
 use Rattle.step_progress.specs.BuiltCodes.{HaveTexts}
 use Rattle.frame_store.specs.FrameContents.{FrameContent, StoredSegment}
-use Rattle.sealed_steps.proofs.OneItemChanged.{Contains-at, not_true, place-of, set-cases}
+use Rattle.sealed_steps.proofs.OneItemChanged.{not_true, set-cases}
 use Rattle.sealed_steps.proofs.ThreadsByNumber.{live-place}
 use Rattle.jk_kernel.specs.declared.domain_parts.DomainPart.{DomainPart}
 use Rattle.jk_kernel.specs.declared.domain_parts.ThreadPart.{ThreadPart}
@@ -22,7 +24,7 @@ use Rattle.jk_kernel.specs.KernelStates.{ArePartsOfKernel, frames_in, inside_of,
 use Rattle.jk_kernel.specs.KernelTurns.{entry_of, without_entry}
 use Rattle.jk_kernel.specs.LocalSteps.{IsGoneNow, KeepsPart}
 use Rattle.jk_kernel.proofs.EntriesChanged.{AgreeBut, IsPlaceOf, count-sum, filter-removed, left-place, left-there, one-if, sum-map, sum-removed}
-use Rattle.jk_kernel.proofs.KeysByNumber.{key-differs, key-is, key-same}
+use Rattle.jk_kernel.proofs.KeysByNumber.{key-differs, key-same}
 use Rattle.jk_kernel.proofs.OnePartChanged.{at-state, states-set}
 use Rattle.jk_kernel.proofs.RunningThread.{AtWork, entry-at, number-is, other-number, other-segment, running, same-id, same-no}
 use Rattle.jk_kernel.proofs.ThreadGoesOn.{cost, cost-home, cost-other, frames-by, is_of}
@@ -38,7 +40,7 @@ module _ {w : WorldRecord} {parts : List DomainPart} {threads : List (ℕ × Thr
     (λ here.
         let is : Some e ≡ Some (entry_of r) = sym at ∙ ap (slice_get threads) here ∙ a.is_entry in
         let number : e.0 ≡ r.thread.0 = cc in
-        key-is r.thread.0 e.0 (sym number)),
+        found_itself r.thread.0 e.0 (sym number)),
   )
 
   -- the thread is counted in its domain
@@ -147,7 +149,7 @@ module _ {w : WorldRecord} {parts : List DomainPart} {threads : List (ℕ × Thr
       no_others = λ x past. gone.1.domains.quota x
           ∙ a.sound.parts_fit.no_others x (omega (arith, length-set parts r.domain.0 after, past));
       segments = λ e among.
-          let place = place-of left e among in
+          let place = place_of left e among in
           let was = left-place test threads a.place only-there place.0 e place.1 in
           segment-left was.0 e was.2 was.1;
       no_other_segments = λ s g at. elim (cases_eq s.0 r.segment.0) [
@@ -155,7 +157,7 @@ module _ {w : WorldRecord} {parts : List DomainPart} {threads : List (ℕ × Thr
             let none : None ≡ Some g = sym gone.1.becomes ∙ ap new.segment (sym (same-no s r.segment same)) ∙ at in absurd cc
         | inr differ ↦
             let was = a.sound.parts_fit.no_other_segments s g (sym (gone.1.others s (λ same. differ (ap (λ x. x.0) same))) ∙ at) in
-            let place = place-of threads was.0 was.1 in
+            let place = place_of threads was.0 was.1 in
             let elsewhere : place.0 ≢ a.place = λ here.
             let is : Some was.0 ≡ Some (entry_of r) = sym place.1 ∙ ap (slice_get threads) here ∙ a.is_entry in
             let entry : was.0 ≡ entry_of r = cc in

@@ -11,7 +11,8 @@ use Rattle.std.proofs.lemmas.Bool.{cases_eq}
 use Rattle.std.proofs.lemmas.List.{length-set, map-append}
 use Rattle.std.proofs.lemmas.List.Sums.{sum_by_push}
 use Rattle.std.proofs.lemmas.Option.{slice_get-map}
-use Rattle.list_lemmas.proofs.ItemsByPlace.{slice_get-last}
+use Rattle.list_lemmas.proofs.ItemsByPlace.{slice_get-last, slice_get-longer, set_same}
+use Rattle.list_lemmas.proofs.ItemsOfLists.{Contains-at, place_of}
 use Rattle.jk_model.specs.declared.descriptors.MethodType.{MethodType}
 use Rattle.jk_model.specs.declared.identifiers.DomainId.{DomainId}
 use Rattle.jk_model.specs.declared.identifiers.SegmentNo.{SegmentNo}
@@ -21,14 +22,14 @@ use Rattle.jk_model_machine.specs.Machine.{DomainState, Machine, Thread, chunks_
 use Rattle.jk_model_machine.specs.Starts.{with_new_thread}
 use Rattle.step_progress.specs.BuiltCodes.{HaveTexts}
 use Rattle.frame_store.specs.FrameContents.{Changes, FrameContent, StoredSegment}
-use Rattle.sealed_steps.proofs.OneItemChanged.{Contains-at, place-of, push-cases, set-cases, slice_get-longer}
+use Rattle.sealed_steps.proofs.OneItemChanged.{push-cases, set-cases}
 use Rattle.jk_kernel.specs.declared.domain_parts.DomainPart.{DomainPart}
 use Rattle.jk_kernel.specs.declared.domain_parts.ThreadPart.{ThreadPart}
 use Rattle.jk_kernel.specs.KernelStates.{ArePartsOfKernel, frames_in, inside_of, machine_of, segment_of, state_of, states_of, thread_of}
 use Rattle.jk_kernel.specs.SegmentFrames.{stored}
 use Rattle.jk_kernel.specs.SoundKernels.{IsSoundKernel}
 use Rattle.jk_kernel.proofs.EntriesChanged.{count-sum, map-same, one-if, sum-map, sum-same}
-use Rattle.jk_kernel.proofs.OnePartChanged.{at-state, set-same, states-set}
+use Rattle.jk_kernel.proofs.OnePartChanged.{at-state, states-set}
 use Rattle.jk_kernel.proofs.RunningThread.{same-id, same-no, thread-with}
 use Rattle.jk_kernel.proofs.ThreadGoesOn.{cost, cost-home, cost-other, frames-by, is_of}
 
@@ -81,7 +82,7 @@ module _ {w : WorldRecord} {parts : List DomainPart} {threads : Entries} {c : Fr
       by None is = is
       by (Some g) is =
           let there = sound.parts_fit.no_other_segments (segment_no ns) g is in
-          let place = place-of threads there.0 there.1 in
+          let place = place_of threads there.0 there.1 in
           let low = lower-segment place.0 there.0 place.1 in
           let same : there.0.1.segment.0 ≡ ns = ap (λ (s : SegmentNo). s.0) there.2 in
           absurd (omega (arith, low, same))
@@ -131,7 +132,7 @@ module _ {w : WorldRecord} {parts : List DomainPart} {threads : Entries} {c : Fr
     domains-same : states_of w.domains later ≡ states_of w.domains parts
     domains-same =
         states-set w.domains parts d.0 names after is_names
-        ∙ set-same (states_of w.domains parts) d.0 (state_of names part) (at-state w.domains parts d.0 names part is_names is_part)
+        ∙ set_same (states_of w.domains parts) d.0 (state_of names part) (at-state w.domains parts d.0 names part is_names is_part)
 
     abbrev with-parts : List DomainState → List Thread → ℕ → ℕ → Machine
     with-parts ds ts n s = record { classes = w.classes; domains = ds; threads = ts; next_thread = n; next_segment = s }
@@ -173,7 +174,7 @@ module _ {w : WorldRecord} {parts : List DomainPart} {threads : Entries} {c : Fr
 
     segment-now : (e : ℕ × ThreadPart) → Contains (threads ++ entry ∷ []) e → IsStored e
     segment-now e among =
-        let place = place-of (threads ++ entry ∷ []) e among in
+        let place = place_of (threads ++ entry ∷ []) e among in
         elim (push-cases threads entry e place.0 place.1) [
           | inl was ↦ segment-old place.0 e was
           | inr (last, is) ↦ subst IsStored is segment-new
@@ -188,7 +189,7 @@ module _ {w : WorldRecord} {parts : List DomainPart} {threads : Entries} {c : Fr
       | inl same ↦ (entry, last-there, sym (same-no s (segment_no ns) same))
       | inr differ ↦
           let was = sound.parts_fit.no_other_segments s g (sym (changes.others s (λ same. differ (ap (λ x. x.0) same))) ∙ at) in
-          let place = place-of threads was.0 was.1 in
+          let place = place_of threads was.0 was.1 in
           (was.0, Contains-at (threads ++ entry ∷ []) place.0 was.0 (slice_get-longer threads (entry ∷ []) place.0 was.0 place.1), was.2)
     ]
 

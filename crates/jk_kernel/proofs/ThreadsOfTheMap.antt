@@ -4,6 +4,7 @@ use Rattle.std.specs.BTreeMap.{is_at}
 use Rattle.std.specs.Map.{lookup}
 use Rattle.std.specs.Ordering.{nat_cmp}
 use Rattle.std.proofs.lemmas.Option.{same_Some}
+use Rattle.list_lemmas.proofs.TestsAndOrders.{found_itself}
 use Rattle.jk_model.specs.declared.descriptors.MethodType.{MethodType}
 use Rattle.jk_model.specs.declared.identifiers.DomainId.{DomainId}
 use Rattle.jk_model.specs.declared.identifiers.SegmentNo.{SegmentNo}
@@ -18,7 +19,7 @@ use Rattle.jk_kernel.specs.declared.stepping.Runs.{Runs}
 use Rattle.jk_kernel.specs.KernelStates.{machine_of}
 use Rattle.jk_kernel.specs.KernelTurns.{IsLiveAt, entry_of}
 use Rattle.jk_kernel.specs.SoundKernels.{IsSoundKernel}
-use Rattle.jk_kernel.proofs.KeysByNumber.{key-is, key-same}
+use Rattle.jk_kernel.proofs.KeysByNumber.{key-same}
 use Rattle.jk_kernel.proofs.RunningThread.{AtWork, entry-at, live-at-work}
 
 abbrev Entries : Type 0
@@ -46,7 +47,7 @@ not-in-map t [] none k e at same = absurd cc
 not-in-map t (x ∷ es) none zero e at same =
     let here = none-first t x (lookup (is_at (nat_cmp t)) es) (is_at (nat_cmp t) x.0) none in
     let number : t ≡ x.0 = sym (ap (λ (y : ℕ × ThreadPart). y.0) (same_Some x e at) ∙ same) in
-    let both : true ≡ false = sym (key-is t x.0 number) ∙ here.0 in
+    let both : true ≡ false = sym (found_itself t x.0 number) ∙ here.0 in
     cc
 not-in-map t (x ∷ es) none (suc k) e at same =
     not-in-map t es (none-first t x (lookup (is_at (nat_cmp t)) es) (is_at (nat_cmp t) x.0) none).1 k e at same

@@ -4,6 +4,8 @@ use Rattle.std.proofs.lemmas.List.{length-append}
 use Rattle.std.proofs.lemmas.List.Elements.{Contains-push}
 use Rattle.std.proofs.lemmas.List.Sums.{sum_by-cons}
 use Rattle.std.proofs.lemmas.Option.{slice_get_within}
+use Rattle.list_lemmas.proofs.ItemsOfLists.{Contains-at}
+use Rattle.list_lemmas.proofs.TestsAndOrders.{same_pos}
 use Rattle.jk_model.specs.declared.frames.FrameHead.{FrameHead}
 use Rattle.jk_model.specs.declared.instructions.Instr.{Instr}
 use Rattle.jk_model.specs.declared.output.Line.{Line}
@@ -17,6 +19,7 @@ use Rattle.jk_model_typing.specs.Groups.{Takes}
 use Rattle.jk_model_typing.specs.Rows.{Does}
 use Rattle.jk_model_typing.specs.Scopes.{CodeScope}
 use Rattle.jk_model_typing.specs.Typing.{leaves_line}
+use Rattle.typing_lemmas.proofs.OneScope.{one-scope}
 use Rattle.jk_model_frames.specs.Frames.{FrameState}
 use Rattle.jk_model_machine.specs.Executions.{Executes, GoesOn, Outcome, Working}
 use Rattle.jk_model_machine.specs.Initialising.{RunsCode}
@@ -24,13 +27,10 @@ use Rattle.jk_model_machine.specs.Machine.{DomainState, Inside, Machine, free_ch
 use Rattle.jk_model_machine.specs.Places.{RunningSegment, with_frames}
 use Rattle.jk_model_machine.specs.Steps.{ActingFrame, Follows, Steps, at_place, does, goes_on}
 use Rattle.frame_store.specs.FrameContents.{FrameContent}
-use Rattle.sealed_steps.proofs.OneItemChanged.{Contains-at}
-use Rattle.sealed_steps.proofs.OneMeaning.{same_pos}
-use Rattle.sealed_steps.proofs.OneScope.{one-scope}
-use Rattle.sealed_steps.proofs.RowsFit.{as_many}
+use Rattle.number_laws.proofs.EntriesExchanged.{as_many}
+use Rattle.number_laws.proofs.ValuesFit.{fits-length}
 use Rattle.sealed_steps.proofs.RunningFacts.{TopFacts, running-facts, top-facts}
 use Rattle.sealed_steps.proofs.StandsHere.{Stands, runs-here, stands-here}
-use Rattle.sealed_steps.proofs.ValuesAbove.{fits-length}
 use Rattle.step_progress.specs.BuiltCodes.{IsBuiltInstr}
 use Rattle.jk_kernel.specs.declared.domain_parts.DomainPart.{DomainPart}
 use Rattle.jk_kernel.specs.declared.stepping.Runs.{Runs}

@@ -1,6 +1,7 @@
 -- The top frame of a sealed segment: it stands at an instruction or initialises a class, and without a need it stands at one.
 use Rattle.std.proofs.Common.{◌≡◌, ◌≢◌, ◌<◌, ℕ, zero, suc, List, [], ◌∷◌, ◌++◌, length, Option, Some, None, slice_get, refl, sym, ◌∙◌, inl, inr, arith}
 use Rattle.std.proofs.lemmas.Option.{slice_get_within}
+use Rattle.list_lemmas.proofs.ItemsByPlace.{item_there}
 use Rattle.jk_model.specs.declared.identifiers.ClassId.{ClassId}
 use Rattle.jk_model.specs.declared.instructions.Instr.{Instr}
 use Rattle.jk_model_classes.specs.declared.records.ClassRecord.{ClassRecord}
@@ -10,17 +11,6 @@ use Rattle.jk_model_domains.specs.Objects.{NamedObject}
 use Rattle.jk_model_machine.specs.Sealed.{FitsAsTop, FramesFit}
 use Rattle.jk_kernel.specs.StandsAt.{StandsIn}
 
-pub last_fits : (classes : List ClassRecord) (heap : List NamedObject) (callers : List FrameState) (f : FrameState)
-    → FramesFit classes heap (callers ++ f ∷ []) → FitsAsTop classes heap f
-last_fits classes heap [] f h = h
-last_fits classes heap (x ∷ []) f h = h.1
-last_fits classes heap (x ∷ y ∷ callers) f h = last_fits classes heap (y ∷ callers) f h.1
-
-item_at : {X : Type 0} (xs : List X) (n : ℕ) → n < length xs → (x : X) × (slice_get xs n ≡ Some x)
-item_at [] n lt = absurd (omega (arith, lt))
-item_at (x ∷ xs) zero lt = (x, refl)
-item_at (x ∷ xs) (suc n) lt = item_at xs n (omega (arith, lt))
-
 pub stands_somewhere : (classes : List ClassRecord) (heap : List NamedObject) (f : FrameState) → FitsAsTop classes heap f → f.head.need ≡ None
     → (s : CodeScope) × (i : Instr) × StandsIn classes f.head s i
 stands_somewhere classes heap f (stands, fits) none = elim fits [
@@ -29,7 +19,7 @@ stands_somewhere classes heap f (stands, fits) none = elim fits [
       let t = here.0 in
       let typing = t.is_verified.typing in
       let lt : f.head.at < length typing.scope.code.instrs = omega (arith, slice_get_within t.frames f.head.at (Some t.type) t.stands, typing.as_many) in
-      let instr = item_at typing.scope.code.instrs f.head.at lt in
+      let instr = item_there typing.scope.code.instrs f.head.at lt in
       (typing.scope, instr.0, record { method = t.method; is_method = t.is_method; is_scope = typing.scope_is; stands = instr.1 }))
 ]
 

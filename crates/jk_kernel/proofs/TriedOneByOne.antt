@@ -3,7 +3,8 @@ use Rattle.std.proofs.Common.{ℕ, ◌<◌, Bool, true, false, IsTrue, List, len
 use Rattle.std.specs.Prelude.{MatchBool}
 use Rattle.std.specs.List.{AllByRecursion, AllWithin, HoldsAt}
 use Rattle.std.proofs.lemmas.Option.{get_or_from_slice_get}
-use Rattle.class_growth.proofs.ItemsOfLists.{Contains-at, each-from, each-of, item-at}
+use Rattle.list_lemmas.proofs.ItemsOfLists.{Contains-at, each-of, each-from}
+use Rattle.list_lemmas.proofs.ItemsByPlace.{item_there}
 use Rattle.jk_kernel.proofs.InstructionsWithoutLink.{never}
 
 pub all-tried : {X : Type 0} (P : X → Type 0) (r : Bool) (xs : List X)
@@ -11,7 +12,7 @@ pub all-tried : {X : Type 0} (P : X → Type 0) (r : Bool) (xs : List X)
     → (IsTrue r → AllByRecursion P xs) × (AllByRecursion P xs → IsTrue r)
 all-tried P true xs h = (λ t. each-from P xs (λ x on. subst P on.2 (h on.0 x (omega arith) on.1)), λ all. refl)
 all-tried P false xs h =
-    let item = item-at xs h.0 h.1 in (
+    let item = item_there xs h.0 h.1 in (
       λ t. absurd (never t),
       λ all.
           absurd (h.2 item.0

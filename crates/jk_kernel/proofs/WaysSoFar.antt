@@ -4,10 +4,11 @@ use Rattle.std.proofs.lemmas.Bool.{ltb-false}
 use Rattle.jk_model.specs.declared.output.Line.{Line}
 use Rattle.jk_model.specs.Outside.{Appends, AppendsPart}
 use Rattle.jk_model.specs.Output.{text_of}
+use Rattle.jk_model.proofs.AppendsInTurn.{Appends-nil, Appends-append}
 use Rattle.jk_model_machine.specs.Machine.{Machine, is_live_thread}
 use Rattle.jk_model_machine.specs.Sealed.{IsSealed}
 use Rattle.jk_model_machine.specs.Steps.{Steps}
-use Rattle.jk_kernel.proofs.TextsGoOut.{append-nothing, appends-join, part-later, text-join}
+use Rattle.jk_kernel.proofs.TextsGoOut.{part-later, text-join}
 use Rattle.jk_kernel.proofs.WaysJoined.{Repeats, Way, one-way, ways-join, ways-more, ways-then-rest}
 
 abbrev pub KeepsCounts : Machine → Machine → Type 0
@@ -39,11 +40,11 @@ step-of-none m t e = inl (record { ended = e; silent = refl; same = refl })
 pub text-later : (a b c : Option (List ℕ)) (first rest : List Line) → Appends a b (text_of first) → Appends b c (text_of rest)
     → Appends a c (text_of (first ++ rest))
 text-later a b c first rest p q =
-    subst (λ (xs : List ℕ). Appends a c xs) (sym (text-join first rest)) (appends-join a b c (text_of first) (text_of rest) p q)
+    subst (λ (xs : List ℕ). Appends a c xs) (sym (text-join first rest)) (Appends-append a b c (text_of first) (text_of rest) p q)
 
 module _ (One : Way) (Many : ℕ → Way) (r : Repeats One Many) where
   pub done-none : (m : Machine) (bytes : Option (List ℕ)) → Done (Many 0) m m bytes bytes
-  done-none m bytes = record { lines = []; way = r.nothing m; text = append-nothing bytes; counts = (refl, refl, refl) }
+  done-none m bytes = record { lines = []; way = r.nothing m; text = Appends-nil bytes; counts = (refl, refl, refl) }
 
   pub done-more : (n : ℕ) (old now next : Machine) (a b c : Option (List ℕ)) → Done (Many n) old now a b → Prints One now next b c
       → IsSealed next → KeepsCounts now next → Done (Many (n + 1)) old next a c

@@ -4,6 +4,8 @@ use Rattle.std.proofs.Common.{◌≡◌, ℕ, zero, suc, ◌-◌, ◌^◌, ◌<�
 use Rattle.std.specs.List.{AllByRecursion}
 use Rattle.std.proofs.lemmas.List.{take-append-le, take_all}
 use Rattle.std.proofs.lemmas.Option.{none-some, same_Some, slice_get_within}
+use Rattle.list_lemmas.proofs.ItemsOfLists.{Contains-cases, Contains-none, place_of, each-weaker, each-from}
+use Rattle.list_lemmas.proofs.ItemsByPlace.{item_there}
 use Rattle.jk_model.specs.declared.identifiers.ClassId.{ClassId}
 use Rattle.jk_model.specs.declared.identifiers.DomainId.{DomainId}
 use Rattle.jk_model.specs.Outside.{Tree}
@@ -20,10 +22,11 @@ use Rattle.folder_loader.specs.declared.answers.LoadAnswer.{LoadAnswer}
 use Rattle.folder_loader.specs.declared.answers.Loaded.{Loaded}
 use Rattle.folder_loader.specs.LoadAnswers.{HasLoaded}
 use Rattle.domain_resolver.specs.LiveDomains.{EndsDomain, IsNumbered}
-use Rattle.class_growth.proofs.ItemsOfLists.{Contains-cases, Contains-none, each-from, each-weaker, item-at, place-of, slice_get-append_cases}
+use Rattle.class_growth.proofs.ItemsOfLists.{slice_get-append_cases}
 use Rattle.class_growth.proofs.MoreClasses.{has_class-still}
+use Rattle.class_growth.proofs.SystemClassesClosed.{system_alone}
 use Rattle.sound_folders.proofs.NamesOfTables.{meant-from}
-use Rattle.sound_folders.proofs.NewClasses.{OwnFile, added, all, meant_there, own_file, system_few}
+use Rattle.sound_folders.proofs.NewClasses.{OwnFile, added, all, meant_there, own_file, system_few, own_of, names_there}
 
 -- no name is that of two live domains
 abbrev NamesDiffer : WorldRecord → Type 0
@@ -35,14 +38,6 @@ nothing_at : {X : Type 0} (xs : List X) (k : ℕ) (x : X) → xs ≡ [] → slic
 nothing_at {X = X} xs k x none at = let there : slice_get [] k ≡ Some x = subst (λ (ys : List X). slice_get ys k ≡ Some x) none at in cc
 
 module _ (w : WorldRecord) (system : AreSystemRecords w.classes) (none : w.domains ≡ []) (ordered : AreOrdered w.classes) where
-  -- system classes refer to none, and are no domain's
-  of_system : (c : ClassId) (r : ClassRecord) → record_of w.classes c ≡ Some r → (r.references ≡ []) × (r.home ≡ None)
-  of_system c r at =
-      let low : c.0 < length system_classes = omega (arith, slice_get_within w.classes c.0 r at, system.as_many) in
-      let entry = item-at system_classes c.0 low in
-      let is = system.each c.0 entry.0 r entry.1 at in
-      (is.references, is.home)
-
   pub may_load_first : MayLoad w
   may_load_first = record {
     world = record {
@@ -51,10 +46,10 @@ module _ (w : WorldRecord) (system : AreSystemRecords w.classes) (none : w.domai
       named = λ i d at. absurd (nothing_at w.domains i d none at);
       offered = λ i d at. absurd (nothing_at w.domains i d none at);
       records = λ c r at. record {
-        references = subst (λ (xs : List ClassId). AllByRecursion (HasClass w.classes) xs) (sym (of_system c r at).0) tt;
+        references = subst (λ (xs : List ClassId). AllByRecursion (HasClass w.classes) xs) (sym (system_alone w.classes system c r at).0) tt;
       };
       ordered = ordered;
-      homes = λ c r d at home. absurd (none-some d (sym (of_system c r at).1 ∙ home));
+      homes = λ c r d at home. absurd (none-some d (sym (system_alone w.classes system c r at).1 ∙ home));
       few_domains = omega (arith, ap length none);
     };
     system = subst AreSystemRecords (sym (take_all (length system_classes) w.classes (omega (arith, system.as_many)))) system;
@@ -74,27 +69,12 @@ module _ {f : FolderFiles} {w : WorldRecord} {into : List ℕ} {first : ClassId}
   old_there : (c : ClassId) → HasClass w.classes c → HasClass (all l) c
   old_there c there = has_class-still w.classes (added l) c there
 
-  own_of : (r : ClassRecord) → Contains (added l) r → (k : ℕ) × OwnFile (length w.classes) l.files l.placed k r
-  own_of r on = let place = place-of (added l) r on in (place.0, own_file l place.0 r place.1)
-
-  records_again : (c : ClassId) (r : ClassRecord) → record_of (all l) c ≡ Some r → NamesClasses (all l) r
-  records_again c r is = elim (slice_get-append_cases w.classes (added l) c.0 r is) [
-    | inl old ↦ record {
-      references = each-weaker (HasClass w.classes) (HasClass (all l)) old_there r.references (may.world.records c r old).references;
-    }
-    | inr later ↦ record {
-      references =
-          each-from (HasClass (all l)) r.references
-          (λ d on. let (i, name, refers, meant) = (own_of r later).1.is_record.references.each d on in meant_there l may name d meant);
-    }
-  ]
-
   homes_again : (c : ClassId) (r : ClassRecord) (d : DomainId) → record_of (all l) c ≡ Some r → r.home ≡ Some d
       → (d.0 < length w.domains) ⊎ (d.0 ≡ length w.domains)
   homes_again c r d is home = elim (slice_get-append_cases w.classes (added l) c.0 r is) [
     | inl old ↦ may.world.homes c r d old home
     | inr later ↦
-        let same = same_Some d l.placed.home (sym home ∙ (own_of r later).1.is_record.at_home) in
+        let same = same_Some d l.placed.home (sym home ∙ (own_of l r later).1.is_record.at_home) in
         inr (ap (λ (x : DomainId). x.0) same ∙ l.is_placed.home)
   ]
 
@@ -104,7 +84,7 @@ module _ {f : FolderFiles} {w : WorldRecord} {into : List ℕ} {first : ClassId}
     names_differ = may.world.names_differ;
     named = λ i d at c named. old_there c (may.world.named i d at c named);
     offered = λ i d at o on. old_there o.class (may.world.offered i d at o on);
-    records = records_again;
+    records = names_there l may;
     ordered = ordered;
     homes = homes_again;
     few_domains = may.world.few_domains;

@@ -16,8 +16,9 @@ use Rattle.jk_model_typing.specs.Typing.{FrameAt, IsLeastTyping}
 use Rattle.jk_model_frames.specs.Frames.{FrameState, new_frame}
 use Rattle.jk_model_domains.specs.ValueTypes.{EachValueFits}
 use Rattle.frame_store.specs.FrameContents.{Begins, FrameContent, HasFewDomains, HasLocal, IsAdmitted, IsContent, MOST_DOMAINS, SetsTop, TopFrame}
+use Rattle.number_ops.proofs.TopFrames.{top_after}
 use Rattle.number_check.specs.RunFrames.{AreFirst, HEAP, IsBegun, RunsIn}
-use Rattle.number_check.proofs.OneTopFrame.{top_set, top_sized}
+use Rattle.number_check.proofs.OneTopFrame.{top_sized}
 
 pub few_of_none : (c : FrameContent) → ((d : DomainId) → c.quota d ≡ None) → HasFewDomains c
 few_of_none c none = λ ds apart admitted. by ds admitted
@@ -44,7 +45,7 @@ module _ (old new : FrameContent) (s : SegmentNo) (head : FrameHead) where
       → ((f : FrameState) → TopFrame old s f → SetsTop old new s (record f { locals = slice_set f.locals i v })) → IsBegun new s head
   still_begun i v h sets = record {
     frame = record h.frame { locals = slice_set h.frame.locals i v };
-    top = top_set old new s (record h.frame { locals = slice_set h.frame.locals i v }) (sets h.frame h.top);
+    top = top_after old new s (record h.frame { locals = slice_set h.frame.locals i v }) (sets h.frame h.top);
     head_is = h.head_is;
     stack = h.stack;
   }

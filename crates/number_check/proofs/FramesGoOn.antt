@@ -1,6 +1,7 @@
 -- An instruction on numbers may be done at a frame that fits its method's typing, and the frame fits again where it goes on.
 use Rattle.std.proofs.Common.{◌≡◌, ◌<◌, ℕ, ℤ, pos, List, length, Some, refl, sym, ap, subst, ◌∙◌, arith}
 use Rattle.std.proofs.lemmas.Option.{same_Some, slice_get_within}
+use Rattle.list_lemmas.proofs.TestsAndOrders.{same_pos}
 use Rattle.jk_model.specs.declared.frames.FrameHead.{FrameHead}
 use Rattle.jk_model.specs.declared.identifiers.MemberId.{MemberId}
 use Rattle.jk_model.specs.declared.identifiers.SegmentNo.{SegmentNo}
@@ -12,6 +13,7 @@ use Rattle.jk_model_classes.specs.Classes.{AreOrdered}
 use Rattle.jk_model_typing.specs.declared.frames.FrameType.{FrameType}
 use Rattle.jk_model_typing.specs.Scopes.{CodeScope, IsScopeOf}
 use Rattle.jk_model_typing.specs.Typing.{FitsAt, GoesOnAt}
+use Rattle.typing_lemmas.proofs.OneScope.{one-scope}
 use Rattle.jk_model_frames.specs.Frames.{FrameState}
 use Rattle.jk_model_domains.specs.NumberRows.{NumberRow}
 use Rattle.jk_model_domains.specs.Objects.{NamedObject}
@@ -23,11 +25,9 @@ use Rattle.number_laws.specs.FrameLaws.{IsTyped}
 use Rattle.number_ops.specs.NumberSteps.{DoesNumbers, IsReady}
 use Rattle.number_ops.proofs.HeadAsStored.{DoesInPlace, in_place}
 use Rattle.number_laws.proofs.HeadsStay.{number-head}
-use Rattle.sealed_steps.proofs.OneMeaning.{same_pos}
-use Rattle.sealed_steps.proofs.OneScope.{one-scope}
+use Rattle.number_ops.proofs.TopFrames.{same_top, top_after}
 use Rattle.sealed_steps.proofs.StandsHere.{Stands, fits-on, stands-here}
 use Rattle.number_check.specs.RunFrames.{HEAP, HasNumbersAt, LeadsOn, RunsCodeOf, RunsIn, gone_to}
-use Rattle.number_check.proofs.OneTopFrame.{same_top, top_set}
 
 -- What the rows of instructions on numbers say of types.
 abbrev pub RowsKeepTypes : Type 0
@@ -120,12 +120,12 @@ module _ (c : FrameContent) (classes : List ClassRecord) (s : SegmentNo) (scope 
     leads : (after : After) → DoesInPlace c new classes s i after → LeadsOn new classes s scope after
     leads (Next.Goto next) done =
         let on_it = goes_on done.left next (row_here (Next.Goto next) done) in
-        (done.left, top_set c new s done.left done.sets, on_it.0, on_it.1, r.short)
-    leads (Next.Raise x) done = (done.left, top_set c new s done.left done.sets)
-    leads (Next.Call x) done = (done.left, top_set c new s done.left done.sets)
-    leads (Next.Crossing k x) done = (done.left, top_set c new s done.left done.sets)
-    leads (Next.Return v) done = (done.left, top_set c new s done.left done.sets)
-    leads Next.Terminate done = (done.left, top_set c new s done.left done.sets)
+        (done.left, top_after c new s done.left done.sets, on_it.0, on_it.1, r.short)
+    leads (Next.Raise x) done = (done.left, top_after c new s done.left done.sets)
+    leads (Next.Call x) done = (done.left, top_after c new s done.left done.sets)
+    leads (Next.Crossing k x) done = (done.left, top_after c new s done.left done.sets)
+    leads (Next.Return v) done = (done.left, top_after c new s done.left done.sets)
+    leads Next.Terminate done = (done.left, top_after c new s done.left done.sets)
 
     pub leads_on : (after : After) → DoesNumbers c new classes s head i after → LeadsOn new classes s scope after
     leads_on after does = leads after (in_place c new classes s head i after is_head does)
@@ -136,7 +136,7 @@ pub goes_on_running : (c new : FrameContent) (classes : List ClassRecord) (s : S
     → RunsIn new classes s scope
 goes_on_running c new classes s scope next (f, top, runs, fits, short) sets = record {
   frame = gone_to f next;
-  top = top_set c new s (gone_to f next) (sets f top);
+  top = top_after c new s (gone_to f next) (sets f top);
   runs = runs;
   fits = fits;
   short = short;

@@ -2,18 +2,13 @@
 use Rattle.std.proofs.Common.{◌≡◌, ℕ, zero, suc, ◌+◌, ◌<◌, ◌≤◌, List, [], ◌∷◌, ◌++◌, length, take, Some, slice_get, ap, ◌∙◌, add-one, arith}
 use Rattle.std.proofs.lemmas.List.{take_all}
 use Rattle.std.proofs.lemmas.Option.{same_Some}
+use Rattle.list_lemmas.proofs.LastItems.{take_next}
 use Rattle.jk_model.specs.declared.frames.FrameHead.{FrameHead}
 use Rattle.jk_model.specs.declared.identifiers.SegmentNo.{SegmentNo}
 use Rattle.jk_model.specs.declared.values.Value.{Value}
 use Rattle.jk_model_frames.specs.Frames.{FrameState}
 use Rattle.frame_store.specs.FrameContents.{FrameContent, HasLocal, HasTop, IsContent, TopFrame}
 use Rattle.number_check.proofs.OneTopFrame.{top_sized}
-
--- one more item
-one_more : {X : Type 0} (xs : List X) (i : ℕ) (x : X) → slice_get xs i ≡ Some x → take (suc i) xs ≡ take i xs ++ x ∷ []
-one_more [] i x e = absurd cc
-one_more (y ∷ xs) zero x e = ap (λ z. z ∷ []) (same_Some y x e)
-one_more (y ∷ xs) (suc i) x e = ap (λ l. y ∷ l) (one_more xs i x e)
 
 module _ (c : FrameContent) (s : SegmentNo) (head : FrameHead) (content : IsContent c)
     (is_head : (f : FrameState) → TopFrame c s f → head ≡ f.head) where
@@ -27,7 +22,7 @@ module _ (c : FrameContent) (s : SegmentNo) (head : FrameHead) (content : IsCont
       → ((f : FrameState) → TopFrame c s f → before ≡ take i f.locals) → after ≡ before ++ v ∷ []
       → (f : FrameState) → TopFrame c s f → after ≡ take (i + 1) f.locals
   one_more_local i v before after local so_far push f top =
-      let more : take (i + 1) f.locals ≡ take i f.locals ++ v ∷ [] = rw add-one (one_more f.locals i v (local f top)) in
+      let more : take (i + 1) f.locals ≡ take i f.locals ++ v ∷ [] = rw add-one (take_next f.locals i v (local f top)) in
       let same = so_far f top in
       cc
 

@@ -26,7 +26,6 @@ pub mod FramesChanged
 pub mod MainTakesOneArray
 pub mod NumbersKept
 pub mod OneItemChanged
-pub mod OneScope
 pub mod RunningSegmentAlone
 pub mod StartsSealed
 pub mod ThreadBegun

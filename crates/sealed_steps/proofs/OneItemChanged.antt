@@ -5,8 +5,6 @@ use Rattle.std.proofs.lemmas.List.Filters.{sum_by-filter_both}
 use Rattle.std.proofs.lemmas.List.Sums.{sum_by-set}
 use Rattle.std.proofs.lemmas.Option.{get_or_from_slice_get, same_Some, slice_get_within}
 use Rattle.list_lemmas.proofs.ItemsByPlace.{slice_get-push_cases, slice_get-set_other, slice_get-set_same}
-pub use Rattle.list_lemmas.proofs.ItemsOfLists.{Contains-at, place_of as place-of}
-pub use Rattle.list_lemmas.proofs.ItemsByPlace.{item_there as item-at, slice_get-longer}
 
 -- ---- Tests.
 

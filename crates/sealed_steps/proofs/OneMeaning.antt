@@ -5,8 +5,6 @@ use Rattle.jk_model.specs.declared.identifiers.MemberId.{MemberId}
 use Rattle.jk_model_classes.specs.declared.records.ClassRecord.{ClassRecord}
 use Rattle.jk_model_classes.specs.declared.records.FieldRecord.{FieldRecord}
 use Rattle.jk_model_classes.specs.Lookups.{FieldIs}
-pub use Rattle.typing_lemmas.proofs.OneScope.{one_link, scope, scope_of}
-pub use Rattle.list_lemmas.proofs.TestsAndOrders.{same_pos}
 
 pub one_field : (classes : List ClassRecord) (m : MemberId) (f g : FieldRecord) → FieldIs classes m f → FieldIs classes m g → f ≡ g
 one_field classes m f g h k =

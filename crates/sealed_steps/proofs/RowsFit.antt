@@ -27,12 +27,11 @@ use Rattle.jk_model_frames.specs.Frames.{FrameState}
 use Rattle.jk_model_domains.specs.NumberRows.{Replaces}
 use Rattle.jk_model_domains.specs.Objects.{NamedObject}
 use Rattle.jk_model_domains.specs.ValueTypes.{EachValueFits, FrameHolds, ValueFits}
-use Rattle.number_laws.proofs.EntriesExchanged.{takes_kept}
+use Rattle.number_laws.proofs.EntriesExchanged.{as_many, takes_kept}
+use Rattle.number_laws.proofs.ValuesAbove.{all-fitting}
 use Rattle.jk_model_sound_classes.specs.NamedMembers.{NamesField, NamesMethod}
 use Rattle.sealed_steps.proofs.OneMeaning.{one_field}
 use Rattle.sealed_steps.proofs.ValuesAbove.{fits-parts}
-pub use Rattle.number_laws.proofs.EntriesExchanged.{as_many}
-pub use Rattle.number_laws.proofs.ValuesAbove.{all-fitting}
 
 pub demands : (s : CodeScope) (ts : List TypeRef) → length (map Fitting (map (value_of s.classes) ts)) ≡ length ts
 demands s [] = refl

@@ -17,7 +17,7 @@ use Rattle.jk_model_frames.specs.Frames.{FrameState}
 use Rattle.jk_model_domains.specs.Objects.{NamedObject}
 use Rattle.jk_model_domains.specs.ValueTypes.{EachValueFits, FrameHolds, HoldsDeclared, ValueFits}
 use Rattle.number_laws.proofs.ValuesAbove.{value-above}
-pub use Rattle.number_laws.proofs.ValuesFit.{fits-length}
+use Rattle.number_laws.proofs.ValuesFit.{fits-length}
 
 -- ---- Lists of values.
 

@@ -2,7 +2,7 @@
 use Rattle.std.proofs.Common.{◌≡◌, ◌≢◌, ℕ, ◌+◌, ◌<◌, inl, inr, List, length, take, Option, Some, None, slice_get, Contains, refl, sym, ap, subst, ◌∙◌, arith}
 use Rattle.std.proofs.lemmas.Option.{none-some, same_Some, slice_get_within}
 use Rattle.list_lemmas.proofs.ItemsOfLists.{Contains-none, place_of, each-of, each-from}
-use Rattle.list_lemmas.proofs.ItemsByPlace.{item_there, slice_get-in_take}
+use Rattle.list_lemmas.proofs.ItemsByPlace.{item_there, slice_get-in_take, slice_get-behind}
 use Rattle.jk_model.specs.declared.descriptors.Base.{Base as ABase}
 use Rattle.jk_model.specs.declared.descriptors.Base.TheVariants as Said
 use Rattle.jk_model.specs.declared.identifiers.ClassId.{ClassId}
@@ -38,7 +38,6 @@ use Rattle.sound_folders.proofs.FoundByLinks.{field-found, field_above, method-f
 use Rattle.sound_folders.proofs.NamesOfTables.{meant-from, system_meant, system_name}
 use Rattle.sound_folders.proofs.NewClasses.{OwnFile, added, all, meaning, own_file, system_few}
 use Rattle.sound_folders.proofs.WalksWithin.{StandsWithin, field_walk-within, method_walk-within}
-pub use Rattle.list_lemmas.proofs.ItemsByPlace.{slice_get-behind}
 
 -- ---- What a name's class has around it.
 

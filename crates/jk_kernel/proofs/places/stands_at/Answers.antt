@@ -1,6 +1,6 @@
 -- A frame stands at the instruction of its method's code.
+use Rattle.list_lemmas.proofs.ItemsByPlace.{item_lent, none_lent}
 use Rattle.type_rows.specs.CodeViews.{scope_of}
-use Rattle.jk_kernel.proofs.ItemsLent.{item_lent, none_lent}
 use Rattle.jk_kernel.proofs.OnePlace.{no_code, no_instr}
 use Rattle.jk_kernel.proofs.places.stands_at.Goals as goal
 

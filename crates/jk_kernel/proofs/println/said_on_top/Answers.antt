@@ -1,8 +1,7 @@
 -- The stream and the argument are found at their places.
-use Rattle.std.proofs.Common.{◌≡◌, Some, None, slice_get, subst}
+use Rattle.std.proofs.Common.{◌≡◌, Some, None, slice_get, subst, List}
 use Rattle.jk_model_classes.specs.declared.records.TypeRef.{TypeRef}
-use Rattle.std.proofs.Common.{List}
-use Rattle.jk_kernel.proofs.ItemsLent.{item_lent, none_lent}
+use Rattle.list_lemmas.proofs.ItemsByPlace.{item_lent, none_lent}
 use Rattle.jk_kernel.proofs.SaidOnTop.{no_stream_given, says_nothing, says_one}
 use Rattle.jk_kernel.proofs.println.said_on_top.Goals as goal
 

@@ -1,8 +1,10 @@
 -- The turns of each live thread follow one another, and the threads between them do nothing.
 use Rattle.std.proofs.Common.{ℕ, Ok, ap, subst, ◌∙◌}
+use Rattle.std.proofs.lemmas.Bool.{or_parts}
+use Rattle.list_lemmas.proofs.FoundItems.{on_err}
 use Rattle.jk_model.specs.Outside.{HasRisen}
-use Rattle.jk_kernel.proofs.KernelAdvances.{on-err, same-answer}
-use Rattle.jk_kernel.proofs.OneRound.{is-next, neither, rest-more, rest-over, round-failed, round-more, round-over}
+use Rattle.jk_kernel.proofs.KernelAdvances.{same-answer}
+use Rattle.jk_kernel.proofs.OneRound.{is-next, rest-more, rest-over, round-failed, round-more, round-over}
 use Rattle.jk_kernel.proofs.kernel.Kernel.one_round.Goals as goal
 
 pub returns-in_err-changed-clause-failed : goal.returns-in_err-changed-clause-failed
@@ -15,7 +17,7 @@ returns-in_err-changed-clause-failed g c =
     let all = round-failed c.rounds_go_on.ensures c.args.steps l.above t c.args.self.now l.self fails.1 (g.S.Sink.bytes c.args.out.now)
     (g.S.Sink.bytes l.out) (g.S.Sink.bytes c.turns.new.out) inv.0 next (fails.0, fails.2, fails.4)
     (c.rounds_go_on.ensures.sound l.self c.is_sound.ensures) in
-    on-err c.from_residual.result _ (
+    on_err c.from_residual.result _ (
       all.1.0,
       all.0,
       all.1.1,
@@ -34,7 +36,7 @@ loop-thread-preserved g c =
           (g.S.Sink.bytes c.turns.new.out) inv.0 next c.in_ok-changed.ensures.event c.is_sound.ensures.sealed c.is_sound-in-Some.ensures.sealed
           c.turns.ensures.counts,
       λ still.
-          let parts = neither l.changed c.in_ok-changed.field-0 still in
+          let parts = or_parts l.changed c.in_ok-changed.field-0 still in
           rest-more c.args.steps l.above t c.args.self.now l.self c.turns.new.self (inv.1 parts.0) next c.is_sound.ensures.sealed
           (c.in_ok-changed.ensures.rests (ap Ok parts.1)),
       c.in_ok-changed.ensures.calm ∙ inv.2,

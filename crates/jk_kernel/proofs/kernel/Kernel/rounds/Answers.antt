@@ -1,8 +1,8 @@
 -- The rounds that were gone are followed by the others.
 use Rattle.std.proofs.Common.{ℕ, ◌+◌, ◌-◌, ◌<◌, [], Ok, sym, ap, subst, ◌∙◌, refl, arith}
+use Rattle.list_lemmas.proofs.FoundItems.{on_err}
 use Rattle.jk_model.specs.Outside.{HasRisen}
 use Rattle.jk_model_machine.specs.Machine.{Machine}
-use Rattle.jk_kernel.proofs.KernelAdvances.{on-err}
 use Rattle.jk_kernel.proofs.WaysJoined.{RoundOf, RoundsOf, rounds-repeat}
 use Rattle.jk_kernel.proofs.WaysSoFar.{done-failed, done-more, done-none, done-rest}
 use Rattle.jk_kernel.proofs.kernel.Kernel.rounds.Goals as goal
@@ -20,7 +20,7 @@ returns-in_err-changed-clause-failed g c =
     let all = done-failed (RoundOf c.args.steps) (RoundsOf c.args.steps) (rounds-repeat c.args.steps) l.counter c.args.count c.args.self.now l.self
     fails.1 more.1 (g.S.Sink.bytes c.args.out.now) (g.S.Sink.bytes l.out) (g.S.Sink.bytes c.one_round.new.out) more.0 less inv.0
     (fails.0, fails.2, fails.4) fails.3.sealed more.2 in
-    on-err c.from_residual.result _ (
+    on_err c.from_residual.result _ (
       all.0,
       more.1,
       all.1,

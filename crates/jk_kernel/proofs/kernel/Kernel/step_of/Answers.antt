@@ -1,6 +1,7 @@
 -- The step is one of the machine, and what it makes is a kernel again.
 use Rattle.std.proofs.Common.{arith}
-use Rattle.jk_kernel.proofs.KernelAdvances.{has-part, is-counted, on-err, outcome, same-answer, sound-after, stands}
+use Rattle.list_lemmas.proofs.FoundItems.{on_err}
+use Rattle.jk_kernel.proofs.KernelAdvances.{has-part, is-counted, outcome, same-answer, sound-after, stands}
 use Rattle.jk_kernel.proofs.kernel.Kernel.step_of.Goals as goal
 
 pub index_mut-requires : goal.index_mut-requires
@@ -63,7 +64,7 @@ returns-in_err-tell-clause-failed g c =
     (g.F.FrameStore.content c.advance-happened.new.frames) c.advance-happened.new.d c.advance-happened.new.threads.entries
     c.advance-happened.result c.advance-happened.ensures
     c.index.result.now c.index.ensures in
-    on-err c.from_residual.result _ (o.lines, o.steps, c.in_err-tell.ensures.err o.lines o.told, c.in_err-tell.ensures.cause)
+    on_err c.from_residual.result _ (o.lines, o.steps, c.in_err-tell.ensures.err o.lines o.told, c.in_err-tell.ensures.cause)
 
 pub returns-in_err-tell-clause-sound : goal.returns-in_err-tell-clause-sound
 returns-in_err-tell-clause-sound g c =

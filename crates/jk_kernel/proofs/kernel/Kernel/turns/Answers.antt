@@ -1,15 +1,16 @@
 -- The steps that were done are turns, and the rest of them are there.
 use Rattle.std.proofs.Common.{◌≡◌, ℕ, ◌+◌, ◌-◌, ◌<◌, [], Ok, refl, sym, ap, subst, ◌∙◌, arith}
+use Rattle.list_lemmas.proofs.FoundItems.{on_err}
 use Rattle.jk_model.specs.Outside.{HasRisen}
+use Rattle.jk_model.proofs.AppendsInTurn.{Appends-nil}
 use Rattle.jk_model_machine.specs.Machine.{Machine}
 use Rattle.jk_model_machine.specs.Run.{Turns}
 use Rattle.jk_model_machine.specs.Steps.{Steps}
 use Rattle.jk_kernel.specs.StaysApart.{StaysApart}
-use Rattle.jk_kernel.proofs.KernelAdvances.{on-err, same-answer}
+use Rattle.jk_kernel.proofs.KernelAdvances.{same-answer}
 use Rattle.jk_kernel.proofs.OneRound.{none-turns}
 use Rattle.jk_kernel.proofs.OthersStayApart.{apart-join, apart-none}
 use Rattle.jk_kernel.proofs.TurnsSoFar.{TurnsSoFar}
-use Rattle.jk_kernel.proofs.TextsGoOut.{append-nothing}
 use Rattle.jk_kernel.proofs.WaysJoined.{StepOf, TurnsOf, turns-repeat, ways-rest}
 use Rattle.jk_kernel.proofs.WaysSoFar.{Prints, done-failed, done-more, done-no-more, done-none, done-rest, not-above, step-of-none}
 use Rattle.jk_kernel.proofs.kernel.Kernel.turns.Goals as goal
@@ -17,7 +18,7 @@ use Rattle.jk_kernel.proofs.kernel.Kernel.turns.Goals as goal
 pub returns-in_default-clause-event : goal.returns-in_default-clause-event
 returns-in_default-clause-event g c =
     let m = c.args.self.now in
-    ([], none-turns c.args.steps c.args.thread m c.run_of.ensures.sound.sealed c.in_default.ensures.none, append-nothing (g.S.Sink.bytes c.args.out.now))
+    ([], none-turns c.args.steps c.args.thread m c.run_of.ensures.sound.sealed c.in_default.ensures.none, Appends-nil (g.S.Sink.bytes c.args.out.now))
 
 pub returns-in_default-clause-rests : goal.returns-in_default-clause-rests
 returns-in_default-clause-rests g c =
@@ -55,7 +56,7 @@ returns-in_err-happened-clause-failed g c =
     let all = done-failed (StepOf t) (TurnsOf t) (turns-repeat t) l.done c.args.steps c.args.self.now mid next more.1
     (g.S.Sink.bytes c.args.out.now) (g.S.Sink.bytes l.out) (g.S.Sink.bytes c.step_of.new.out) more.0 less inv.0 (fails.0, fails.1, fails.2)
     c.step_of.ensures.sound.1.sealed more.2 in
-    on-err c.from_residual.result _ (
+    on_err c.from_residual.result _ (
       all.0,
       more.1,
       subst (λ (n : ℕ). Turns c.args.steps n c.args.self.now all.0 more.1) inv.2 all.1,
@@ -180,7 +181,7 @@ loop-done-preserved-then-goes_on g c =
     let next = c.goes_on.new.self in
     let bytes = g.S.Sink.bytes l.out in (
       done-more (StepOf t) (TurnsOf t) (turns-repeat t) l.done c.args.self.now l.self next (g.S.Sink.bytes c.args.out.now) bytes bytes inv.0
-          ([], went.0, append-nothing bytes) c.goes_on.ensures.sound.1.sealed c.goes_on.ensures.counts,
+          ([], went.0, Appends-nil bytes) c.goes_on.ensures.sound.1.sealed c.goes_on.ensures.counts,
       went.1,
       inv.2,
       inv.3,
