@@ -5,6 +5,8 @@ use Rattle.std.proofs.lemmas.List.{length-map}
 use Rattle.std.proofs.lemmas.Option.{slice_get-get_or, slice_get-map, slice_get_read}
 use Rattle.jk_model.specs.declared.class_file.ClassFile.{ClassFile}
 use Rattle.jk_model_folders.specs.ClassOrder.{IsClassOrder}
+use Rattle.name_rules.proofs.FolderGraph.{as_many_files}
+use Rattle.class_files.proofs.JudgedFiles.{class_at as file_at}
 use Rattle.class_files.specs.declared.folder_class.FolderClass.{FolderClass}
 use Rattle.class_files.specs.FolderClasses.{AreReadClasses, IsReadClass, files_of}
 
@@ -17,12 +19,6 @@ class_at (f ∷ more) zero c read at =
     let same : f.file ≡ c = cc in
     (f, refl, same, read.0)
 class_at (f ∷ more) (suc i) c read at = class_at more i c read.1 at
-
-pub as_many_files : (classes : List FolderClass) → length (files_of classes) ≡ length classes
-as_many_files classes = length-map classes (λ (f : FolderClass). f.file)
-
-pub file_at : (classes : List FolderClass) (i : ℕ) (f : FolderClass) → slice_get classes i ≡ Some f → slice_get (files_of classes) i ≡ Some f.file
-file_at classes i f at = slice_get-map (λ (g : FolderClass). g.file) classes i ∙ ap (option_map (λ (g : FolderClass). g.file)) at
 
 same_read : (a b : FolderClass) → Some a ≡ Some b → IsReadClass a → IsReadClass b
 same_read a b e h =

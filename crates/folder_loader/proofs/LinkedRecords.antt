@@ -2,6 +2,7 @@
 use Rattle.std.proofs.Common.{◌≡◌, ℕ, zero, suc, ◌<◌, List, [], ◌∷◌, length, map, take, Some, slice_get, refl, sym, ap, ◌∙◌, arith}
 use Rattle.std.specs.List.{AllByRecursion, AllZip, sum_by}
 use Rattle.std.proofs.lemmas.List.Sums.{sum_by-cons}
+use Rattle.list_lemmas.proofs.ItemsByPlace.{item_there}
 use Rattle.jk_model.specs.declared.class_file.ClassFile.{ClassFile}
 use Rattle.jk_model.specs.declared.identifiers.ClassId.{ClassId}
 use Rattle.jk_model.specs.declared.identifiers.DomainId.{DomainId}
@@ -12,11 +13,6 @@ use Rattle.jk_model_classes.specs.Worlds.{NamedClass, class_named}
 use Rattle.jk_model_folders.specs.LinkedClasses.{IsRecordFor, without_links}
 use Rattle.class_linker.specs.LinkedFiles.{HasNames}
 use Rattle.folder_loader.specs.ClassesInOrder.{AreLinksAmong, AreListsOf, AreOfFiles, IsRecordYet, links_in}
-
-pub item_there : {X : Type 0} (xs : List X) (i : ℕ) → i < length xs → (x : X) × (slice_get xs i ≡ Some x)
-item_there [] i below = absurd (omega (arith, below))
-item_there (x ∷ xs) zero below = (x, refl)
-item_there (x ∷ xs) (suc i) below = item_there xs i (omega (arith, below))
 
 -- ---- Records with links.
 

@@ -8,6 +8,7 @@ use Rattle.std.proofs.lemmas.List.Elements.{All-contains, All-from_recursion}
 use Rattle.std.proofs.lemmas.List.Quantifiers.{position-Some}
 use Rattle.std.proofs.lemmas.Option.{none-some, slice_get-get_or, slice_get-map, slice_get_within, get_or_from_slice_get}
 use Rattle.std.proofs.lemmas.Slice.Eq.{bytes_eq-Decides}
+use Rattle.list_lemmas.proofs.ItemsOfLists.{passed_at}
 use Rattle.jk_model.specs.declared.class_file.ClassFile.{ClassFile}
 use Rattle.jk_model.specs.declared.identifiers.ClassId.{ClassId}
 use Rattle.jk_model.specs.declared.output.Rule.TheVariants.{C17}
@@ -31,6 +32,7 @@ use Rattle.jk_model_folders.specs.FolderRules.{AreClassFiles, AreOuterNames, Bre
 use Rattle.jk_model_folders.specs.FolderTrees.{AreFiles, IsClassPath}
 use Rattle.jk_model_folders.specs.Loads.{MayLoad}
 use Rattle.class_lemmas.proofs.OneText.{one_class}
+use Rattle.resolver_rules.proofs.ClassesOfNames.{meaning_number as number_of}
 use Rattle.shared_interfaces.proofs.PathsInOrder.{before_itself}
 use Rattle.folder_loader.specs.LinkedFolders.{AreLinkable, ArePathsInOrder}
 
@@ -51,13 +53,6 @@ kept_prefix name h =
       | inr jk ↦ inr (begins 3 (codes "jk/") name jk)
     ]
 
-passed_at : {X : Type 0} (test : X → Bool) (xs : List X) (i : ℕ) (x : X) → list_all test xs ≡ true → slice_get xs i ≡ Some x → test x ≡ true
-passed_at test [] i x h at = absurd cc
-passed_at test (y ∷ xs) zero x h at =
-    let same : y ≡ x = cc in
-    ap test (sym same) ∙ (and_parts (test y) (list_all test xs) h).0
-passed_at test (y ∷ xs) (suc i) x h at = passed_at test xs i x (and_parts (test y) (list_all test xs) h).1 at
-
 all_kept : list_all (λ (c : SystemClass). is_kept c.name) system_classes ≡ true
 all_kept = refl
 
@@ -65,9 +60,6 @@ place_of : (name : List ℕ) (o : Option ℕ) (class : ClassId) → number_named
     → (number_named name ≡ Some class.0)
 place_of name None class is e = absurd (none-some class e)
 place_of name (Some n) class is e = is ∙ ap (option_map (λ (c : ClassId). c.0)) e
-
-number_of : (name : List ℕ) (class : ClassId) → system_meaning name ≡ Some class → number_named name ≡ Some class.0
-number_of name class e = place_of name (number_named name) class refl e
 
 -- a class of the system stands in its table, under its name
 system_entry : (name : List ℕ) (n : ℕ) → number_named name ≡ Some n → (e : SystemClass) × (slice_get system_classes n ≡ Some e) × (e.name ≡ name)

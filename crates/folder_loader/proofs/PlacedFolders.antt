@@ -5,6 +5,7 @@ use Rattle.std.proofs.Math.Seq.{drop-append_seam}
 use Rattle.std.proofs.lemmas.List.{length-append, take_all}
 use Rattle.std.proofs.lemmas.List.Concat.{get_or-flat_map, length-flat_map}
 use Rattle.std.proofs.lemmas.Option.{get_or_from_slice_get, slice_get-get_or, slice_get_within}
+use Rattle.list_lemmas.proofs.ItemsByPlace.{item_there}
 use Rattle.jk_model.specs.declared.class_file.ClassFile.{ClassFile}
 use Rattle.jk_model.specs.declared.class_file.MemberInfo.{MemberInfo}
 use Rattle.jk_model.specs.declared.identifiers.ClassId.{ClassId}
@@ -22,7 +23,7 @@ use Rattle.folder_loader.specs.ClassesInOrder.{AreDeclared, AreLinksAmong, AreLi
 use Rattle.folder_loader.specs.FolderTables.{IsFolderTable}
 use Rattle.folder_loader.specs.OffersOfLines.{AreOffersOf}
 use Rattle.folder_loader.proofs.FilesInTurn.{as_many_made, made_at}
-use Rattle.folder_loader.proofs.LinkedRecords.{IsRecordNow, each_empty, first_of_both, item_there, linked, linked_made, links_again, lists_go_along, same_sums, unlinked_again}
+use Rattle.folder_loader.proofs.LinkedRecords.{IsRecordNow, each_empty, first_of_both, linked, linked_made, links_again, lists_go_along, same_sums, unlinked_again}
 
 -- the numbers of methods before a class of those behind others
 methods_behind : (base added : List ClassRecord) (first : ClassId) (k n : ℕ) → first.0 ≡ length base → n ≡ length base + k

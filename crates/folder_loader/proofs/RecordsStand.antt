@@ -2,6 +2,7 @@
 use Rattle.std.proofs.Common.{◌≡◌, ℕ, suc, ◌≤◌, List, [], ◌∷◌, length, get_or, Option, Some, slice_get, inl, inr, refl, sym, subst, arith}
 use Rattle.std.specs.List.{AllByRecursion}
 use Rattle.std.proofs.lemmas.Option.{slice_get-get_or, slice_get_within}
+use Rattle.list_lemmas.proofs.ItemsOfLists.{each-by_place as all_items}
 use Rattle.jk_model.specs.declared.class_file.ClassFile.{ClassFile}
 use Rattle.jk_model.specs.declared.identifiers.ClassId.{ClassId}
 use Rattle.jk_model.specs.declared.identifiers.DomainId.{DomainId}
@@ -13,10 +14,6 @@ use Rattle.jk_model_classes.specs.Worlds.{NamedClass, class_named}
 use Rattle.jk_model_folders.specs.LinkedClasses.{IsRecordFor}
 use Rattle.class_linker.specs.LinkedFiles.{HasNames}
 use Rattle.folder_loader.specs.ClassesInOrder.{IsAbove}
-
-pub all_items : {X : Type 0} (P : X → Type 0) (xs : List X) → ((i : ℕ) (x : X) → slice_get xs i ≡ Some x → P x) → AllByRecursion P xs
-all_items P [] h = tt
-all_items P (x ∷ xs) h = (h 0 x refl, all_items P xs (λ i y at. h (suc i) y at))
 
 module _ (c : ClassFile) (table : List NamedClass) (home : DomainId) (r : ClassRecord) (is : (s : LinkScope) → HasNames table s → IsRecordFor s home c r) where
   abbrev scope : LinkScope

@@ -4,6 +4,7 @@ use Rattle.std.specs.Prelude.{Contains}
 use Rattle.std.proofs.lemmas.List.Elements.{Contains-append_left, Contains-push, Contains-push_cases}
 use Rattle.std.proofs.lemmas.Option.{same_Some, slice_get_within, get_or_from_slice_get}
 use Rattle.std.proofs.Math.Nat.{eq-or-lt_of_le}
+use Rattle.list_lemmas.proofs.ItemsOfLists.{Contains-at as has_item}
 use Rattle.jk_model.specs.declared.identifiers.ClassId.{ClassId}
 use Rattle.jk_model_classes.specs.declared.records.ClassRecord.{ClassRecord}
 use Rattle.jk_model_classes.specs.declared.sharing.Stub.{Stub}
@@ -27,9 +28,6 @@ item_of_more (z ∷ xs) x y (suc i) at =
       | inl there ↦ inl there
       | inr last ↦ inr (ap (λ (n : ℕ). suc n) last.0, last.1)
     ]
-
-has_item : {X : Type 0} (xs : List X) (i : ℕ) (x : X) → slice_get xs i ≡ Some x → Contains xs x
-has_item xs i x at = (i, slice_get_within xs i x at, get_or_from_slice_get xs i x x at)
 
 module _ (classes : List ClassRecord) (first : ℕ) where
   pub none_made : AreStubsUpTo classes first first []

@@ -4,12 +4,9 @@ use Rattle.std.specs.List.{AllByRecursion, flat_map}
 use Rattle.jk_model.specs.declared.class_file.Code.{Code}
 use Rattle.jk_model.specs.declared.class_file.Handler.{Handler}
 use Rattle.jk_model.specs.ClassFile.{AreBytes, CodeLayout, IsHandler, IsU2, code_bytes, handler_bytes}
+use Rattle.jk_model.proofs.EmptyByLength.{length_from_not_nil as some_items}
 use Rattle.jkasm.specs.CodeBody.{IsCodeBody}
 use Rattle.jkasm.specs.Limits.{MAX_COUNT}
-
-pub some_items : {X : Type 0} (xs : List X) → xs ≢ [] → 0 < length xs
-some_items [] some = absurd (some refl)
-some_items (x ∷ xs) some = omega arith
 
 -- what doesn't test as empty has items
 pub not_empty : {X : Type 0} (xs : List X) (empty : Bool) → (xs ≡ [] → IsTrue empty) → empty ≡ false → xs ≢ []

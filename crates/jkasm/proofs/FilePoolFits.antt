@@ -4,6 +4,7 @@ use Rattle.std.specs.Prelude.{ℤ}
 use Rattle.std.specs.Int.{w32, w64, cast_signed}
 use Rattle.std.specs.List.{AllByRecursion}
 use Rattle.std.proofs.lemmas.Int.{to_z-of_z}
+use Rattle.list_lemmas.proofs.ItemsOfLists.{each-by_place as all_of_items}
 use Rattle.jk_model.specs.declared.class_file.PoolEntry.{PoolEntry}
 use Rattle.jk_model.specs.declared.class_file.PoolEntry.TheVariants as entries
 use Rattle.jk_model.specs.ClassFile.{AreSlots, BeginsUnusable}
@@ -149,11 +150,6 @@ says_entry pool i (Value (Long n)) at = (_, at, λ e. cc)
 says_entry pool i (Value (Text text)) (n, at, is) = (entries.Str n, at, λ e. cc)
 says_entry pool i (NameAndType name descriptor) (n, d, at, is, other) = (entries.NameAndType n d, at, λ e. cc)
 says_entry pool i (Reference kind class name descriptor) (k, n, at, is, pair) = (reference kind k n, at, reference_usable kind k n)
-
--- what holds of each item by its place holds of all
-all_of_items : {X : Type 0} (P : X → Type 0) (xs : List X) → ((i : ℕ) (x : X) → slice_get xs i ≡ Some x → P x) → AllByRecursion P xs
-all_of_items P [] each = tt
-all_of_items P (x ∷ xs) each = (each 0 x refl, all_of_items P xs (λ i y at. each (suc i) y at))
 
 module _ (pool rest : List PoolEntry) (begins : entries.Unusable ∷ rest ≡ pool) (s : Slots rest) where
   is_kept : (i : ℕ) (c : PoolConstant) → IsInRange c → Says pool i c → HasItem (λ k. k ≡ c) (kept_of pool rest s)

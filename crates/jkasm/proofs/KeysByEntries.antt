@@ -7,17 +7,13 @@ use Rattle.std.specs.declared.cmp.Ordering.{Ordering}
 use Rattle.std.specs.declared.cmp.Ordering.TheVariants.{Less, Equal, Greater}
 use Rattle.std.proofs.lemmas.Cmp.{tied_itself, nat_cmp_total, nat_list_cmp_total}
 use Rattle.std.proofs.lemmas.Map.Lookups.{exact_unsigned, exact_bytes}
+use Rattle.list_lemmas.proofs.TestsAndOrders.{equal_by as is_equal}
 use Rattle.jk_model.specs.declared.class_file.PoolEntry.{PoolEntry}
 use Rattle.jk_model.specs.declared.class_file.PoolEntry.TheVariants as entries
 use Rattle.jkasm.specs.declared.pool.key.Key.{Key}
 use Rattle.jkasm.specs.declared.pool.key.Key.TheVariants as keys
 use Rattle.jkasm.specs.contracts.pool.key.KeyOrd.TheImpl as block
 use Rattle.jkasm.specs.PoolKeys.{entry_of}
-
-is_equal : (o : Ordering) → is_eq o ≡ true → o ≡ Equal
-is_equal Less h = cc
-is_equal Equal h = refl
-is_equal Greater h = cc
 
 same_numbers : (a b : ℕ) → is_eq (nat_cmp a b) ≡ true → a ≡ b
 same_numbers a b h = exact_unsigned a b (is_equal (nat_cmp a b) h)

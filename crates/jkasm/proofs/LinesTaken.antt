@@ -2,6 +2,7 @@
 use Rattle.std.proofs.Common.{◌≡◌, ℕ, suc, ◌<◌, inl, List, [], ◌∷◌, ◌++◌, length, drop, Some, slice_get, refl, sym, ◌∙◌, subst, arith, add-one, below_more}
 use Rattle.std.specs.List.{AllByRecursion}
 use Rattle.std.proofs.lemmas.List.{append-nil}
+use Rattle.list_lemmas.proofs.ItemsByPlace.{drop_next}
 use Rattle.jk_model.specs.declared.class_file.PoolEntry.{PoolEntry}
 use Rattle.asm_reader.specs.declared.items.Item.{Item}
 use Rattle.asm_reader.specs.declared.items.LineReading.{LineReading}
@@ -16,7 +17,7 @@ use Rattle.jkasm.specs.Limits.{FitPool, IsWithinLimits}
 use Rattle.jkasm.specs.Outline.{Outline, nothing_yet, after_item, items_of, codes_to_end}
 use Rattle.jkasm.specs.WholeText.{IsSoundReading, IsBuiltSoFar}
 use Rattle.jkasm.proofs.ItemsAdded.{empty_passed}
-use Rattle.jkasm.proofs.OutlinesInTurn.{drop_next, outline_next, outline_same, needed_next, needed_in_range}
+use Rattle.jkasm.proofs.OutlinesInTurn.{outline_next, outline_same, needed_next, needed_in_range}
 
 -- nothing is built of no lines
 pub nothing_built : (readings : List LineReading) (b : ClassBuilder) → IsBuilt nothing_yet readings b → HasJust b.pool []

@@ -3,6 +3,7 @@ use Rattle.std.proofs.Common.{◌≡◌, ℕ, zero, suc, List, [], ◌∷◌, �
 use Rattle.std.specs.Option.{option_and_then}
 use Rattle.std.specs.List.{AllByRecursion}
 use Rattle.std.proofs.lemmas.List.{append-nil}
+use Rattle.list_lemmas.proofs.LastItems.{take_next}
 use Rattle.jk_model.proofs.EachItem.{all_append}
 use Rattle.asm_reader.specs.declared.items.Item.{Item}
 use Rattle.asm_reader.specs.declared.items.LineReading.{LineReading}
@@ -11,22 +12,6 @@ use Rattle.jkasm.specs.ConstantRanges.{IsInRange, AreInRange}
 use Rattle.jkasm.specs.Constants.{for_reading, needed_first}
 use Rattle.jkasm.specs.Outline.{Outline, nothing_yet, after_item, after_items, outline, items_of}
 use Rattle.jkasm.specs.WholeText.{IsSoundReading}
-
--- ---- One item more of a list.
-
-pub take_next : {X : Type 0} (xs : List X) (i : ℕ) (x : X) → slice_get xs i ≡ Some x → take (suc i) xs ≡ take i xs ++ x ∷ []
-take_next [] i x h = absurd cc
-take_next (y ∷ xs) zero x h =
-    let same : y ≡ x = cc in
-    rw same refl
-take_next (y ∷ xs) (suc i) x h = ap (λ ys. y ∷ ys) (take_next xs i x h)
-
-pub drop_next : {X : Type 0} (xs : List X) (i : ℕ) (x : X) → slice_get xs i ≡ Some x → drop i xs ≡ x ∷ drop (suc i) xs
-drop_next [] i x h = absurd cc
-drop_next (y ∷ xs) zero x h =
-    let same : y ≡ x = cc in
-    rw same refl
-drop_next (y ∷ xs) (suc i) x h = drop_next xs i x h
 
 -- ---- Outlines.
 

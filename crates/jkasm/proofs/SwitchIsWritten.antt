@@ -4,6 +4,7 @@ use Rattle.std.specs.Prelude.{map, flat_map, replicate, unwrap_or}
 use Rattle.std.specs.Int.{w32, cast_unsigned}
 use Rattle.std.proofs.Math.ListN.{length-replicate}
 use Rattle.std.proofs.lemmas.List.{take_more, flat_map_more}
+use Rattle.list_lemmas.proofs.EndsOfLists.{length_of_four as size_of_four}
 use Rattle.jk_model.specs.declared.class_file.PoolEntry.{PoolEntry}
 use Rattle.jk_model.specs.declared.opcodes.TheConstants.{LOOKUPSWITCH}
 use Rattle.jk_model.specs.ClassFile.{u4}
@@ -94,9 +95,6 @@ cases_size codes at (c ∷ cases) =
     let rest = cases_size codes at cases in
     let whole = length-append (case_bytes codes at c) (flat_map (case_bytes codes at) cases) in
     omega (arith, rest, whole)
-
-size_of_four : (a b c d : List ℕ) → length (a ++ b ++ c ++ d) ≡ length a + length b + length c + length d
-size_of_four a b c d = simp length-append
 
 switch_size : (codes : List CodeLine) (at : ℕ) (default : List ℕ) (cases : List SwitchLine)
     → length (switch_bytes codes at default cases) ≡ 9 + gap at + 8 * length cases

@@ -1,7 +1,7 @@
 -- A world of the system classes alone, and a folder without class files.
 use Rattle.std.proofs.Common.{◌≡◌, ℕ, ◌<◌, ◌≤◌, List, [], length, take, sym, ◌∙◌, arith, take_all, Some, None, slice_get}
 use Rattle.std.proofs.lemmas.Option.{slice_get_within}
-use Rattle.list_lemmas.proofs.ItemsByPlace.{item_there}
+use Rattle.list_lemmas.proofs.ItemsByPlace.{item_there, nothing_at}
 use Rattle.jk_model.specs.declared.identifiers.ClassId.{ClassId}
 use Rattle.jk_model.specs.SystemTable.{system_classes}
 use Rattle.jk_model_classes.specs.declared.records.ClassRecord.{ClassRecord}
@@ -10,9 +10,6 @@ use Rattle.jk_model_classes.specs.SystemRecords.{AreSystemRecords}
 use Rattle.jk_model_classes.specs.Worlds.{IsWorld, WorldRecord}
 use Rattle.jk_model_folders.specs.declared.files.FolderFiles.{FolderFiles}
 use Rattle.jk_model_folders.specs.FolderTrees.{AreFiles, MAX_FILE}
-
-nothing_at : {X : Type 0} (xs : List X) (k : ℕ) (x : X) → xs ≡ [] → slice_get xs k ≡ Some x → ⊥
-nothing_at xs k x none at = let there : slice_get [] k ≡ Some x = rw none at at in cc
 
 -- system classes refer to none, and are no domain's
 of_system : (classes : List ClassRecord) → AreSystemRecords classes → (c : ClassId) (r : ClassRecord) → record_of classes c ≡ Some r

@@ -18,7 +18,8 @@ use Rattle.jk_model_classes.specs.Items.{HasItem, Spot, Member, Entry}
 use Rattle.jk_model_classes.specs.Members.{ClassAt, TextAt}
 use Rattle.jk_model_classes.specs.References.{FlagsOfNamed, FolderScope, HasBadHierarchy, HasBadInterface, HasBadParent, IsCalledClass, IsClosedNamed}
 use Rattle.jk_model_classes.specs.Worlds.{NamedClass, class_named}
-use Rattle.class_lemmas.proofs.OneText.{one_class, one_text}
+use Rattle.class_lemmas.proofs.OneText.{one_text, one_class}
+use Rattle.class_files.proofs.JudgedFiles.{class_at as at_file}
 use Rattle.system_table.proofs.LawsOfTheTable.{each, has_own_name, own_name}
 use Rattle.name_rules.specs.BadHierarchies.{AnswersFlags, HasOwnNames, IsBadAt, IsBadParent, IsNoInterface, IsUnfit, LoadedFlags, TextIsBad, folder_scope}
 use Rattle.name_rules.specs.FolderEdges.{AreEdges, IsListedName}
@@ -27,7 +28,7 @@ use Rattle.name_rules.specs.FolderNames.{AreOwnNames}
 use Rattle.name_rules.specs.Graphs.{HasEdge, IsClosure, Rows}
 use Rattle.class_files.specs.declared.folder_class.FolderClass.{FolderClass}
 use Rattle.name_rules.specs.declared.scope.Scope.{Scope}
-use Rattle.name_rules.proofs.FolderGraph.{as_many_files, at_file, ring_stands, stands_path}
+use Rattle.name_rules.proofs.FolderGraph.{as_many_files, ring_stands, stands_path}
 
 -- ---- Closed classes of the system.
 

@@ -9,7 +9,7 @@ use Rattle.jk_model.specs.declared.class_file.PoolEntry.{PoolEntry}
 use Rattle.jk_model.specs.declared.class_file.PoolEntry.TheVariants.{Utf8}
 use Rattle.jk_model_classes.specs.Members.{ClassAt, TextAt}
 use Rattle.jk_model_classes.specs.Worlds.{NamedClass}
-use Rattle.class_lemmas.proofs.OneText.{one_class, one_text}
+use Rattle.class_lemmas.proofs.OneText.{one_text, one_class}
 use Rattle.name_rules.specs.FolderEdges.{AreEdges, ExtendsPlace, GoesTo, IsListedName, ListsPlace, MeansPlace, TextMeans}
 use Rattle.class_files.specs.FolderClasses.{files_of}
 use Rattle.name_rules.specs.Graphs.{Rows}

@@ -5,8 +5,8 @@ use Rattle.std.specs.Global.{Vec}
 use Rattle.std.specs.Vec.{with_item}
 use Rattle.std.proofs.lemmas.Bool.{cases_eq, cases_lt}
 use Rattle.std.proofs.lemmas.Option.{same_Some, slice_get_within}
-use Rattle.list_lemmas.proofs.ItemsByPlace.{slice_get-set_cases, slice_get-set_other, slice_get-set_same}
 use Rattle.name_rules.specs.Graphs.{GoThrough, GoesAlso, HasEdge, HasOneMore, IsSquare, Rows}
+use Rattle.list_lemmas.proofs.ItemsByPlace.{slice_get-set_cases, slice_get-set_other, slice_get-set_same}
 
 pub edge_within : (rows : Rows) (i j : ℕ) → IsSquare rows → HasEdge rows i j → (i < length rows) × (j < length rows)
 edge_within rows i j square (row, at, marked) =

@@ -38,11 +38,6 @@ pub as_many_files : (folder : List FolderClass) → length (files_of folder) ≡
 as_many_files [] = refl
 as_many_files (f ∷ folder) = ap (λ (n : ℕ). suc n) (as_many_files folder)
 
-pub at_file : (folder : List FolderClass) (i : ℕ) (f : FolderClass) → slice_get folder i ≡ Some f → slice_get (files_of folder) i ≡ Some f.file
-at_file [] i f at = absurd cc
-at_file (g ∷ folder) zero f at = let same : g ≡ f = same_Some g f at in ap (λ (h : FolderClass). Some h.file) same
-at_file (g ∷ folder) (suc i) f at = at_file folder i f at
-
 -- ---- The class of a Class entry that can't but be one.
 
 text_here : (pool : List PoolEntry) (texts : List (Option (List ℕ))) (i n : ℕ) (found : Option (Option (List ℕ))) → AreTextsOf pool texts

@@ -3,9 +3,9 @@ use Rattle.std.proofs.Common.{◌≡◌, ℕ, zero, suc, ◌+◌, ◌<◌, ◌�
 use Rattle.std.proofs.Math.ListN.{get_or}
 use Rattle.std.proofs.lemmas.Bool.{cases_lt}
 use Rattle.std.proofs.lemmas.Option.{same_Some, slice_get_within, slice_get-get_or}
-use Rattle.list_lemmas.proofs.ItemsByPlace.{slice_get-set_cases, slice_get-set_same}
 use Rattle.name_rules.specs.Graphs.{AreHeights, AreHeightsBelow, Climb, HasEdge, HasNoRing, IsHeight, IsHeightBelow, IsSquare, Rows}
 use Rattle.name_rules.proofs.EdgesOfRows.{edge_within}
+use Rattle.list_lemmas.proofs.ItemsByPlace.{slice_get-set_cases, slice_get-set_same}
 use Rattle.name_rules.proofs.PlacesLeft.{climb_is_short}
 
 -- a climb goes through all lower heights

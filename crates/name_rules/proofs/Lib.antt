@@ -2,7 +2,7 @@
 mod BadParts
 mod EdgesMarked
 mod EdgesOfRows
-mod FolderGraph
+pub mod FolderGraph
 mod HeightsRise
 mod ItemsSoFar
 mod MarksInTurn
@@ -10,4 +10,3 @@ mod NamesLacking
 mod PathsThroughPlaces
 mod PlacesInOrder
 mod PlacesLeft
-mod ShortTexts

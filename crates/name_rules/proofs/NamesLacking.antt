@@ -3,7 +3,6 @@ use Rattle.std.proofs.Common.{◌≡◌, ◌≢◌, ℕ, ◌+◌, ◌<◌, ◌�
 use Rattle.std.specs.Prelude.{IfOk}
 use Rattle.std.proofs.lemmas.Bool.{cases_lt}
 use Rattle.std.proofs.lemmas.Option.{same_Some, slice_get_within}
-use Rattle.list_lemmas.proofs.ItemsByPlace.{slice_get-front, slice_get-last}
 use Rattle.jk_model.specs.declared.class_file.ClassFile.{ClassFile}
 use Rattle.jk_model.specs.declared.class_file.PoolEntry.{PoolEntry}
 use Rattle.jk_model.specs.declared.class_file.PoolEntry.TheVariants.{Class, Utf8}
@@ -22,6 +21,7 @@ use Rattle.jk_model_classes.specs.Worlds.{NamedClass, class_named}
 use Rattle.model_lemmas.proofs.ClassNamesDecided.{class_or_not}
 use Rattle.class_lemmas.proofs.ArraysHaveNoNames.{array_begins}
 use Rattle.class_lemmas.proofs.ClassesInDescriptors.{is_array, field_mentions, method_mentions}
+use Rattle.list_lemmas.proofs.ItemsByPlace.{slice_get-front, slice_get-last}
 use Rattle.class_lemmas.proofs.OneText.{one_text}
 use Rattle.name_rules.specs.FolderNames.{AreOwnNames}
 use Rattle.name_rules.specs.KnownNames.{AreLacking, DescriptorSays, IsEntryName, IsNamedBy, IsSaidBy, Lacks, LacksOne}
@@ -56,10 +56,6 @@ tells_second x P Q R a b is_not to split h k = (
     | inr q ↦ k.1 (name, q, lacks)
   ],
 )
-
-pub ok_map : {T E : Type 0} (P Q : T → Type 0) (r : Result T E) → ((x : T) → P x → Q x) → IfOk r P → IfOk r Q
-ok_map P Q (Ok x) f h = f x h
-ok_map P Q (Err e) f h = tt
 
 -- ---- Types in turn.
 

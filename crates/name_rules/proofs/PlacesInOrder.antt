@@ -3,8 +3,8 @@ use Rattle.std.proofs.Common.{◌≡◌, ◌≢◌, ℕ, ◌+◌, ◌<◌, ◌�
 use Rattle.std.proofs.Math.ListN.{get_or}
 use Rattle.std.proofs.lemmas.Bool.{cases_lt}
 use Rattle.std.proofs.lemmas.Option.{same_Some, slice_get_within, slice_get-get_or}
-use Rattle.list_lemmas.proofs.ItemsByPlace.{slice_get-front, slice_get-last, slice_get-push_cases}
 use Rattle.name_rules.specs.Graphs.{AreInOrder, IsEarlier, IsOrderOf}
+use Rattle.list_lemmas.proofs.ItemsByPlace.{slice_get-front, slice_get-last, slice_get-push_cases}
 use Rattle.name_rules.proofs.PlacesLeft.{all_are_many, differing_below, in_from}
 
 wider : (m i height place : ℕ) → IsEarlier m i height place → IsEarlier m i height (place + 1)

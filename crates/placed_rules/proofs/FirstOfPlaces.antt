@@ -4,20 +4,12 @@ use Rattle.std.specs.Prelude.{nat_lt}
 use Rattle.std.proofs.lemmas.Bool.{cond_both, ltb-true, ltb-false}
 use Rattle.std.proofs.lemmas.Option.{same_Some}
 use Rattle.std.proofs.Math.Nat.{eq-or-lt_of_le}
+use Rattle.list_lemmas.proofs.AnswersTold.{up_to as upto}
 use Rattle.jk_model.specs.declared.output.Rule.{Rule}
 use Rattle.jk_model_classes.specs.Items.{Spot}
 use Rattle.class_files.specs.declared.faults.FileFault.{FileFault}
 use Rattle.link_rules.specs.LinkFaults.{IsLeastNumber}
 use Rattle.placed_rules.specs.FirstFiles.{IsFirstFault, IsFirstFile, first_file}
-
--- what holds of each place before n and of n holds of each before n + 1
-pub upto : (n : ℕ) (P : ℕ → Type 0) → ((k : ℕ) → k < n → P k) → P n → (k : ℕ) → k < n + 1 → P k
-upto n P before here k lt =
-    let most : k ≤ n = omega arith in
-    elim (eq-or-lt_of_le most) [
-      | inl same ↦ subst P (sym same) here
-      | inr less ↦ before k less
-    ]
 
 module _ (rule : Rule) (order : List ℕ) (Breaks : ℕ → Spot → Type 0) where
   pub none_yet : IsFirstFault rule 0 order Breaks None

@@ -13,6 +13,7 @@ use Rattle.jk_model_classes.specs.declared.records.Link.{Link}
 use Rattle.jk_model_classes.specs.Items.{Spot}
 use Rattle.jk_model_classes.specs.Worlds.{NamedClass}
 use Rattle.jk_model_folders.specs.ClassOrder.{IsClassOrder}
+use Rattle.class_files.proofs.JudgedFiles.{class_at as file_at}
 use Rattle.class_files.specs.declared.folder_class.FolderClass.{FolderClass}
 use Rattle.class_files.specs.FolderClasses.{AreReadClasses, IsReadClass, files_of}
 use Rattle.class_texts.specs.PoolTexts.{AreTextsOf}
@@ -21,9 +22,6 @@ use Rattle.placed_rules.specs.FirstFiles.{BreaksInFile}
 use Rattle.placed_rules.specs.PlacedFaults.{AreLinkedIn, class_at, scope_at}
 
 -- ---- Files and their classes.
-
-pub file_at : (fs : List FolderClass) (i : ℕ) (f : FolderClass) → slice_get fs i ≡ Some f → slice_get (files_of fs) i ≡ Some f.file
-file_at fs i f at = slice_get-map (λ (x : FolderClass). x.file) fs i ∙ ap (option_map (λ (x : FolderClass). x.file)) at
 
 pub read_at : (fs : List FolderClass) → AreReadClasses fs → (i : ℕ) (f : FolderClass) → slice_get fs i ≡ Some f → IsReadClass f
 read_at fs read i f at = All-contains IsReadClass fs f (All-from_recursion IsReadClass fs read) (Contains-at fs i f at)

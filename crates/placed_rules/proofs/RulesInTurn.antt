@@ -1,13 +1,12 @@
 -- The first rule that is broken is found rule by rule.
 use Rattle.std.proofs.Common.{◌≡◌, ℕ, zero, suc, ◌<◌, List, [], ◌∷◌, ◌++◌, length, Option, Some, None, slice_get, refl, sym, subst, arith}
-use Rattle.std.proofs.lemmas.Option.{same_Some}
+use Rattle.std.proofs.lemmas.Option.{same_Some, slice_get_within}
 use Rattle.list_lemmas.proofs.ItemsOfLists.{Contains-at, place_of}
 use Rattle.jk_model.specs.declared.output.Rule.{Rule}
 use Rattle.jk_model_classes.specs.Items.{Spot, IsBefore, spot_number}
 use Rattle.jk_model_folders.specs.FolderRules.{BreaksAt, IsFirstBroken, NoneBroken}
 use Rattle.class_files.specs.declared.faults.FileFault.{FileFault}
 use Rattle.placed_rules.specs.FirstFiles.{IsFirstFault}
-use Rattle.std.proofs.lemmas.Option.{slice_get_within}
 
 -- ---- One rule.
 

@@ -2,9 +2,9 @@
 use Rattle.std.proofs.Common.{◌≡◌, ℕ, List, Some, length, slice_get, ap, refl, subst, sym, ◌∙◌, arith}
 use Rattle.jk_model_classes.specs.declared.records.ClassRecord.{ClassRecord}
 use Rattle.jk_model_folders.specs.ClassOrder.{IsClassOrder}
+use Rattle.name_rules.proofs.FolderGraph.{as_many_files}
 use Rattle.class_files.specs.FolderClasses.{files_of}
 use Rattle.folder_loader.specs.FolderTables.{IsFolderTable}
-use Rattle.folder_loader.proofs.FilesRead.{as_many_files}
 use Rattle.folder_loader.proofs.OrderOfClasses.{in_order, place_once}
 use Rattle.folder_loader.proofs.NamesAreKnown.{all_linkable, no_ring}
 use Rattle.folder_loader.proofs.arranged.arranged.Goals as goal

@@ -1,8 +1,8 @@
 -- The next class has few methods, and all are counted in the end.
 use Rattle.std.proofs.Common.{◌≡◌, ◌+◌, ◌≤◌, ℕ, Some, length, slice_get, sym, ◌∙◌, ap₂, arith}
-use Rattle.list_lemmas.proofs.ItemsByPlace.{item_lent}
 use Rattle.jk_model.specs.declared.identifiers.ClassId.{ClassId}
 use Rattle.jk_model_classes.specs.SharedRules.{methods_before}
+use Rattle.list_lemmas.proofs.ItemsByPlace.{item_lent}
 use Rattle.shared_interfaces.proofs.MethodsCounted.{counted_on, all_counted, none_counted}
 use Rattle.loaded_class_check.proofs.shared_interfaces_tests.folder_methods.Goals as goal
 

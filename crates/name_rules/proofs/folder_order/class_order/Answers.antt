@@ -1,11 +1,11 @@
 -- The order of the graph's places is that of the classes.
 use Rattle.std.proofs.Common.{◌≡◌, ◌<◌, ℕ, List, length, Some, slice_get, subst, sym, arith}
 use Rattle.std.specs.Global.{Vec}
+use Rattle.list_lemmas.proofs.AnswersTold.{ok_map}
 use Rattle.jk_model_folders.specs.ClassOrder.{IsClassOrder}
 use Rattle.class_files.specs.FolderClasses.{files_of}
 use Rattle.name_rules.specs.Graphs.{AreHeights, HasNoRing, IsOrderOf, IsSquare, Rows}
 use Rattle.name_rules.proofs.FolderGraph.{class_order, names_of, no_ring}
-use Rattle.name_rules.proofs.NamesLacking.{ok_map}
 use Rattle.name_rules.proofs.folder_order.class_order.Goals as goal
 
 pub heights-requires-clause-square : goal.heights-requires-clause-square

@@ -4,12 +4,13 @@ use Rattle.std.specs.Vec.{with_items}
 use Rattle.std.proofs.lemmas.Bool.{cases_lt, iff_false}
 use Rattle.std.proofs.lemmas.Option.{same_Some, slice_get_read, slice_get_within}
 use Rattle.jk_model.specs.declared.class_file.ClassFile.{ClassFile}
+use Rattle.class_files.proofs.JudgedFiles.{class_at as at_file}
 use Rattle.name_rules.specs.BadHierarchies.{IsBadAt, folder_scope}
 use Rattle.name_rules.specs.Graphs.{Rows}
 use Rattle.class_files.specs.declared.folder_class.FolderClass.{FolderClass}
 use Rattle.name_rules.specs.declared.scope.Scope.{Scope}
 use Rattle.name_rules.proofs.BadParts.{bad_hierarchy, closed_rows, good_hierarchy}
-use Rattle.name_rules.proofs.FolderGraph.{at_file, file_at, names_of}
+use Rattle.name_rules.proofs.FolderGraph.{file_at, names_of}
 use Rattle.name_rules.proofs.hierarchies.first_bad_hierarchy.Goals as goal
 
 pub returns-then-branch-clause-bad : goal.returns-then-branch-clause-bad

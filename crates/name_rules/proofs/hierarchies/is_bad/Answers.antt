@@ -1,10 +1,10 @@
 -- The three ways in which a file is bad.
 use Rattle.std.proofs.Common.{◌↔◌, Bool, IsTrue}
 use Rattle.std.proofs.lemmas.Bool.{iff_false}
+use Rattle.list_lemmas.proofs.AnswersTold.{ok_map}
 use Rattle.jk_model_classes.specs.References.{HasBadInterface}
 use Rattle.name_rules.specs.BadHierarchies.{IsBadAt, folder_scope}
 use Rattle.name_rules.proofs.BadParts.{bad_parent_tells, interface_tells, ring_tells}
-use Rattle.name_rules.proofs.NamesLacking.{ok_map}
 use Rattle.name_rules.proofs.hierarchies.is_bad.Goals as goal
 
 pub returns-then-has_edge : goal.returns-then-has_edge

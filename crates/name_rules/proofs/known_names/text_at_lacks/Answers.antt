@@ -1,9 +1,10 @@
 -- The descriptor is the text at the index.
 use Rattle.std.proofs.Common.{◌<◌, ◌^◌, ℕ, List, length, sym, subst}
+use Rattle.list_lemmas.proofs.AnswersTold.{ok_map}
 use Rattle.jk_model_classes.specs.References.{Mentions}
+use Rattle.class_lemmas.proofs.OneText.{few_units}
 use Rattle.name_rules.specs.KnownNames.{DescriptorSays}
-use Rattle.name_rules.proofs.NamesLacking.{Tells, descriptor_tells, no_text_tells, ok_map}
-use Rattle.name_rules.proofs.ShortTexts.{few_units}
+use Rattle.name_rules.proofs.NamesLacking.{Tells, descriptor_tells, no_text_tells}
 use Rattle.name_rules.proofs.known_names.text_at_lacks.Goals as goal
 
 pub descriptor_lacks-requires : goal.descriptor_lacks-requires

@@ -1,9 +1,10 @@
 -- The name is the text at the index.
 use Rattle.std.proofs.Common.{◌<◌, ◌^◌, ℕ, List, length, sym, subst}
+use Rattle.list_lemmas.proofs.AnswersTold.{ok_map}
 use Rattle.jk_model_classes.specs.ClassNames.{IsClassEntryName}
+use Rattle.class_lemmas.proofs.OneText.{few_units}
 use Rattle.name_rules.specs.KnownNames.{IsNamedBy, IsSaidBy}
-use Rattle.name_rules.proofs.NamesLacking.{Tells, entry_name_form, no_text_tells, ok_map, text_tells}
-use Rattle.name_rules.proofs.ShortTexts.{few_units}
+use Rattle.name_rules.proofs.NamesLacking.{Tells, entry_name_form, no_text_tells, text_tells}
 use Rattle.name_rules.proofs.known_names.text_lacks.Goals as goal
 
 pub name_lacks-requires-clause-short : goal.name_lacks-requires-clause-short

@@ -1,12 +1,13 @@
 -- The name is an array's or a class's.
 use Rattle.std.proofs.Common.{ℕ, List}
 use Rattle.std.proofs.lemmas.Bool.{iff_false}
+use Rattle.list_lemmas.proofs.AnswersTold.{ok_map}
 use Rattle.jk_model.specs.declared.descriptors.FieldType.{FieldType}
 use Rattle.jk_model.specs.Descriptors.{IsFieldText}
 use Rattle.jk_model_classes.specs.References.{IsOfClass}
 use Rattle.class_lemmas.proofs.ArraysHaveNoNames.{no_array}
 use Rattle.name_rules.specs.KnownNames.{IsNamedBy}
-use Rattle.name_rules.proofs.NamesLacking.{Tells, array_tells, class_tells, ok_map}
+use Rattle.name_rules.proofs.NamesLacking.{Tells, array_tells, class_tells}
 use Rattle.name_rules.proofs.mentions.name_lacks.Goals as goal
 
 pub returns-then-begins_array : goal.returns-then-begins_array

@@ -1,11 +1,11 @@
 -- The first method whose code has no typing has the least number.
 use Rattle.std.proofs.Common.{◌≡◌, ◌+◌, ℕ, List, None, Some, length, slice_get, sym, subst, ap, ◌∙◌, arith}
 use Rattle.std.proofs.lemmas.Option.{same_Some}
-use Rattle.list_lemmas.proofs.ItemsByPlace.{item_lent}
 use Rattle.jk_model_classes.specs.declared.records.ClassRecord.{ClassRecord}
 use Rattle.jk_model_classes.specs.declared.records.MethodRecord.{MethodRecord}
 use Rattle.jk_model_typing.specs.Typing.{BreaksC23}
 use Rattle.link_rules.specs.LinkFaults.{IsLeastNumber}
+use Rattle.list_lemmas.proofs.ItemsByPlace.{item_lent}
 use Rattle.placed_rules.specs.Codes.{AreTypedBefore, AtMember, IsFirstUntyped}
 use Rattle.placed_rules.proofs.MethodsOfClass.{method_untyped, no_method_untyped, short_number}
 use Rattle.placed_rules.proofs.typings.untyped.Goals as goal

@@ -1,9 +1,9 @@
 -- The first method whose typing would be too large has the least number.
 use Rattle.std.proofs.Common.{◌≡◌, ◌+◌, ℕ, Some, slice_get, sym, subst, arith}
-use Rattle.list_lemmas.proofs.ItemsByPlace.{item_lent}
 use Rattle.jk_model_typing.specs.Typing.{BreaksC24}
 use Rattle.link_rules.specs.FinalMethods.{IsFirstPlace}
 use Rattle.link_rules.specs.LinkFaults.{IsLeastNumber}
+use Rattle.list_lemmas.proofs.ItemsByPlace.{item_lent}
 use Rattle.placed_rules.specs.Codes.{AtMember, IsOver}
 use Rattle.placed_rules.specs.PlacedFaults.{class_at}
 use Rattle.placed_rules.proofs.MethodsOfClass.{method_over, short_number}
