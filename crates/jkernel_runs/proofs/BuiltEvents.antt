@@ -1,0 +1,263 @@
+-- Each event of a script is built: its name has a name's form, and its numbers are within their ranges.
+use Rattle.std.proofs.Common.{◌≡◌, ℕ, suc, ◌≤◌, Bool, true, false, List, [], ◌∷◌, length, Option, Some, None, Result, Ok, Err, refl, sym, subst, bytes_eq, nat_le, nat_lt, ◌||◌, ◌&&◌, find, codes, arith, if◌then◌else◌}
+use Rattle.std.specs.List.{AllByRecursion, list_all, list_any}
+use Rattle.std.proofs.lemmas.Bool.{and_parts, or_parts}
+use Rattle.std.proofs.lemmas.Bool.Decides.{nat_tests}
+use Rattle.jk_model.specs.declared.script.Event.{Event}
+use Rattle.jk_model.specs.declared.script.Event.TheVariants.{Domain, Start, Turn, Round}
+use Rattle.jk_model.specs.declared.script.FaultKind.{FaultKind}
+use Rattle.jk_model.specs.declared.script.FaultKind.TheVariants.{BadByte, BadName, BadNumber, Extra, Missing, NotYet, UnknownWord}
+use Rattle.jk_model.specs.declared.script.Quotas.{Quotas}
+use Rattle.jk_model.specs.declared.script.ScriptFault.{ScriptFault}
+use Rattle.jk_model.specs.Script.{MAX_BYTES, MAX_LINES, script_lines, words, is_line_byte, is_empty_line, default_quotas}
+use Rattle.jk_model.specs.ScriptGrammar.{QuotaOption, quota_options, is_name, is_numeral, numeral_value, number_within, with_number, with_option, with_options, nothing_more, domain_line, start_class, start_line, turn_line, round_line, kill_line, command_line, line_event, then_rest, lines_events, MAX_STEPS, MAX_ROUNDS, MAX_WORD}
+use Rattle.script_reader.specs.NotBuilt.{is_not_built, built_event}
+use Rattle.jkernel_runs.specs.Events.{IsBuilt}
+use Rattle.jkernel_runs.specs.Scripts.{IsScript}
+
+-- ---- Answers that are good.
+
+no_fault : {X F P : Type 0} (fault : F) (x : X) → Err fault ≡ Ok x → P
+no_fault fault x e = absurd cc
+
+ok_if : {X F : Type 0} (b : Bool) (r : Result X F) (fault : F) (x : X) → (if b then r else Err fault) ≡ Ok x → (b ≡ true) × (r ≡ Ok x)
+ok_if true r fault x e = (refl, e)
+ok_if false r fault x e = absurd cc
+
+ok_unless : {X F : Type 0} (b : Bool) (r : Result X F) (fault : F) (x : X) → (if b then Err fault else r) ≡ Ok x → (b ≡ false) × (r ≡ Ok x)
+ok_unless true r fault x e = absurd cc
+ok_unless false r fault x e = (refl, e)
+
+some_if : {X : Type 0} (b : Bool) (v x : X) → (if b then Some v else None) ≡ Some x → (b ≡ true) × (v ≡ x)
+some_if true v x e = (refl, cc)
+some_if false v x e = absurd cc
+
+found_in : {X : Type 0} (P : X → Type 0) (y : X) (b : Bool) (rest : Option X) (x : X) → P y → (rest ≡ Some x → P x)
+    → (if b then Some y else rest) ≡ Some x → P x
+found_in P y true rest x here later e = let is : y ≡ x = cc in subst P is here
+found_in P y false rest x here later e = later e
+
+-- what is found among some has what they all have
+found_has : {X : Type 0} (P : X → Type 0) (p : X → Bool) (xs : List X) (x : X) → AllByRecursion P xs → find p xs ≡ Some x → P x
+found_has P p [] x all e = absurd cc
+found_has P p (y ∷ ys) x all e = found_in P y (p y) (find p ys) x all.0 (found_has P p ys x all.1) e
+
+in_range : (low high : ℕ) (word : List ℕ) (n : ℕ) → number_within low high word ≡ Some n → (low ≤ n) × (n ≤ high)
+in_range low high word n e =
+    let h = some_if (is_numeral word && nat_le low (numeral_value word) && nat_le (numeral_value word) high) (numeral_value word) n e in
+    let p = and_parts (is_numeral word && nat_le low (numeral_value word)) (nat_le (numeral_value word) high) h.0 in
+    let q = and_parts (is_numeral word) (nat_le low (numeral_value word)) p.0 in
+    let least : low ≤ numeral_value word = grind (arith, nat_tests) in
+    let most : numeral_value word ≤ high = grind (arith, nat_tests) in
+    (subst (λ (k : ℕ). low ≤ k) h.1 least, subst (λ (k : ℕ). k ≤ high) h.1 most)
+
+numbered : (low high : ℕ) (word : List ℕ) (next : ℕ → Result Event FaultKind) (event : Event) → with_number low high word next ≡ Ok event
+    → (n : ℕ) × (low ≤ n) × (n ≤ high) × (next n ≡ Ok event)
+numbered low high word next event e = by_number (number_within low high word) refl
+  where
+    by_number : (o : Option ℕ) → number_within low high word ≡ o → (n : ℕ) × (low ≤ n) × (n ≤ high) × (next n ≡ Ok event)
+    by_number None is = no_fault BadNumber event (rw is at e)
+    by_number (Some n) is = let r = in_range low high word n is in (n, r.0, r.1, rw is at e)
+
+-- ---- `domain`.
+
+abbrev IsInRange : Quotas → Type 0
+IsInRange q = (1 ≤ q.chunks) × (q.chunks ≤ 262144)
+
+abbrev Keeps : QuotaOption → Type 0
+Keeps o = (q : Quotas) (n : ℕ) → o.low ≤ n → n ≤ o.high → IsInRange q → IsInRange (o.set n q)
+
+all_keep : AllByRecursion Keeps quota_options
+all_keep = (
+  λ q n low high r. r,
+  (
+    λ q n low high r. (omega (arith, low), high),
+    (λ q n low high r. r, (λ q n low high r. r, (λ q n low high r. r, (λ q n low high r. r, tt)))),
+  ),
+)
+
+new_option : (seen : List (List ℕ)) (word : List ℕ) (next : QuotaOption → Result Event FaultKind) (event : Event)
+    → with_option seen word next ≡ Ok event → (o : QuotaOption) × Keeps o × (next o ≡ Ok event)
+new_option seen word next event e = by_option (find (λ (o : QuotaOption). bytes_eq o.name word) quota_options) refl
+  where
+    by_seen : (o : QuotaOption) → find (λ (o : QuotaOption). bytes_eq o.name word) quota_options ≡ Some o → (b : Bool)
+        → list_any (bytes_eq word) seen ≡ b → (o : QuotaOption) × Keeps o × (next o ≡ Ok event)
+    by_seen o is true seen_is = no_fault Extra event (rw (is, seen_is) at e)
+    by_seen o is false seen_is =
+        (o, found_has Keeps (λ (o : QuotaOption). bytes_eq o.name word) quota_options o all_keep is, rw (is, seen_is) at e)
+
+    by_option : (o : Option QuotaOption) → find (λ (o : QuotaOption). bytes_eq o.name word) quota_options ≡ o
+        → (o : QuotaOption) × Keeps o × (next o ≡ Ok event)
+    by_option None is = no_fault UnknownWord event (rw is at e)
+    by_option (Some o) is = by_seen o is (list_any (bytes_eq word) seen) refl
+
+options_built : (name : List ℕ) (seen : List (List ℕ)) (quotas : Quotas) (more : List (List ℕ)) (event : Event) → IsInRange quotas
+    → with_options name seen quotas more ≡ Ok event → (q : Quotas) × (event ≡ Domain name q) × IsInRange q
+options_built name seen quotas [] event r e = (quotas, cc, r)
+options_built name seen quotas (word ∷ []) event r e =
+    let o = new_option seen word (λ option. Err Missing) event e in
+    no_fault Missing event o.2
+options_built name seen quotas (word ∷ number ∷ more) event r e =
+    let o = new_option seen word _ event e in
+    let n = numbered o.0.low o.0.high number _ event o.2 in
+    options_built name (word ∷ seen) (o.0.set n.0 quotas) more event (o.1 quotas n.0 n.1 n.2 r) n.3
+
+domain_built : (more : List (List ℕ)) (event : Event) → domain_line more ≡ Ok event → IsBuilt event
+domain_built [] event e = absurd cc
+domain_built (name ∷ options) event e =
+    let h = ok_if (is_name name) (with_options name [] default_quotas options) BadName event e in
+    let o = options_built name [] default_quotas options event (omega arith, omega arith) h.1 in
+    subst IsBuilt (sym o.1) (h.0, o.2.0, o.2.1)
+
+-- ---- `start`.
+
+no_words : (class : List ℕ) (more : List (List ℕ)) → nat_lt 1 (length (class ∷ more)) ≡ false → more ≡ []
+no_words class [] e = refl
+no_words class (word ∷ more) e = let long : length (class ∷ word ∷ more) ≡ suc (suc (length more)) = refl in absurd (grind (arith, nat_tests))
+
+start_built : (name : List ℕ) (more : List (List ℕ)) (event : Event) → start_line (name ∷ more) ≡ Ok event → nat_lt 1 (length more) ≡ false
+    → IsBuilt event
+start_built name [] event e one = let h = ok_if (is_name name) (start_class name []) BadName event e in no_fault Missing event h.1
+start_built name (class ∷ more) event e one =
+    let none = no_words class more one in
+    let h = ok_if (is_name name) (start_class name (class ∷ [])) BadName event (rw none at e) in
+    let k = ok_if (nat_le (length class) MAX_WORD) (Ok (Start name class [])) BadName event h.1 in
+    let is : event ≡ Start name class [] = cc in
+    let short : length class ≤ 255 = grind (arith, nat_tests) in
+    subst IsBuilt (sym is) (h.0, short, refl)
+
+-- ---- `turn` and `round`.
+
+nothing : (more : List (List ℕ)) (event found : Event) → nothing_more more event ≡ Ok found → found ≡ event
+nothing [] event found e = cc
+nothing (word ∷ more) event found e = absurd cc
+
+turn_built : (more : List (List ℕ)) (event : Event) → turn_line more ≡ Ok event → IsBuilt event
+turn_built [] event e = absurd cc
+turn_built (word ∷ []) event e =
+    let t = numbered 0 4294967295 word _ event e in
+    let is : event ≡ Turn t.0 1 = cc in
+    subst IsBuilt (sym is) tt
+turn_built (word ∷ steps ∷ more) event e =
+    let t = numbered 0 4294967295 word _ event e in
+    let n = numbered 1 MAX_STEPS steps _ event t.3 in
+    subst IsBuilt (sym (nothing more (Turn t.0 n.0) event n.3)) tt
+
+round_built : (more : List (List ℕ)) (event : Event) → round_line more ≡ Ok event → IsBuilt event
+round_built [] event e = absurd cc
+round_built (word ∷ []) event e =
+    let r = numbered 1 MAX_ROUNDS word _ event e in
+    no_fault Missing event r.3
+round_built (word ∷ steps ∷ more) event e =
+    let r = numbered 1 MAX_ROUNDS word _ event e in
+    let n = numbered 1 MAX_ROUNDS steps _ event r.3 in
+    let h = ok_if _ (nothing_more more (Round r.0 n.0)) BadNumber event n.3 in
+    subst IsBuilt (sym (nothing more (Round r.0 n.0) event h.1)) tt
+
+-- ---- Lines.
+
+no_kill : (word name : List ℕ) (more : List (List ℕ)) → bytes_eq word (codes "kill") ≡ true → is_not_built (word ∷ name ∷ more) ≡ false → ⊥
+no_kill word name more is built = let bad : true ≡ false = rw is at built in absurd cc
+
+one_word : (word name : List ℕ) (more : List (List ℕ)) → bytes_eq word (codes "start") ≡ true → is_not_built (word ∷ name ∷ more) ≡ false
+    → nat_lt 1 (length more) ≡ false
+one_word word name more start built =
+    let kill_or_start = (or_parts (bytes_eq word (codes "kill") || (bytes_eq word (codes "start") && nat_lt 1 (length more))) _ built).0 in
+    let started = (or_parts (bytes_eq word (codes "kill")) (bytes_eq word (codes "start") && nat_lt 1 (length more)) kill_or_start).1 in
+    rw start at started
+
+-- the line of a command
+command_built : (word : List ℕ) (more : List (List ℕ)) (event : Event) → command_line word more ≡ Ok event → is_not_built (word ∷ more) ≡ false
+    → IsBuilt event
+command_built word more event e built = by_domain (bytes_eq word (codes "domain")) refl
+  where
+    by_kill : bytes_eq word (codes "domain") ≡ false → bytes_eq word (codes "start") ≡ false → bytes_eq word (codes "turn") ≡ false
+        → bytes_eq word (codes "round") ≡ false → (b : Bool) → bytes_eq word (codes "kill") ≡ b → IsBuilt event
+    by_kill d s t r false k = no_fault UnknownWord event (rw (d, s, t, r, k) at e)
+    by_kill d s t r true k = kills more (rw (d, s, t, r, k) at e) built
+      where
+        kills : (ws : List (List ℕ)) → kill_line ws ≡ Ok event → is_not_built (word ∷ ws) ≡ false → IsBuilt event
+        kills [] e built = absurd cc
+        kills (name ∷ ws) e built = absurd (no_kill word name ws k built)
+
+    by_round : bytes_eq word (codes "domain") ≡ false → bytes_eq word (codes "start") ≡ false → bytes_eq word (codes "turn") ≡ false
+        → (b : Bool) → bytes_eq word (codes "round") ≡ b → IsBuilt event
+    by_round d s t true r = round_built more event (rw (d, s, t, r) at e)
+    by_round d s t false r = by_kill d s t r (bytes_eq word (codes "kill")) refl
+
+    by_turn : bytes_eq word (codes "domain") ≡ false → bytes_eq word (codes "start") ≡ false → (b : Bool) → bytes_eq word (codes "turn") ≡ b
+        → IsBuilt event
+    by_turn d s true t = turn_built more event (rw (d, s, t) at e)
+    by_turn d s false t = by_round d s t (bytes_eq word (codes "round")) refl
+
+    by_start : bytes_eq word (codes "domain") ≡ false → (b : Bool) → bytes_eq word (codes "start") ≡ b → IsBuilt event
+    by_start d true s = starts more (rw (d, s) at e) built
+      where
+        starts : (ws : List (List ℕ)) → start_line ws ≡ Ok event → is_not_built (word ∷ ws) ≡ false → IsBuilt event
+        starts [] e built = absurd cc
+        starts (name ∷ ws) e built = start_built name ws event e (one_word word name ws s built)
+    by_start d false s = by_turn d s (bytes_eq word (codes "turn")) refl
+
+    by_domain : (b : Bool) → bytes_eq word (codes "domain") ≡ b → IsBuilt event
+    by_domain true d = domain_built more event (rw d at e)
+    by_domain false d = by_start d (bytes_eq word (codes "start")) refl
+
+abbrev no_event : Result (Option Event) FaultKind
+no_event = Ok None
+
+none_is_some : {P : Type 0} (event : Event) → no_event ≡ Ok (Some event) → P
+none_is_some event e = absurd cc
+
+-- a line that stands for an event
+line_built : (line : List ℕ) (event : Event) → built_event line ≡ Ok (Some event) → IsBuilt event
+line_built line event e = by_line (line_event line) refl
+  where
+    by_command : (word : List ℕ) (more : List (List ℕ)) → words line ≡ word ∷ more → list_all is_line_byte line ≡ true → is_empty_line line ≡ false
+        → is_not_built (words line) ≡ false → line_event line ≡ Ok (Some event) → (r : Result Event FaultKind) → command_line word more ≡ r
+        → IsBuilt event
+    by_command word more ws bytes full built is (Ok found) c =
+        let same : Ok (Some found) ≡ Ok (Some event) = rw (bytes, full, ws, c) at is in
+        let one : found ≡ event = cc in
+        subst IsBuilt one (command_built word more found c (rw ws at built))
+    by_command word more ws bytes full built is (Err kind) c = no_fault kind (Some event) (rw (bytes, full, ws, c) at is)
+
+    by_words : list_all is_line_byte line ≡ true → is_empty_line line ≡ false → is_not_built (words line) ≡ false
+        → line_event line ≡ Ok (Some event) → (ws : List (List ℕ)) → words line ≡ ws → IsBuilt event
+    by_words bytes full built is [] ws = none_is_some event (rw (bytes, full, ws) at is)
+    by_words bytes full built is (word ∷ more) ws = by_command word more ws bytes full built is (command_line word more) refl
+
+    by_empty : list_all is_line_byte line ≡ true → is_not_built (words line) ≡ false → line_event line ≡ Ok (Some event) → (b : Bool)
+        → is_empty_line line ≡ b → IsBuilt event
+    by_empty bytes built is true empty = none_is_some event (rw (bytes, empty) at is)
+    by_empty bytes built is false full = by_words bytes full built is (words line) refl
+
+    by_line : (r : Result (Option Event) FaultKind) → line_event line ≡ r → IsBuilt event
+    by_line (Err kind) is = no_fault kind (Some event) (rw is at e)
+    by_line (Ok o) is =
+        let h = ok_unless (is_not_built (words line)) (Ok o) NotYet (Some event) (rw is at e) in
+        let same : o ≡ Some event = cc in
+        let bytes = (ok_if (list_all is_line_byte line) _ BadByte o is).0 in
+        by_empty bytes h.0 (rw same at is) (is_empty_line line) refl
+
+-- ---- Scripts.
+
+then_built : (n : ℕ) (r : Result (Option Event) FaultKind) (rest : Result (List Event) ScriptFault) (events : List Event)
+    → ((event : Event) → r ≡ Ok (Some event) → IsBuilt event) → ((more : List Event) → rest ≡ Ok more → AllByRecursion IsBuilt more)
+    → then_rest n r rest ≡ Ok events → AllByRecursion IsBuilt events
+then_built n (Err kind) rest events one all e = absurd cc
+then_built n (Ok None) rest events one all e = all events e
+then_built n (Ok (Some event)) (Err fault) events one all e = absurd cc
+then_built n (Ok (Some event)) (Ok more) events one all e =
+    let is : event ∷ more ≡ events = cc in
+    subst (AllByRecursion IsBuilt) is (one event refl, all more refl)
+
+lines_built : (n : ℕ) (ls : List (List ℕ)) (events : List Event) → lines_events built_event n ls ≡ Ok events → AllByRecursion IsBuilt events
+lines_built n [] events e = let is : [] ≡ events = cc in subst (AllByRecursion IsBuilt) is tt
+lines_built n (line ∷ more) events e =
+    let h = ok_if (nat_le n MAX_LINES) (then_rest n (built_event line) (lines_events built_event (suc n) more)) _ events e in
+    then_built n (built_event line) (lines_events built_event (suc n) more) events (line_built line) (lines_built (suc n) more) h.1
+
+pub script_built : (bytes : List ℕ) (events : List Event) → IsScript bytes events → AllByRecursion IsBuilt events
+script_built bytes events is =
+    lines_built 1 (script_lines bytes) events
+    (ok_if (nat_le (length bytes) MAX_BYTES) (lines_events built_event 1 (script_lines bytes)) _ events is).1

@@ -1,0 +1,192 @@
+-- How a run ends, from what was found of its script and what became of its events.
+use Rattle.std.proofs.Common.{◌≡◌, ℕ, zero, suc, false, nat_le, ◌<◌, List, [], ◌∷◌, ◌++◌, length, Option, Some, None, Result, Ok, Err, ◌⊎◌, inl, inr, refl, ap, subst, ◌∙◌, append_assoc, arith}
+use Rattle.std.proofs.lemmas.Bool.Decides.{nat_tests}
+use Rattle.jk_model.specs.declared.output.Line.{Line}
+use Rattle.jk_model.specs.declared.script.Event.{Event}
+use Rattle.jk_model.specs.declared.script.FaultKind.TheVariants as kinds
+use Rattle.jk_model.specs.declared.script.ScriptFault.{ScriptFault}
+use Rattle.jk_model.specs.Outside.{Tree, Ask, FileIs, FileIsLong, Appends, AppendsPart, HasRisen, NeverFalls}
+use Rattle.jk_model.proofs.CountsNeverFall.{HasRisen-after}
+use Rattle.jk_model.specs.Script.{MAX_BYTES}
+use Rattle.jk_model_machine.specs.Machine.{Machine}
+use Rattle.jk_kernel.specs.Openings.{Opens}
+use Rattle.script_reader.specs.declared.error.ScriptError.{ScriptError}
+use Rattle.script_reader.specs.declared.error.ScriptError.TheVariants as errors
+use Rattle.jkernel_runs.specs.declared.ends.End.{End}
+use Rattle.jkernel_runs.specs.declared.ends.End.TheVariants.{Done, Usage, Refused, Stopped}
+use Rattle.jkernel_runs.specs.declared.status.Status.TheVariants as statuses
+use Rattle.jkernel_runs.specs.declared.stop.Stop.{Stop}
+use Rattle.jkernel_runs.specs.declared.stop.Stop.TheVariants.{ReadFault, WriteFault, OutOfMemory}
+use Rattle.jkernel_runs.specs.Calls.{IsCall}
+use Rattle.jkernel_runs.specs.Ends.{end_of, EndsSo, EndsRefused, HasText, IsMissing, ScriptEnds, AnswersFault, status_of}
+use Rattle.jkernel_runs.specs.Asked.{ask_for_script}
+use Rattle.jkernel_runs.specs.Events.{Moment, FirstEvents, RunsPart, RunEnds, RunAsks}
+use Rattle.jkernel_runs.specs.Scripts.{IsScript, IsAtFault}
+use Rattle.jkernel_runs.specs.Statuses.{HasEvents, LacksScript, RunsTo, IsStopped, Asks}
+
+-- ---- the script
+
+-- a text longer than a number
+long_text : (n : ℕ) → (text : List ℕ) × (n < length text)
+long_text zero = (0 ∷ [], omega arith)
+long_text (suc n) = let t = long_text n in (0 ∷ t.0, let h = t.1 in omega arith)
+
+-- a script with too many bytes is at fault as a whole
+long_fault : (text : List ℕ) → MAX_BYTES < length text → IsAtFault text (record { line = 0; kind = kinds.TooLong })
+long_fault text long =
+    let over : nat_le (length text) MAX_BYTES ≡ false = grind (arith, nat_tests) in
+    rw over
+
+pub too_long : (t : Option Tree) (path : List ℕ) (old new files files' : ℕ) → FileIsLong t path MAX_BYTES old new
+    → ScriptEnds t path files files' (Err (Refused (record { line = 0; kind = kinds.TooLong })))
+too_long None path old new files files' long =
+    let text = long_text MAX_BYTES in (text.0, tt, long_fault text.0 text.1)
+too_long (Some tree) path old new files files' long = (long.0, long.1, long_fault long.0 long.2)
+
+-- a told tree has one text at a path
+pub same_text : (t : Option Tree) (path a b : List ℕ) → FileIs t path a → HasText t path b → b ≡ a
+same_text None path a b is has = absurd has
+same_text (Some tree) path a b is has = cc
+
+-- the fault that was told is the one there is
+pub fault_is : (e : ScriptError) (a b : ScriptFault) → e ≡ errors.Fault a → (e ≡ errors.Fault b) ⊎ (e ≡ errors.OutOfMemory) → a ≡ b
+fault_is e a b is (inl f) = cc
+fault_is e a b is (inr m) = absurd cc
+
+-- ---- the words
+
+pub same_script : (words : List (List ℕ)) (root script root' script' : List ℕ) → IsCall words root script → IsCall words root' script' → script' ≡ script
+same_script words root script root' script' a b =
+    let p = a.0 in let q = b.0 in cc
+
+-- ---- ends
+
+pub refused_so : (f : ScriptFault) (files files' : ℕ) (end : End) → AnswersFault f files files' (Err end) → EndsRefused f files files' end
+refused_so f files files' Done h = h
+refused_so f files files' Usage h = h
+refused_so f files files' (Refused found) h = h
+refused_so f files files' (Stopped ReadFault) h = h
+refused_so f files files' (Stopped WriteFault) h = h
+refused_so f files files' (Stopped OutOfMemory) h = h
+
+pub refused_status : (f : ScriptFault) (files files' : ℕ) (end : End) → EndsRefused f files files' end → (HasRisen files files' → ⊥)
+    → (status_of end ≡ statuses.ScriptRefused) ⊎ (status_of end ≡ statuses.OutOfMemory)
+refused_status f files files' Done h calm = absurd h
+refused_status f files files' Usage h calm = absurd h
+refused_status f files files' (Refused found) h calm = inl refl
+refused_status f files files' (Stopped ReadFault) h calm = absurd (calm h)
+refused_status f files files' (Stopped WriteFault) h calm = absurd h
+refused_status f files files' (Stopped OutOfMemory) h calm = inr refl
+
+abbrev has_events : (t : Option Tree) (words : List (List ℕ)) (root script : List ℕ) (events : List Event) → IsCall words root script
+    → (text : List ℕ) × FileIs t script text × IsScript text events → HasEvents t words root events
+has_events t words root script events call found =
+    record { script = script; call = call; text = found.0; file = found.1; is_script = found.2 }
+
+-- The run of a script's events: what was known before the script was read, after that, and at the end.
+module _ (t : Option Tree) (words : List (List ℕ)) (root script : List ℕ) (events : List Event) (a b c : Moment) (call : IsCall words root script)
+    (found : (text : List ℕ) × FileIs t script text × IsScript text events) (read : b.asked ≡ a.asked ++ ask_for_script script ∷ [])
+    (files : NeverFalls a.files_faults b.files_faults)
+    (out : b.out ≡ a.out) (out_faults : b.out_faults ≡ a.out_faults) where
+  abbrev has : HasEvents t words root events
+  has = has_events t words root script events call found
+
+  runs_to : (k : ℕ) (lines : List Line) (last : Machine) → FirstEvents (Opens t root) events k lines last → RunsTo t root events k lines
+  runs_to k lines last first = record { within = first.within; first = first.first; is_first = first.is_first; last = last; run = first.run }
+
+  all_asked : (more : List Ask) → c.asked ≡ b.asked ++ more → c.asked ≡ a.asked ++ ask_for_script script ∷ more
+  all_asked more e = e ∙ ap (λ (x : List Ask). x ++ more) read ∙ append_assoc a.asked (ask_for_script script ∷ []) more
+
+  went : (old new : Option (List ℕ)) (text : List ℕ) → old ≡ a.out → Appends old new text → Appends a.out new text
+  went old new text e h = subst (λ (o : Option (List ℕ)). Appends o new text) e h
+
+  went_part : (old new : Option (List ℕ)) (text : List ℕ) → old ≡ a.out → AppendsPart old new text → AppendsPart a.out new text
+  went_part old new text e h = subst (λ (o : Option (List ℕ)). AppendsPart o new text) e h
+
+  stopped : RunsPart (Opens t root) events b c → IsStopped t words a.out c.out
+  stopped p = record {
+    root = root;
+    events = events;
+    has = has;
+    k = p.k;
+    lines = p.lines;
+    runs = runs_to p.k p.lines p.last p.run;
+    text = went_part b.out c.out _ out p.text;
+  }
+
+  pub run_ends : (r : Result (Unit {0}) Stop) → RunEnds root (Opens t root) events b c r → EndsSo t words a c (end_of r)
+  run_ends (Ok x) h = record {
+    root = root;
+    events = events;
+    has = has;
+    lines = h.lines;
+    runs = runs_to (length events) h.lines h.last h.run;
+    text = went b.out c.out _ out h.text;
+  }
+  run_ends (Err ReadFault) h = (
+    inl (HasRisen-after a.files_faults b.files_faults c.files_faults files h.1),
+    inr (record {
+      root = root;
+      events = events;
+      has = has;
+      k = h.0.k;
+      name = h.0.name;
+      quotas = h.0.quotas;
+      next = h.0.next;
+      lines = h.0.whole.lines;
+      runs = runs_to h.0.k h.0.whole.lines h.0.whole.last h.0.whole.run;
+      text = went b.out c.out _ out h.0.whole.text;
+      before = h.0.before;
+      asked_before = h.0.asked_before;
+      at_last = h.0.at_last;
+      asked_at_last = h.0.asked_at_last;
+      something = h.0.something;
+      asks = all_asked (h.0.before ++ h.0.at_last) h.0.asked;
+    }),
+  )
+  run_ends (Err WriteFault) h = (subst (λ (n : ℕ). HasRisen n c.out_faults) out_faults h.1, stopped h.0)
+  run_ends (Err OutOfMemory) (inl quiet) = inl (quiet ∙ out)
+  run_ends (Err OutOfMemory) (inr h) = inr (stopped h)
+
+  pub run_asks : RunAsks root events b.asked c.asked → Asks t words a.asked c.asked
+  run_asks h = inr (record {
+    root = root;
+    script = script;
+    call = call;
+    events = events;
+    of_script = inr has;
+    more = h.0;
+    for_events = h.1;
+    asks = all_asked h.0 h.2;
+  })
+
+-- A script that gave no events was asked for, and nothing else.
+pub script_asks : (t : Option Tree) (words : List (List ℕ)) (root script : List ℕ) (old new : List Ask) → IsCall words root script
+    → new ≡ old ++ ask_for_script script ∷ [] → Asks t words old new
+script_asks t words root script old new call asked = inr (record {
+  root = root;
+  script = script;
+  call = call;
+  events = [];
+  of_script = inl refl;
+  more = [];
+  for_events = refl;
+  asks = asked;
+})
+
+-- How a run ends whose script gave no events.
+pub script_ends : (t : Option Tree) (words : List (List ℕ)) (root script : List ℕ) (a b : Moment) (end : End) → IsCall words root script → b.out ≡ a.out
+    → b.asked ≡ a.asked ++ ask_for_script script ∷ [] → ScriptEnds t script a.files_faults b.files_faults (Err end) → EndsSo t words a b end
+script_ends t words root script a b Done call quiet asked h = absurd h
+script_ends t words root script a b Usage call quiet asked h = absurd h
+script_ends t words root script a b (Refused fault) call quiet asked h =
+    (record { root = root; script = script; call = call; text = h.0; file = h.1; at_fault = h.2 }, quiet)
+script_ends t words root script a b (Stopped ReadFault) call quiet asked h =
+    (lacks t h, inl (record { root = root; script = script; call = call; quiet = quiet; asks = asked }))
+  where
+    lacks : (o : Option Tree) → HasRisen a.files_faults b.files_faults ⊎ IsMissing o script → HasRisen a.files_faults b.files_faults ⊎ LacksScript o words
+    lacks o (inl risen) = inl risen
+    lacks None (inr missing) = absurd missing
+    lacks (Some tree) (inr missing) = inr (root, script, call, missing)
+script_ends t words root script a b (Stopped WriteFault) call quiet asked h = absurd h
+script_ends t words root script a b (Stopped OutOfMemory) call quiet asked h = inl quiet

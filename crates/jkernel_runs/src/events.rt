@@ -1,0 +1,168 @@
+//! The events of a script, one by one and all of them.
+
+ghost use Rattle.std.specs.Prelude.{◌≡◌, ℕ, suc, ◌<◌, ◌≤◌, ◌^◌, ◌-◌, List, [], true, length, Err, IsSome};
+ghost use Rattle.std.specs.List.{AllByRecursion};
+ghost use Rattle.jk_model.specs.Outside.{NeverFalls};
+ghost use Rattle.jk_model.specs.ScriptGrammar.{is_name};
+ghost use Rattle.jk_model_machine.specs.Run.{Rounds, Turns};
+ghost use Rattle.jk_model_machine.specs.Starts.{Starts};
+ghost use Rattle.jk_kernel.specs.Openings.{Opens};
+ghost use Rattle.jkernel_runs.specs.Events.{IsBuilt, IsPrinted, EventEnds, EventAsks, RunEnds, RunAsks, moment};
+
+use crate::opening::open_domain;
+use crate::stop::Stop;
+use frame_store::PlainFrames;
+use jk_kernel::{EventAnswer, Kernel};
+use jk_model::{Bytes, Event};
+use jk_outside::{Files, Sink, SinkFailed};
+use std::alloc::Global;
+
+/// The machine over frames in vectors.
+pub type PlainKernel = Kernel<PlainFrames>;
+
+/// A `round` event: so many rounds, in each of which the live threads take so many steps.
+fn run_rounds<S: Sink>(
+    kernel: &mut PlainKernel,
+    rounds: u32,
+    steps: u32,
+    out: &mut S,
+) -> Result<(), Stop>
+    ensures ends { IsPrinted (Rounds rounds steps kernel.old) kernel.new
+        (S.bytes out.old) (S.bytes out.new) (S.faults out.old) (S.faults out.new) result }
+    ensures calm_out { (result ≡ Err Stop.WriteFault → ⊥) → S.faults out.new ≡ S.faults out.old }
+    ensures faults { NeverFalls (S.faults out.old) (S.faults out.new) }
+    ensures counts { (kernel.new.next_thread ≡ kernel.old.next_thread) × (kernel.new.next_segment ≡ kernel.old.next_segment) }
+{
+    let went = kernel.rounds(rounds, steps, out);
+    kernel.holds();
+    match went {
+        Ok(()) => Ok(()),
+        Err(SinkFailed) => Err(Stop::WriteFault),
+    }
+}
+
+/// A `turn` event, of so many steps of one thread.
+fn turn_thread<S: Sink>(
+    kernel: &mut PlainKernel,
+    thread: u32,
+    steps: u32,
+    out: &mut S,
+) -> Result<(), Stop>
+    ensures ends { IsPrinted (Turns steps thread kernel.old) kernel.new
+        (S.bytes out.old) (S.bytes out.new) (S.faults out.old) (S.faults out.new) result }
+    ensures calm_out { (result ≡ Err Stop.WriteFault → ⊥) → S.faults out.new ≡ S.faults out.old }
+    ensures faults { NeverFalls (S.faults out.old) (S.faults out.new) }
+    ensures counts { (kernel.new.next_thread ≡ kernel.old.next_thread) × (kernel.new.next_segment ≡ kernel.old.next_segment) }
+{
+    let went = kernel.turns(thread, steps, out);
+    kernel.holds();
+    match went {
+        Ok(_changed) => Ok(()),
+        Err(SinkFailed) => Err(Stop::WriteFault),
+    }
+}
+
+/// A `start` event.
+fn start_thread<S: Sink>(
+    kernel: &mut PlainKernel,
+    name: &[u8],
+    class: &[u8],
+    words: &[Bytes],
+    out: &mut S,
+) -> Result<(), Stop>
+    requires named { is_name name.now ≡ true }
+    requires no_words { words.now ≡ [] }
+    requires class { length class.now ≤ 255 }
+    requires thread { kernel.old.next_thread < 2 ^ 32 - 1 }
+    requires segment { kernel.old.next_segment < 2 ^ 64 - 1 }
+    ensures ends { IsPrinted (Starts kernel.old name.now class.now words.now) kernel.new
+        (S.bytes out.old) (S.bytes out.new) (S.faults out.old) (S.faults out.new) result }
+    ensures calm_out { (result ≡ Err Stop.WriteFault → ⊥) → S.faults out.new ≡ S.faults out.old }
+    ensures faults { NeverFalls (S.faults out.old) (S.faults out.new) }
+    ensures counts { (kernel.new.next_thread ≤ suc kernel.old.next_thread) × (kernel.new.next_segment ≤ suc kernel.old.next_segment) }
+{
+    let went = kernel.start(name, class, words, out);
+    kernel.holds();
+    match went {
+        Ok(()) => Ok(()),
+        Err(EventAnswer::SinkFailed) => Err(Stop::WriteFault),
+        Err(EventAnswer::OutOfMemory) => Err(Stop::OutOfMemory),
+    }
+}
+
+/// One event of a script.
+fn happen<F: Files, S: Sink>(
+    kernel: &mut PlainKernel,
+    root: &str,
+    event: &Event,
+    files: &mut F,
+    out: &mut S,
+) -> Result<(), Stop>
+    requires built { IsBuilt event.now }
+    requires thread { kernel.old.next_thread < 2 ^ 32 - 1 }
+    requires segment { kernel.old.next_segment < 2 ^ 64 - 1 }
+    ensures ends { EventEnds (Opens (F.tree files.old) root.now) event.now kernel.old kernel.new
+        (moment (S.bytes out.old) (S.faults out.old) (F.asked files.old) (F.faults files.old))
+        (moment (S.bytes out.new) (S.faults out.new) (F.asked files.new) (F.faults files.new)) result }
+    ensures asks { EventAsks root.now event.now (F.asked files.old) (F.asked files.new) }
+    ensures calm { (result ≡ Err Stop.ReadFault → ⊥) → IsSome (F.tree files.old) → F.faults files.new ≡ F.faults files.old }
+    ensures stays { F.tree files.new ≡ F.tree files.old }
+    ensures files_faults { NeverFalls (F.faults files.old) (F.faults files.new) }
+    ensures calm_out { (result ≡ Err Stop.WriteFault → ⊥) → S.faults out.new ≡ S.faults out.old }
+    ensures faults { NeverFalls (S.faults out.old) (S.faults out.new) }
+    // An event gives out one number of each kind at most.
+    ensures counts { (kernel.new.next_thread ≤ suc kernel.old.next_thread) × (kernel.new.next_segment ≤ suc kernel.old.next_segment) }
+{
+    match event {
+        Event::Domain { name, quotas } => open_domain(
+            kernel,
+            root,
+            name.as_slice(),
+            *quotas,
+            files,
+            out,
+        ),
+        Event::Start { name, class, words } => {
+            start_thread(
+                kernel,
+                name.as_slice(),
+                class.as_slice(),
+                words.as_slice(),
+                out,
+            )
+        }
+        Event::Turn { thread, steps } => turn_thread(kernel, *thread, *steps, out),
+        Event::Round { rounds, steps } => run_rounds(kernel, *rounds, *steps, out),
+        // No script that is read so far has kills.
+        Event::Kill { .. } => unreachable!(),
+    }
+}
+
+/// All events of a script, from the machine without domains.
+pub fn run_events<F: Files, S: Sink>(
+    alloc: Global,
+    root: &str,
+    events: &[Event],
+    files: &mut F,
+    out: &mut S,
+) -> Result<(), Stop>
+    requires built { AllByRecursion IsBuilt events.now }
+    requires few { length events.now ≤ 65536 }
+    ensures ends { RunEnds root.now (Opens (F.tree files.old) root.now) events.now
+        (moment (S.bytes out.old) (S.faults out.old) (F.asked files.old) (F.faults files.old))
+        (moment (S.bytes out.new) (S.faults out.new) (F.asked files.new) (F.faults files.new)) result }
+    ensures asks { RunAsks root.now events.now (F.asked files.old) (F.asked files.new) }
+    ensures calm { (result ≡ Err Stop.ReadFault → ⊥) → IsSome (F.tree files.old) → F.faults files.new ≡ F.faults files.old }
+    ensures stays { F.tree files.new ≡ F.tree files.old }
+    ensures files_faults { NeverFalls (F.faults files.old) (F.faults files.new) }
+    ensures calm_out { (result ≡ Err Stop.WriteFault → ⊥) → S.faults out.new ≡ S.faults out.old }
+    ensures faults { NeverFalls (S.faults out.old) (S.faults out.new) }
+{
+    let Ok(mut kernel) = Kernel::new(alloc, PlainFrames::new(alloc)) else {
+        return Err(Stop::OutOfMemory);
+    };
+    for event in events {
+        happen(&mut kernel, root, event, files, out)?;
+    }
+    Ok(())
+}

@@ -1,0 +1,25 @@
+//! Runs a script over a tree of folders, a domain each: words, files and two sinks in, a status out.
+//! The contract of `jkernel` says that what is printed is the text of a run of the machine that the definitions describe.
+//! `run_on` is such a run on the words, the files and the streams of the system, for the programs that are made of it.
+#![tactic(auto)]
+
+mod calls;
+mod ends;
+mod events;
+mod opening;
+mod program;
+mod scripts;
+mod status;
+mod stop;
+mod system_run;
+
+pub use program::jkernel;
+pub use status::Status;
+pub use system_run::run_on;
+
+#[cfg(test)]
+mod kernel_tests;
+#[cfg(test)]
+mod test_classes;
+#[cfg(test)]
+mod tests;

@@ -1,0 +1,122 @@
+//! The top call: words, files and two sinks in, a status out.
+
+ghost use Rattle.std.specs.Prelude.{◌≡◌, ◌⊎◌, ℕ, List, map, string_bytes, IsSome};
+ghost use Rattle.jk_model.specs.Outside.{HasNoFile, HasLongFile, HasRisen, NeverFalls};
+ghost use Rattle.jk_model.specs.Script.{MAX_BYTES};
+ghost use Rattle.jk_model.specs.declared.script.FaultKind.TheVariants.{TooLong};
+ghost use Rattle.jkernel_runs.specs.Calls.{IsCall};
+ghost use Rattle.jkernel_runs.specs.declared.stop.Stop.TheVariants.{ReadFault, WriteFault};
+ghost use Rattle.jkernel_runs.specs.Ends.{EndsSo, EndsWell, EndsRefused, HasText, IsNoCall};
+ghost use Rattle.jkernel_runs.specs.Events.{moment};
+ghost use Rattle.jkernel_runs.specs.Scripts.{IsScript, IsAtFault};
+ghost use Rattle.jkernel_runs.specs.Statuses.{HasFault, LacksScript, IsDone, IsStopped, IsStoppedBefore, IsUnread, Asks, Says, BeginsToSay};
+
+use crate::calls::call_of;
+use crate::ends::{End, report};
+use crate::events::run_events;
+use crate::scripts::script_at;
+use crate::status::Status;
+use jk_model::{Event, ScriptFault};
+use jk_outside::{Files, Sink};
+use std::alloc::Global;
+
+/// Runs what the words say, and says nothing of it.
+fn run<F: Files, S: Sink>(alloc: Global, words: &[String], files: &mut F, out: &mut S) -> End
+    ensures ends { EndsSo (F.tree files.old) (map string_bytes words.now)
+        (moment (S.bytes out.old) (S.faults out.old) (F.asked files.old) (F.faults files.old))
+        (moment (S.bytes out.new) (S.faults out.new) (F.asked files.new) (F.faults files.new)) result }
+    ensures asks { Asks (F.tree files.old) (map string_bytes words.now) (F.asked files.old) (F.asked files.new) }
+    ensures calm { (result ≡ End.Stopped ReadFault → ⊥) → IsSome (F.tree files.old)
+        → F.faults files.new ≡ F.faults files.old }
+    ensures calm_out { (result ≡ End.Stopped WriteFault → ⊥) → S.faults out.new ≡ S.faults out.old }
+    ensures no_call { IsNoCall (map string_bytes words.now) → result ≡ End.Usage }
+    ensures missing { (root script : List ℕ) → IsCall (map string_bytes words.now) root script
+        → HasNoFile (F.tree files.old) script → result ≡ End.Stopped ReadFault }
+    ensures over { (root script : List ℕ) → IsCall (map string_bytes words.now) root script
+        → HasLongFile (F.tree files.old) script MAX_BYTES
+        → (result ≡ End.Refused (record { line = 0; kind = TooLong })) ⊎ (result ≡ End.Stopped ReadFault) }
+    ensures script { (root script text : List ℕ) (events : List Event) → IsCall (map string_bytes words.now) root script
+        → HasText (F.tree files.old) script text → IsScript text events
+        → EndsWell (F.faults files.old) (F.faults files.new) (S.faults out.old) (S.faults out.new) result }
+    ensures fault { (root script text : List ℕ) (f : ScriptFault) → IsCall (map string_bytes words.now) root script
+        → HasText (F.tree files.old) script text → IsAtFault text f
+        → EndsRefused f (F.faults files.old) (F.faults files.new) result }
+{
+    let Some((root, script)) = call_of(words) else {
+        return End::Usage;
+    };
+    let events = match script_at(alloc, files, script) {
+        Ok(events) => events,
+        Err(end) => return end,
+    };
+    match run_events(alloc, root, events.as_slice(), files, out) {
+        Ok(()) => End::Done,
+        Err(stop) => End::Stopped(stop),
+    }
+}
+
+/// Runs a script over a tree of folders, as the words ROOT and SCRIPT say: what the programs print and
+/// what the kernel decides goes to `out`, and why a run stopped to `err`.
+pub fn jkernel<F: Files, S: Sink, E: Sink>(
+    alloc: Global,
+    words: &[String],
+    files: &mut F,
+    out: &mut S,
+    err: &mut E,
+) -> Status
+    // All events of the script were run, and what went out is the text of that run.
+    ensures done { result ≡ Status.Done
+        → IsDone (F.tree files.old) (map string_bytes words.now) (S.bytes out.old) (S.bytes out.new) }
+
+    // A run that stopped early put out a front of the text of a run of the first events.
+    ensures early_write { result ≡ Status.WriteFault
+        → IsStopped (F.tree files.old) (map string_bytes words.now) (S.bytes out.old) (S.bytes out.new) }
+    ensures early_memory { result ≡ Status.OutOfMemory → (S.bytes out.new ≡ S.bytes out.old)
+        ⊎ IsStopped (F.tree files.old) (map string_bytes words.now) (S.bytes out.old) (S.bytes out.new) }
+    ensures early_read { result ≡ Status.ReadFault
+        → IsUnread (map string_bytes words.now) (S.bytes out.old) (S.bytes out.new) (F.asked files.old) (F.asked files.new)
+        ⊎ IsStoppedBefore (F.tree files.old) (map string_bytes words.now) (S.bytes out.old) (S.bytes out.new)
+        (F.asked files.old) (F.asked files.new) }
+    ensures early_none { (result ≡ Status.Usage) ⊎ (result ≡ Status.ScriptRefused) → S.bytes out.new ≡ S.bytes out.old }
+
+    // The files are asked for nothing but the script, and what the `domain` events need of their folders.
+    ensures asks { Asks (F.tree files.old) (map string_bytes words.now) (F.asked files.old) (F.asked files.new) }
+    // No call of told files failed that did not end the run.
+    ensures calm { (result ≡ Status.ReadFault → ⊥) → IsSome (F.tree files.old) → F.faults files.new ≡ F.faults files.old }
+
+    // No write failed that did not end the run.
+    ensures calm_out { (result ≡ Status.WriteFault → ⊥) → S.faults out.new ≡ S.faults out.old }
+
+    // Each status other than the good one has its cause.
+    ensures causes_usage { result ≡ Status.Usage → IsNoCall (map string_bytes words.now) }
+    ensures causes_no_call { IsNoCall (map string_bytes words.now) → result ≡ Status.Usage }
+    ensures causes_script { result ≡ Status.ScriptRefused
+        → (fault : ScriptFault) × HasFault (F.tree files.old) (map string_bytes words.now) fault }
+    ensures causes_fault { (root script text : List ℕ) (fault : ScriptFault) → IsCall (map string_bytes words.now) root script
+        → HasText (F.tree files.old) script text → IsAtFault text fault → (HasRisen (F.faults files.old) (F.faults files.new) → ⊥)
+        → (result ≡ Status.ScriptRefused) ⊎ (result ≡ Status.OutOfMemory) }
+    // Of a missing script, and of one that has too many bytes, it is said even where no memory is left.
+    ensures causes_missing { (root script : List ℕ) → IsCall (map string_bytes words.now) root script
+        → HasNoFile (F.tree files.old) script → result ≡ Status.ReadFault }
+    ensures causes_over { (root script : List ℕ) → IsCall (map string_bytes words.now) root script
+        → HasLongFile (F.tree files.old) script MAX_BYTES
+        → (result ≡ Status.ScriptRefused) ⊎ (result ≡ Status.ReadFault) }
+    ensures causes_read { result ≡ Status.ReadFault
+        → HasRisen (F.faults files.old) (F.faults files.new) ⊎ LacksScript (F.tree files.old) (map string_bytes words.now) }
+    ensures causes_write { result ≡ Status.WriteFault → HasRisen (S.faults out.old) (S.faults out.new) }
+
+    // A told tree with a script without fault is run to its end, unless memory, the files or the output fail.
+    ensures complete { (root script text : List ℕ) (events : List Event) → IsCall (map string_bytes words.now) root script
+        → HasText (F.tree files.old) script text → IsScript text events
+        → (HasRisen (F.faults files.old) (F.faults files.new) → ⊥) → (HasRisen (S.faults out.old) (S.faults out.new) → ⊥)
+        → (result ≡ Status.Done) ⊎ (result ≡ Status.OutOfMemory) }
+
+    // What is said of the run, unless the error sink fails.
+    ensures messages { (HasRisen (E.faults err.old) (E.faults err.new) → ⊥)
+        → Says (F.tree files.old) (map string_bytes words.now) (E.bytes err.old) (E.bytes err.new) result }
+    ensures messages_part { BeginsToSay (F.tree files.old) (map string_bytes words.now) (E.bytes err.old) (E.bytes err.new) result }
+{
+    let end = run(alloc, words, files, out);
+    report(err, end);
+    end.status()
+}
