@@ -40,7 +40,6 @@ is_number number t (y ∷ xs) x e = by_test (number y == t) refl e (is_number nu
         ap number (sym (same_Some y x here)) ∙ eqb-true (number y) t h
     by_test false h k rest = let there : find (λ (z : _). number z == t) xs ≡ Some x = rw h at k in rest there
 
-
 module _ (c : FrameContent) (w : WorldRecord) (names : DomainRecord) (d : DomainPart) (r : Runs) (m : Machine) (p : RunningSegment m r.thread.0)
     (at : IsAt c w names d r m p) where
   thread_there : Contains m.threads p.thread
