@@ -9,12 +9,11 @@ use Rattle.jk_model_typing.specs.Scopes.{CodeScope}
 use Rattle.typing_lemmas.proofs.OneScope.{one-scope}
 use Rattle.jk_model_frames.specs.Frames.{FrameState}
 use Rattle.jk_model_domains.specs.Objects.{NamedObject}
-use Rattle.number_laws.proofs.ValuesFit.{fits-length}
+use Rattle.number_laws.proofs.ValuesFit.{fits-length, long_slots}
 use Rattle.jk_model_machine.specs.Sealed.{FitsHere}
 use Rattle.jk_model_machine.specs.Steps.{resumed}
 use Rattle.jk_kernel.specs.DecodedCodes.{AreDecoded}
 use Rattle.jk_kernel.specs.Returning.{CanResume, results}
-use Rattle.jk_kernel.proofs.TopCode.{few_slots}
 
 module _ (classes : List ClassRecord) (heap : List NamedObject) (decoded : AreDecoded classes) (f : FrameState) (fits : FitsHere classes heap f) where
   pub stack_within : length f.stack ≤ f.head.max_stack
@@ -23,7 +22,7 @@ module _ (classes : List ClassRecord) (heap : List NamedObject) (decoded : AreDe
       let typing = t.is_verified.typing in
       let same = one-scope classes t.method typing.scope t.scope typing.scope_is t.is_scope in
       let sized : IsFrameOf t.scope.code t.type = subst (λ (s : CodeScope). IsFrameOf s.code t.type) same (typing.sized f.head.at t.type t.stands) in
-      omega (arith, fits-length t.scope heap f.stack t.type.stack fits.1.stack, few_slots t.type.stack, sized.stack, t.room.1)
+      omega (arith, fits-length t.scope heap f.stack t.type.stack fits.1.stack, long_slots t.type.stack, sized.stack, t.room.1)
 
   pub place_within : f.head.at < 2 ^ 32
   place_within =

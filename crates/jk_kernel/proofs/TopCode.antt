@@ -28,7 +28,7 @@ use Rattle.jk_model_machine.specs.Places.{RunningSegment, with_frames}
 use Rattle.jk_model_machine.specs.Steps.{ActingFrame, Follows, Steps, at_place, does, goes_on}
 use Rattle.frame_store.specs.FrameContents.{FrameContent}
 use Rattle.number_laws.proofs.EntriesExchanged.{as_many}
-use Rattle.number_laws.proofs.ValuesFit.{fits-length}
+use Rattle.number_laws.proofs.ValuesFit.{fits-length, long_slots}
 use Rattle.sealed_steps.proofs.RunningFacts.{TopFacts, running-facts, top-facts}
 use Rattle.sealed_steps.proofs.StandsHere.{Stands, runs-here, stands-here}
 use Rattle.step_progress.specs.BuiltCodes.{IsBuiltInstr}
@@ -42,20 +42,6 @@ use Rattle.jk_kernel.specs.Returning.{TopCanResume, results}
 use Rattle.jk_kernel.specs.SegmentFrames.{GetsFrames, Holds}
 use Rattle.jk_kernel.specs.StandsAt.{StandsIn}
 use Rattle.jk_kernel.proofs.PartsOfAMachine.{acting, now_has}
-
--- each entry takes a slot at least
-pub few_slots : (ts : List VType) → length ts ≤ slots ts
-few_slots [] = omega arith
-few_slots (t ∷ ts) = omega (arith, few_slots ts, one t, sum_by-cons slots_of t ts)
-  where
-    one : (t : VType) → 1 ≤ slots_of t
-    one Unusable = omega arith
-    one Int = omega arith
-    one Long = omega arith
-    one Null = omega arith
-    one (Ref x) = omega arith
-    one (Fresh x) = omega arith
-    one FreshThis = omega arith
 
 inside_paid_so : (d paid : DomainPart) → PaysFor d paid true → inside_of d ≡ inside_of paid
 inside_paid_so d paid (inl h) = ap inside_of (sym h.1)
@@ -107,7 +93,7 @@ module _ (c : FrameContent) (w : WorldRecord) (names : DomainRecord) (d paid : D
   stack_many = fits-length s p.inside.heap top.stack here.before.stack here.holds.stack
 
   pub stack_fits : length top.stack ≤ top.head.max_stack
-  stack_fits = omega (arith, stack_many, few_slots here.before.stack, here.typed.sized.stack, here.typed.room.1)
+  stack_fits = omega (arith, stack_many, long_slots here.before.stack, here.typed.sized.stack, here.typed.room.1)
 
   -- where it pushes one value and takes none
   pub room_for_one : (t : VType) → Does s top.head.at (Takes [] (t ∷ [])) here.before here.typed.goes.after → length top.stack + 1 ≤ top.head.max_stack
@@ -122,7 +108,7 @@ module _ (c : FrameContent) (w : WorldRecord) (names : DomainRecord) (d paid : D
         below,
         above,
         here.typed.goes.row.room.stack,
-        few_slots here.typed.goes.after.stack,
+        long_slots here.typed.goes.after.stack,
         stack_many,
         here.typed.room.1,
       )
