@@ -6,8 +6,6 @@ mod FinalsOfAClass
 mod MadeByLinks
 mod MethodsByRecord
 mod MissingByLinks
-mod OneDecoding
-mod OneMember
 mod RefusedByLinks
 mod ToldByOperands
 mod WrongByLinks

@@ -31,9 +31,9 @@ use Rattle.jk_model_folders.specs.LinkedClasses.{GoAlong, IsBodyFor, IsInstrFor,
 use Rattle.class_lemmas.proofs.OneRecord.{one_flags}
 use Rattle.byte_fields.specs.OneReading.{one_u4}
 use Rattle.link_rules.specs.FinalMethods.{IsFirstPlace}
+use Rattle.one_verdict.proofs.OneDecoding.{one_decoding}
 use Rattle.link_rules.specs.LinkedInstrs.{BodyHas, HasLinkedInstr}
 use Rattle.link_rules.specs.LinkFaults.{IsLeastNumber, IsLinked}
-use Rattle.link_rules.proofs.OneDecoding.{alike_at}
 
 -- ---- A body is of one code.
 
@@ -62,8 +62,7 @@ pub record IsTold (P : Instr → Type 0) : Type 0 where
 module _ (P : Instr → Type 0) (told : IsTold P) where
   alike_item : (code : List ℕ) (us vs : List Instr) → Decodes code us → Decodes code vs → HasItem P us → HasItem P vs
   alike_item code us vs h k (i, u, at, p) =
-      let (v, there, op, a) = alike_at 0 code us vs i u h k at in
-      (i, v, there, told.alike u v op a p)
+      (i, u, subst (λ (l : List Instr). slice_get l i ≡ Some u) (one_decoding code us vs h k) at, p)
 
   decoded_item : (decoded linked : List Instr) → GoAlong (IsInstrFor decoded) decoded linked → HasItem P linked → HasItem P decoded
   decoded_item decoded linked along (k, x, at, p) =

@@ -33,7 +33,7 @@ use Rattle.class_lemmas.proofs.OneText.{one_text}
 use Rattle.descriptors.proofs.NoTextBeginsAnother.{one_field}
 use Rattle.link_rules.specs.RefusedEntries.{IsFirstRefused, RefusesBase, RefusesLink}
 use Rattle.link_rules.proofs.MissingByLinks.{is_reference, no_ref}
-use Rattle.link_rules.proofs.OneMember.{one_field_found, one_method_found}
+use Rattle.one_verdict.proofs.OneMember.{one_field_found, one_method_found}
 
 -- an array's text is none of a class
 not_both : (units : List ℕ) (t : FieldType) → IsClassName units → IsFieldText units t → t.dims ≢ 0 → ⊥
@@ -164,7 +164,7 @@ module _ (s : LinkScope) where
         | inl named ↦ absurd (no_class (Entry.FieldRef class pair) at (field_no_class class pair) named.0 named.2)
         | inr members ↦ elim members [
           | inl field ↦
-              let same : field.0 ≡ m = one_field_found s c i field.0 m field.1 f in
+              let same : field.0 ≡ m = (one_field_found s c i field.0 m field.1 f).0 in
               subst (RefusesLink s.classes s.self) (sym e) (subst (λ (w : MemberId). MayAccess s.classes s.self (Found.Field w) → ⊥) same field.2)
           | inr method ↦
               let g = method.1 in
@@ -196,7 +196,7 @@ module _ (s : LinkScope) where
               let g = field.1 in
               absurd (other (sym (kind_at k class pair Field g.is_there.0 g.is_there.1 at g.is_there.2)))
           | inr method ↦
-              let same : method.0 ≡ m = one_method_found s c i method.0 m method.1 f in
+              let same : method.0 ≡ m = (one_method_found s c i method.0 m method.1 f).0 in
               subst (RefusesLink s.classes s.self) (sym e) (subst (λ (w : MemberId). MayAccess s.classes s.self (Found.Method w) → ⊥) same method.2)
         ]
       ],

@@ -19,7 +19,7 @@ use Rattle.jk_model_classes.specs.Lookups.{FieldIs, MethodIs}
 use Rattle.jk_model_classes.specs.Members.{Field, InterfaceMethod, MemberKind, Method, reference}
 use Rattle.jk_model_folders.specs.LinkedClasses.{AreLinksFor, IsFieldLink, IsLinkFor, IsMethodLink}
 use Rattle.link_rules.specs.WrongMembers.{LeadsWrong}
-use Rattle.link_rules.proofs.OneMember.{one_field_found, one_method_found}
+use Rattle.one_verdict.proofs.OneMember.{one_field_found, one_method_found}
 
 module _ (s : LinkScope) (c : ClassFile) (i : ℕ) where
   -- ---- What a link says is found.
@@ -60,7 +60,7 @@ module _ (s : LinkScope) (c : ClassFile) (i : ℕ) where
 
   by_field : (link : Link) (m : MemberId) → FindsFieldAt s c i m → IsFieldLink s c i link → (cls : ClassId) × (link ≡ To.Field cls m)
   by_field link m f (inl (n, g, e)) =
-      let same : n ≡ m = one_field_found s c i n m g f in
+      let same : n ≡ m = (one_field_found s c i n m g f).0 in
       (g.class, e ∙ ap (λ (w : MemberId). To.Field g.class w) same)
   by_field link m f (inr (never, e)) = absurd (never m f)
 
@@ -78,7 +78,7 @@ module _ (s : LinkScope) (c : ClassFile) (i : ℕ) where
 
   by_method : (link : Link) (m : MemberId) → FindsMethodAt s c i m → IsMethodLink s c i link → (cls : ClassId) × (link ≡ To.Method cls m)
   by_method link m f (inl (n, g, e)) =
-      let same : n ≡ m = one_method_found s c i n m g f in
+      let same : n ≡ m = (one_method_found s c i n m g f).0 in
       (g.class, e ∙ ap (λ (w : MemberId). To.Method g.class w) same)
   by_method link m f (inr (never, e)) = absurd (never m f)
 
