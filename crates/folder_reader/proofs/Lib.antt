@@ -1,4 +1,5 @@
 -- What is known of the files of a folder, and of the walk that finds them.
+pub mod AsksApart
 pub mod CallsInTurn
 pub mod CountsTaken
 pub mod ItemsOfLists

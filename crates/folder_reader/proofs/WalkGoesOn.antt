@@ -93,7 +93,7 @@ children_are_found root f tree folder entries is l =
 
 -- ---- paths that differ
 
-distinct_append : (xs ys : List (List ℕ)) → IsDistinct bytes_eq xs → IsDistinct bytes_eq ys
+pub distinct_append : (xs ys : List (List ℕ)) → IsDistinct bytes_eq xs → IsDistinct bytes_eq ys
     → ((x y : List ℕ) → Contains xs x → Contains ys y → x ≡ y → ⊥) → IsDistinct bytes_eq (xs ++ ys)
 unfolding IsDistinct
 distinct_append [] ys dx dy apart = dy
@@ -153,7 +153,7 @@ same_place found i j f g d ef eg same lt =
 
 -- ---- one step
 
-get_left : {X : Type 0} (xs ys : List X) (k : ℕ) → k < length xs → slice_get (xs ++ ys) k ≡ slice_get xs k
+pub get_left : {X : Type 0} (xs ys : List X) (k : ℕ) → k < length xs → slice_get (xs ++ ys) k ≡ slice_get xs k
 get_left [] ys k lt = absurd (omega arith)
 get_left (x ∷ xs) ys zero lt = refl
 get_left (x ∷ xs) ys (suc k) lt = get_left xs ys k (omega arith)

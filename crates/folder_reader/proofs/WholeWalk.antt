@@ -118,7 +118,7 @@ is_class_of f e =
     let parts = and_parts (not f.folder) (ends_with nat_eq f.path CLASS) e in
     (not_true f.folder parts.0, (ends_so f.path).0 parts.1)
 
-class_test : (f : Found) → f.folder ≡ false → IsClassPath f.path → is_class f ≡ true
+pub class_test : (f : Found) → f.folder ≡ false → IsClassPath f.path → is_class f ≡ true
 class_test f file class = rw file ((ends_so f.path).1 class)
 
 no_top : (t : Tree) (root : List ℕ) (f : Found) → IsPlace (Some t) root f → f.folder ≡ false → IsBelow t root f

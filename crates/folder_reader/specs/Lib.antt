@@ -1,3 +1,4 @@
+pub mod AskedOnce
 pub mod Calls
 pub mod FolderAnswers
 pub mod Listings

@@ -1,10 +1,11 @@
 //! The class files among what was found, in the order of their paths, and `resolver.txt`.
 
-ghost use Rattle.std.specs.Prelude.{◌≡◌, ◌≢◌, ◌≤◌, ◌+◌, ℕ, List, length, map, Contains, Err, IfOk, IsUtf8, Some, string_bytes, vec_len, bytes_eq, true, false, []};
+ghost use Rattle.std.specs.Prelude.{◌≡◌, ◌≢◌, ◌≤◌, ◌+◌, ◌∷◌, ℕ, List, length, map, Contains, Err, IfOk, IsUtf8, Some, string_bytes, vec_len, bytes_eq, true, false, []};
 ghost use Rattle.std.specs.List.{AllByRecursion, IsDistinct, list_any, filter};
 ghost use Rattle.jk_model.specs.Outside.{FileIs, HasRisen, Tree};
 ghost use Rattle.jk_model_folders.specs.FolderTrees.{MAX_FILE, MOST_LEVELS, RESOLVER};
 ghost use Rattle.jk_outside.specs.Counts.{HasTaken};
+ghost use Rattle.folder_reader.specs.AskedOnce.{AsksSome, whole_paths};
 ghost use Rattle.folder_reader.specs.Calls.{HasFile, HasFolder, IsLongFile, Moves};
 ghost use Rattle.folder_reader.specs.FolderAnswers.{IsLarge};
 ghost use Rattle.folder_reader.specs.Listings.{AreRead, IsToRead};
@@ -86,6 +87,7 @@ fn read_class<F: Files>(
     ensures bytes { IfOk result (λ file. FileIs (F.tree files.old) (whole_path root.now path.now) file.bytes) }
     ensures short { IfOk result (λ file. length file.bytes ≤ MAX_FILE) }
     ensures counted { IfOk result (λ file. HasTaken (F.tree files.old) (length file.bytes) (F.taken files.old) (F.taken files.new)) }
+    ensures once { AsksSome (F.asked files.old) (F.asked files.new) [] (whole_path root.now path.now ∷ []) }
     ensures no_folder { result ≢ Err Why.NoFolder }
     ensures too_large { result ≡ Err Why.TooLarge → IsLarge (F.tree files.old) root.now }
     ensures large { result ≡ Err Why.TooLarge → HasTaken (F.tree files.old) (MOST_LEVELS + 1) (F.taken files.old) (F.taken files.new) }
@@ -111,6 +113,7 @@ pub(crate) fn read_classes<F: Files>(
     requires apart { IsDistinct bytes_eq (map string_bytes paths.now) }
     requires folder { HasFolder (F.tree files.old) root.now }
     ensures read { IfOk result (λ classes. AreRead (F.tree files.old) root.now (map string_bytes paths.now) classes) }
+    ensures once { AsksSome (F.asked files.old) (F.asked files.new) [] (whole_paths root.now (map string_bytes paths.now)) }
     ensures no_folder { result ≢ Err Why.NoFolder }
     ensures too_large { result ≡ Err Why.TooLarge → IsLarge (F.tree files.old) root.now }
     ensures large { result ≡ Err Why.TooLarge → HasTaken (F.tree files.old) (MOST_LEVELS + 1) (F.taken files.old) (F.taken files.new) }
@@ -144,6 +147,7 @@ pub(crate) fn read_resolver<F: Files>(
     ensures bytes { IfOk result (λ bytes. list_any is_resolver found.now ≡ true → FileIs (F.tree files.old) (whole_path root.now RESOLVER) bytes) }
     ensures none { IfOk result (λ bytes. list_any is_resolver found.now ≡ false → bytes ≡ []) }
     ensures short { IfOk result (λ bytes. length bytes ≤ MAX_FILE) }
+    ensures once { AsksSome (F.asked files.old) (F.asked files.new) [] (whole_path root.now RESOLVER ∷ []) }
     ensures no_folder { result ≢ Err Why.NoFolder }
     ensures too_large { result ≡ Err Why.TooLarge → (list_any is_resolver found.now ≡ true) × IsLongFile (F.tree files.old) (whole_path root.now RESOLVER) }
     ensures large { result ≡ Err Why.TooLarge → HasTaken (F.tree files.old) (MOST_LEVELS + 1) (F.taken files.old) (F.taken files.new) }

@@ -6,6 +6,7 @@ ghost use Rattle.jk_model.specs.declared.entries.Entry.{Entry};
 ghost use Rattle.jk_model.specs.Outside.{AreNamed, FileIs, FolderIs, FolderIsAbsent, FolderIsLong, HasLongFolder, HasNoFolder, HasRisen, ListOf, Tree};
 ghost use Rattle.jk_model_folders.specs.FolderTrees.{MAX_FILE, MOST_ENTRIES, MOST_LEVELS};
 ghost use Rattle.jk_outside.specs.Counts.{HasTaken};
+ghost use Rattle.folder_reader.specs.AskedOnce.{AsksSome};
 ghost use Rattle.folder_reader.specs.Calls.{HasFile, IsListing, IsLongFile, Moves};
 ghost use Rattle.folder_reader.specs.FolderAnswers.{AskedFor, Counts, IsLarge, IsWithin};
 ghost use Rattle.folder_reader.specs.Paths.{child_of, children, has_name, is_dots, whole_path};
@@ -115,6 +116,7 @@ pub(crate) fn below_of<F: Files>(
     ensures counted { IfOk result (λ below. HasTaken (F.tree files.old) (vec_len below) (F.taken files.old) (F.taken files.new)) }
     ensures no_folder { result ≡ Err Why.NoFolder → FolderIsAbsent (F.tree files.old) root.now (F.faults files.old) (F.faults files.new) }
     ensures missed { result ≡ Err Why.NoFolder → AskedFor (F.asked files.old) (F.asked files.new) (ListOf root.now MOST_ENTRIES) }
+    ensures once { AsksSome (F.asked files.old) (F.asked files.new) (whole_path root.now above.now.path ∷ []) [] }
     ensures too_large { result ≡ Err Why.TooLarge → IsLarge (F.tree files.old) root.now }
     ensures large { result ≡ Err Why.TooLarge → HasTaken (F.tree files.old) (MOST_LEVELS + 1) (F.taken files.old) (F.taken files.new) }
     ensures read_fault { result ≡ Err Why.ReadFault → HasRisen (F.faults files.old) (F.faults files.new) }
@@ -144,6 +146,7 @@ pub(crate) fn read_file<F: Files>(
     ensures bytes { IfOk result (λ bytes. FileIs (F.tree files.old) (whole_path root.now path.now) bytes) }
     ensures short { IfOk result (λ bytes. length bytes ≤ MAX_FILE) }
     ensures counted { IfOk result (λ bytes. HasTaken (F.tree files.old) (length bytes) (F.taken files.old) (F.taken files.new)) }
+    ensures once { AsksSome (F.asked files.old) (F.asked files.new) [] (whole_path root.now path.now ∷ []) }
     ensures no_folder { result ≢ Err Why.NoFolder }
     ensures too_large { result ≡ Err Why.TooLarge → IsLongFile (F.tree files.old) (whole_path root.now path.now) }
     ensures large { result ≡ Err Why.TooLarge → HasTaken (F.tree files.old) (MOST_LEVELS + 1) (F.taken files.old) (F.taken files.new) }

@@ -5,6 +5,7 @@ ghost use Rattle.std.specs.List.{AllByRecursion};
 ghost use Rattle.jk_model.specs.Outside.{Ask, FolderIsAbsent, HasRisen, ListOf, NeverFalls, Tree};
 ghost use Rattle.jk_model_folders.specs.FolderTrees.{AreFiles, AreToldFiles, MOST_ENTRIES, MOST_LEVELS};
 ghost use Rattle.jk_outside.specs.Counts.{HasTaken};
+ghost use Rattle.folder_reader.specs.AskedOnce.{AsksOnce};
 ghost use Rattle.folder_reader.specs.FolderAnswers.{AskedFor, AsksWithin, IsLarge};
 ghost use Rattle.folder_reader.specs.declared.reading.FolderError.TheVariants as Why;
 
@@ -72,6 +73,8 @@ pub fn read_folder<F: Files>(
     ensures faults { NeverFalls (F.faults files.old) (F.faults files.new) }
     ensures taken { NeverFalls (F.taken files.old) (F.taken files.new) }
     ensures asks { (more : List Ask) × (F.asked files.new ≡ F.asked files.old ++ more) × AllByRecursion (AsksWithin root.now) more }
+    // Each file is asked for at most once, and each folder of a told tree.
+    ensures once { AsksOnce (F.tree files.old) (F.asked files.old) (F.asked files.new) }
 {
     let found = found_below(alloc, files, root)?;
     let paths = sorted_paths(alloc, found.as_slice())?;

@@ -1,13 +1,14 @@
 //! A walk over the folders below a folder, each after those that were found before it.
 
-ghost use Rattle.std.specs.Prelude.{◌≡◌, ◌≢◌, ◌+◌, ◌-◌, ◌<◌, ◌≤◌, ◌∷◌, [], length, slice_get, true, vec_len, Err, IfOk, OnOk, Some};
+ghost use Rattle.std.specs.Prelude.{◌≡◌, ◌≢◌, ◌+◌, ◌-◌, ◌<◌, ◌≤◌, ◌∷◌, ◌++◌, [], List, length, slice_get, true, vec_len, Err, IfOk, OnOk, Some};
 ghost use Rattle.jk_model.specs.Outside.{FolderIsAbsent, HasRisen, ListOf, Tree};
 ghost use Rattle.jk_model_folders.specs.FolderTrees.{MOST_ENTRIES, MOST_LEVELS};
 ghost use Rattle.jk_outside.specs.Counts.{HasTaken};
 ghost use Rattle.folder_reader.specs.declared.found.Found.{Found as AFound};
+ghost use Rattle.folder_reader.specs.AskedOnce.{AsksSome, ListsOnce};
 ghost use Rattle.folder_reader.specs.Calls.{Moves};
 ghost use Rattle.folder_reader.specs.FolderAnswers.{AskedFor, IsLarge};
-ghost use Rattle.folder_reader.specs.Paths.{top};
+ghost use Rattle.folder_reader.specs.Paths.{top, whole_path};
 ghost use Rattle.folder_reader.specs.Walks.{AreFound, AreLevelled, IsToldWalk};
 ghost use Rattle.folder_reader.specs.declared.reading.FolderError.TheVariants as Why;
 
@@ -39,6 +40,7 @@ fn look_at<F: Files>(
     requires walk { IsToldWalk (F.tree files.old) root.now found.old.items at }
     ensures few { OnOk result (vec_len found.new ≤ 4097) }
     ensures grows { OnOk result (vec_len found.old ≤ vec_len found.new) }
+    ensures keeps { OnOk result ((below : List AFound) × (found.new.items ≡ found.old.items ++ below)) }
     ensures counted { OnOk result (HasTaken (F.tree files.old) (vec_len found.new - vec_len found.old) (F.taken files.old) (F.taken files.new)) }
     ensures levels { OnOk result (AreLevelled found.new.items) }
     ensures found { OnOk result (AreFound root.now found.new.items) }
@@ -46,6 +48,8 @@ fn look_at<F: Files>(
     // Too deep a folder is refused before anything is asked, and takes no memory.
     ensures deep { (f : AFound) → slice_get found.old.items at ≡ Some f → f.folder ≡ true → MOST_LEVELS < f.level
         → (result ≡ Err Why.TooLarge) × (F.asked files.new ≡ F.asked files.old) }
+    ensures once { (f : AFound) → slice_get found.old.items at ≡ Some f
+        → AsksSome (F.asked files.old) (F.asked files.new) (whole_path root.now f.path ∷ []) [] }
     ensures no_folder { result ≡ Err Why.NoFolder → FolderIsAbsent (F.tree files.old) root.now (F.faults files.old) (F.faults files.new) }
     ensures missed { result ≡ Err Why.NoFolder → AskedFor (F.asked files.old) (F.asked files.new) (ListOf root.now MOST_ENTRIES) }
     ensures too_large { result ≡ Err Why.TooLarge → IsLarge (F.tree files.old) root.now }
@@ -97,6 +101,7 @@ pub(crate) fn found_below<F: Files>(
     ensures counted { IfOk result (λ found. HasTaken (F.tree files.old) (vec_len found - 1) (F.taken files.old) (F.taken files.new)) }
     ensures found { IfOk result (λ found. AreFound root.now found.items) }
     ensures walk { IfOk result (λ found. IsToldWalk (F.tree files.old) root.now found.items (vec_len found)) }
+    ensures once { ListsOnce (F.tree files.old) (F.asked files.old) (F.asked files.new) }
     ensures no_folder { result ≡ Err Why.NoFolder → FolderIsAbsent (F.tree files.old) root.now (F.faults files.old) (F.faults files.new) }
     ensures missed { result ≡ Err Why.NoFolder → AskedFor (F.asked files.old) (F.asked files.new) (ListOf root.now MOST_ENTRIES) }
     ensures too_large { result ≡ Err Why.TooLarge → IsLarge (F.tree files.old) root.now }

@@ -1,9 +1,10 @@
 -- One class file more is read, and is of those that make the folder too large.
-use Rattle.std.proofs.Common.{Some, sym, ap, ◌∙◌, arith}
-use Rattle.folder_reader.proofs.CallsInTurn.{asked_since, handed_on, moves_on}
-use Rattle.folder_reader.proofs.CountsTaken.{took_both, took_later}
+use Rattle.std.proofs.Common.{◌+◌, [], Some, refl, sym, ap, ◌∙◌, arith, rules}
+use Rattle.folder_reader.proofs.CallsInTurn.{asked_since, handed_on, moves_on, no_move}
+use Rattle.folder_reader.proofs.CountsTaken.{took_both, took_later, took_nothing}
 use Rattle.folder_reader.proofs.ToldOrNot.{file_is_read, path_get, to_read_at}
 use Rattle.folder_reader.proofs.WholeWalk.{read_more, sum_more, too_long_with}
+use Rattle.folder_reader.proofs.AsksApart.{asks_same, reads_some, reads_to}
 use Rattle.folder_reader.proofs.class_files.read_classes.Goals as goal
 
 pub read_class-requires-clause-to_read : goal.read_class-requires-clause-to_read
@@ -36,6 +37,9 @@ loop-path-preserved g c =
       counted = took_both _ _ _ _ _ _ _ _ c.loop-path.invariant.moves.stays (omega (arith, c.len-sum.ensures)) c.in_ok-class.ensures.moves.taken
           c.loop-path.invariant.counted c.in_ok-class.ensures.counted;
       moves = moves_on c.args.root.now _ _ _ _ _ _ _ _ _ _ _ _ c.loop-path.invariant.moves c.in_ok-class.ensures.moves;
+      asks = reads_to c.args.root.now _ _ _ _ c.loop-path.path-index _
+          (path_get c.args.paths.now c.loop-path.path-index c.path-item.result (omega arith) c.path-item.is ∙ ap Some (sym c.as_str.ensures.value))
+          c.loop-path.invariant.asks c.in_ok-class.ensures.once;
       calm = λ t is. c.in_ok-class.ensures.calm t (c.loop-path.invariant.moves.stays ∙ is) (λ fault. cc) ∙ c.loop-path.invariant.calm t is;
     }
 
@@ -57,3 +61,34 @@ pub returns-then-sum-gt-MOST_CLASS_BYTES-clause-large : goal.returns-then-sum-gt
 returns-then-sum-gt-MOST_CLASS_BYTES-clause-large g c = λ _.
     took_both _ _ _ _ 17 _ _ _ c.loop-path.invariant.moves.stays (omega (arith, c.len-sum.ensures, c.if-sum-gt-MOST_CLASS_BYTES.true))
     c.in_ok-class.ensures.moves.taken c.loop-path.invariant.counted c.in_ok-class.ensures.counted
+
+pub loop-path-init : goal.loop-path-init
+loop-path-init g c = record {
+  read = search rules;
+  sum = search rules;
+  counted = took_nothing _ _;
+  moves = no_move c.args.root.now _ _ _ _ (g.met.F.Files.faults_fit c.args.files.now) (g.met.F.Files.taken_fits c.args.files.now);
+  asks = asks_same _ _ [] _ refl;
+  calm = λ t is. refl;
+}
+
+pub returns-in_err-class-clause-once : goal.returns-in_err-class-clause-once
+returns-in_err-class-clause-once g c =
+    let i = c.loop-path.path-index in
+    let at = path_get c.args.paths.now i c.path-item.result (omega arith) c.path-item.is ∙ ap Some (sym c.as_str.ensures.value) in
+    reads_some c.args.root.now _ _ _ (i + 1) (reads_to c.args.root.now _ _ _ _ i _ at c.loop-path.invariant.asks c.read_class.ensures.once)
+
+pub returns-then-sum-gt-MOST_CLASS_BYTES-clause-once : goal.returns-then-sum-gt-MOST_CLASS_BYTES-clause-once
+returns-then-sum-gt-MOST_CLASS_BYTES-clause-once g c =
+    let i = c.loop-path.path-index in
+    let at = path_get c.args.paths.now i c.path-item.result (omega arith) c.path-item.is ∙ ap Some (sym c.as_str.ensures.value) in
+    reads_some c.args.root.now _ _ _ (i + 1) (reads_to c.args.root.now _ _ _ _ i _ at c.loop-path.invariant.asks c.in_ok-class.ensures.once)
+
+pub returns-in_err-push-clause-once : goal.returns-in_err-push-clause-once
+returns-in_err-push-clause-once g c =
+    let i = c.loop-path.path-index in
+    let at = path_get c.args.paths.now i c.path-item.result (omega arith) c.path-item.is ∙ ap Some (sym c.as_str.ensures.value) in
+    reads_some c.args.root.now _ _ _ (i + 1) (reads_to c.args.root.now _ _ _ _ i _ at c.loop-path.invariant.asks c.in_ok-class.ensures.once)
+
+pub returns-clause-once : goal.returns-clause-once
+returns-clause-once g c = reads_some c.args.root.now _ _ _ c.loop-path.path-index c.loop-path.invariant.asks

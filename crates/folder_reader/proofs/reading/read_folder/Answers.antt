@@ -14,6 +14,7 @@ use Rattle.folder_reader.specs.Walks.{IsFound, IsToldWalk}
 use Rattle.folder_reader.proofs.CallsInTurn.{asked_since, handed_on, moved, moved_back, moves_on}
 use Rattle.folder_reader.proofs.CountsTaken.{few_paths, took_fewer, took_later}
 use Rattle.folder_reader.proofs.WholeWalk.{are_files, are_told_files, folder_there, resolver_there, to_read_all, too_long_resolver, too_many_files}
+use Rattle.folder_reader.proofs.AsksApart.{all_once, asks_folders, classes_once, reads_same}
 use Rattle.folder_reader.proofs.reading.read_folder.Goals as goal
 
 pub sorted_paths-requires : goal.sorted_paths-requires
@@ -125,3 +126,46 @@ returns-in_err-resolver-clause-large g c = λ is.
     let before = moves_on c.args.root.now _ _ _ _ _ _ _ _ _ _ _ _ c.in_ok-found.ensures.moves c.in_ok-classes.ensures.moves in
     took_later _ _ 17 _ _ _ before.stays before.taken
     (c.read_resolver.ensures.large (handed_on r.result c.in_err-resolver.field-0.0 _ c.read_resolver.result r.ensures.1 is c.in_err-resolver.was))
+
+pub returns-in_err-found-clause-once : goal.returns-in_err-found-clause-once
+returns-in_err-found-clause-once g c = asks_folders _ _ _ c.found_below.ensures.once
+
+pub returns-in_err-paths-clause-once : goal.returns-in_err-paths-clause-once
+returns-in_err-paths-clause-once g c = asks_folders _ _ _ c.in_ok-found.ensures.once
+
+pub returns-then-len-gt-MOST_FILES-clause-once : goal.returns-then-len-gt-MOST_FILES-clause-once
+returns-then-len-gt-MOST_FILES-clause-once g c = asks_folders _ _ _ c.in_ok-found.ensures.once
+
+pub returns-in_err-classes-clause-once : goal.returns-in_err-classes-clause-once
+returns-in_err-classes-clause-once g c =
+    let tree = g.F.Files.tree c.args.files.now in let root = c.args.root.now in let v = c.in_ok-found.found in let p = c.in_ok-paths.paths in
+    let to_read = to_read_all tree root v.items _ (map string_bytes p.items) c.in_ok-found.ensures.found c.in_ok-found.ensures.walk
+    (λ path h. subst (λ (xs : List Found). Contains (class_paths xs) path) c.as_slice.ensures.value (c.in_ok-paths.ensures.only path h)) in
+    classes_once tree tree root _ _ _ (map string_bytes p.items) to_read c.in_ok-paths.ensures.apart c.in_ok-found.ensures.once
+    (reads_same root _ _ _ p.items c.as_slice-2.ensures.value c.read_classes.ensures.once)
+
+pub returns-in_err-resolver-clause-once : goal.returns-in_err-resolver-clause-once
+returns-in_err-resolver-clause-once g c =
+    let tree = g.F.Files.tree c.args.files.now in let root = c.args.root.now in let v = c.in_ok-found.found in let p = c.in_ok-paths.paths in
+    let to_read = to_read_all tree root v.items _ (map string_bytes p.items) c.in_ok-found.ensures.found c.in_ok-found.ensures.walk
+    (λ path h. subst (λ (xs : List Found). Contains (class_paths xs) path) c.as_slice.ensures.value (c.in_ok-paths.ensures.only path h)) in
+    all_once tree tree root _ _ _ _ (map string_bytes p.items) to_read c.in_ok-paths.ensures.apart c.in_ok-found.ensures.once
+    (reads_same root _ _ _ p.items c.as_slice-2.ensures.value c.in_ok-classes.ensures.once) c.read_resolver.ensures.once
+
+pub returns-clause-once : goal.returns-clause-once
+returns-clause-once g c =
+    let tree = g.F.Files.tree c.args.files.now in let root = c.args.root.now in let v = c.in_ok-found.found in let p = c.in_ok-paths.paths in
+    let to_read = to_read_all tree root v.items _ (map string_bytes p.items) c.in_ok-found.ensures.found c.in_ok-found.ensures.walk
+    (λ path h. subst (λ (xs : List Found). Contains (class_paths xs) path) c.as_slice.ensures.value (c.in_ok-paths.ensures.only path h)) in
+    all_once tree tree root _ _ _ _ (map string_bytes p.items) to_read c.in_ok-paths.ensures.apart c.in_ok-found.ensures.once
+    (reads_same root _ _ _ p.items c.as_slice-2.ensures.value c.in_ok-classes.ensures.once) c.in_ok-resolver.ensures.once
+
+pub returns-in_err-resolver-clause-asks : goal.returns-in_err-resolver-clause-asks
+returns-in_err-resolver-clause-asks g c =
+    let before = moves_on c.args.root.now _ _ _ _ _ _ _ _ _ _ _ _ c.in_ok-found.ensures.moves c.in_ok-classes.ensures.moves in
+    (moves_on c.args.root.now _ _ _ _ _ _ _ _ _ _ _ _ before c.read_resolver.ensures.moves).asks
+
+pub returns-clause-asks : goal.returns-clause-asks
+returns-clause-asks g c =
+    let before = moves_on c.args.root.now _ _ _ _ _ _ _ _ _ _ _ _ c.in_ok-found.ensures.moves c.in_ok-classes.ensures.moves in
+    (moves_on c.args.root.now _ _ _ _ _ _ _ _ _ _ _ _ before c.in_ok-resolver.ensures.moves).asks

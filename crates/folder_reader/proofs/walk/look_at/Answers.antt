@@ -1,5 +1,5 @@
 -- What one step of the walk leaves, and what makes the folder too large there.
-use Rattle.std.proofs.Common.{◌+◌, List, length, vec_len, sym, ap, subst, arith, length-append}
+use Rattle.std.proofs.Common.{◌+◌, List, length, vec_len, sym, ap, subst, arith, length-append, refl}
 use Rattle.std.proofs.lemmas.Option.{slice_get_read}
 use Rattle.jk_model.proofs.EachItem.{all_append, all_at}
 use Rattle.folder_reader.specs.declared.found.Found.{Found}
@@ -8,6 +8,7 @@ use Rattle.folder_reader.proofs.CallsInTurn.{handed_on}
 use Rattle.folder_reader.proofs.CountsTaken.{more_levels, took_fewer, took_nothing}
 use Rattle.folder_reader.proofs.ToldOrNot.{appended, are_many, is_deep, past_file, past_folder}
 use Rattle.folder_reader.proofs.WalkGoesOn.{children_are_found}
+use Rattle.folder_reader.proofs.AsksApart.{asks_same, asks_there, not_deep}
 use Rattle.folder_reader.proofs.walk.look_at.Goals as goal
 
 pub returns-then-not-entry-clause-walk : goal.returns-then-not-entry-clause-walk
@@ -105,3 +106,57 @@ returns-clause-levels g c =
     c.if-is_err.false in
     subst AreLevelled (sym items)
     (more_levels v.items w.items c.args.at c.index-entry.result.now b.0 c.requires.levels at (omega (arith, c.requires.at, v.ok.0)) b.2)
+
+pub returns-then-not-entry-clause-once : goal.returns-then-not-entry-clause-once
+returns-then-not-entry-clause-once g c = λ f there. asks_same _ _ _ _ refl
+
+pub returns-then-entry-gt-MOST_LEVELS-clause-once : goal.returns-then-entry-gt-MOST_LEVELS-clause-once
+returns-then-entry-gt-MOST_LEVELS-clause-once g c = λ f there. asks_same _ _ _ _ refl
+
+pub returns-in_err-below-clause-once : goal.returns-in_err-below-clause-once
+returns-in_err-below-clause-once g c = λ f there.
+    let v = c.args.found.now in
+    let at = slice_get_read v.items (vec_len v) c.args.at c.index-entry.result.now v.ok.0 c.requires.at c.index-entry.ensures in
+    asks_there c.args.root.now _ _ v.items c.args.at c.index-entry.result.now f at there c.below_of.ensures.once
+
+pub returns-then-is_err-clause-once : goal.returns-then-is_err-clause-once
+returns-then-is_err-clause-once g c = λ f there.
+    let v = c.args.found.now in
+    let at = slice_get_read v.items (vec_len v) c.args.at c.index-entry.result.now v.ok.0 c.requires.at c.index-entry.ensures in
+    asks_there c.args.root.now _ _ v.items c.args.at c.index-entry.result.now f at there c.in_ok-below.ensures.once
+
+pub returns-then-len-clause-once : goal.returns-then-len-clause-once
+returns-then-len-clause-once g c = λ f there.
+    let v = c.args.found.now in
+    let at = slice_get_read v.items (vec_len v) c.args.at c.index-entry.result.now v.ok.0 c.requires.at c.index-entry.ensures in
+    asks_there c.args.root.now _ _ v.items c.args.at c.index-entry.result.now f at there c.in_ok-below.ensures.once
+
+pub returns-clause-once : goal.returns-clause-once
+returns-clause-once g c = λ f there.
+    let v = c.args.found.now in
+    let at = slice_get_read v.items (vec_len v) c.args.at c.index-entry.result.now v.ok.0 c.requires.at c.index-entry.ensures in
+    asks_there c.args.root.now _ _ v.items c.args.at c.index-entry.result.now f at there c.in_ok-below.ensures.once
+
+pub returns-in_err-below-clause-deep : goal.returns-in_err-below-clause-deep
+returns-in_err-below-clause-deep g c = λ f there folder deep.
+    let v = c.args.found.now in
+    let at = slice_get_read v.items (vec_len v) c.args.at c.index-entry.result.now v.ok.0 c.requires.at c.index-entry.ensures in
+    absurd (not_deep v.items c.args.at c.index-entry.result.now f at there c.if-entry-gt-MOST_LEVELS.false deep)
+
+pub returns-then-is_err-clause-deep : goal.returns-then-is_err-clause-deep
+returns-then-is_err-clause-deep g c = λ f there folder deep.
+    let v = c.args.found.now in
+    let at = slice_get_read v.items (vec_len v) c.args.at c.index-entry.result.now v.ok.0 c.requires.at c.index-entry.ensures in
+    absurd (not_deep v.items c.args.at c.index-entry.result.now f at there c.if-entry-gt-MOST_LEVELS.false deep)
+
+pub returns-then-len-clause-deep : goal.returns-then-len-clause-deep
+returns-then-len-clause-deep g c = λ f there folder deep.
+    let v = c.args.found.now in
+    let at = slice_get_read v.items (vec_len v) c.args.at c.index-entry.result.now v.ok.0 c.requires.at c.index-entry.ensures in
+    absurd (not_deep v.items c.args.at c.index-entry.result.now f at there c.if-entry-gt-MOST_LEVELS.false deep)
+
+pub returns-clause-deep : goal.returns-clause-deep
+returns-clause-deep g c = λ f there folder deep.
+    let v = c.args.found.now in
+    let at = slice_get_read v.items (vec_len v) c.args.at c.index-entry.result.now v.ok.0 c.requires.at c.index-entry.ensures in
+    absurd (not_deep v.items c.args.at c.index-entry.result.now f at there c.if-entry-gt-MOST_LEVELS.false deep)
