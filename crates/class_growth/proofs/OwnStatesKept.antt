@@ -11,14 +11,14 @@ module _ (classes more : List ClassRecord) (table : List NamedClass) where
   part-still : (c : ClassId) (r : ClassRecord) → HasPart classes table c r → HasPart (classes ++ more) table c r
   part-still c r (named, is, home) = (named, record-still classes more c r is, home)
 
-  literal-still : (text : List ℕ) → IsLiteralOf classes table text → IsLiteralOf (classes ++ more) table text
+  pub literal-still : (text : List ℕ) → IsLiteralOf classes table text → IsLiteralOf (classes ++ more) table text
   literal-still text (c, r, named, is, of) = (c, r, named, record-still classes more c r is, of)
 
   module _ (there : (c : ClassId) → IsNamed table c → HasClass classes c) where
     part-before : (c : ClassId) (r : ClassRecord) → HasPart (classes ++ more) table c r → HasPart classes table c r
     part-before c r (named, is, home) = (named, sym (record-kept classes more c (there c named)) ∙ is, home)
 
-    literal-before : (text : List ℕ) → IsLiteralOf (classes ++ more) table text → IsLiteralOf classes table text
+    pub literal-before : (text : List ℕ) → IsLiteralOf (classes ++ more) table text → IsLiteralOf classes table text
     literal-before text (c, r, named, is, of) = (c, r, named, sym (record-kept classes more c (there c named)) ∙ is, of)
 
     pub own_state-still : (own : OwnState) → IsOwnState classes table own → IsOwnState (classes ++ more) table own
@@ -29,9 +29,6 @@ module _ (classes more : List ClassRecord) (table : List NamedClass) where
               (part.0, part-still e.class part.0 part.1, part.2);
           all = λ c r part. state.all c r (part-before c r part);
           classes_differ = state.classes_differ;
-          texts = λ text literal. state.texts text (literal-before text literal);
-          texts_differ = state.texts_differ;
-          literals = state.literals;
           literals_differ = state.literals_differ;
           standing = state.standing;
         }
@@ -44,7 +41,6 @@ module _ (classes more : List ClassRecord) (table : List NamedClass) where
           statics = λ e r on is.
               let part = first.state.each e on in
               first.statics e r on (sym (record-kept classes more e.class (there e.class part.1.0)) ∙ is);
-          texts = λ text on. literal-still text (first.texts text on);
           no_literals = first.no_literals;
           out = first.out;
           standing = first.standing;

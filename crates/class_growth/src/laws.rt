@@ -15,7 +15,7 @@ ghost use Rattle.jk_model_typing.specs.FrameTypes.{erased, of_type, value_of, Re
 ghost use Rattle.jk_model_domains.specs.OwnStates.{IsOwnState, IsFirstState};
 ghost use Rattle.jk_model_domains.specs.ValueTypes.{ValueFits, EachValueFits, FrameHolds};
 ghost use Rattle.class_growth.specs.ClassesKept.{ClassesStay, RecordsStay, InterfacesStay, FieldsStay, MethodsStay, FlagsStay, PackagesStay, SubclassesStay, IsSameFor, IsKeptFor, FoundFieldsStay, FoundMethodsStay, SelectedMethodsStay, LayoutsStay, CostsStay};
-ghost use Rattle.class_growth.specs.DomainsKept.{StaysInDomain, StubsStay, TargetsStay};
+ghost use Rattle.class_growth.specs.DomainsKept.{LiteralsStay, StaysInDomain, StubsStay, TargetsStay};
 ghost use Rattle.class_growth.specs.OtherLinks.{GettingLinksChangesLinks, RestsOnNoLinks, RestsOnNoLinksInOrder, HasNoLinksFor};
 ghost use Rattle.class_growth.specs.TypesKept.{IsSameForTypes, StillFits, StillHolds, DeclaredStillHolds};
 ghost use Rattle.class_growth.specs.TypingsKept.{SystemClassesAreClosed, ClosedClassesStay, ScopesStay, ScopesWereThere, RowsStay, StartsStay, FitsStay, GoingWellStays, TypingsStay};
@@ -75,10 +75,11 @@ pub fn values_stay()
     ensures declared { DeclaredStillHolds }
 {}
 
-/// The state of a domain whose names mean classes that were there is one still.
+/// The state of a domain whose names mean classes that were there is one still, and its classes lead to the same texts.
 pub fn own_states_stay()
     ensures states { StaysInDomain IsOwnState }
     ensures first_states { StaysInDomain IsFirstState }
+    ensures literals { LiteralsStay }
 {}
 
 /// The stub of a class that was there stays its stub, and each method of it keeps its target.

@@ -6,8 +6,9 @@ use Rattle.jk_model.specs.declared.identifiers.ClassId.{ClassId}
 use Rattle.jk_model_classes.specs.declared.records.ClassRecord.{ClassRecord}
 use Rattle.jk_model_classes.specs.Worlds.{NamedClass, IsNamed}
 use Rattle.jk_model_domains.specs.OwnStates.{ClassPart, StaticField, HasPart, IsPartFor, IsLiteralOf, IsFirstState, IsOwnState, first_statics}
+use Rattle.class_init.specs.KeptStates.{HasFirstRooms, HasRooms}
 use Rattle.jk_model_domains.specs.declared.states.LiteralImage.{LiteralImage}
-use Rattle.class_init.specs.Beginning.{IsNamedBefore, IsFirstPart, IsTextBefore, IsBegun, new_state}
+use Rattle.class_init.specs.Beginning.{IsNamedBefore, IsFirstPart, IsTextBefore, IsBegun, new_kept, new_state}
 use Rattle.class_init.specs.TextsAdded.{AddsTexts, IsOfSome, HasText}
 use Rattle.class_init.proofs.PlacesInLists.{stands_at}
 use Rattle.std.proofs.lemmas.Option.{same_Some}
@@ -33,17 +34,13 @@ text_before : (classes : List ClassRecord) (table : List NamedClass) (text : Lis
 text_before classes table text (c, r, named, is, leads) =
     record { class = c; of = r; has = record { named = named_before table c named; is = is }; leads = leads }
 
--- the parts that were begun, with their texts and maybe others
-pub begun_state : (classes : List ClassRecord) (table : List NamedClass) (parts : List ClassPart) (texts more : List (List ℕ))
-    → IsBegun classes table (length table) parts texts → ((text : List ℕ) → Contains texts text → Contains more text) → DifferentClasses parts
-    → DifferentTexts more → IsOwnState classes table (new_state parts more)
-begun_state classes table parts texts more h kept differ apart = record {
+-- the parts that were begun
+pub begun_state : (classes : List ClassRecord) (table : List NamedClass) (parts : List ClassPart) (texts : List (List ℕ))
+    → IsBegun classes table (length table) parts texts → DifferentClasses parts → IsOwnState classes table (new_state parts)
+begun_state classes table parts texts h differ = record {
   each = λ e has. part_for e (h.each e has);
   all = λ c r part. h.all c r (record { named = named_before table c part.0; is = part.1 }) part.2;
   classes_differ = differ;
-  texts = λ text is. kept text ((h.leads text).1 (text_before classes table text is));
-  texts_differ = apart;
-  literals = λ l has. absurd (Contains-none l has);
   literals_differ = λ i j a b p q e. cc;
   standing = refl;
 }
@@ -55,20 +52,35 @@ begun_state classes table parts texts more h kept differ apart = record {
       ap (λ (x : ClassPart). map (λ (s : StaticField). s.index) x.statics) f.begins,
     )
 
+-- and room for their texts and maybe others
+pub begun_rooms : (classes : List ClassRecord) (table : List NamedClass) (parts : List ClassPart) (texts more : List (List ℕ))
+    → IsBegun classes table (length table) parts texts → ((text : List ℕ) → Contains texts text → Contains more text) → DifferentTexts more
+    → HasRooms classes table (new_kept parts more)
+begun_rooms classes table parts texts more h kept apart = record {
+  texts = λ text is. kept text ((h.leads text).1 (text_before classes table text is));
+  rooms_differ = apart;
+  literals = λ l has. absurd (Contains-none l has);
+}
+
+pub first_rooms : (classes : List ClassRecord) (table : List NamedClass) (parts : List ClassPart) (texts : List (List ℕ))
+    → IsBegun classes table (length table) parts texts → DifferentTexts texts → HasFirstRooms classes table (new_kept parts texts)
+first_rooms classes table parts texts h apart = record {
+  rooms = begun_rooms classes table parts texts texts h (λ text has. has) apart;
+  no_others =
+      λ text has.
+      let t = (h.leads text).0 has in (t.class, t.of, is_named table (length table) t.class t.has.named, t.has.is, t.leads);
+}
+
 pub first_state : (classes : List ClassRecord) (table : List NamedClass) (parts : List ClassPart) (texts : List (List ℕ))
-    → IsBegun classes table (length table) parts texts → DifferentClasses parts → DifferentTexts texts
-    → IsFirstState classes table (new_state parts texts)
-first_state classes table parts texts h differ apart = record {
-  state = begun_state classes table parts texts texts h (λ text has. has) differ apart;
+    → IsBegun classes table (length table) parts texts → DifferentClasses parts → IsFirstState classes table (new_state parts)
+first_state classes table parts texts h differ = record {
+  state = begun_state classes table parts texts h differ;
   untouched = λ e has. ap (λ (x : ClassPart). x.state) (h.each e has).begins;
   statics =
       λ e r has is.
       let f = h.each e has in
       let same : f.of ≡ r = same_Some f.of r (sym f.has.is ∙ is) in
       ap (λ (x : ClassPart). x.statics) f.begins ∙ ap first_statics same;
-  texts =
-      λ text has.
-      let t = (h.leads text).0 has in (t.class, t.of, is_named table (length table) t.class t.has.named, t.has.is, t.leads);
   no_literals = refl;
   out = refl;
   standing = refl;

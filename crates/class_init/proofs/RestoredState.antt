@@ -18,6 +18,7 @@ use Rattle.jk_model_domains.specs.declared.states.LiteralImage.{LiteralImage}
 use Rattle.jk_model_domains.specs.declared.states.OwnClass.{OwnClass}
 use Rattle.jk_model_domains.specs.declared.states.OwnParts.{OwnParts}
 use Rattle.jk_model_domains.specs.OwnStates.{OwnState, ClassPart, StaticField, Literal, HasPart, IsPartFor, IsOwnState, ArePartsOf, own_class, literal_image, with_part, first_statics}
+use Rattle.class_init.specs.KeptStates.{HasRooms, KeptState}
 use Rattle.class_init.specs.Literals.{literal_from}
 use Rattle.class_init.specs.Parts.{FitsAll, HasPartOf, part_in, restored, restored_all}
 use Rattle.class_init.specs.Statics.{with_values}
@@ -84,9 +85,9 @@ lists own parts e are has =
     Contains-permutation (map own_class own.classes) parts.classes (own_class e) are.classes
     (Contains-at (map own_class own.classes) s.place (own_class e) (mapped_at own_class own.classes s.place e s.there))
 
--- the texts of the listed literals are known
-abbrev pub AreKnown : OwnState → OwnParts → Type 0
-AreKnown first parts = (l : LiteralImage) → Contains parts.literals l → Contains first.texts l.text
+-- the texts of the listed literals have rooms
+abbrev pub AreKnown : List (List ℕ) → OwnParts → Type 0
+AreKnown rooms parts = (l : LiteralImage) → Contains parts.literals l → Contains rooms l.text
 
 -- ---- The values fit.
 
@@ -227,15 +228,14 @@ same_indices_restored list parts k e h = by_side h.from
 abbrev pub with_parts : OwnState → OwnParts → OwnState
 with_parts first parts = record {
   classes = restored_all parts.classes first.classes;
-  texts = first.texts;
   literals = map literal_from parts.literals;
   out = parts.out;
   standing = parts.standing;
 }
 
 pub restored_is_state : (classes : List ClassRecord) (table : List NamedClass) (first own : OwnState) (parts : OwnParts) → IsOwnState classes table first
-    → IsOwnState classes table own → ArePartsOf own parts → AreKnown first parts → IsOwnState classes table (with_parts first parts)
-restored_is_state classes table first own parts f s are known = record {
+    → IsOwnState classes table own → ArePartsOf own parts → IsOwnState classes table (with_parts first parts)
+restored_is_state classes table first own parts f s are = record {
   each = λ e has. let at = stands_at (restored_all parts.classes first.classes) e has in each_is e at.place at.there;
   all = λ c r h. still_has parts.classes first.classes c (f.all c r h);
   classes_differ =
@@ -243,13 +243,6 @@ restored_is_state classes table first own parts f s are known = record {
       let x = restored_at parts.classes first.classes i a differ p in
       let y = restored_at parts.classes first.classes j b differ q in
       f.classes_differ i j x.old y.old x.there y.there (sym x.class ∙ e ∙ y.class);
-  texts = f.texts;
-  texts_differ = f.texts_differ;
-  literals =
-      λ l has.
-      let at = stands_at (map literal_from parts.literals) l has in
-      let x = comes_from literal_from parts.literals at.place l at.there in
-      rw (ap (λ (y : Literal). y.text) x.gives) at (known x.from (Contains-at parts.literals at.place x.from x.there));
   literals_differ =
       λ i j a b p q e.
       let x = comes_from literal_from parts.literals i a p in
@@ -269,6 +262,19 @@ restored_is_state classes table first own parts f s are known = record {
         let x = f.each h.old (Contains-at first.classes k h.old h.there) in
         let of : ClassId → Type 0 = λ c. HasPart classes table c x.0 in
         (x.0, subst of (sym h.class) x.1, same_indices_restored parts.classes first.classes k e h ∙ x.2)
+
+-- the rooms that were there are kept
+pub restored_has_rooms : (classes : List ClassRecord) (table : List NamedClass) (first : KeptState) (parts : OwnParts) → HasRooms classes table first
+    → AreKnown first.rooms parts → HasRooms classes table (record { state = with_parts first.state parts; rooms = first.rooms })
+restored_has_rooms classes table first parts has known = record {
+  texts = has.texts;
+  rooms_differ = has.rooms_differ;
+  literals =
+      λ l on.
+      let at = stands_at (map literal_from parts.literals) l on in
+      let x = comes_from literal_from parts.literals at.place l at.there in
+      rw (ap (λ (y : Literal). y.text) x.gives) at (known x.from (Contains-at parts.literals at.place x.from x.there));
+}
 
 images_again : (images : List LiteralImage) → map literal_image (map literal_from images) ≡ images
 images_again [] = refl
@@ -342,10 +348,10 @@ each_lists classes table first own parts f s are o has =
     rw (sym one.is ∙ x.gives) at one.has
 
 pub restored_has_parts : (classes : List ClassRecord) (table : List NamedClass) (first own : OwnState) (parts : OwnParts) → IsOwnState classes table first
-    → IsOwnState classes table own → ArePartsOf own parts → AreKnown first parts → ArePartsOf (with_parts first parts) parts
-restored_has_parts classes table first own parts f s are known =
+    → IsOwnState classes table own → ArePartsOf own parts → ArePartsOf (with_parts first parts) parts
+restored_has_parts classes table first own parts f s are =
     let new = restored_all parts.classes first.classes in
-    let state = restored_is_state classes table first own parts f s are known in
+    let state = restored_is_state classes table first own parts f s are in
     let differ = classes_of_parts_differ own parts s.classes_differ are in
     record {
       classes =

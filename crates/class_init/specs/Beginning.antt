@@ -5,6 +5,7 @@ use Rattle.jk_model_classes.specs.declared.records.ClassRecord.{ClassRecord}
 use Rattle.jk_model_classes.specs.Classes.{record_of}
 use Rattle.jk_model_classes.specs.Worlds.{NamedClass}
 use Rattle.jk_model_domains.specs.OwnStates.{ClassPart, IsTextOf, OwnState}
+use Rattle.class_init.specs.KeptStates.{KeptState}
 use Rattle.class_init.specs.Parts.{part_in, HasPartOf, first_part}
 
 -- The part of the class, as it begins, is there where it is no system class, and no other is new.
@@ -47,6 +48,10 @@ pub record IsBegun (classes : List ClassRecord) (table : List NamedClass) (end :
   pub all : (c : ClassId) (r : ClassRecord) → HasRecordBefore classes table end c r → r.home ≢ None → HasPartOf parts c
   pub leads : (text : List ℕ) → Contains texts text ↔ IsTextBefore classes table end text
 
--- the state with these parts and texts, in which no text has an object
-abbrev pub new_state : List ClassPart → List (List ℕ) → OwnState
-new_state parts texts = record { classes = parts; texts = texts; literals = []; out = 0; standing = replicate 8 0 }
+-- the state with these parts, in which no text has an object
+abbrev pub new_state : List ClassPart → OwnState
+new_state parts = record { classes = parts; literals = []; out = 0; standing = replicate 8 0 }
+
+-- the same with room for objects of these texts
+abbrev pub new_kept : List ClassPart → List (List ℕ) → KeptState
+new_kept parts texts = record { state = new_state parts; rooms = texts }

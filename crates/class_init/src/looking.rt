@@ -8,7 +8,7 @@ use jk_model_domains::{ClassState, Look};
 
 /// What a thread meets at a class that it needs. A system class is ready in every domain.
 pub fn look(own: &Own, t: ThreadNo, c: ClassId) -> Look
-    ensures { IsLook t (state_of own.now c) result }
+    ensures { IsLook t (state_of own.now.state c) result }
 {
     match own.state(c) {
         ClassState::Untouched => Look::Untouched,

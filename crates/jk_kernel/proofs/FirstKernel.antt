@@ -52,6 +52,7 @@ module _ (w : WorldRecord) (c : FrameContent) (system : AreSystemRecords w.class
         started = λ i d at. absurd (nothing-at i d at);
         out = λ i d at. absurd (nothing-at i d at);
         literals = λ i n d text names at literal. absurd (nothing-at i d at);
+        rooms = λ i n d names at. absurd (nothing-at i d at);
       };
       machine = law (machine_of w [] [] c 1 1) (first-machine [] [] refl refl);
       world = world;

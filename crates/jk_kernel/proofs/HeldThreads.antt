@@ -86,18 +86,18 @@ progress_look t other s look e ne h = by_case (subst (λ (x : ClassState). IsLoo
 
 module _ (c : FrameContent) (w : WorldRecord) (names : DomainRecord) (d : DomainPart) (r : Runs) (m : Machine) (p : RunningSegment m r.thread.0)
     (at : IsAt c w names d r m p) (running : RunningFrame p) (head : FrameHead) (head_is : running.frame.head ≡ head) (needed : Option ClassId)
-    (needs : IsNeeded w.classes head needed) (look : Look) (meets : Meets d.own r.thread needed look) where
-  own_is : p.inside.own ≡ d.own
+    (needs : IsNeeded w.classes head needed) (look : Look) (meets : Meets d.own.state r.thread needed look) where
+  own_is : p.inside.own ≡ d.own.state
   own_is = ap (λ (x : Inside). x.own) at.inside
 
   in_world : (f : FrameState) (class : ClassId) → FrameNeeds m.classes f class → FrameNeeds w.classes f class
   in_world f class h = subst (λ (l : List ClassRecord). FrameNeeds l f class) at.classes h
 
   -- the class that the frame needs is the one that was looked at
-  looked : (class : ClassId) → FrameNeeds m.classes running.frame class → IsLook r.thread (state_of d.own class) look
+  looked : (class : ClassId) → FrameNeeds m.classes running.frame class → IsLook r.thread (state_of d.own.state class) look
   looked class h =
       let same = needs.only running.frame class head_is (in_world running.frame class h) in
-      subst (λ (o : Option ClassId). Meets d.own r.thread o look) same meets
+      subst (λ (o : Option ClassId). Meets d.own.state r.thread o look) same meets
 
   pub not_held : (look ≡ Sees.Waits → ⊥) → IsHeld p → ⊥
   not_held free (inl suspended) = let no : true ≡ false = sym suspended ∙ at.calm.0 in absurd cc
@@ -105,26 +105,26 @@ module _ (c : FrameContent) (w : WorldRecord) (names : DomainRecord) (d : Domain
       let same = one_last waits.0.callers running.callers waits.0.frame running.frame (sym waits.0.are_frames ∙ running.are_frames) in
       let here = subst (λ (f : FrameState). FrameNeeds m.classes f waits.1) same.1 waits.2 in
       let state = sym (ap (λ (o : OwnState). state_of o waits.1) own_is) ∙ waits.3.1 in
-      free (progress_look r.thread waits.3.0 (state_of d.own waits.1) look state waits.3.2 (looked waits.1 here))
+      free (progress_look r.thread waits.3.0 (state_of d.own.state waits.1) look state waits.3.2 (looked waits.1 here))
 
   pub needs_it : (k : ClassId) → needed ≡ Some k → FrameNeeds m.classes running.frame k
   needs_it k e =
       let some = subst (λ (o : Option ClassId). IfSome o (λ (x : ClassId). (f : FrameState) → f.head ≡ head → FrameNeeds w.classes f x)) e needs.some in
       subst (λ (l : List ClassRecord). FrameNeeds l running.frame k) (sym at.classes) (some running.frame head_is)
 
-  pub looks_at : (k : ClassId) → needed ≡ Some k → IsLook r.thread (state_of d.own k) look
-  looks_at k e = subst (λ (o : Option ClassId). Meets d.own r.thread o look) e meets
+  pub looks_at : (k : ClassId) → needed ≡ Some k → IsLook r.thread (state_of d.own.state k) look
+  looks_at k e = subst (λ (o : Option ClassId). Meets d.own.state r.thread o look) e meets
 
   pub held : look ≡ Sees.Waits → IsHeld p
   held e = by_needed needed refl
     where
       by_needed : (o : Option ClassId) → needed ≡ o → IsHeld p
       by_needed None is =
-          let ready : look ≡ Sees.Ready = subst (λ (x : Option ClassId). Meets d.own r.thread x look) is meets in
+          let ready : look ≡ Sees.Ready = subst (λ (x : Option ClassId). Meets d.own.state r.thread x look) is meets in
           let no : Sees.Waits ≡ Sees.Ready = sym e ∙ ready in
           absurd cc
       by_needed (Some k) is =
-          let waits = waits_look r.thread (state_of d.own k) (subst (IsLook r.thread (state_of d.own k)) e (looks_at k is)) in
+          let waits = waits_look r.thread (state_of d.own.state k) (subst (IsLook r.thread (state_of d.own.state k)) e (looks_at k is)) in
           inr (
             running,
             k,
@@ -142,7 +142,7 @@ module _ (c : FrameContent) (w : WorldRecord) (names : DomainRecord) (d : Domain
   pub all_ready : look ≡ Sees.Ready → (class : ClassId) → FrameNeeds m.classes running.frame class → IsReady p.inside.own r.thread.0 class
   all_ready e class h =
       let state = ap (λ (o : OwnState). state_of o class) own_is in
-      elim (ready_look r.thread (state_of d.own class) (subst (IsLook r.thread (state_of d.own class)) e (looked class h))) [
+      elim (ready_look r.thread (state_of d.own.state class) (subst (IsLook r.thread (state_of d.own.state class)) e (looked class h))) [
         | inl done ↦ inl (state ∙ done)
         | inr begun ↦ inr (state ∙ begun)
       ]

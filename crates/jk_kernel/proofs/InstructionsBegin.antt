@@ -31,11 +31,11 @@ use Rattle.step_progress.specs.BuiltCodes.{IsBuiltInstr}
 use Rattle.jk_kernel.specs.declared.domain_parts.DomainPart.{DomainPart}
 use Rattle.jk_kernel.specs.declared.stepping.Runs.{Runs}
 use Rattle.jk_kernel.specs.Executing.{DoesNext}
-use Rattle.jk_kernel.specs.KernelStates.{state_of}
+use Rattle.jk_kernel.specs.KernelStates.{state_of, with_own_state}
 use Rattle.jk_kernel.specs.LocalSteps.{LeadsOn, LeadsOut}
 use Rattle.jk_kernel.specs.SegmentFrames.{GetsFrames, Holds, IsOut, stored}
 use Rattle.jk_kernel.specs.Throwing.{LeavesSegment}
-use Rattle.jk_kernel.proofs.PartsOfAMachine.{left_is_there, now_gone, now_has, paid_own, record_there, with_own_is, with_own_state}
+use Rattle.jk_kernel.proofs.PartsOfAMachine.{left_is_there, now_gone, now_has, paid_own, record_there, with_own_is}
 use Rattle.jk_kernel.proofs.TopCode as Top
 use Rattle.jk_kernel.proofs.StoredFrames.{ended, out_then, top_there}
 
@@ -110,7 +110,7 @@ module _ {c : FrameContent} {w : WorldRecord} {names : DomainRecord} {d paid : D
   abbrev pub payer_is : with_inside (state_of names paid) p.inside ≡ state_of names paid
   payer_is = Top.payer_is c w names d paid r m p head s i next
 
-  pub own_here : paid.own ≡ p.inside.own
+  pub own_here : paid.own.state ≡ p.inside.own
   own_here = paid_own d paid next.pays ∙ sym (ap (λ (x : Inside). x.own) next.at.inside)
 
   pub leads_on : (new : FrameContent) (last : DomainPart) (frames : List FrameState) (lines : List Line)
@@ -139,10 +139,10 @@ module _ {c : FrameContent} {w : WorldRecord} {names : DomainRecord} {d paid : D
 
   module _ (mid new : FrameContent) (frames : List FrameState) (gets : GetsFrames c mid r.segment r.domain (callers ++ frame ∷ []) frames)
       (raise : Raise) (thrown left : ClassId) (own : OwnState) (is : IsThrown raise thrown) (lt : thrown.0 < 45)
-      (leaves : LeavesSegment w.classes mid new r.segment paid.own own thrown left) where
+      (leaves : LeavesSegment w.classes mid new r.segment paid.own.state own thrown left) where
     pub left_class : (class : ClassRecord) × (record_of w.classes left ≡ Some class)
     left_class =
-        record_there w.classes left (left_is_there w.classes leaves.frames paid.own own thrown left leaves.leaves (system_there thrown.0 lt)
+        record_there w.classes left (left_is_there w.classes leaves.frames paid.own.state own thrown left leaves.leaves (system_there thrown.0 lt)
         (system_there 37 (omega arith)))
 
     same_stored : stored leaves.domain leaves.frames ≡ stored r.domain frames
@@ -151,8 +151,9 @@ module _ {c : FrameContent} {w : WorldRecord} {names : DomainRecord} {d paid : D
     pub throws_here : Throws p (state_of names paid) p.inside frames raise (Says.EndedBy r.thread left_class.0.name ∷ [])
         (without_running p (state_of names (with_own_state paid own)))
     throws_here =
-        let those : LeavesFrames w.classes frames paid.own thrown own left =
-        subst (λ (l : List FrameState). LeavesFrames w.classes l paid.own thrown own left) (ap (λ (x : StoredSegment). x.frames) same_stored) leaves.leaves in
+        let those : LeavesFrames w.classes frames paid.own.state thrown own left =
+        subst (λ (l : List FrameState). LeavesFrames w.classes l paid.own.state thrown own left)
+        (ap (λ (x : StoredSegment). x.frames) same_stored) leaves.leaves in
         record {
           lowest = next.at.lowest;
           no_orphan = next.at.calm.3;

@@ -60,7 +60,7 @@ module _ (c : FrameContent) (w : WorldRecord) (names : DomainRecord) (d paid : D
   pub out_may_go_on : (v : Value) → i.op ≡ 0xb2 → TopCanResume c r.segment (Some v)
   out_may_go_on v op = may_go_on c w names d paid r m p head s i h (Some v) (ap leaves_line op) (out_has_room op)
 
-  pub gets_out : (new : FrameContent) (a : ℕ) → i.op ≡ 0xb2 → a ≡ paid.own.out → Loads new a → LeadsOn c new names paid m r p []
+  pub gets_out : (new : FrameContent) (a : ℕ) → i.op ≡ 0xb2 → a ≡ paid.own.state.out → Loads new a → LeadsOn c new names paid m r p []
   gets_out new a op is gets =
       let out = gets_system_out s i (built c w names d paid r m p head s i h) op in
       let own : a ≡ p.inside.own.out = is ∙ ap (λ (x : Inside). x.own.out) (sym (inside_paid c w names d paid r m p head s i h)) in
@@ -92,7 +92,7 @@ module _ (c : FrameContent) (w : WorldRecord) (names : DomainRecord) (d paid : D
       may_go_on c w names d paid r m p head s i h (Some v) (ap leaves_line op) (text_has_room text op leads)
 
   -- the text has an object
-  pub text_is_there : (text : List ℕ) → LeadsToLink s i (To.Text text) → (a : ℕ) × (literal_named paid.own text ≡ Some a)
+  pub text_is_there : (text : List ℕ) → LeadsToLink s i (To.Text text) → (a : ℕ) × (literal_named paid.own.state text ≡ Some a)
   text_is_there text leads =
       let at = stands c w names d paid r m p head s i h in
       let home = subst (KnowsClassOf p.domain) at.is_method (facts c w names d paid r m p head s i h).top_home.0 in
@@ -105,7 +105,7 @@ module _ (c : FrameContent) (w : WorldRecord) (names : DomainRecord) (d paid : D
       let found = h.at.literals text literal in
       (found.0, ap (λ (o : OwnState). literal_named o text) (paid_own d paid h.pays) ∙ found.1)
 
-  pub loads : (new : FrameContent) (text : List ℕ) (a : ℕ) → i.op ≡ 0x13 → LeadsToLink s i (To.Text text) → literal_named paid.own text ≡ Some a
+  pub loads : (new : FrameContent) (text : List ℕ) (a : ℕ) → i.op ≡ 0x13 → LeadsToLink s i (To.Text text) → literal_named paid.own.state text ≡ Some a
       → Loads new a → LeadsOn c new names paid m r p []
   loads new text a op leads is gets =
       goes_behind c w names d paid r m p head s i h new (record f { stack = f.stack ++ Held.Obj a ∷ [] }) (f.head.at + 1)

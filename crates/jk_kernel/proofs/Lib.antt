@@ -37,6 +37,7 @@ pub mod PrintedTypes
 pub mod PrintedValues
 pub mod PrintlnCalled
 pub mod QuickSteps
+pub mod RoomsKept
 pub mod RunningThread
 pub mod SaidOnTop
 pub mod SegmentsOfAMachine

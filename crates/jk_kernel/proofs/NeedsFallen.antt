@@ -13,12 +13,12 @@ use Rattle.jk_model_machine.specs.Steps.{IsHeld, IsReady, need_falls}
 use Rattle.frame_store.specs.FrameContents.{FrameContent, IsContent, Pops}
 use Rattle.jk_kernel.specs.declared.domain_parts.DomainPart.{DomainPart}
 use Rattle.jk_kernel.specs.declared.stepping.Runs.{Runs}
-use Rattle.jk_kernel.specs.KernelStates.{state_of}
+use Rattle.jk_kernel.specs.KernelStates.{state_of, with_own_state}
 use Rattle.jk_kernel.specs.LocalSteps.{IsAt, LeadsOn}
 use Rattle.jk_kernel.specs.Payments.{PaysFor}
 use Rattle.jk_kernel.specs.SegmentFrames.{GetsFrames, Holds}
 use Rattle.jk_kernel.specs.Touching.{ForgetsNeed}
-use Rattle.jk_kernel.proofs.PartsOfAMachine.{acting, now_has, own_is, paid_own, with_own_is, with_own_state}
+use Rattle.jk_kernel.proofs.PartsOfAMachine.{acting, now_has, own_is, paid_own, with_own_is}
 use Rattle.jk_kernel.proofs.StoredFrames.{popped, top_set, top_there}
 
 module _ (c : FrameContent) (w : WorldRecord) (names : DomainRecord) (d : DomainPart) (r : Runs) (m : Machine) (p : RunningSegment m r.thread.0)
@@ -61,12 +61,12 @@ module _ (c : FrameContent) (w : WorldRecord) (names : DomainRecord) (d : Domain
       )
 
   pub class_done : (k : ClassId) → head.method ≡ None → head.initialises ≡ Some k → HasState p.inside.own k → IsContent c → Pops c new r.segment
-      → after ≡ with_own_state paid (with_state paid.own k State.Done) → LeadsOn c new names after m r p []
+      → after ≡ with_own_state paid (with_state paid.own.state k State.Done) → LeadsOn c new names after m r p []
   class_done k none begun known content pops part =
       let gets : GetsFrames c new r.segment r.domain p.segment.frames running.callers =
       subst (λ (l : List FrameState). GetsFrames c new r.segment r.domain l running.callers) (sym running.are_frames)
       (popped c new r.segment r.domain running.callers running.frame content holds pops) in
-      let own : with_state paid.own k State.Done ≡ with_state p.inside.own k State.Done =
+      let own : with_state paid.own.state k State.Done ≡ with_state p.inside.own k State.Done =
       ap (λ (o : OwnState). with_state o k State.Done) (paid_own d paid pays ∙ sym (own_is c w names d r m p at)) in
       let whole = ap (state_of names) part ∙ ap (λ (o : OwnState). state_of names (with_own_state paid o)) own
       ∙ with_own_is c w names d r m p at paid (with_state p.inside.own k State.Done) pays in (

@@ -137,13 +137,13 @@ module _ {c : FrameContent} {w : WorldRecord} {names : DomainRecord} {d paid : D
 
   -- ---- What follows may be done.
 
-  pub known_callers : AllByRecursion (StateIsKnown paid.own) (callers next) × StateIsKnown paid.own (frame next)
+  pub known_callers : AllByRecursion (StateIsKnown paid.own.state) (callers next) × StateIsKnown paid.own.state (frame next)
   known_callers =
       let h = known_frames c w names d r m p next.at in
       let same = same_frames c w names d r m p next.at h.domain h.frames h.holds in
-      all-pop (StateIsKnown paid.own) (callers next) (frame next)
+      all-pop (StateIsKnown paid.own.state) (callers next) (frame next)
       (subst (λ (o : OwnState). AllByRecursion (StateIsKnown o) (callers next ++ frame next ∷ [])) (sym (paid_own d paid next.pays))
-      (subst (AllByRecursion (StateIsKnown d.own)) (same ∙ next.running.are_frames) h.known))
+      (subst (AllByRecursion (StateIsKnown d.own.state)) (same ∙ next.running.are_frames) h.known))
 
   -- a frame below one that returns can go on
   answers : ReturnsFit → (v : Option Value) (g : FrameState) → NumberRow s (frame next).head.at i (frame next) g (Next.Return v)
@@ -172,17 +172,17 @@ module _ {c : FrameContent} {w : WorldRecord} {names : DomainRecord} {d paid : D
 
   module _ (mid : FrameContent) where
     known_left : (g : FrameState) → g.head ≡ (frame next).head → GetsFrames c mid r.segment r.domain (callers next ++ frame next ∷ []) (callers next ++ g ∷ [])
-        → HasKnownFrames mid r.segment paid.own
+        → HasKnownFrames mid r.segment paid.own.state
     known_left g same gets =
-        let on_top : StateIsKnown paid.own g = λ k e. known_callers.1 k (ap (λ (h : FrameHead). h.initialises) (sym same) ∙ e) in
+        let on_top : StateIsKnown paid.own.state g = λ k e. known_callers.1 k (ap (λ (h : FrameHead). h.initialises) (sym same) ∙ e) in
         record {
           domain = r.domain;
           frames = callers next ++ g ∷ [];
           holds = gets.changes.becomes;
-          known = all-push (StateIsKnown paid.own) (callers next) g known_callers.0 on_top;
+          known = all-push (StateIsKnown paid.own.state) (callers next) g known_callers.0 on_top;
         }
 
-    pub may_follow : ReturnsFit → (after : After) → IsDone mid after → MayFollow mid r.segment paid.own head after
+    pub may_follow : ReturnsFit → (after : After) → IsDone mid after → MayFollow mid r.segment paid.own.state head after
     may_follow laws (Next.Goto n) h = (h.left, top_there mid mid r.segment r.domain (callers next) h.left h.gets.changes.becomes)
     may_follow laws (Next.Return v) h = record {
       domain = r.domain;

@@ -29,12 +29,12 @@ use Rattle.jk_kernel.specs.declared.happened.Happened.TheVariants as Came
 use Rattle.jk_kernel.specs.declared.stepping.Runs.{Runs}
 use Rattle.jk_kernel.specs.Executing.{DoesNext}
 use Rattle.jk_kernel.specs.Following.{FollowsSo, GivesBack, GoesTo, RaisesSo}
-use Rattle.jk_kernel.specs.KernelStates.{state_of}
+use Rattle.jk_kernel.specs.KernelStates.{state_of, with_own_state}
 use Rattle.jk_kernel.specs.LocalSteps.{KeepsPart}
 use Rattle.jk_kernel.specs.SegmentFrames.{GetsFrames, Holds, IsOut}
 use Rattle.jk_kernel.proofs.InstructionsBegin.{callers, done, facts, frame, goes_out_from, head_here, left_class, leads_on, leads_out, no_need_here, own_here, payer_is, throws_here, with_inside}
 use Rattle.jk_kernel.proofs.NumbersBegin.{IsDone, known_callers, row_ends}
-use Rattle.jk_kernel.proofs.PartsOfAMachine.{left_keeps_out, with_own_is, with_own_state}
+use Rattle.jk_kernel.proofs.PartsOfAMachine.{left_keeps_names, with_own_is}
 use Rattle.jk_kernel.proofs.StepsByCase.{StepOf, keeps_all, keeps_own}
 use Rattle.jk_kernel.proofs.StoredFrames.{gets_on, out_then, top_set, top_there}
 
@@ -96,7 +96,7 @@ module _ {c : FrameContent} {w : WorldRecord} {names : DomainRecord} {d paid : D
     class_done : (k : ClassId) (low : List FrameState) (below : FrameState) → head.initialises ≡ Some k → callers next ≡ low ++ below ∷ [] → Ends happened
     class_done k low below begun are =
         let did = back.class k r.domain (callers next) h.left begun there in
-        let own : with_state paid.own k State.Done ≡ with_state p.inside.own k State.Done =
+        let own : with_state paid.own.state k State.Done ≡ with_state p.inside.own k State.Done =
         ap (λ (o : OwnState). with_state o k State.Done) (own_here next) in
         let part : last ≡ with_own_state paid (with_state p.inside.own k State.Done) = did.1 ∙ ap (with_own_state paid) own in
         let state : with_own (state_of names paid) p.inside (with_state p.inside.own k State.Done) ≡ state_of names last =
@@ -110,7 +110,7 @@ module _ {c : FrameContent} {w : WorldRecord} {names : DomainRecord} {d paid : D
         subst (λ (x : DomainState). Steps m r.thread.0 [] (with_frames p x (callers next))) state step in
         let gets = gets_on c mid new r.segment r.domain (callers next ++ frame next ∷ []) (callers next ++ h.left ∷ []) (callers next) h.gets did.2 in
         let comes : Comes Came.Silent = ([], refl, leads_on next new last (callers next) [] gets steps) in (
-          subst (KeepsPart paid) (sym did.1) (keeps_own paid paid (with_state paid.own k State.Done) (keeps_all paid) refl),
+          subst (KeepsPart paid) (sym did.1) (keeps_own paid paid (with_state paid.own.state k State.Done) (keeps_all paid) (refl, refl)),
           subst Comes (sym did.0) comes,
         )
 
@@ -171,17 +171,17 @@ module _ {c : FrameContent} {w : WorldRecord} {names : DomainRecord} {d paid : D
       let is : raised ≡ Raised.Fresh ARITHMETIC_EXCEPTION = row_ends s (frame next).head.at i (frame next) h.left (Next.Raise raised) h.row in
       let same : by.thrown ≡ ARITHMETIC_EXCEPTION = subst (λ (x : Raise). IsThrown x by.thrown) is by.is_thrown in
       let lt : by.thrown.0 < 45 = omega (arith, ap (λ (x : ClassId). x.0) same) in
-      let class = left_class next mid new (callers next ++ h.left ∷ []) h.gets raised by.thrown by.left last.own by.is_thrown lt by.leaves in
-      let thrown = throws_here next mid new (callers next ++ h.left ∷ []) h.gets raised by.thrown by.left last.own by.is_thrown lt by.leaves in
-      let gone = goes_out_from next mid new (callers next ++ h.left ∷ []) h.gets raised by.thrown by.left last.own by.is_thrown lt by.leaves content in
+      let class = left_class next mid new (callers next ++ h.left ∷ []) h.gets raised by.thrown by.left last.own.state by.is_thrown lt by.leaves in
+      let thrown = throws_here next mid new (callers next ++ h.left ∷ []) h.gets raised by.thrown by.left last.own.state by.is_thrown lt by.leaves in
+      let gone = goes_out_from next mid new (callers next ++ h.left ∷ []) h.gets raised by.thrown by.left last.own.state by.is_thrown lt by.leaves content in
       let said : List Line = Says.EndedBy r.thread class.0.name ∷ [] in
       let step = done next (working h.left) (Raises raised) (numbers (Next.Raise raised) h.row refl refl) said
-      (without_running p (state_of names (with_own_state paid last.own))) (throws raised said _ thrown) in
+      (without_running p (state_of names (with_own_state paid last.own.state))) (throws raised said _ thrown) in
       let steps : Steps m r.thread.0 said (without_running p (state_of names last)) =
       subst (λ (x : DomainPart). Steps m r.thread.0 said (without_running p (state_of names x))) (sym by.part) step in
       let comes : Comes (Came.EndedBy by.left) = (said, (class.0, class.1, refl), leads_out next new last said gone steps) in (
-        subst (KeepsPart paid) (sym by.part) (keeps_own paid paid last.own (keeps_all paid)
-            (left_keeps_out w.classes by.leaves.frames paid.own last.own by.thrown by.left by.leaves.leaves)),
+        subst (KeepsPart paid) (sym by.part) (keeps_own paid paid last.own.state (keeps_all paid)
+            (left_keeps_names w.classes by.leaves.frames paid.own.state last.own.state by.thrown by.left by.leaves.leaves)),
         subst Comes (sym by.ended) comes,
       )
 

@@ -5,7 +5,8 @@ use Rattle.std.proofs.lemmas.List.Elements.{Contains-append_left, Contains-appen
 use Rattle.std.proofs.lemmas.Option.{none-some}
 use Rattle.std.proofs.lemmas.Slice.Eq.{bytes_eq-Decides}
 use Rattle.list_lemmas.proofs.ItemsOfLists.{Contains-here, each-from, Contains-at, place_of}
-use Rattle.jk_model_domains.specs.OwnStates.{Literal, OwnState, literal_named}
+use Rattle.jk_model_domains.specs.OwnStates.{Literal, literal_named}
+use Rattle.class_init.specs.KeptStates.{KeptState}
 use Rattle.sealed_steps.proofs.OneItemChanged.{find-place, find-some, push-cases}
 use Rattle.jk_kernel.specs.GivenTexts.{AreGivenNames, GivesMore, literals_from}
 use Rattle.jk_kernel.proofs.DistinctTexts.{DifferByPlace, distinct-by-place, no-more}
@@ -18,23 +19,23 @@ literals-push n [] text name e =
 literals-push n (t ∷ texts) text name e =
     ap (λ (ls : List Literal). record { text = t; name = n } ∷ ls) (literals-push (suc n) texts text name (e ∙ omega arith))
 
-module _ (own : OwnState) (texts : List (List ℕ)) (given : AreGivenNames own texts) where
-  none-yet : (text : List ℕ) → literal_named own text ≡ None → Contains texts text → ⊥
+module _ (own : KeptState) (texts : List (List ℕ)) (given : AreGivenNames own texts) where
+  none-yet : (text : List ℕ) → literal_named own.state text ≡ None → Contains texts text → ⊥
   none-yet text none on =
       let place = place_of texts text on in
       let l = literal-for 1 texts place.0 text place.1 in
-      let at : slice_get own.literals place.0 ≡ Some l.0 = subst (λ (ls : List Literal). slice_get ls place.0 ≡ Some l.0) (sym given.literals) l.1 in
-      let found = find-some (λ (x : Literal). bytes_eq x.text text) own.literals place.0 l.0 at ((bytes_eq-Decides l.0.text text).1 l.2) in
+      let at : slice_get own.state.literals place.0 ≡ Some l.0 = subst (λ (ls : List Literal). slice_get ls place.0 ≡ Some l.0) (sym given.literals) l.1 in
+      let found = find-some (λ (x : Literal). bytes_eq x.text text) own.state.literals place.0 l.0 at ((bytes_eq-Decides l.0.text text).1 l.2) in
       none-some found.0.name (sym none ∙ ap (option_map (λ (x : Literal). x.name)) found.1)
 
-  pub named-there : (text : List ℕ) (a : ℕ) → literal_named own text ≡ Some a → Contains texts text
-  named-there text a is = by (find (λ (x : Literal). bytes_eq x.text text) own.literals) refl is
+  pub named-there : (text : List ℕ) (a : ℕ) → literal_named own.state text ≡ Some a → Contains texts text
+  named-there text a is = by (find (λ (x : Literal). bytes_eq x.text text) own.state.literals) refl is
     where
-      by : (o : Option Literal) → find (λ (x : Literal). bytes_eq x.text text) own.literals ≡ o → option_map (λ (x : Literal). x.name) o ≡ Some a
+      by : (o : Option Literal) → find (λ (x : Literal). bytes_eq x.text text) own.state.literals ≡ o → option_map (λ (x : Literal). x.name) o ≡ Some a
           → Contains texts text
       by None found named = absurd cc
       by (Some l) found named =
-          let at = find-place (λ (x : Literal). bytes_eq x.text text) own.literals l found in
+          let at = find-place (λ (x : Literal). bytes_eq x.text text) own.state.literals l found in
           let here : slice_get (literals_from 1 texts) at.0 ≡ Some l =
           subst (λ (ls : List Literal). slice_get ls at.0 ≡ Some l) given.literals at.1 in
           let same : l.text ≡ text = (bytes_eq-Decides l.text text).0 at.2 in
@@ -43,12 +44,12 @@ module _ (own : OwnState) (texts : List (List ℕ)) (given : AreGivenNames own t
   pub none-more : GivesMore own texts own texts
   none-more = record {
     given = given;
-    same = ap (λ (ls : List Literal). record own { literals = ls }) given.literals;
+    same = ap (λ (ls : List Literal). record own { state = record own.state { literals = ls } }) given.literals;
     kept = λ text on. on;
   }
 
   -- its place among the texts is its own
-  still-differ : (text : List ℕ) → literal_named own text ≡ None → DifferByPlace (texts ++ text ∷ [])
+  still-differ : (text : List ℕ) → literal_named own.state text ≡ None → DifferByPlace (texts ++ text ∷ [])
   still-differ text none i j other p q = elim (push-cases texts text other i p) [
     | inl a ↦ elim (push-cases texts text other j q) [
       | inl b ↦ given.differ i j other a b
@@ -60,23 +61,25 @@ module _ (own : OwnState) (texts : List (List ℕ)) (given : AreGivenNames own t
     ]
   ]
 
-  still-known : (text : List ℕ) → Contains own.texts text → (other : List ℕ) → Contains (texts ++ text ∷ []) other → Contains own.texts other
+  still-known : (text : List ℕ) → Contains own.rooms text → (other : List ℕ) → Contains (texts ++ text ∷ []) other → Contains own.rooms other
   still-known text known other on = elim (Contains-push_cases texts text other on) [
     | inl old ↦ given.known other old
-    | inr last ↦ subst (Contains own.texts) last known
+    | inr last ↦ subst (Contains own.rooms) last known
   ]
 
   -- a text without an object, beside those with one, is among the domain's texts too
-  pub one-missing : (text : List ℕ) → Contains own.texts text → literal_named own text ≡ None → length texts < length own.texts
+  pub one-missing : (text : List ℕ) → Contains own.rooms text → literal_named own.state text ≡ None → length texts < length own.rooms
   one-missing text known none =
-      let within = no-more (texts ++ text ∷ []) own.texts (distinct-by-place (texts ++ text ∷ []) (still-differ text none))
-      (each-from (Contains own.texts) (texts ++ text ∷ []) (still-known text known)) in
+      let within = no-more (texts ++ text ∷ []) own.rooms (distinct-by-place (texts ++ text ∷ []) (still-differ text none))
+      (each-from (Contains own.rooms) (texts ++ text ∷ []) (still-known text known)) in
       omega (arith, within, length-append texts (text ∷ []))
 
-  pub one-more : (text : List ℕ) (name : ℕ) → Contains own.texts text → literal_named own text ≡ None → name ≡ 1 + length texts
-      → name < 2 ^ 32 → GivesMore own texts (record own { literals = own.literals ++ record { text = text; name = name } ∷ [] }) (texts ++ text ∷ [])
+  pub one-more : (text : List ℕ) (name : ℕ) → Contains own.rooms text → literal_named own.state text ≡ None → name ≡ 1 + length texts
+      → name < 2 ^ 32
+      → GivesMore own texts (record own { state = record own.state { literals = own.state.literals ++ record { text = text; name = name } ∷ [] } })
+      (texts ++ text ∷ [])
   one-more text name known none e low =
-      let same : own.literals ++ record { text = text; name = name } ∷ [] ≡ literals_from 1 (texts ++ text ∷ []) =
+      let same : own.state.literals ++ record { text = text; name = name } ∷ [] ≡ literals_from 1 (texts ++ text ∷ []) =
       ap (λ (ls : List Literal). ls ++ record { text = text; name = name } ∷ []) given.literals ∙ sym (literals-push 1 texts text name e) in
       record {
         given = record {
@@ -85,7 +88,7 @@ module _ (own : OwnState) (texts : List (List ℕ)) (given : AreGivenNames own t
           differ = still-differ text none;
           few = omega (arith, e, low, length-append texts (text ∷ []));
         };
-        same = ap (λ (ls : List Literal). record own { literals = ls }) same;
+        same = ap (λ (ls : List Literal). record own { state = record own.state { literals = ls } }) same;
         kept = λ other on. Contains-append_left texts (text ∷ []) other on;
       }
 

@@ -1,9 +1,8 @@
 -- A kernel in which an accepted folder was loaded may open its domain, and is one again when it is opened.
-use Rattle.std.proofs.Common.{◌≡◌, ◌≢◌, ℕ, suc, ◌+◌, ◌<◌, ◌==◌, inl, inr, true, false, List, [], ◌∷◌, ◌++◌, length, map, take, Option, Some, Contains, refl, sym, ap, subst, ◌∙◌, arith, length-append, true≢false}
+use Rattle.std.proofs.Common.{◌≡◌, ◌≢◌, ℕ, suc, ◌+◌, ◌<◌, ◌==◌, inl, inr, true, false, List, [], ◌∷◌, ◌++◌, length, map, take, Option, Some, Contains, refl, sym, ap, subst, ◌∙◌, arith, length-append, true≢false, slice_get}
 use Rattle.std.specs.Prelude.{filter, sum_by}
 use Rattle.std.specs.Option.{option_map_or}
 use Rattle.std.proofs.lemmas.Bool.{cases_Bool, cases_lt, eq-eqb, eqb-true}
-use Rattle.std.proofs.lemmas.List.{take-append-le, take_all}
 use Rattle.list_lemmas.proofs.ItemsOfLists.{Contains-here, Contains-there, Contains-at}
 use Rattle.list_lemmas.proofs.ItemsByPlace.{take_front}
 use Rattle.jk_model.specs.declared.descriptors.MethodType.{MethodType}
@@ -24,6 +23,7 @@ use Rattle.jk_model_machine.specs.Machine.{DomainState, Inside, Machine, Thread,
 use Rattle.frame_store.specs.FrameContents.{FrameContent, IsAdmitted, IsContent, IsSame, StoredSegment}
 use Rattle.folder_loader.specs.declared.answers.Loaded.{Loaded}
 use Rattle.folder_loader.specs.LinkedFolders.{AreTypedFrom}
+use Rattle.class_init.specs.KeptStates.{HasRooms}
 use Rattle.sound_folders.specs.LinkedWorlds.{Accepts}
 use Rattle.sound_folders.proofs.NewClasses.{added, all}
 use Rattle.step_progress.specs.BuiltCodes.{AreMoreBuilt}
@@ -42,6 +42,7 @@ use Rattle.jk_kernel.proofs.OnePartChanged.{at-state}
 use Rattle.jk_kernel.proofs.OpenedSoundly.{opened-soundly}
 use Rattle.jk_kernel.proofs.OpenedWorlds.{as-many-added, last-or-before, named-there, opened-world}
 use Rattle.jk_kernel.proofs.PlainConstants.{plain-opened}
+use Rattle.jk_kernel.proofs.RoomsKept.{rooms-still}
 use Rattle.jk_kernel.proofs.SameContents.{same-content}
 use Rattle.jk_kernel.proofs.WorldOfKernel.{world-of-kernel}
 
@@ -189,7 +190,7 @@ module _ (w : WorldRecord) (parts : List DomainPart) (threads : List (ℕ × Thr
           subst HaveSuitingConstants (sym same-classes) (more-suiting w.classes (added loads) kernel.constants (new-suiting loads))
 
       abbrev pub inside : Inside
-      inside = record { own = o.own; heap = heap_of o.texts }
+      inside = record { own = o.own.state; heap = heap_of o.texts }
 
       abbrev pub opened : Machine
       opened = with_new_domain m new name quotas l.table l.offers inside
@@ -276,6 +277,23 @@ module _ (w : WorldRecord) (parts : List DomainPart) (threads : List (ℕ × Thr
       one-more : length more ≡ length parts + 1
       one-more = omega (arith, length-append parts (part ∷ []))
 
+      rooms-now : (i : ℕ) (ns : DomainRecord) (x : DomainPart) → slice_get world.domains i ≡ Some ns → slice_get more i ≡ Some x
+          → HasRooms new.classes ns.table x.own
+      rooms-now i ns x names_at part_at = elim (last-or-before w.domains names i ns names_at) [
+        | inl low ↦ elim (last-or-before parts part i x part_at) [
+          | inl old ↦
+              subst (λ (xs : List ClassRecord). HasRooms xs ns.table x.own) (sym same-classes)
+              (rooms-still w.classes (added loads) ns.table x.own (kernel.world.named i ns low.1) (kernel.parts_fit.rooms i ns x low.1 old.1))
+          | inr last ↦ absurd (omega (arith, low.0, last.0, kernel.parts_fit.as_many))
+        ]
+        | inr end ↦ elim (last-or-before parts part i x part_at) [
+          | inl old ↦ absurd (omega (arith, end.0, old.0, kernel.parts_fit.as_many))
+          | inr last ↦
+              subst (λ (n : DomainRecord). HasRooms new.classes n.table x.own) end.1
+              (subst (λ (y : DomainPart). HasRooms new.classes l.table y.own) last.1 o.rooms)
+        ]
+      ]
+
       parts-fit : ArePartsOfKernel world more threads now next
       parts-fit = record {
         as_many = omega (arith, one-more, length-append w.domains (names ∷ []), kernel.parts_fit.as_many);
@@ -313,11 +331,12 @@ module _ (w : WorldRecord) (parts : List DomainPart) (threads : List (ℕ × Thr
         ];
         out = λ i x at. elim (last-or-before parts part i x at) [
           | inl old ↦ kernel.parts_fit.out i x old.1
-          | inr last ↦ ap (λ (y : DomainPart). y.own.out) (sym last.1) ∙ o.out
+          | inr last ↦ ap (λ (y : DomainPart). y.own.state.out) (sym last.1) ∙ o.out
         ];
         literals = λ i ns x text names_at part_at literal.
             sound-next.texts (state_of ns x) (inside_of x) text
             (Contains-at next.domains i (state_of ns x) (at-state world.domains more i ns x names_at part_at)) refl literal;
+        rooms = rooms-now;
       }
 
       abbrev with_names : List NamedClass → List Offer → DomainRecord

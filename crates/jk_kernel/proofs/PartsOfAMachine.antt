@@ -22,7 +22,7 @@ use Rattle.jk_model_machine.specs.Steps.{ActingFrame, Acts, EXCEPTION_IN_INITIAL
 use Rattle.frame_store.specs.FrameContents.{FrameContent, HasRoomFor, IsContent, StoredSegment, free_chunks as free_in}
 use Rattle.jk_kernel.specs.declared.domain_parts.DomainPart.{DomainPart}
 use Rattle.jk_kernel.specs.declared.stepping.Runs.{Runs}
-use Rattle.jk_kernel.specs.KernelStates.{heap_of, state_of}
+use Rattle.jk_kernel.specs.KernelStates.{heap_of, state_of, with_own_state}
 use Rattle.jk_kernel.specs.LocalSteps.{HasFramesNow, IsAt, IsGoneNow, LeadsOn, LeadsOut}
 use Rattle.jk_kernel.specs.Payments.{PaysFor}
 use Rattle.jk_kernel.specs.SegmentFrames.{GetsFrames, Holds, IsOut, stored}
@@ -45,15 +45,15 @@ left_is_there classes (f ∷ upper) own after thrown left h there other =
       ]
     ]
 
--- leaving frames keeps the name of the PrintStream
-pub left_keeps_out : (classes : List ClassRecord) (frames : List FrameState) (own after : OwnState) (thrown left : ClassId)
-    → LeavesFrames classes frames own thrown after left → after.out ≡ own.out
-left_keeps_out classes [] own after thrown left h = ap (λ (x : OwnState). x.out) h.0
-left_keeps_out classes (f ∷ upper) own after thrown left h =
-    let passed = left_keeps_out classes upper own h.0 thrown h.1 h.2 in
+-- leaving frames keeps the names of the PrintStream and of the literals
+pub left_keeps_names : (classes : List ClassRecord) (frames : List FrameState) (own after : OwnState) (thrown left : ClassId)
+    → LeavesFrames classes frames own thrown after left → (after.out ≡ own.out) × (after.literals ≡ own.literals)
+left_keeps_names classes [] own after thrown left h = (ap (λ (x : OwnState). x.out) h.0, ap (λ (x : OwnState). x.literals) h.0)
+left_keeps_names classes (f ∷ upper) own after thrown left h =
+    let passed = left_keeps_names classes upper own h.0 thrown h.1 h.2 in
     elim h.3 [
-      | inl plain ↦ ap (λ (x : OwnState). x.out) plain.1 ∙ passed
-      | inr begun ↦ ap (λ (x : OwnState). x.out) begun.3 ∙ passed
+      | inl plain ↦ (ap (λ (x : OwnState). x.out) plain.1 ∙ passed.0, ap (λ (x : OwnState). x.literals) plain.1 ∙ passed.1)
+      | inr begun ↦ (ap (λ (x : OwnState). x.out) begun.3 ∙ passed.0, ap (λ (x : OwnState). x.literals) begun.3 ∙ passed.1)
     ]
 
 pub record_there : (classes : List ClassRecord) (c : ClassId) → HasClass classes c → (r : ClassRecord) × (record_of classes c ≡ Some r)
@@ -68,9 +68,9 @@ pub paid_texts : (d paid : DomainPart) → PaysFor d paid true → paid.texts �
 paid_texts d paid (inl h) = ap (λ (x : DomainPart). x.texts) h.1
 paid_texts d paid (inr h) = ap (λ (x : DomainPart). x.texts) h.2
 
-pub paid_own : (d paid : DomainPart) → PaysFor d paid true → paid.own ≡ d.own
-paid_own d paid (inl h) = ap (λ (x : DomainPart). x.own) h.1
-paid_own d paid (inr h) = ap (λ (x : DomainPart). x.own) h.2
+pub paid_own : (d paid : DomainPart) → PaysFor d paid true → paid.own.state ≡ d.own.state
+paid_own d paid (inl h) = ap (λ (x : DomainPart). x.own.state) h.1
+paid_own d paid (inr h) = ap (λ (x : DomainPart). x.own.state) h.2
 
 pub pays_in : (names : DomainRecord) (d paid : DomainPart) (was : DomainState) → was ≡ state_of names d → PaysFor d paid true
     → Pays was (state_of names paid)
@@ -80,9 +80,6 @@ pays_in names d paid was e (inr h) = inr (
   ap (λ (x : DomainState). x.steps_left) e ∙ h.1,
   ap (state_of names) h.2 ∙ sym (ap (λ (x : DomainState). let y : DomainState = record x { steps_left = Some h.0 } in y) e),
 )
-
-abbrev pub with_own_state : DomainPart → OwnState → DomainPart
-with_own_state d own = record d { own = own }
 
 module _ (c : FrameContent) (w : WorldRecord) (names : DomainRecord) (d : DomainPart) (r : Runs) (m : Machine) (p : RunningSegment m r.thread.0)
     (at : IsAt c w names d r m p) where
@@ -98,7 +95,7 @@ module _ (c : FrameContent) (w : WorldRecord) (names : DomainRecord) (d : Domain
       let same : stored id frames ≡ stored r.domain p.segment.frames = same_Some (stored id frames) (stored r.domain p.segment.frames) (sym h ∙ at.stored) in
       ap (λ (x : StoredSegment). x.frames) same
 
-  pub own_is : p.inside.own ≡ d.own
+  pub own_is : p.inside.own ≡ d.own.state
   own_is = ap (λ (x : Inside). x.own) at.inside
 
   -- the domain that paid, with another own state
@@ -123,15 +120,15 @@ module _ (c : FrameContent) (w : WorldRecord) (names : DomainRecord) (d : Domain
   -- ---- Throwables.
 
   pub throws_so : (paid : DomainPart) (raise : Raise) (thrown : ClassId) (new : FrameContent) (own : OwnState) (left : ClassId) (class : ClassRecord)
-      → PaysFor d paid true → IsThrown raise thrown → LeavesSegment w.classes c new r.segment paid.own own thrown left
+      → PaysFor d paid true → IsThrown raise thrown → LeavesSegment w.classes c new r.segment paid.own.state own thrown left
       → record_of w.classes left ≡ Some class
       → Throws p (state_of names paid) p.inside p.segment.frames raise (Says.EndedBy r.thread class.name ∷ [])
       (without_running p (state_of names (with_own_state paid own)))
   throws_so paid raise thrown new own left class pays is leaves there =
       let frames = same_frames leaves.domain leaves.frames leaves.holds in
-      let from : LeavesFrames w.classes p.segment.frames paid.own thrown own left =
-      subst (λ (l : List FrameState). LeavesFrames w.classes l paid.own thrown own left) frames leaves.leaves in
-      let own_now : paid.own ≡ p.inside.own = paid_own d paid pays ∙ sym own_is in
+      let from : LeavesFrames w.classes p.segment.frames paid.own.state thrown own left =
+      subst (λ (l : List FrameState). LeavesFrames w.classes l paid.own.state thrown own left) frames leaves.leaves in
+      let own_now : paid.own.state ≡ p.inside.own = paid_own d paid pays ∙ sym own_is in
       let here : LeavesFrames m.classes p.segment.frames p.inside.own thrown own left =
       subst (λ (l : List ClassRecord). LeavesFrames l p.segment.frames p.inside.own thrown own left) (sym at.classes)
       (subst (λ (o : OwnState). LeavesFrames w.classes p.segment.frames o thrown own left) own_now from) in
@@ -157,7 +154,7 @@ module _ (c : FrameContent) (w : WorldRecord) (names : DomainRecord) (d : Domain
 
   pub breaks : (paid : DomainPart) (class : ClassId) (new : FrameContent) (own : OwnState) (left : ClassId) (named : ClassRecord)
       → (pays : PaysFor d paid true) (free : IsHeld p → ⊥) (running : RunningFrame p) → FrameNeeds m.classes running.frame class
-      → class_state d.own class ≡ State.Broken → LeavesSegment w.classes c new r.segment paid.own own NO_CLASS_DEF_FOUND_ERROR left
+      → class_state d.own.state class ≡ State.Broken → LeavesSegment w.classes c new r.segment paid.own.state own NO_CLASS_DEF_FOUND_ERROR left
       → record_of w.classes left ≡ Some named
       → Acts m r.thread.0 (Says.EndedBy r.thread named.name ∷ []) (without_running p (state_of names (with_own_state paid own)))
   breaks paid class new own left named pays free running needs broken leaves there =
@@ -185,12 +182,12 @@ module _ (c : FrameContent) (w : WorldRecord) (names : DomainRecord) (d : Domain
       omega (arith, lt, free_is)
 
   pub begins_class : (paid after : DomainPart) (class : ClassId) (new : FrameContent) → (pays : PaysFor d paid true) (free : IsHeld p → ⊥)
-      (running : RunningFrame p) → FrameNeeds m.classes running.frame class → class_state d.own class ≡ State.Untouched
+      (running : RunningFrame p) → FrameNeeds m.classes running.frame class → class_state d.own.state class ≡ State.Untouched
       → BeginsClass w.classes c new r.thread r.segment class paid after → LeadsOn c new names after m r p []
   begins_class paid after class new pays free running needs untouched h =
       let frames = p.segment.frames ++ new_frame h.head ∷ [] in
       let gets = pushed c new r.segment r.domain p.segment.frames h.head at.stored h.pushes in
-      let own : with_state paid.own class (State.InProgress r.thread) ≡ with_state p.inside.own class (State.InProgress r.thread) =
+      let own : with_state paid.own.state class (State.InProgress r.thread) ≡ with_state p.inside.own class (State.InProgress r.thread) =
       ap (λ (o : OwnState). with_state o class (State.InProgress r.thread)) (paid_own d paid pays ∙ sym own_is) in
       let part : state_of names after ≡ with_own (state_of names paid) p.inside (with_state p.inside.own class (State.InProgress r.thread)) =
       ap (state_of names) h.part ∙ ap (λ (o : OwnState). state_of names (with_own_state paid o)) own
@@ -208,16 +205,16 @@ module _ (c : FrameContent) (w : WorldRecord) (names : DomainRecord) (d : Domain
 
   pub overflows : (paid after : DomainPart) (class : ClassId) (new : FrameContent) (left : ClassId) (named : ClassRecord) → IsContent c
       → (pays : PaysFor d paid true) (free : IsHeld p → ⊥) (running : RunningFrame p) → FrameNeeds m.classes running.frame class
-      → class_state d.own class ≡ State.Untouched → OverflowsAt w.classes c new r.segment class left paid after → record_of w.classes left ≡ Some named
+      → class_state d.own.state class ≡ State.Untouched → OverflowsAt w.classes c new r.segment class left paid after → record_of w.classes left ≡ Some named
       → LeadsOut c new names after m r p (Says.EndedBy r.thread named.name ∷ [])
   overflows paid after class new left named content pays free running needs untouched h there =
-      let throws = throws_so paid (Raised.Standing Stands.StackOverflowError) (standing_class Stands.StackOverflowError) new after.own left named
+      let throws = throws_so paid (Raised.Standing Stands.StackOverflowError) (standing_class Stands.StackOverflowError) new after.own.state left named
       pays refl h.throws there in
       let again : Throws p (state_of names paid) p.inside p.segment.frames (Raised.Standing Stands.StackOverflowError)
       (Says.EndedBy r.thread named.name ∷ []) (without_running p (state_of names after)) =
       subst (λ (x : DomainPart). Throws p (state_of names paid) p.inside p.segment.frames (Raised.Standing Stands.StackOverflowError)
       (Says.EndedBy r.thread named.name ∷ []) (without_running p (state_of names x))) (sym h.part) throws in (
-        goes_out new paid.own after.own (standing_class Stands.StackOverflowError) left content h.throws,
+        goes_out new paid.own.state after.own.state (standing_class Stands.StackOverflowError) left content h.throws,
         inr (inr (inr (inr (touches (acting paid pays free running) class needs
             (record {
               untouched = ap (λ (o : OwnState). class_state o class) own_is ∙ untouched;

@@ -28,9 +28,9 @@ class_is a b e = ap (λ (n : ℕ). let x : ClassId = record { 0 = n } in x) e
 
 module _ (c : FrameContent) (w : WorldRecord) (names : DomainRecord) (d : DomainPart) (r : Runs) (m : Machine) (p : RunningSegment m r.thread.0)
     (at : IsAt c w names d r m p) where
-  pub plain_class : (k : ClassId) → state_of d.own k ≡ State.Untouched → IsPlainClass w.classes k
+  pub plain_class : (k : ClassId) → state_of d.own.state k ≡ State.Untouched → IsPlainClass w.classes k
   plain_class k u =
-      let own : p.inside.own ≡ d.own = ap (λ (x : Inside). x.own) at.inside in
+      let own : p.inside.own ≡ d.own.state = ap (λ (x : Inside). x.own) at.inside in
       let has = untouched_has_state p.inside.own k (ap (λ (o : OwnState). state_of o k) own ∙ u) in
       let found = found_at (λ (e : ClassPart). e.class.0 == k.0) p.inside.own.classes has.0 has.1 in
       let inside = at.sealed.insides p.domain p.inside (domain_there c w names d r m p at) p.is_inside in

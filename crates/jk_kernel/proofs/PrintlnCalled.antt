@@ -53,14 +53,14 @@ use Rattle.jk_kernel.specs.declared.happened.Happened.TheVariants as Came
 use Rattle.jk_kernel.specs.declared.stepping.Runs.{Runs}
 use Rattle.jk_kernel.specs.Calling.{HasOnTop, with_stack}
 use Rattle.jk_kernel.specs.Executing.{DoesNext}
-use Rattle.jk_kernel.specs.KernelStates.{heap_of, state_of}
+use Rattle.jk_kernel.specs.KernelStates.{heap_of, state_of, with_own_state}
 use Rattle.jk_kernel.specs.LocalSteps.{LeadsOn}
 use Rattle.jk_kernel.specs.Returning.{TopCanResume}
 use Rattle.jk_kernel.specs.Saying.{HasSaidOnTop, HasSoMany}
 use Rattle.jk_kernel.specs.SegmentFrames.{GetsFrames}
 use Rattle.jk_kernel.specs.Throwing.{LeavesSegment}
 use Rattle.jk_kernel.proofs.BuiltByOpcode.{calls_println}
-use Rattle.jk_kernel.proofs.PartsOfAMachine.{goes_out, throws_so, with_own_state}
+use Rattle.jk_kernel.proofs.PartsOfAMachine.{goes_out, throws_so}
 use Rattle.jk_kernel.proofs.PrintedTypes.{one_at_most}
 use Rattle.jk_kernel.proofs.PrintedValues.{no_stream_said, said_so}
 use Rattle.jk_kernel.proofs.StepsByCase.{StepOf, left_named}
@@ -315,10 +315,10 @@ module _ (c : FrameContent) (w : WorldRecord) (names : DomainRecord) (d paid : D
 
   pub throws_at_null : IsContent c → (new : FrameContent) (own : OwnState) (left : ClassId) (member : MemberId) (method : MethodRecord)
       (on : Called member method) → on.receiver ≡ Held.Null
-      → LeavesSegment w.classes c new r.segment paid.own own NULL_POINTER_EXCEPTION left
+      → LeavesSegment w.classes c new r.segment paid.own.state own NULL_POINTER_EXCEPTION left
       → StepOf c new w names d (with_own_state paid own) r m p (Came.EndedBy left)
   throws_at_null content new own left member method on null leaves =
-      let class = left_named c w names d r m p h.at NULL_POINTER_EXCEPTION left new paid.own own (omega arith) leaves in
+      let class = left_named c w names d r m p h.at NULL_POINTER_EXCEPTION left new paid.own.state own (omega arith) leaves in
       let lines = Told.EndedBy r.thread class.0.name ∷ [] in
       let last = without_running p (state_of names (with_own_state paid own)) in
       let thrown = throws_so c w names d r m p h.at paid (Raised.Fresh NULL_POINTER_EXCEPTION) NULL_POINTER_EXCEPTION new own left class.0 h.pays refl
@@ -328,7 +328,7 @@ module _ (c : FrameContent) (w : WorldRecord) (names : DomainRecord) (d paid : D
         lines,
         (class.0, class.1, refl),
         (
-          goes_out c w names d r m p h.at new paid.own own NULL_POINTER_EXCEPTION left content leaves,
+          goes_out c w names d r m p h.at new paid.own.state own NULL_POINTER_EXCEPTION left content leaves,
           does_so c w names d paid r m p head s i h (record { inside = p.inside; frame = f }) (Raises (Raised.Fresh NULL_POINTER_EXCEPTION)) lines last
               (prints_line (record {
                 op = op;

@@ -2,7 +2,7 @@
 use Rattle.std.proofs.Common.{◌≡◌, ◌==◌, ℕ, zero, suc, Bool, true, false, List, [], ◌∷◌, ◌++◌, Contains, find, Some, slice_get, refl, sym, ap, subst, ◌∙◌}
 use Rattle.std.specs.List.{AllByRecursion}
 use Rattle.std.proofs.lemmas.Bool.{eqb-true}
-use Rattle.std.proofs.lemmas.Option.{get_or_from_slice_get, same_Some, slice_get_within}
+use Rattle.std.proofs.lemmas.Option.{same_Some}
 use Rattle.list_lemmas.proofs.ItemsOfLists.{Contains-at}
 use Rattle.list_lemmas.proofs.LastItems.{last_of}
 use Rattle.jk_model.specs.declared.identifiers.DomainId.{DomainId}
@@ -80,9 +80,9 @@ module _ (c : FrameContent) (w : WorldRecord) (names : DomainRecord) (d : Domain
       subst (Holds c r.segment r.domain) runs_frame.are_frames at.stored in
       (runs_frame.frame, top_there c c r.segment r.domain runs_frame.callers runs_frame.frame holds)
 
-  pub known_frames : HasKnownFrames c r.segment d.own
+  pub known_frames : HasKnownFrames c r.segment d.own.state
   known_frames =
-      let own : p.inside.own ≡ d.own = ap (λ (x : Inside). x.own) at.inside in
+      let own : p.inside.own ≡ d.own.state = ap (λ (x : Inside). x.own) at.inside in
       let number = ap (λ (n : DomainId). n.0) p.numbered in
       record {
         domain = r.domain;

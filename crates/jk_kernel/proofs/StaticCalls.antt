@@ -1,6 +1,6 @@
 -- A call of a static method with code: its arguments are on the stack and fit its locals, and what the call does is a step of the
 -- machine.
-use Rattle.std.proofs.Common.{◌≡◌, ◌<◌, ◌≤◌, ℕ, zero, suc, IsTrue, List, [], ◌∷◌, ◌++◌, length, map, refl, sym, ap, subst, ◌∙◌, inl, inr, arith}
+use Rattle.std.proofs.Common.{◌≡◌, ◌<◌, ◌≤◌, ℕ, suc, IsTrue, List, [], ◌∷◌, ◌++◌, length, map, refl, sym, ap, subst, ◌∙◌, inl, inr, arith}
 use Rattle.std.specs.Prelude.{flat_map}
 use Rattle.std.proofs.lemmas.List.{append-nil, length-append}
 use Rattle.jk_model.specs.declared.frames.FrameHead.{FrameHead}
@@ -13,8 +13,6 @@ use Rattle.jk_model.specs.declared.steps.Raise.TheVariants as Raised
 use Rattle.jk_model.specs.declared.steps.Standing.TheVariants as Stands
 use Rattle.jk_model.specs.declared.values.Value.{Value}
 use Rattle.jk_model.specs.declared.values.Value.TheVariants as Held
-use Rattle.jk_model_classes.specs.declared.records.BaseRef.{BaseRef}
-use Rattle.jk_model_classes.specs.declared.records.BaseRef.TheVariants as Base
 use Rattle.jk_model_classes.specs.declared.records.ClassRecord.{ClassRecord}
 use Rattle.jk_model_classes.specs.declared.records.Link.TheVariants as To
 use Rattle.jk_model_classes.specs.declared.records.MethodRecord.{MethodRecord}
@@ -23,7 +21,7 @@ use Rattle.jk_model_classes.specs.Lookups.{MethodIs}
 use Rattle.jk_model_classes.specs.Worlds.{DomainRecord, WorldRecord}
 use Rattle.jk_model_typing.specs.declared.frames.VType.{VType}
 use Rattle.jk_model_typing.specs.declared.frames.VType.TheVariants.{Unusable, Long}
-use Rattle.jk_model_typing.specs.FrameTypes.{IsUsable, dims_value, value_of}
+use Rattle.jk_model_typing.specs.FrameTypes.{IsUsable, value_of}
 use Rattle.jk_model_typing.specs.Groups.{Shape, group_of}
 use Rattle.jk_model_typing.specs.Rows.{Does, HasShape}
 use Rattle.jk_model_typing.specs.Scopes.{CodeScope, IsScopeOf, is_static, own_receiver, parameter_values}
@@ -51,12 +49,12 @@ use Rattle.jk_kernel.specs.declared.happened.Happened.TheVariants as Came
 use Rattle.jk_kernel.specs.declared.stepping.Runs.{Runs}
 use Rattle.jk_kernel.specs.Calling.{BeginsCall, CallsSo, HasOnTop, MayCall, OverflowsInCall, begun, locals_of, with_stack}
 use Rattle.jk_kernel.specs.Executing.{DoesNext}
-use Rattle.jk_kernel.specs.KernelStates.{state_of}
+use Rattle.jk_kernel.specs.KernelStates.{state_of, with_own_state}
 use Rattle.jk_kernel.specs.LocalSteps.{KeepsPart}
 use Rattle.jk_kernel.specs.SegmentFrames.{GetsFrames, HasKnownFrames, stored}
 use Rattle.jk_kernel.proofs.BuiltByOpcode.{CallsCodeOf, call_left}
 use Rattle.jk_kernel.proofs.InstructionsBegin.{built_here, callers, code, done, frame, goes_out_from, here, holds, in_code, left_class, leads_on, leads_out, payer_is, throws_here, with_inside}
-use Rattle.jk_kernel.proofs.PartsOfAMachine.{left_keeps_out, paid_own, with_own_state}
+use Rattle.jk_kernel.proofs.PartsOfAMachine.{left_keeps_names, paid_own}
 use Rattle.jk_kernel.proofs.SegmentsOfAMachine.{known_frames}
 use Rattle.jk_kernel.proofs.StepsByCase.{StepOf, keeps_all, keeps_own}
 
@@ -195,7 +193,7 @@ module _ {c : FrameContent} {w : WorldRecord} {names : DomainRecord} {d paid : D
     locals = locals_fit;
   }
 
-  pub known_here : HasKnownFrames c r.segment paid.own
+  pub known_here : HasKnownFrames c r.segment paid.own.state
   known_here = subst (HasKnownFrames c r.segment) (sym (paid_own d paid next.pays)) (known_frames c w names d r m p next.at)
 
   -- ---- What it does is a step.
@@ -256,9 +254,9 @@ module _ {c : FrameContent} {w : WorldRecord} {names : DomainRecord} {d paid : D
         let frames = callers next ++ frame next ∷ [] in
         let raise = Raised.Standing Stands.StackOverflowError in
         let thrown = standing_class Stands.StackOverflowError in
-        let class = left_class next c new frames same_now raise thrown left last.own refl (omega arith) h.throws in
-        let thrown_so = throws_here next c new frames same_now raise thrown left last.own refl (omega arith) h.throws in
-        let gone = goes_out_from next c new frames same_now raise thrown left last.own refl (omega arith) h.throws content in
+        let class = left_class next c new frames same_now raise thrown left last.own.state refl (omega arith) h.throws in
+        let thrown_so = throws_here next c new frames same_now raise thrown left last.own.state refl (omega arith) h.throws in
+        let gone = goes_out_from next c new frames same_now raise thrown left last.own.state refl (omega arith) h.throws content in
         let said : List Line = Says.EndedBy r.thread class.0.name ∷ [] in
         let short : free_chunks m p.domain < head_chunks first = omega (arith, h.no_room, next.at.free) in
         let executes : Executes s (free_chunks m p.domain) i (working (frame next)) (working (frame next)) (Raises raise) =
@@ -272,12 +270,12 @@ module _ {c : FrameContent} {w : WorldRecord} {names : DomainRecord} {d paid : D
           inside = refl;
           does = inr (short, refl, refl);
         }) in
-        let step = done next (working (frame next)) (Raises raise) executes said (without_running p (state_of names (with_own_state paid last.own)))
+        let step = done next (working (frame next)) (Raises raise) executes said (without_running p (state_of names (with_own_state paid last.own.state)))
         (throws raise said _ thrown_so) in
         let steps : Steps m r.thread.0 said (without_running p (state_of names last)) =
         subst (λ (x : DomainPart). Steps m r.thread.0 said (without_running p (state_of names x))) (sym h.part) step in (
-          subst (KeepsPart paid) (sym h.part) (keeps_own paid paid last.own (keeps_all paid)
-              (left_keeps_out w.classes h.throws.frames paid.own last.own thrown left h.throws.leaves)),
+          subst (KeepsPart paid) (sym h.part) (keeps_own paid paid last.own.state (keeps_all paid)
+              (left_keeps_names w.classes h.throws.frames paid.own.state last.own.state thrown left h.throws.leaves)),
           (said, (class.0, class.1, refl), leads_out next new last said gone steps),
         )
 

@@ -41,7 +41,8 @@ use Rattle.jk_kernel.specs.StandsAt.{StandsIn}
 use Rattle.jk_kernel.specs.Touching.{ForgetsNeed, Touches}
 use Rattle.jk_kernel.proofs.HeldThreads.{all_ready, broken_look, held, looks_at, needs_it, not_held, untouched_look}
 use Rattle.jk_kernel.proofs.NeedsFallen.{class_done, falls}
-use Rattle.jk_kernel.proofs.PartsOfAMachine.{begins_class, breaks, goes_out, left_is_there, left_keeps_out, overflows, own_is, record_there, same_frames, with_own_state}
+use Rattle.jk_kernel.specs.KernelStates.{with_own_state}
+use Rattle.jk_kernel.proofs.PartsOfAMachine.{begins_class, breaks, goes_out, left_is_there, left_keeps_names, overflows, own_is, record_there, same_frames}
 use Rattle.jk_kernel.proofs.SegmentsOfAMachine.{frames_fit, known_frames, runs_frame, top_running}
 use Rattle.jk_kernel.proofs.TopFrameFits.{initialises_some, stands_somewhere}
 
@@ -55,14 +56,22 @@ same_content c = record {
 -- ---- What is kept of a domain.
 
 pub keeps_all : (d : DomainPart) → KeepsPart d d
-keeps_all d = record { quotas = refl; texts = refl; started = refl; out = refl }
+keeps_all d = record { quotas = refl; texts = refl; started = refl; out = refl; literals = refl; rooms = refl }
 
 pub keeps_paid : (d paid : DomainPart) → PaysFor d paid true → KeepsPart d paid
 keeps_paid d paid (inl h) = subst (KeepsPart d) (sym h.1) (keeps_all d)
-keeps_paid d paid (inr h) = subst (KeepsPart d) (sym h.2) (record { quotas = refl; texts = refl; started = refl; out = refl })
+keeps_paid d paid (inr h) = subst (KeepsPart d) (sym h.2) (record { quotas = refl; texts = refl; started = refl; out = refl; literals = refl; rooms = refl })
 
-pub keeps_own : (d paid : DomainPart) (own : OwnState) → KeepsPart d paid → own.out ≡ paid.own.out → KeepsPart d (with_own_state paid own)
-keeps_own d paid own h same = record { quotas = h.quotas; texts = h.texts; started = h.started; out = same ∙ h.out }
+pub keeps_own : (d paid : DomainPart) (own : OwnState) → KeepsPart d paid → (own.out ≡ paid.own.state.out) × (own.literals ≡ paid.own.state.literals)
+    → KeepsPart d (with_own_state paid own)
+keeps_own d paid own h same = record {
+  quotas = h.quotas;
+  texts = h.texts;
+  started = h.started;
+  out = same.0 ∙ h.out;
+  literals = same.1 ∙ h.literals;
+  rooms = h.rooms;
+}
 
 pub keeps_on : (d paid last : DomainPart) → KeepsPart d paid → KeepsPart paid last → KeepsPart d last
 keeps_on d paid last first second = record {
@@ -70,15 +79,17 @@ keeps_on d paid last first second = record {
   texts = second.texts ∙ first.texts;
   started = second.started ∙ first.started;
   out = second.out ∙ first.out;
+  literals = second.literals ∙ first.literals;
+  rooms = second.rooms ∙ first.rooms;
 }
 
 pub keeps_touched : (classes : List ClassRecord) (c new : FrameContent) (thread : ThreadNo) (s : SegmentNo) (k : ClassId) (d paid after : DomainPart)
     (happened : Happened) → KeepsPart d paid → Touches classes c new thread s k paid after happened → KeepsPart d after
 keeps_touched classes c new thread s k d paid after Came.Silent keeps h =
-    subst (KeepsPart d) (sym h.part) (keeps_own d paid (with_state paid.own k (State.InProgress thread)) keeps refl)
+    subst (KeepsPart d) (sym h.part) (keeps_own d paid (with_state paid.own.state k (State.InProgress thread)) keeps (refl, refl))
 keeps_touched classes c new thread s k d paid after (Came.EndedBy left) keeps h =
-    subst (KeepsPart d) (sym h.part) (keeps_own d paid after.own keeps
-    (left_keeps_out classes h.throws.frames paid.own after.own (standing_class Stands.StackOverflowError) left h.throws.leaves))
+    subst (KeepsPart d) (sym h.part) (keeps_own d paid after.own.state keeps
+    (left_keeps_names classes h.throws.frames paid.own.state after.own.state (standing_class Stands.StackOverflowError) left h.throws.leaves))
 keeps_touched classes c new thread s k d paid after Came.Idle keeps h = absurd h
 keeps_touched classes c new thread s k d paid after Came.Ended keeps h = absurd h
 keeps_touched classes c new thread s k d paid after (Came.Said said) keeps h = absurd h
@@ -112,7 +123,7 @@ module _ (c : FrameContent) (w : WorldRecord) (names : DomainRecord) (d : Domain
       (system_there 37 (omega arith)))
 
   module _ (head : FrameHead) (is : (f : FrameState) → TopFrame c r.segment f → head ≡ f.head) (needed : Option ClassId)
-      (needs : IsNeeded w.classes head needed) (look : Look) (meets : Meets d.own r.thread needed look) where
+      (needs : IsNeeded w.classes head needed) (look : Look) (meets : Meets d.own.state r.thread needed look) where
     abbrev running : RunningFrame p
     running = runs_frame c w names d r m p at
 
@@ -160,57 +171,59 @@ module _ (c : FrameContent) (w : WorldRecord) (names : DomainRecord) (d : Domain
         → StepOf c new w names d after r m p happened
     touched paid after new k Came.Silent content e some pays h =
         let free : look ≡ Sees.Waits → ⊥ = λ no. (let both : Sees.Untouched ≡ Sees.Waits = sym e ∙ no in absurd cc) in
-        let looks = subst (IsLook r.thread (class_state d.own k)) e (looks_at c w names d r m p at running head head_is needed needs look meets k some) in (
+        let looks = subst (IsLook r.thread (class_state d.own.state k)) e
+        (looks_at c w names d r m p at running head head_is needed needs look meets k some) in (
           [],
           refl,
           begins_class c w names d r m p at paid after k new pays (free_to_act free) running
-              (needs_it c w names d r m p at running head head_is needed needs look meets k some) (untouched_look r.thread (class_state d.own k) looks) h,
+              (needs_it c w names d r m p at running head head_is needed needs look meets k some) (untouched_look r.thread (class_state d.own.state k) looks) h,
         )
     touched paid after new k (Came.EndedBy left) content e some pays h =
         let free : look ≡ Sees.Waits → ⊥ = λ no. (let both : Sees.Untouched ≡ Sees.Waits = sym e ∙ no in absurd cc) in
-        let looks = subst (IsLook r.thread (class_state d.own k)) e (looks_at c w names d r m p at running head head_is needed needs look meets k some) in
-        let class = left_named (standing_class Stands.StackOverflowError) left new paid.own after.own (omega arith) h.throws in (
+        let looks = subst (IsLook r.thread (class_state d.own.state k)) e (looks_at c w names d r m p at running head head_is needed needs look meets k some) in
+        let class = left_named (standing_class Stands.StackOverflowError) left new paid.own.state after.own.state (omega arith) h.throws in (
           Says.EndedBy r.thread class.0.name ∷ [],
           (class.0, class.1, refl),
           overflows c w names d r m p at paid after k new left class.0 content pays
               (free_to_act free) running (needs_it c w names d r m p at running head head_is needed needs look meets k some)
-              (untouched_look r.thread (class_state d.own k) looks) h class.1,
+              (untouched_look r.thread (class_state d.own.state k) looks) h class.1,
         )
     touched paid after new k Came.Idle content e some pays h = absurd h
     touched paid after new k Came.Ended content e some pays h = absurd h
     touched paid after new k (Came.Said said) content e some pays h = absurd h
 
     pub broke : (paid : DomainPart) (own : OwnState) (new : FrameContent) (left : ClassId) → IsContent c → look ≡ Sees.Broken → PaysFor d paid true
-        → LeavesSegment w.classes c new r.segment paid.own own NO_CLASS_DEF_FOUND_ERROR left
+        → LeavesSegment w.classes c new r.segment paid.own.state own NO_CLASS_DEF_FOUND_ERROR left
         → StepOf c new w names d (with_own_state paid own) r m p (Came.EndedBy left)
     broke paid own new left content e pays leaves = by_needed needed refl
       where
         by_needed : (o : Option ClassId) → needed ≡ o → StepOf c new w names d (with_own_state paid own) r m p (Came.EndedBy left)
         by_needed None is =
-            let ready : look ≡ Sees.Ready = subst (λ (x : Option ClassId). Meets d.own r.thread x look) is meets in
+            let ready : look ≡ Sees.Ready = subst (λ (x : Option ClassId). Meets d.own.state r.thread x look) is meets in
             let no : Sees.Broken ≡ Sees.Ready = sym e ∙ ready in
             absurd cc
         by_needed (Some k) some =
             let free : look ≡ Sees.Waits → ⊥ = λ no. (let both : Sees.Broken ≡ Sees.Waits = sym e ∙ no in absurd cc) in
-            let looks = subst (IsLook r.thread (class_state d.own k)) e (looks_at c w names d r m p at running head head_is needed needs look meets k some) in
-            let class = left_named NO_CLASS_DEF_FOUND_ERROR left new paid.own own (omega arith) leaves in
+            let looks = subst (IsLook r.thread (class_state d.own.state k)) e
+            (looks_at c w names d r m p at running head head_is needed needs look meets k some) in
+            let class = left_named NO_CLASS_DEF_FOUND_ERROR left new paid.own.state own (omega arith) leaves in
             let acts = breaks c w names d r m p at paid k new own left class.0 pays (free_to_act free) running
-            (needs_it c w names d r m p at running head head_is needed needs look meets k some) (broken_look r.thread (class_state d.own k) looks) leaves
+            (needs_it c w names d r m p at running head head_is needed needs look meets k some) (broken_look r.thread (class_state d.own.state k) looks) leaves
             class.1 in (
               Says.EndedBy r.thread class.0.name ∷ [],
               (class.0, class.1, refl),
-              (goes_out c w names d r m p at new paid.own own NO_CLASS_DEF_FOUND_ERROR left content leaves, inr (inr (inr (inr acts)))),
+              (goes_out c w names d r m p at new paid.own.state own NO_CLASS_DEF_FOUND_ERROR left content leaves, inr (inr (inr (inr acts)))),
             )
 
     -- the class that the top frame initialises has a state
-    pub known_on_top : (k : ClassId) → head.initialises ≡ Some k → HasState d.own k
+    pub known_on_top : (k : ClassId) → head.initialises ≡ Some k → HasState d.own.state k
     known_on_top k e =
         let h = known_frames c w names d r m p at in
         let same = same_frames c w names d r m p at h.domain h.frames h.holds in
-        let all = subst (AllByRecursion (StateIsKnown d.own)) (same ∙ running.are_frames) h.known in
+        let all = subst (AllByRecursion (StateIsKnown d.own.state)) (same ∙ running.are_frames) h.known in
         all_last running.callers running.frame all k (ap (λ (x : FrameHead). x.initialises) head_is ∙ e)
       where
-        all_last : (xs : List FrameState) (f : FrameState) → AllByRecursion (StateIsKnown d.own) (xs ++ f ∷ []) → StateIsKnown d.own f
+        all_last : (xs : List FrameState) (f : FrameState) → AllByRecursion (StateIsKnown d.own.state) (xs ++ f ∷ []) → StateIsKnown d.own.state f
         all_last [] f h = h.0
         all_last (x ∷ xs) f h = all_last xs f h.1
 
@@ -223,7 +236,7 @@ module _ (c : FrameContent) (w : WorldRecord) (names : DomainRecord) (d : Domain
 
     pub fell : (paid after : DomainPart) (new : FrameContent) (k : ClassId) → IsContent c → look ≡ Sees.Ready → PaysFor d paid true → head.need ≡ Some k
         → ((x : ClassId) → head.method ≡ None → head.initialises ≡ Some x
-        → Pops c new r.segment × (after ≡ with_own_state paid (with_state paid.own x State.Done)))
+        → Pops c new r.segment × (after ≡ with_own_state paid (with_state paid.own.state x State.Done)))
         → ((x : MemberId) → head.method ≡ Some x → ForgetsNeed c new r.segment head × (after ≡ paid))
         → StepOf c new w names d after r m p Came.Silent
     fell paid after new k content e pays need by_class by_method = by_case head.method refl
@@ -249,7 +262,7 @@ module _ (c : FrameContent) (w : WorldRecord) (names : DomainRecord) (d : Domain
             )
 
     pub keeps_fallen : (paid after : DomainPart) → PaysFor d paid true
-        → ((x : ClassId) → head.method ≡ None → head.initialises ≡ Some x → after ≡ with_own_state paid (with_state paid.own x State.Done))
+        → ((x : ClassId) → head.method ≡ None → head.initialises ≡ Some x → after ≡ with_own_state paid (with_state paid.own.state x State.Done))
         → ((x : MemberId) → head.method ≡ Some x → after ≡ paid) → KeepsPart d after
     keeps_fallen paid after pays by_class by_method = by_case head.method refl
       where
@@ -259,7 +272,7 @@ module _ (c : FrameContent) (w : WorldRecord) (names : DomainRecord) (d : Domain
             let begun = initialises_some m.classes p.inside.heap running.frame fits (ap (λ (h : FrameHead). h.method) head_is ∙ has) in
             let here = ap (λ (h : FrameHead). h.initialises) (sym head_is) ∙ begun.1 in
             subst (KeepsPart d) (sym (by_class begun.0 has here))
-            (keeps_own d paid (with_state paid.own begun.0 State.Done) (keeps_paid d paid pays) refl)
+            (keeps_own d paid (with_state paid.own.state begun.0 State.Done) (keeps_paid d paid pays) (refl, refl))
 
     -- a frame without a need stands at an instruction
     pub stands_if_no_need : head.need ≡ None → ((s : CodeScope) (i : Instr) → StandsIn w.classes head s i → ⊥) → ⊥

@@ -10,40 +10,41 @@ use Rattle.jk_model_classes.specs.declared.records.ClassRecord.{ClassRecord}
 use Rattle.jk_model_classes.specs.declared.records.Link.{Link}
 use Rattle.jk_model_classes.specs.declared.records.Link.TheVariants as To
 use Rattle.jk_model_classes.specs.Worlds.{NamedClass}
-use Rattle.jk_model_domains.specs.OwnStates.{IsFirstState, IsLiteralOf, OwnState}
+use Rattle.jk_model_domains.specs.OwnStates.{IsFirstState, IsLiteralOf}
+use Rattle.class_init.specs.KeptStates.{HasFirstRooms, HasRooms, KeptState}
 use Rattle.sealed_openings.specs.OpenedDomains.{IsOpening}
 use Rattle.jk_kernel.specs.BuiltCode.{HaveManyTexts}
 use Rattle.jk_kernel.specs.GivenTexts.{AreGiven, AreGivenNames, GivesMore, HaveNoConstantTexts, IsLinkedText, with_texts}
 use Rattle.jk_kernel.specs.KernelStates.{heap_of}
 use Rattle.jk_kernel.proofs.DistinctTexts.{distinct-by-place, no-more}
 use Rattle.jk_kernel.proofs.OneTextMore.{none-more}
-use Rattle.jk_kernel.proofs.TextsOpened.{given-opens}
+use Rattle.jk_kernel.proofs.TextsOpened.{given-opens, given-rooms}
 
-pub then-more : {own mid new : OwnState} {texts half now : List (List ℕ)} → GivesMore own texts mid half → GivesMore mid half new now
+pub then-more : {own mid new : KeptState} {texts half now : List (List ℕ)} → GivesMore own texts mid half → GivesMore mid half new now
     → GivesMore own texts new now
 then-more {now = now} a b = record {
   given = b.given;
-  same = b.same ∙ ap (λ (o : OwnState). with_texts o now) a.same;
+  same = b.same ∙ ap (λ (o : KeptState). with_texts o now) a.same;
   kept = λ text on. b.kept text (a.kept text on);
 }
 
--- a domain's texts are never changed
-pub texts-stay : {own new : OwnState} {texts now : List (List ℕ)} → GivesMore own texts new now → new.texts ≡ own.texts
-texts-stay gives = ap (λ (o : OwnState). o.texts) gives.same
+-- a domain's rooms are never changed
+pub rooms-stay : {own new : KeptState} {texts now : List (List ℕ)} → GivesMore own texts new now → new.rooms ≡ own.rooms
+rooms-stay gives = ap (λ (o : KeptState). o.rooms) gives.same
 
 -- ---- A pool.
 
 -- the texts of these links have objects, and nothing else is changed
-abbrev pub GivesLinks : List Link → OwnState → List (List ℕ) → OwnState → List (List ℕ) → Type 0
+abbrev pub GivesLinks : List Link → KeptState → List (List ℕ) → KeptState → List (List ℕ) → Type 0
 GivesLinks links own texts new now = GivesMore own texts new now × ((text : List ℕ) → Contains links (To.Text text) → Contains now text)
 
-pub no-links : (own : OwnState) (texts : List (List ℕ)) → AreGivenNames own texts → GivesLinks [] own texts own texts
+pub no-links : (own : KeptState) (texts : List (List ℕ)) → AreGivenNames own texts → GivesLinks [] own texts own texts
 no-links own texts given = (none-more own texts given, λ text on. absurd (Contains-none (To.Text text) on))
 
 same-text : (a b : List ℕ) → To.Text a ≡ To.Text b → a ≡ b
 same-text a b e = cc
 
-pub text-link : {own mid new : OwnState} {texts half now : List (List ℕ)} (links : List Link) (link : Link) (text : List ℕ) → link ≡ To.Text text
+pub text-link : {own mid new : KeptState} {texts half now : List (List ℕ)} (links : List Link) (link : Link) (text : List ℕ) → link ≡ To.Text text
     → GivesLinks links own texts mid half → GivesMore mid half new now → Contains now text → GivesLinks (links ++ link ∷ []) own texts new now
 text-link {now = now} links link text is before gives here = (
   then-more before.0 gives,
@@ -53,7 +54,7 @@ text-link {now = now} links link text is before gives here = (
   ],
 )
 
-pub other-link : {own new : OwnState} {texts now : List (List ℕ)} (links : List Link) (link : Link) → ((text : List ℕ) → link ≡ To.Text text → ⊥)
+pub other-link : {own new : KeptState} {texts now : List (List ℕ)} (links : List Link) (link : Link) → ((text : List ℕ) → link ≡ To.Text text → ⊥)
     → GivesLinks links own texts new now → GivesLinks (links ++ link ∷ []) own texts new now
 other-link links link no_text before = (
   before.0,
@@ -84,12 +85,12 @@ no-entry table i e none at = (let both : None ≡ Some e.class = none ∙ ap (op
 
 module _ (classes : List ClassRecord) (table : List NamedClass) where
   -- the texts of the first classes have objects, and nothing else is changed
-  abbrev pub GivesClasses : ℕ → OwnState → List (List ℕ) → OwnState → List (List ℕ) → Type 0
+  abbrev pub GivesClasses : ℕ → KeptState → List (List ℕ) → KeptState → List (List ℕ) → Type 0
   GivesClasses end own texts new now =
       GivesMore own texts new now
       × ((k : ℕ) (e : NamedClass) (text : List ℕ) → k < end → slice_get table k ≡ Some e → IsLinkedText classes e.class text → Contains now text)
 
-  pub no-classes : (own : OwnState) → own.literals ≡ [] → GivesClasses 0 own [] own []
+  pub no-classes : (own : KeptState) → own.state.literals ≡ [] → GivesClasses 0 own [] own []
   no-classes own none = (
     none-more own [] (record {
       literals = none;
@@ -100,7 +101,7 @@ module _ (classes : List ClassRecord) (table : List NamedClass) where
     λ k e text low. absurd (omega (arith, low)),
   )
 
-  pub one-class : {own mid new : OwnState} {texts half now : List (List ℕ)} (i : ℕ) (c : ClassId)
+  pub one-class : {own mid new : KeptState} {texts half now : List (List ℕ)} (i : ℕ) (c : ClassId)
       → Some c ≡ option_map (λ (e : NamedClass). e.class) (slice_get table i) → GivesClasses i own texts mid half → GivesMore mid half new now
       → ((text : List ℕ) → IsLinkedText classes c text → Contains now text) → GivesClasses (i + 1) own texts new now
   one-class {now = now} i c named before gives all = (then-more before.0 gives, each)
@@ -115,7 +116,7 @@ module _ (classes : List ClassRecord) (table : List NamedClass) where
             all text (subst (λ (x : ClassId). IsLinkedText classes x text) same linked)
       ]
 
-  pub same-class : {own new : OwnState} {texts now : List (List ℕ)} (i : ℕ) → None ≡ option_map (λ (e : NamedClass). e.class) (slice_get table i)
+  pub same-class : {own new : KeptState} {texts now : List (List ℕ)} (i : ℕ) → None ≡ option_map (λ (e : NamedClass). e.class) (slice_get table i)
       → GivesClasses i own texts new now → GivesClasses (i + 1) own texts new now
   same-class {now = now} i none before = (before.0, each)
     where
@@ -129,25 +130,25 @@ module _ (classes : List ClassRecord) (table : List NamedClass) where
       → IsLiteralOf classes table text
   linked-is-literal k e text at linked = (e.class, linked.0, (e.name, Contains-at table k e at), linked.1, inl linked.2)
 
-  module _ (own : OwnState) (first : IsFirstState classes table own) where
-    -- what a class leads to is among the texts at each moment
-    pub linked-known : {new : OwnState} {texts now : List (List ℕ)} (i : ℕ) (c : ClassId)
+  module _ (own : KeptState) (first : IsFirstState classes table own.state) (rooms : HasFirstRooms classes table own) where
+    -- what a class leads to has a room at each moment
+    pub linked-known : {new : KeptState} {texts now : List (List ℕ)} (i : ℕ) (c : ClassId)
         → Some c ≡ option_map (λ (e : NamedClass). e.class) (slice_get table i) → GivesMore own texts new now
-        → (text : List ℕ) → IsLinkedText classes c text → Contains new.texts text
+        → (text : List ℕ) → IsLinkedText classes c text → Contains new.rooms text
     linked-known {new = new} i c named gives text linked =
         let at = entry-at table i c named in
         let literal = linked-is-literal i at.0 text at.1 (subst (λ (x : ClassId). IsLinkedText classes x text) (sym at.2) linked) in
-        subst (λ (ts : List (List ℕ)). Contains ts text) (sym (texts-stay gives)) (first.state.texts text literal)
+        subst (λ (ts : List (List ℕ)). Contains ts text) (sym (rooms-stay gives)) (rooms.rooms.texts text literal)
 
-    pub many-known : 2 ^ 32 ≤ length own.texts → HaveManyTexts classes table
+    pub many-known : 2 ^ 32 ≤ length own.rooms → HaveManyTexts classes table
     many-known many = record {
-      texts = own.texts;
-      literals = each-from (IsLiteralOf classes table) own.texts first.texts;
-      differ = distinct-by-place own.texts first.state.texts_differ;
+      texts = own.rooms;
+      literals = each-from (IsLiteralOf classes table) own.rooms rooms.no_others;
+      differ = distinct-by-place own.rooms rooms.rooms.rooms_differ;
       many = many;
     }
 
-    module _ (constants : HaveNoConstantTexts classes table) {new : OwnState} {now : List (List ℕ)} (done : GivesClasses (length table) own [] new now) where
+    module _ (constants : HaveNoConstantTexts classes table) {new : KeptState} {now : List (List ℕ)} (done : GivesClasses (length table) own [] new now) where
       each-literal : (text : List ℕ) → IsLiteralOf classes table text → Contains now text
       each-literal text (c, r, named, is, inl linked) =
           let place = place_of table (record { name = named.0; class = c }) named.1 in
@@ -162,15 +163,20 @@ module _ (classes : List ClassRecord) (table : List NamedClass) where
           (λ text on. each-literal text (each-of (IsLiteralOf classes table) many.texts text many.literals on))) in
           omega (arith, within, many.many, done.0.given.few)
 
-      pub all-open : IsOpening classes table (record { own = new; heap = heap_of now })
-      all-open =
-          let given : AreGiven classes table own now = record {
-            each = each-literal;
-            known = λ text on. subst (λ (ts : List (List ℕ)). Contains ts text) (texts-stay done.0) (done.0.given.known text on);
-            differ = done.0.given.differ;
-          } in
-          subst (λ (o : OwnState). IsOpening classes table (record { own = o; heap = heap_of now })) (sym done.0.same)
-          (given-opens classes table own now first given)
+      given : AreGiven classes table own now
+      given = record {
+        each = each-literal;
+        known = λ text on. subst (λ (ts : List (List ℕ)). Contains ts text) (rooms-stay done.0) (done.0.given.known text on);
+        differ = done.0.given.differ;
+      }
 
-      pub still-out : new.out ≡ 0
-      still-out = ap (λ (o : OwnState). o.out) done.0.same ∙ first.out
+      pub all-open : IsOpening classes table (record { own = new.state; heap = heap_of now })
+      all-open =
+          subst (λ (o : KeptState). IsOpening classes table (record { own = o.state; heap = heap_of now })) (sym done.0.same)
+          (given-opens classes table own now first rooms given)
+
+      pub still-rooms : HasRooms classes table new
+      still-rooms = subst (HasRooms classes table) (sym done.0.same) (given-rooms classes table own now first rooms given)
+
+      pub still-out : new.state.out ≡ 0
+      still-out = ap (λ (o : KeptState). o.state.out) done.0.same ∙ first.out

@@ -8,7 +8,8 @@ use Rattle.list_lemmas.proofs.ItemsOfLists.{Contains-at, place_of}
 use Rattle.jk_model_classes.specs.declared.records.ClassRecord.{ClassRecord}
 use Rattle.jk_model_classes.specs.Worlds.{NamedClass}
 use Rattle.jk_model_domains.specs.Objects.{NamedObject, Object, Plain, Text, PRINT_STREAM, object_named}
-use Rattle.jk_model_domains.specs.OwnStates.{IsFirstState, IsOwnState, Literal, OwnState, literal_named}
+use Rattle.jk_model_domains.specs.OwnStates.{IsFirstState, IsOwnState, Literal, literal_named}
+use Rattle.class_init.specs.KeptStates.{HasFirstRooms, HasRooms, KeptState}
 use Rattle.sealed_steps.proofs.OneItemChanged.{find-place, find-some}
 use Rattle.sealed_openings.specs.OpenedDomains.{IsOpening}
 use Rattle.jk_kernel.specs.GivenTexts.{AreGiven, inside_with, literals_from, with_texts}
@@ -95,25 +96,28 @@ module _ (texts : List (List ℕ)) where
       let l = literal-for 1 texts i at.0 at.1 in
       inr (l.0, Contains-at (literals_from 1 texts) i l.0 l.1, l.3 ∙ sym at.2)
 
-module _ (classes : List ClassRecord) (table : List NamedClass) (own : OwnState) (texts : List (List ℕ)) (first : IsFirstState classes table own)
-    (given : AreGiven classes table own texts) where
-  state : IsOwnState classes table (with_texts own texts)
+module _ (classes : List ClassRecord) (table : List NamedClass) (own : KeptState) (texts : List (List ℕ)) (first : IsFirstState classes table own.state)
+    (rooms : HasFirstRooms classes table own) (given : AreGiven classes table own texts) where
+  state : IsOwnState classes table (with_texts own texts).state
   state = record {
     each = first.state.each;
     all = first.state.all;
     classes_differ = first.state.classes_differ;
-    texts = first.state.texts;
-    texts_differ = first.state.texts_differ;
-    literals = λ l on.
-        let place = place_of (literals_from 1 texts) l on in
-        given.known l.text (Contains-at texts place.0 l.text (literal-at 1 texts place.0 l place.1).0);
     literals_differ = λ i j a b p q e.
         given.differ i j a.text (literal-at 1 texts i a p).0
         (subst (λ (t : List ℕ). slice_get texts j ≡ Some t) (sym e) (literal-at 1 texts j b q).0);
     standing = first.state.standing;
   }
 
-  has-object : (text : List ℕ) → Contains texts text → (a : ℕ) × (literal_named (with_texts own texts) text ≡ Some a)
+  has-room : (l : Literal) → Contains (literals_from 1 texts) l → Contains own.rooms l.text
+  has-room l on =
+      let place = place_of (literals_from 1 texts) l on in
+      given.known l.text (Contains-at texts place.0 l.text (literal-at 1 texts place.0 l place.1).0)
+
+  pub given-rooms : HasRooms classes table (with_texts own texts)
+  given-rooms = record { texts = rooms.rooms.texts; rooms_differ = rooms.rooms.rooms_differ; literals = has-room }
+
+  has-object : (text : List ℕ) → Contains texts text → (a : ℕ) × (literal_named (with_texts own texts).state text ≡ Some a)
   has-object text on =
       let place = place_of texts text on in
       let l = literal-for 1 texts place.0 text place.1 in
@@ -126,7 +130,7 @@ module _ (classes : List ClassRecord) (table : List NamedClass) (own : OwnState)
     untouched = first.untouched;
     statics = first.statics;
     each_literal = λ text is. has-object text (given.each text is);
-    only_literals = first.texts;
+    only_literals = λ l on. rooms.no_others l.text (has-room l on);
     names_differ = names-differ texts;
     out = subst (λ (n : ℕ). object_named (heap_of texts) n ≡ Some (Plain PRINT_STREAM [])) (sym first.out) refl;
     texts = λ l on.

@@ -23,7 +23,9 @@ use Rattle.jk_kernel.specs.declared.domain_parts.ThreadPart.{ThreadPart}
 use Rattle.jk_kernel.specs.declared.stepping.Runs.{Runs}
 use Rattle.jk_kernel.specs.KernelStates.{ArePartsOfKernel, frames_in, inside_of, machine_of, state_of, states_of, thread_of}
 use Rattle.jk_kernel.specs.KernelTurns.{entry_of}
+use Rattle.class_init.specs.KeptStates.{HasRooms}
 use Rattle.jk_kernel.specs.LocalSteps.{HasFramesNow, KeepsPart}
+use Rattle.jk_kernel.proofs.RoomsKept.{rooms-kept}
 use Rattle.jk_kernel.proofs.EntriesChanged.{AgreeBut, count-sum, map-one, map-same, sum-map, sum-one}
 use Rattle.jk_kernel.proofs.OnePartChanged.{at-state, states-set}
 use Rattle.jk_kernel.proofs.RunningThread.{AtWork, number-is, other-segment, running, same-id, same-no, thread-there, thread-with}
@@ -189,10 +191,14 @@ module _ {w : WorldRecord} {parts : List DomainPart} {threads : List (ℕ × Thr
       started = each-part (λ (i : ℕ) (x : DomainPart). x.started ≡ started_in next (record { 0 = i }))
           (keeps.started ∙ a.sound.parts_fit.started r.domain.0 d is_part ∙ sym (started-now r.domain))
           (λ i x at. a.sound.parts_fit.started i x at ∙ sym (started-now (record { 0 = i })));
-      out = each-part (λ (i : ℕ) (x : DomainPart). x.own.out ≡ 0)
+      out = each-part (λ (i : ℕ) (x : DomainPart). x.own.state.out ≡ 0)
           (keeps.out ∙ a.sound.parts_fit.out r.domain.0 d is_part)
           (λ i x at. a.sound.parts_fit.out i x at);
       literals = λ i n x text names_at part_at literal.
           let state = at-state w.domains later i n x names_at part_at in
           texts (state_of n x) (inside_of x) text (Contains-at (states_of w.domains later) i (state_of n x) state) refl literal;
+      rooms = λ i n x names_at part_at.
+          each-part (λ (i : ℕ) (x : DomainPart). (n : DomainRecord) → slice_get w.domains i ≡ Some n → HasRooms w.classes n.table x.own)
+          (λ other at. rooms-kept w.classes other.table d after keeps (a.sound.parts_fit.rooms r.domain.0 other d at is_part))
+          (λ k y at other there. a.sound.parts_fit.rooms k other y there at) i x part_at n names_at;
     }

@@ -22,7 +22,9 @@ use Rattle.jk_kernel.specs.declared.domain_parts.ThreadPart.{ThreadPart}
 use Rattle.jk_kernel.specs.declared.stepping.Runs.{Runs}
 use Rattle.jk_kernel.specs.KernelStates.{ArePartsOfKernel, frames_in, inside_of, machine_of, state_of, states_of, thread_of}
 use Rattle.jk_kernel.specs.KernelTurns.{entry_of, without_entry}
+use Rattle.class_init.specs.KeptStates.{HasRooms}
 use Rattle.jk_kernel.specs.LocalSteps.{IsGoneNow, KeepsPart}
+use Rattle.jk_kernel.proofs.RoomsKept.{rooms-kept}
 use Rattle.jk_kernel.proofs.EntriesChanged.{AgreeBut, IsPlaceOf, count-sum, filter-removed, left-place, left-there, one-if, sum-map, sum-removed}
 use Rattle.jk_kernel.proofs.KeysByNumber.{key-differs, key-same}
 use Rattle.jk_kernel.proofs.OnePartChanged.{at-state, states-set}
@@ -174,12 +176,16 @@ module _ {w : WorldRecord} {parts : List DomainPart} {threads : List (ℕ × Thr
           let was = a.sound.parts_fit.started i x at in
           let none : one-if (r.domain.0 == i) ≡ 0 = ap one-if (ne_eqb r.domain.0 i (λ same. differ (sym same))) in
           omega (arith, was, none, started-left (record { 0 = i })));
-      out = each-part (λ (i : ℕ) (x : DomainPart). x.own.out ≡ 0)
+      out = each-part (λ (i : ℕ) (x : DomainPart). x.own.state.out ≡ 0)
           (keeps.out ∙ a.sound.parts_fit.out r.domain.0 d is_part)
           (λ i x differ at. a.sound.parts_fit.out i x at);
       literals = λ i n x text names_at part_at literal.
           let state = at-state w.domains later i n x names_at part_at in
           texts (state_of n x) (inside_of x) text (Contains-at (states_of w.domains later) i (state_of n x) state) refl literal;
+      rooms = λ i n x names_at part_at.
+          each-part (λ (i : ℕ) (x : DomainPart). (n : DomainRecord) → slice_get w.domains i ≡ Some n → HasRooms w.classes n.table x.own)
+          (λ other at. rooms-kept w.classes other.table d stepped keeps (a.sound.parts_fit.rooms r.domain.0 other d at is_part))
+          (λ k y differ at other there. a.sound.parts_fit.rooms k other y there at) i x part_at n names_at;
     }
 
   -- its number is that of no thread then

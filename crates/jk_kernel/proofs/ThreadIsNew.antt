@@ -25,6 +25,7 @@ use Rattle.frame_store.specs.FrameContents.{Changes, FrameContent, StoredSegment
 use Rattle.sealed_steps.proofs.OneItemChanged.{push-cases, set-cases}
 use Rattle.jk_kernel.specs.declared.domain_parts.DomainPart.{DomainPart}
 use Rattle.jk_kernel.specs.declared.domain_parts.ThreadPart.{ThreadPart}
+use Rattle.class_init.specs.KeptStates.{HasRooms}
 use Rattle.jk_kernel.specs.KernelStates.{ArePartsOfKernel, frames_in, inside_of, machine_of, segment_of, state_of, states_of, thread_of}
 use Rattle.jk_kernel.specs.SegmentFrames.{stored}
 use Rattle.jk_kernel.specs.SoundKernels.{IsSoundKernel}
@@ -243,10 +244,14 @@ module _ {w : WorldRecord} {parts : List DomainPart} {threads : Entries} {c : Fr
           let was = sound.parts_fit.started i x at in
           let none : one-if (d.0 == i) ≡ 0 = ap one-if (ne_eqb d.0 i (λ same. differ (sym same))) in
           omega (arith, was, none, started-now (record { 0 = i })));
-      out = each-part (λ (i : ℕ) (x : DomainPart). x.own.out ≡ 0)
+      out = each-part (λ (i : ℕ) (x : DomainPart). x.own.state.out ≡ 0)
           (sound.parts_fit.out d.0 part is_part)
           (λ i x differ at. sound.parts_fit.out i x at);
       literals = λ i n x text names_at part_at literal.
           let state = at-state w.domains later i n x names_at part_at in
           texts (state_of n x) (inside_of x) text (Contains-at (states_of w.domains later) i (state_of n x) state) refl literal;
+      rooms = λ i n x names_at part_at.
+          each-part (λ (i : ℕ) (x : DomainPart). (n : DomainRecord) → slice_get w.domains i ≡ Some n → HasRooms w.classes n.table x.own)
+          (λ other at. sound.parts_fit.rooms d.0 other part at is_part)
+          (λ k y differ at other there. sound.parts_fit.rooms k other y there at) i x part_at n names_at;
     }

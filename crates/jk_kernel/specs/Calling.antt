@@ -19,6 +19,7 @@ use Rattle.jk_kernel.specs.declared.happened.Happened.{Happened}
 use Rattle.jk_kernel.specs.declared.happened.Happened.TheVariants as Came
 use Rattle.jk_kernel.specs.SegmentFrames.{GetsFrames, Holds}
 use Rattle.jk_kernel.specs.Throwing.{LeavesSegment}
+use Rattle.jk_kernel.specs.KernelStates.{with_own_state}
 
 abbrev pub with_stack : FrameState → List Value → FrameState
 with_stack f stack = record f { stack = stack }
@@ -63,8 +64,8 @@ pub record BeginsCall (c new : FrameContent) (s : SegmentNo) (d : DomainId) (low
 pub record OverflowsInCall (classes : List ClassRecord) (c new : FrameContent) (s : SegmentNo) (d : DomainId) (head : FrameHead) (left : ClassId)
     (old after : DomainPart) : Type 0 where
   pub no_room : free_chunks c d < head_chunks head
-  pub throws : LeavesSegment classes c new s old.own after.own (standing_class Stands.StackOverflowError) left
-  pub part : after ≡ record old { own = after.own }
+  pub throws : LeavesSegment classes c new s old.own.state after.own.state (standing_class Stands.StackOverflowError) left
+  pub part : after ≡ with_own_state old after.own.state
 
 abbrev pub CallsSo : List ClassRecord → FrameContent → FrameContent → SegmentNo → DomainId → FrameHead → List FrameState → FrameState → List Value
     → List Value → DomainPart → DomainPart → Happened → Type 0

@@ -20,6 +20,7 @@ use Rattle.jk_kernel.specs.declared.happened.Happened.TheVariants as Came
 use Rattle.jk_kernel.specs.Returning.{MayReturn}
 use Rattle.jk_kernel.specs.SegmentFrames.{GetsFrames, HasKnownFrames, Holds, IsOut}
 use Rattle.jk_kernel.specs.Throwing.{LeavesSegment}
+use Rattle.jk_kernel.specs.KernelStates.{with_own_state}
 
 abbrev pub MayFollow : FrameContent → SegmentNo → OwnState → FrameHead → After → Type 0
 MayFollow c s own head (Next.Goto n) = HasTop c s
@@ -30,7 +31,7 @@ MayFollow c s own head _ = ⊥
 -- The frame is off: the class that it initialised is done, the thread ended, or the frame below goes on.
 pub record GivesBack (c new : FrameContent) (s : SegmentNo) (head : FrameHead) (v : Option Value) (d after : DomainPart) (happened : Happened) : Type 0 where
   pub class : (k : ClassId) (id : DomainId) (lower : List FrameState) (f : FrameState) → head.initialises ≡ Some k → Holds c s id (lower ++ f ∷ [])
-      → (happened ≡ Came.Silent) × (after ≡ record d { own = with_state d.own k State.Done }) × GetsFrames c new s id (lower ++ f ∷ []) lower
+      → (happened ≡ Came.Silent) × (after ≡ with_own_state d (with_state d.own.state k State.Done)) × GetsFrames c new s id (lower ++ f ∷ []) lower
   pub last : (id : DomainId) (f : FrameState) → head.initialises ≡ None → Holds c s id (f ∷ [])
       → (happened ≡ Came.Ended) × (after ≡ d) × IsOut c new s id (f ∷ [])
   pub called : (id : DomainId) (lower : List FrameState) (below f : FrameState) → head.initialises ≡ None
@@ -43,8 +44,8 @@ pub record RaisesSo (classes : List ClassRecord) (c new : FrameContent) (s : Seg
   pub is_thrown : IsThrown raised thrown
   pub left : ClassId
   pub ended : happened ≡ Came.EndedBy left
-  pub leaves : LeavesSegment classes c new s d.own after.own thrown left
-  pub part : after ≡ record d { own = after.own }
+  pub leaves : LeavesSegment classes c new s d.own.state after.own.state thrown left
+  pub part : after ≡ with_own_state d after.own.state
 
 pub record GoesTo (c new : FrameContent) (s : SegmentNo) (n : ℕ) (d after : DomainPart) (happened : Happened) : Type 0 where
   pub silent : happened ≡ Came.Silent

@@ -6,8 +6,9 @@ use Rattle.jk_model.specs.declared.identifiers.SegmentNo.{SegmentNo}
 use Rattle.jk_model_classes.specs.Worlds.{DomainRecord, WorldRecord}
 use Rattle.jk_model_frames.specs.Frames.{FrameState}
 use Rattle.jk_model_domains.specs.Objects.{NamedObject, Plain, Text, PRINT_STREAM}
-use Rattle.jk_model_domains.specs.OwnStates.{IsLiteralOf, literal_named}
+use Rattle.jk_model_domains.specs.OwnStates.{IsLiteralOf, OwnState, literal_named}
 use Rattle.jk_model_machine.specs.Machine.{DomainState, Inside, Machine, Segment, Thread, chunks_used, started_in}
+use Rattle.class_init.specs.KeptStates.{HasRooms}
 use Rattle.frame_store.specs.FrameContents.{FrameContent, StoredSegment}
 use Rattle.jk_kernel.specs.declared.domain_parts.DomainPart.{DomainPart}
 use Rattle.jk_kernel.specs.declared.domain_parts.ThreadPart.{ThreadPart}
@@ -23,7 +24,11 @@ abbrev pub heap_of : List (List ℕ) → List NamedObject
 heap_of texts = record { name = 0; object = Plain PRINT_STREAM [] } ∷ texts_from 1 texts
 
 abbrev pub inside_of : DomainPart → Inside
-inside_of d = record { own = d.own; heap = heap_of d.texts }
+inside_of d = record { own = d.own.state; heap = heap_of d.texts }
+
+-- the part with this own state, and room for the same texts
+abbrev pub with_own_state : DomainPart → OwnState → DomainPart
+with_own_state d own = record d { own = record d.own { state = own } }
 
 -- the state of a domain with these names, of which the kernel keeps this part
 abbrev pub state_of : DomainRecord → DomainPart → DomainState
@@ -88,7 +93,10 @@ pub record ArePartsOfKernel (w : WorldRecord) (parts : List DomainPart) (threads
   -- what the store counts is what the segments cost
   pub used : (d : DomainId) → c.used d ≡ chunks_used m d
   pub started : (i : ℕ) (d : DomainPart) → slice_get parts i ≡ Some d → d.started ≡ started_in m (record { 0 = i })
-  pub out : (i : ℕ) (d : DomainPart) → slice_get parts i ≡ Some d → d.own.out ≡ 0
+  pub out : (i : ℕ) (d : DomainPart) → slice_get parts i ≡ Some d → d.own.state.out ≡ 0
   -- each literal has its object
   pub literals : (i : ℕ) (names : DomainRecord) (d : DomainPart) (text : List ℕ) → slice_get w.domains i ≡ Some names
-      → slice_get parts i ≡ Some d → IsLiteralOf w.classes names.table text → (a : ℕ) × (literal_named d.own text ≡ Some a)
+      → slice_get parts i ≡ Some d → IsLiteralOf w.classes names.table text → (a : ℕ) × (literal_named d.own.state text ≡ Some a)
+  -- and there is room for it
+  pub rooms : (i : ℕ) (names : DomainRecord) (d : DomainPart) → slice_get w.domains i ≡ Some names → slice_get parts i ≡ Some d
+      → HasRooms w.classes names.table d.own

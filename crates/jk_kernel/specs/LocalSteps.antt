@@ -42,12 +42,12 @@ pub record IsAt (c : FrameContent) (w : WorldRecord) (names : DomainRecord) (d :
   pub calm : (p.segment.suspended ≡ false) × (p.segment.stop ≡ false) × (p.segment.revoked ≡ false) × (p.segment.orphan ≡ false)
   pub stored : c.segment r.segment ≡ Some (record { domain = r.domain; frames = p.segment.frames })
   pub free : free_in c r.domain ≡ free_chunks m p.domain
-  pub out : d.own.out ≡ 0
+  pub out : d.own.state.out ≡ 0
   pub sealed : IsSealed m
   pub sound : AreSoundClasses m.classes (tables_of m.domains)
   -- no class that the domain knows has an initialiser with code, and each literal has its object
   pub no_clinit : (k : ClassId) → IsNamed names.table k → HasNoClinit m.classes k
-  pub literals : (text : List ℕ) → IsLiteralOf m.classes names.table text → (a : ℕ) × (literal_named d.own text ≡ Some a)
+  pub literals : (text : List ℕ) → IsLiteralOf m.classes names.table text → (a : ℕ) × (literal_named d.own.state text ≡ Some a)
   -- what its frames run is built
   pub built : (f : FrameState) (s : CodeScope) (i : Instr) → Contains p.segment.frames f
       → (member : MemberId) → f.head.method ≡ Some member → IsScopeOf m.classes member s → Contains s.code.instrs i
@@ -81,12 +81,14 @@ PrintsSo classes name texts t (Came.EndedBy c) lines =
 
 -- ---- What a step makes of the parts.
 
--- all but the own state and the steps left
+-- all but the steps left, and how far classes are initialised and what their static fields hold
 pub record KeepsPart (old new : DomainPart) : Type 0 where
   pub quotas : new.quotas ≡ old.quotas
   pub texts : new.texts ≡ old.texts
   pub started : new.started ≡ old.started
-  pub out : new.own.out ≡ old.own.out
+  pub out : new.own.state.out ≡ old.own.state.out
+  pub literals : new.own.state.literals ≡ old.own.state.literals
+  pub rooms : new.own.rooms ≡ old.own.rooms
 
 -- the segment has these frames from now on, and all else in the store is as before
 abbrev pub HasFramesNow : FrameContent → FrameContent → Runs → List FrameState → List FrameState → Type 0

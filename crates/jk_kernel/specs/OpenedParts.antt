@@ -5,7 +5,7 @@ use Rattle.jk_model.specs.declared.identifiers.DomainId.{DomainId}
 use Rattle.jk_model.specs.declared.script.Quotas.{Quotas}
 use Rattle.jk_model_classes.specs.Classes.{HasClass}
 use Rattle.jk_model_classes.specs.Worlds.{DomainRecord, IsNamed, WorldRecord}
-use Rattle.jk_model_domains.specs.OwnStates.{OwnState}
+use Rattle.class_init.specs.KeptStates.{HasRooms, KeptState}
 use Rattle.jk_model_folders.specs.FolderRules.{IsLive}
 use Rattle.frame_store.specs.FrameContents.{Admits, FrameContent, IsSame}
 use Rattle.folder_loader.specs.declared.answers.LoadAnswer.{LoadAnswer}
@@ -41,7 +41,7 @@ abbrev pub opened_names : WorldRecord → List ℕ → Loaded → DomainRecord
 opened_names w name l = record { id = record { 0 = length w.domains }; name = name; live = true; table = l.table; offers = l.offers }
 
 -- what else is kept of it
-abbrev pub opened_part : Quotas → OwnState → List (List ℕ) → DomainPart
+abbrev pub opened_part : Quotas → KeptState → List (List ℕ) → DomainPart
 opened_part quotas own texts = record { quotas = quotas; steps_left = quotas.steps; own = own; texts = texts; started = 0 }
 
 -- The domain is opened: its classes run, it has its number, and its literals have their objects.
@@ -49,10 +49,11 @@ pub record OpensParts (w new : WorldRecord) (parts after : List DomainPart) (c n
   pub built : AreBuilt w.classes l.first l.table
   pub few_domains : length parts < MOST_DOMAINS
   pub few_texts : HaveManyTexts w.classes l.table → ⊥
-  pub own : OwnState
+  pub own : KeptState
   pub texts : List (List ℕ)
-  pub opening : IsOpening w.classes l.table (record { own = own; heap = heap_of texts })
-  pub out : own.out ≡ 0
+  pub opening : IsOpening w.classes l.table (record { own = own.state; heap = heap_of texts })
+  pub rooms : HasRooms w.classes l.table own
+  pub out : own.state.out ≡ 0
   pub names_are : new ≡ record w { domains = w.domains ++ opened_names w name l ∷ [] }
   pub parts_are : after ≡ parts ++ opened_part quotas own texts ∷ []
   pub admits : Admits c now (record { 0 = length parts }) quotas.chunks

@@ -17,6 +17,7 @@ use Rattle.jk_kernel.specs.declared.domain_parts.DomainPart.{DomainPart}
 use Rattle.jk_kernel.specs.declared.happened.Happened.{Happened}
 use Rattle.jk_kernel.specs.declared.happened.Happened.TheVariants as Came
 use Rattle.jk_kernel.specs.Throwing.{LeavesSegment}
+use Rattle.jk_kernel.specs.KernelStates.{with_own_state}
 
 -- The class has a parent, and no initialiser with code.
 pub record IsPlainClass (classes : List ClassRecord) (c : ClassId) : Type 0 where
@@ -33,15 +34,15 @@ pub record BeginsClass (classes : List ClassRecord) (old new : FrameContent) (th
   pub is_head : IsInitialiserHead classes c head
   pub room : HasRoomFor old s head
   pub pushes : Pushes old new s head
-  pub part : after ≡ record d { own = with_state d.own c (State.InProgress thread) }
+  pub part : after ≡ with_own_state d (with_state d.own.state c (State.InProgress thread))
 
 -- or there is no room for a frame
 pub record OverflowsAt (classes : List ClassRecord) (old new : FrameContent) (s : SegmentNo) (c left : ClassId) (d after : DomainPart) : Type 0 where
   pub head : FrameHead
   pub is_head : IsInitialiserHead classes c head
   pub no_room : HasRoomFor old s head → ⊥
-  pub throws : LeavesSegment classes old new s d.own after.own (standing_class Stands.StackOverflowError) left
-  pub part : after ≡ record d { own = after.own }
+  pub throws : LeavesSegment classes old new s d.own.state after.own.state (standing_class Stands.StackOverflowError) left
+  pub part : after ≡ with_own_state d after.own.state
 
 abbrev pub Touches : List ClassRecord → FrameContent → FrameContent → ThreadNo → SegmentNo → ClassId → DomainPart → DomainPart → Happened → Type 0
 Touches classes old new thread s c d after Came.Silent = BeginsClass classes old new thread s c d after

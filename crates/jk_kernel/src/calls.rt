@@ -14,6 +14,7 @@ ghost use Rattle.jk_kernel.specs.declared.happened.Happened.TheVariants as Came;
 ghost use Rattle.jk_kernel.specs.Calling.{CallsSo, HasOnTop, MayCall};
 ghost use Rattle.jk_kernel.specs.Returning.{MayReturn, TopCanResume};
 ghost use Rattle.jk_kernel.specs.SegmentFrames.{GetsFrames, HasKnownFrames, Holds, IsOut};
+ghost use Rattle.jk_kernel.specs.KernelStates.{with_own_state};
 
 use crate::domain_parts::DomainPart;
 use crate::happened::Happened;
@@ -57,7 +58,7 @@ pub(crate) fn call<F: FrameStore>(
     m: MemberId,
 ) -> Happened
     requires may { MayCall t.now (F.content frames.old) s _id m }
-    requires known { HasKnownFrames (F.content frames.old) s d.old.own }
+    requires known { HasKnownFrames (F.content frames.old) s d.old.own.state }
     ensures { (scope : CodeScope) (lower : AList FrameState) (f : FrameState) (below given : AList AValue) → IsScopeOf t.now m scope
         → HasOnTop (F.content frames.old) s _id lower f below given → length given ≡ length scope.method.params
         → CallsSo t.now (F.content frames.old) (F.content frames.new) s _id (call_head m scope.code) lower f below given d.old d.new result }
@@ -95,10 +96,10 @@ pub(crate) fn give_back<F: FrameStore>(
     head: &FrameHead,
     v: Option<Value>,
 ) -> Happened
-    requires { MayReturn (F.content frames.old) s d.old.own head.now v }
+    requires { MayReturn (F.content frames.old) s d.old.own.state head.now v }
     ensures class { (k : AClassId) (id : ADomainId) (lower : AList FrameState) (f : FrameState) → head.now.initialises ≡ Some k
         → Holds (F.content frames.old) s id (lower ++ f ∷ [])
-        → (result ≡ Came.Silent) × (d.new ≡ record d.old { own = with_state d.old.own k State.Done })
+        → (result ≡ Came.Silent) × (d.new ≡ with_own_state d.old (with_state d.old.own.state k State.Done))
         × GetsFrames (F.content frames.old) (F.content frames.new) s id (lower ++ f ∷ []) lower }
     ensures last { (id : ADomainId) (f : FrameState) → head.now.initialises ≡ None → Holds (F.content frames.old) s id (f ∷ [])
         → (result ≡ Came.Ended) × (d.new ≡ d.old) × IsOut (F.content frames.old) (F.content frames.new) s id (f ∷ []) }

@@ -10,6 +10,7 @@ ghost use Rattle.jk_model_machine.specs.Initialising.{IsInitialiserHead};
 ghost use Rattle.frame_store.specs.FrameContents.{HasTop, Pops};
 ghost use Rattle.jk_kernel.specs.SegmentFrames.{HasKnownFrames};
 ghost use Rattle.jk_kernel.specs.Touching.{ForgetsNeed, IsPlainClass, Touches};
+ghost use Rattle.jk_kernel.specs.KernelStates.{with_own_state};
 
 use crate::domain_parts::DomainPart;
 use crate::happened::Happened;
@@ -50,8 +51,8 @@ pub(crate) fn touch<F: FrameStore>(
     c: ClassId,
 ) -> Happened
     requires class { IsPlainClass t.now c }
-    requires state { HasState d.old.own c }
-    requires frames { HasKnownFrames (F.content frames.old) s d.old.own }
+    requires state { HasState d.old.own.state c }
+    requires frames { HasKnownFrames (F.content frames.old) s d.old.own.state }
     ensures { Touches t.now (F.content frames.old) (F.content frames.new) thread s c d.old d.new result }
 {
     match frames.push(s, initialiser_head(t, c)) {
@@ -71,9 +72,9 @@ pub(crate) fn need_falls<F: FrameStore>(
     head: &FrameHead,
 )
     requires top { HasTop (F.content frames.old) s }
-    requires state { (c : AClassId) → head.now.initialises ≡ Some c → HasState d.old.own c }
+    requires state { (c : AClassId) → head.now.initialises ≡ Some c → HasState d.old.own.state c }
     ensures class { (c : AClassId) → head.now.method ≡ None → head.now.initialises ≡ Some c
-        → Pops (F.content frames.old) (F.content frames.new) s × (d.new ≡ record d.old { own = with_state d.old.own c State.Done }) }
+        → Pops (F.content frames.old) (F.content frames.new) s × (d.new ≡ with_own_state d.old (with_state d.old.own.state c State.Done)) }
     ensures method { (m : AMemberId) → head.now.method ≡ Some m
         → ForgetsNeed (F.content frames.old) (F.content frames.new) s head.now × (d.new ≡ d.old) }
 {

@@ -15,6 +15,7 @@ ghost use Rattle.jk_model.specs.ScriptGrammar.{is_name};
 ghost use Rattle.jk_model_classes.specs.Classes.{HasClass};
 ghost use Rattle.jk_model_classes.specs.Worlds.{IsLiveNamed, IsNamed};
 ghost use Rattle.jk_model_domains.specs.OwnStates.{IsFirstState};
+ghost use Rattle.class_init.specs.KeptStates.{HasFirstRooms, HasRooms};
 ghost use Rattle.jk_model_folders.specs.FolderRules.{IsFolderFault};
 ghost use Rattle.jk_model_machine.specs.Machine.{world_of};
 ghost use Rattle.folder_reader.specs.FolderAnswers.{AsksWithin};
@@ -178,8 +179,9 @@ fn make_inside(
 ) -> Result<(Own, List<Text>), TextsAnswer>
     requires there { (c : AClassId) → IsNamed table.now c → HasClass t.now c }
     requires constants { HaveNoConstantTexts t.now table.now }
-    ensures ok { IfOk result (λ p. IsOpening t.now table.now (record { own = p.0; heap = heap_of p.1 })) }
-    ensures out { IfOk result (λ p. p.0.out ≡ 0) }
+    ensures ok { IfOk result (λ p. IsOpening t.now table.now (record { own = p.0.state; heap = heap_of p.1 })) }
+    ensures rooms { IfOk result (λ p. HasRooms t.now table.now p.0) }
+    ensures out { IfOk result (λ p. p.0.state.out ≡ 0) }
     ensures few { OnOk result (HaveManyTexts t.now table.now → ⊥) }
     ensures too_many { result ≡ Err TextsAnswer.TooManyTexts → HaveManyTexts t.now table.now }
 {
@@ -242,11 +244,13 @@ fn give_texts(
     table: &NameTable,
     own: &mut Own,
 ) -> Result<List<Text>, TextsAnswer>
-    requires first { IsFirstState t.now table.now own.old }
+    requires first { IsFirstState t.now table.now own.old.state }
+    requires rooms { HasFirstRooms t.now table.now own.old }
     requires constants { HaveNoConstantTexts t.now table.now }
-    ensures ok { IfOk result (λ texts. IsOpening t.now table.now (record { own = own.new; heap = heap_of texts })) }
+    ensures ok { IfOk result (λ texts. IsOpening t.now table.now (record { own = own.new.state; heap = heap_of texts })) }
+    ensures rooms { OnOk result (HasRooms t.now table.now own.new) }
     ensures few { OnOk result (HaveManyTexts t.now table.now → ⊥) }
-    ensures out { OnOk result (own.new.out ≡ 0) }
+    ensures out { OnOk result (own.new.state.out ≡ 0) }
     ensures too_many { result ≡ Err TextsAnswer.TooManyTexts → HaveManyTexts t.now table.now }
 {
     let mut texts = List::new(alloc);
@@ -266,10 +270,10 @@ fn give_texts_of(
     texts: &mut List<Text>,
 ) -> Result<(), TextsAnswer>
     requires given { AreGivenNames own.old texts.old }
-    requires known { (text : AList ℕ) → IsLinkedText t.now c text → Contains own.old.texts text }
+    requires known { (text : AList ℕ) → IsLinkedText t.now c text → Contains own.old.rooms text }
     ensures grows { OnOk result (GivesMore own.old texts.old own.new texts.new) }
     ensures all { OnOk result ((text : AList ℕ) → IsLinkedText t.now c text → Contains texts.new text) }
-    ensures too_many { result ≡ Err TextsAnswer.TooManyTexts → 2 ^ 32 ≤ length own.old.texts }
+    ensures too_many { result ≡ Err TextsAnswer.TooManyTexts → 2 ^ 32 ≤ length own.old.rooms }
 {
     match t.class(c) {
         Some(class) => give_linked(class.links.as_slice(), own, texts),
@@ -280,10 +284,10 @@ fn give_texts_of(
 /// The same of one pool.
 fn give_linked(links: &[Link], own: &mut Own, texts: &mut List<Text>) -> Result<(), TextsAnswer>
     requires given { AreGivenNames own.old texts.old }
-    requires known { (text : AList ℕ) → Contains links.now (To.Text text) → Contains own.old.texts text }
+    requires known { (text : AList ℕ) → Contains links.now (To.Text text) → Contains own.old.rooms text }
     ensures grows { OnOk result (GivesMore own.old texts.old own.new texts.new) }
     ensures all { OnOk result ((text : AList ℕ) → Contains links.now (To.Text text) → Contains texts.new text) }
-    ensures too_many { result ≡ Err TextsAnswer.TooManyTexts → 2 ^ 32 ≤ length own.old.texts }
+    ensures too_many { result ≡ Err TextsAnswer.TooManyTexts → 2 ^ 32 ≤ length own.old.rooms }
 {
     for link in links {
         if let Link::Text(text) = link {
@@ -296,10 +300,10 @@ fn give_linked(links: &[Link], own: &mut Own, texts: &mut List<Text>) -> Result<
 /// The same of one text.
 fn give_text(text: &Text, own: &mut Own, texts: &mut List<Text>) -> Result<(), TextsAnswer>
     requires given { AreGivenNames own.old texts.old }
-    requires known { Contains own.old.texts text.now }
+    requires known { Contains own.old.rooms text.now }
     ensures grows { OnOk result (GivesMore own.old texts.old own.new texts.new) }
     ensures here { OnOk result (Contains texts.new text.now) }
-    ensures too_many { result ≡ Err TextsAnswer.TooManyTexts → 2 ^ 32 ≤ length own.old.texts }
+    ensures too_many { result ≡ Err TextsAnswer.TooManyTexts → 2 ^ 32 ≤ length own.old.rooms }
 {
     match own.literal(text) {
         Some(_) => Ok(()),

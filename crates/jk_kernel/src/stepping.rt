@@ -47,7 +47,7 @@ fn class_needed(t: &ClassTable, head: &FrameHead) -> Option<ClassId>
 
 /// What the thread meets at the class that it needs.
 fn met(own: &Own, t: ThreadNo, needed: Option<ClassId>) -> Look
-    ensures { Meets own.now t needed result }
+    ensures { Meets own.now.state t needed result }
 {
     match needed {
         Some(c) => look(own, t, c),
@@ -161,7 +161,7 @@ pub(crate) fn follow<F: FrameStore>(
     head: &FrameHead,
     after: After,
 ) -> Happened
-    requires { MayFollow (F.content frames.old) r.segment d.old.own head.now after }
+    requires { MayFollow (F.content frames.old) r.segment d.old.own.state head.now after }
     ensures { FollowsSo w.now.classes (F.content frames.old) (F.content frames.new) r.segment head.now after d.old d.new result }
 {
     match after {

@@ -1,6 +1,6 @@
 //! A throwable that no frame catches.
 
-ghost use Rattle.std.specs.Prelude.{IfNone, IfSome};
+ghost use Rattle.std.specs.Prelude.{◌≡◌, IfNone, IfSome};
 ghost use Rattle.jk_model.specs.declared.identifiers.ClassId.{ClassId as AClassId};
 ghost use Rattle.jk_model_machine.specs.Steps.{IsThrown};
 ghost use Rattle.jk_kernel.specs.SegmentFrames.{HasKnownFrames};
@@ -34,8 +34,9 @@ pub(crate) fn throw<F: FrameStore>(
     s: SegmentNo,
     raised: ClassId,
 ) -> ClassId
-    requires { HasKnownFrames (F.content frames.old) s own.old }
-    ensures { LeavesSegment t.now (F.content frames.old) (F.content frames.new) s own.old own.new raised result }
+    requires { HasKnownFrames (F.content frames.old) s own.old.state }
+    ensures leaves { LeavesSegment t.now (F.content frames.old) (F.content frames.new) s own.old.state own.new.state raised result }
+    ensures rooms { own.new ≡ record own.old { state = own.new.state } }
 {
     let mut thrown = raised;
     let mut left = frames.depth(s);

@@ -49,9 +49,7 @@ pub record Literal : Type 0 where
 pub record OwnState : Type 0 where
   -- the parts of the classes of its name table that aren't system classes
   pub classes : List ClassPart
-  -- the texts that may have an object, each once: those to which its classes lead, and maybe others
-  pub texts : List (List ℕ)
-  -- those of them that have an object
+  -- the texts that have an object
   pub literals : List Literal
   -- the name of its PrintStream, which is the value of the one static field of a system class, System.out
   pub out : ℕ
@@ -175,9 +173,6 @@ pub record IsOwnState (classes : List ClassRecord) (table : List NamedClass) (ow
   pub all : (c : ClassId) (r : ClassRecord) → HasPart classes table c r → HasState own c
   pub classes_differ : (i j : ℕ) (a b : ClassPart) → slice_get own.classes i ≡ Some a → slice_get own.classes j ≡ Some b
       → a.class ≡ b.class → i ≡ j
-  pub texts : (text : List ℕ) → IsLiteralOf classes table text → Contains own.texts text
-  pub texts_differ : (i j : ℕ) (text : List ℕ) → slice_get own.texts i ≡ Some text → slice_get own.texts j ≡ Some text → i ≡ j
-  pub literals : (l : Literal) → Contains own.literals l → Contains own.texts l.text
   pub literals_differ : (i j : ℕ) (a b : Literal) → slice_get own.literals i ≡ Some a → slice_get own.literals j ≡ Some b
       → a.text ≡ b.text → i ≡ j
   pub standing : length own.standing ≡ 8
@@ -188,7 +183,6 @@ pub record IsFirstState (classes : List ClassRecord) (table : List NamedClass) (
   pub untouched : (e : ClassPart) → Contains own.classes e → e.state ≡ State.Untouched
   pub statics : (e : ClassPart) (r : ClassRecord) → Contains own.classes e → record_of classes e.class ≡ Some r
       → e.statics ≡ first_statics r
-  pub texts : (text : List ℕ) → Contains own.texts text → IsLiteralOf classes table text
   pub no_literals : own.literals ≡ []
   pub out : own.out ≡ 0
   pub standing : own.standing ≡ replicate 8 0

@@ -19,7 +19,7 @@ pub record IsOpening (classes : List ClassRecord) (table : List NamedClass) (ins
       → e.statics ≡ first_statics r
   -- each literal of the classes has an object, and no other text has
   pub each_literal : (text : List ℕ) → IsLiteralOf classes table text → (a : ℕ) × (literal_named inside.own text ≡ Some a)
-  pub only_literals : (text : List ℕ) → Contains inside.own.texts text → IsLiteralOf classes table text
+  pub only_literals : (l : Literal) → Contains inside.own.literals l → IsLiteralOf classes table l.text
   pub names_differ : (i j : ℕ) (a b : NamedObject) → slice_get inside.heap i ≡ Some a → slice_get inside.heap j ≡ Some b
       → a.name ≡ b.name → i ≡ j
   pub out : object_named inside.heap inside.own.out ≡ Some (Plain PRINT_STREAM [])

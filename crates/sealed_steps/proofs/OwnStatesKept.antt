@@ -83,9 +83,6 @@ module _ (c : ClassId) (change : ClassPart → ClassPart) (keeps : KeepsParts ch
           let x = from-map changed own.classes i a p in
           let y = from-map changed own.classes j b q in
           h.classes_differ i j x.0 y.0 x.1 y.1 (class_of x.0 a x.2 ∙ e ∙ sym (class_of y.0 b y.2));
-      texts = h.texts;
-      texts_differ = h.texts_differ;
-      literals = h.literals;
       literals_differ = h.literals_differ;
       standing = h.standing;
     }

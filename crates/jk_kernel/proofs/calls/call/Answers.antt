@@ -10,6 +10,8 @@ use Rattle.jk_model_frames.specs.Frames.{head_chunks}
 use Rattle.jk_model_typing.specs.Scopes.{CodeScope}
 use Rattle.jk_model_machine.specs.Executions.{call_head}
 use Rattle.typing_lemmas.proofs.OneScope.{one-scope}
+use Rattle.class_init.specs.KeptStates.{KeptState}
+use Rattle.jk_kernel.specs.declared.domain_parts.DomainPart.{DomainPart}
 use Rattle.frame_store.specs.FrameContents.{StoredSegment, free_chunks}
 use Rattle.type_rows.specs.CodeViews.{scope_of}
 use Rattle.jk_kernel.specs.Calling.{BeginsCall, locals_of}
@@ -100,7 +102,7 @@ returns-in-Err g c = λ scope lower f below given is on e.
     one-scope c.args.t.now c.args.m (scope_of c.in-Some.code) scope c.in-Some.ensures.some is in
     let head : c.call_head-head.result ≡ call_head c.args.m scope.code =
     c.call_head-head.ensures ∙ ap (λ (x : CodeScope). call_head c.args.m x.code) same in
-    let h = c.throw.ensures in
+    let h = c.throw.ensures.leaves in
     let short : free_chunks old c.args._id < head_chunks c.call_head-head.result =
     above (head_chunks c.call_head-head.result) (free_chunks old c.args._id)
     (λ fits. c.in-Err.ensures.no_room (stored c.args._id (lower ++ f ∷ []), on.holds, fits)) in
@@ -113,5 +115,5 @@ returns-in-Err g c = λ scope lower f below given is on e.
         leaves = h.leaves;
         ends = ends_after_same old mid new c.args.s c.in-Err.ensures.err h.ends;
       };
-      part = refl;
+      part = ap (λ (own : KeptState). let x : DomainPart = record c.args.d.now { own = own } in x) c.throw.ensures.rooms;
     }

@@ -4,8 +4,9 @@ use Rattle.std.proofs.lemmas.Option.{same_Some}
 use Rattle.jk_model.specs.declared.identifiers.ClassId.{ClassId}
 use Rattle.jk_model_domains.specs.declared.states.ClassState.TheVariants as State
 use Rattle.jk_model_frames.specs.Frames.{FrameState}
-use Rattle.jk_model_domains.specs.OwnStates.{OwnState, with_state}
+use Rattle.jk_model_domains.specs.OwnStates.{with_state}
 use Rattle.jk_model_machine.specs.Steps.{resumed}
+use Rattle.class_init.specs.KeptStates.{KeptState}
 use Rattle.jk_kernel.specs.SegmentFrames.{Holds}
 use Rattle.jk_kernel.specs.declared.domain_parts.DomainPart.{DomainPart}
 use Rattle.jk_kernel.proofs.FramesResumed.{one_below}
@@ -16,10 +17,11 @@ pub returns-in-Some-clause-class : goal.returns-in-Some-clause-class
 returns-in-Some-clause-class g c = λ k id lower f e holds.
     let old = g.F.FrameStore.content c.args.frames.now in
     let same : c.in-Some.c ≡ k = same_Some c.in-Some.c k (sym c.in-Some.is ∙ e) in
-    let own : c.set_state.new.self ≡ with_state c.args.d.now.own k State.Done =
-    c.set_state.ensures ∙ ap (λ (x : ClassId). with_state c.args.d.now.own x State.Done) same in (
+    let own : c.set_state.new.self ≡ record c.args.d.now.own { state = with_state c.args.d.now.own.state k State.Done } =
+    c.set_state.ensures
+    ∙ ap (λ (x : ClassId). let y : KeptState = record c.args.d.now.own { state = with_state c.args.d.now.own.state x State.Done } in y) same in (
       refl,
-      ap (λ (x : OwnState). let y : DomainPart = record c.args.d.now { own = x } in y) own,
+      ap (λ (x : KeptState). let y : DomainPart = record c.args.d.now { own = x } in y) own,
       popped old (g.F.FrameStore.content c.pop.new.self) c.args.s id lower f (g.met.F.FrameStore.holds c.args.frames.now) holds c.pop.ensures,
     )
 

@@ -1,13 +1,13 @@
 -- One link after the other, of which those that lead to a text get it an object.
 use Rattle.std.proofs.Common.{ℕ, List, take, Contains, subst, sym}
 use Rattle.std.proofs.lemmas.List.{take_all, take_more}
-use Rattle.jk_kernel.proofs.TextsInTurn.{text-among, other-link, texts-stay, text-link}
+use Rattle.jk_kernel.proofs.TextsInTurn.{text-among, other-link, rooms-stay, text-link}
 use Rattle.jk_kernel.proofs.opening.give_linked.Goals as goal
 use Rattle.jk_kernel.proofs.opening.give_linked.Goals.{in-Text+in_ok-give_text, in_default}
 
 pub give_text-requires-clause-known : goal.give_text-requires-clause-known
 give_text-requires-clause-known c =
-    subst (λ (ts : List (List ℕ)). Contains ts c.in-Text.text) (sym (texts-stay c.loop-link.invariant.0))
+    subst (λ (ts : List (List ℕ)). Contains ts c.in-Text.text) (sym (rooms-stay c.loop-link.invariant.0))
     (c.requires.known c.in-Text.text
     (text-among c.args.links.now c.loop-link.link-index c.link-item.result c.in-Text.text c.loop-link-test.true c.link-item.is c.in-Text.is))
 

@@ -5,6 +5,7 @@ use Rattle.jk_model.specs.declared.output.Rule.{Rule}
 use Rattle.jk_model_classes.specs.declared.records.ClassRecord.{ClassRecord}
 use Rattle.jk_model_classes.specs.Classes.{HasClass}
 use Rattle.jk_model_classes.specs.Worlds.{IsLiveNamed, WorldRecord}
+use Rattle.class_init.specs.KeptStates.{HasRooms}
 use Rattle.frame_store.specs.FrameContents.{Admits}
 use Rattle.sealed_openings.specs.OpenedDomains.{IsOpening}
 use Rattle.jk_kernel.specs.declared.answers.AddAnswer.{AddAnswer}
@@ -83,8 +84,9 @@ returns-clause-ok g c =
       few_texts = subst (λ (xs : List ClassRecord). HaveManyTexts xs c.args.loaded.table → ⊥) c.classes-2.ensures c.in-Ok.ensures.few;
       own = c.in-Ok.inside.0;
       texts = c.in-Ok.inside.1;
-      opening = subst (λ (xs : List ClassRecord). IsOpening xs c.args.loaded.table (record { own = c.in-Ok.inside.0; heap = heap_of c.in-Ok.inside.1 }))
+      opening = subst (λ (xs : List ClassRecord). IsOpening xs c.args.loaded.table (record { own = c.in-Ok.inside.0.state; heap = heap_of c.in-Ok.inside.1 }))
           c.classes-2.ensures c.in-Ok.ensures.ok;
+      rooms = subst (λ (xs : List ClassRecord). HasRooms xs c.args.loaded.table c.in-Ok.inside.0) c.classes-2.ensures c.in-Ok.ensures.rooms;
       out = c.in-Ok.ensures.out;
       names_are =
           c.in_ok-admit.ensures.named

@@ -7,10 +7,15 @@ use Rattle.jk_model_domains.specs.OwnStates.{OwnState}
 use Rattle.jk_model_machine.specs.Executions.{NULL_POINTER_EXCEPTION}
 use Rattle.jk_model_machine.specs.Steps.{resumed}
 use Rattle.type_rows.specs.CodeViews.{scope_of}
+use Rattle.class_init.specs.KeptStates.{KeptState}
+use Rattle.jk_kernel.specs.declared.domain_parts.DomainPart.{DomainPart}
+use Rattle.jk_kernel.specs.declared.happened.Happened.TheVariants as Came
+use Rattle.jk_kernel.specs.Executing.{ExecutesSo}
+use Rattle.jk_kernel.specs.KernelStates.{with_own_state}
 use Rattle.jk_kernel.specs.Calling.{with_stack}
 use Rattle.jk_kernel.specs.SegmentFrames.{HasKnownFrames}
 use Rattle.jk_kernel.specs.Throwing.{LeavesSegment}
-use Rattle.jk_kernel.proofs.PartsOfAMachine.{left_keeps_out, paid_own}
+use Rattle.jk_kernel.proofs.PartsOfAMachine.{left_keeps_names, paid_own}
 use Rattle.jk_kernel.proofs.PrintedTypes.{one_at_most}
 use Rattle.jk_kernel.proofs.PrintlnCalled.{all_on_top, called_here, goes_on_without, has_said, has_so_many, method_there, says_line, throws_at_null}
 use Rattle.jk_kernel.proofs.SegmentsOfAMachine.{known_frames}
@@ -51,12 +56,16 @@ returns-in_default-said_on_top g c =
     let new = g.F.FrameStore.content c.throw.new.frames in
     let paid = c.args.d.now in
     let method = c.in-Some.method.now in
-    let leaves = subst (λ (l : List ClassRecord). LeavesSegment l old new c.args.r.segment paid.own c.throw.new.own NULL_POINTER_EXCEPTION c.throw.result)
-    c.classes-t.ensures c.throw.ensures in
+    let leaves = subst (λ (l : List ClassRecord). LeavesSegment l old new c.args.r.segment paid.own.state c.throw.new.own.state NULL_POINTER_EXCEPTION
+    c.throw.result) c.classes-t.ensures c.throw.ensures.leaves in
+    let after : with_own_state paid c.throw.new.own.state ≡ record paid { own = c.throw.new.own } =
+    ap (λ (own : KeptState). let x : DomainPart = record paid { own = own } in x) (sym c.throw.ensures.rooms) in
     let is = subst (λ (l : List ClassRecord). MethodIs l c.args.m method) c.classes-t.ensures c.in-Some.ensures.some in
-    record {
-      keeps = keeps_own paid paid c.throw.new.own (keeps_all paid)
-          (left_keeps_out c.args.w.now.classes leaves.frames paid.own c.throw.new.own NULL_POINTER_EXCEPTION c.throw.result leaves.leaves);
+    subst (λ (x : DomainPart). ExecutesSo old new c.args.w.now paid x c.args.r c.args.head.now (scope_of c.args.at.now.code) c.args.at.now.instr.now
+    (Came.EndedBy c.throw.result)) after
+    (record {
+      keeps = keeps_own paid paid c.throw.new.own.state (keeps_all paid)
+          (left_keeps_names c.args.w.now.classes leaves.frames paid.own.state c.throw.new.own.state NULL_POINTER_EXCEPTION c.throw.result leaves.leaves);
       steps = λ names d m p h.
           let s = scope_of c.args.at.now.code in
           let i = c.args.at.now.instr.now in
@@ -66,8 +75,8 @@ returns-in_default-said_on_top g c =
           let f = top old c.args.w.now names d paid c.args.r m p c.args.head.now s i h in
           let null = c.in_default-said_on_top.ensures.none c.args.r.domain h.running.callers f on.below on.given on.receiver on_top on.as_many in
           throws_at_null old c.args.w.now names d paid c.args.r m p c.args.head.now s i h c.requires.op (g.met.F.FrameStore.holds c.args.frames.now) new
-          c.throw.new.own c.throw.result c.args.m method on null leaves;
-    }
+          c.throw.new.own.state c.throw.result c.args.m method on null leaves;
+    })
 
 pub overflow_add-len : goal.overflow_add-len
 overflow_add-len g c =

@@ -1,11 +1,15 @@
 -- A step is one of the machine's.
-use Rattle.std.proofs.Common.{◌≡◌, false, List, rules, sym, subst}
+use Rattle.std.proofs.Common.{◌≡◌, ap, false, List, rules, sym, subst}
 use Rattle.jk_model_classes.specs.declared.records.ClassRecord.{ClassRecord}
 use Rattle.jk_model_domains.specs.declared.states.Look.TheVariants as Sees
 use Rattle.jk_model_domains.specs.OwnStates.{HasState, OwnState}
 use Rattle.jk_model_machine.specs.Steps.{NO_CLASS_DEF_FOUND_ERROR}
 use Rattle.type_rows.specs.CodeViews.{scope_of}
-use Rattle.jk_kernel.specs.LocalSteps.{KeepsPart}
+use Rattle.class_init.specs.KeptStates.{KeptState}
+use Rattle.jk_kernel.specs.declared.domain_parts.DomainPart.{DomainPart}
+use Rattle.jk_kernel.specs.declared.happened.Happened.TheVariants as Came
+use Rattle.jk_kernel.specs.KernelStates.{with_own_state}
+use Rattle.jk_kernel.specs.LocalSteps.{KeepsPart, StepsBy}
 use Rattle.jk_kernel.specs.Needs.{IsNeeded}
 use Rattle.jk_kernel.specs.Payments.{PaysFor}
 use Rattle.jk_kernel.specs.SegmentFrames.{HasKnownFrames}
@@ -13,7 +17,7 @@ use Rattle.jk_kernel.specs.StandsAt.{StandsIn}
 use Rattle.jk_kernel.specs.Throwing.{LeavesSegment}
 use Rattle.jk_kernel.specs.Touching.{IsPlainClass, Touches}
 use Rattle.jk_kernel.proofs.HeldThreads.{meets_untouched}
-use Rattle.jk_kernel.proofs.PartsOfAMachine.{left_keeps_out, paid_own}
+use Rattle.jk_kernel.proofs.PartsOfAMachine.{left_keeps_names, paid_own}
 use Rattle.jk_kernel.proofs.PlainClasses.{plain_class, untouched_has_state}
 use Rattle.jk_kernel.proofs.SegmentsOfAMachine.{has_top, known_frames}
 use Rattle.jk_kernel.proofs.StepsByCase.{broke, does_next, executed, fell, keeps_all, keeps_fallen, keeps_on, keeps_own, keeps_paid, keeps_touched, known_on_top, ready_left, spent, stands_if_no_need, touched, waits}
@@ -52,7 +56,7 @@ pub touch-requires-clause-class : goal.touch-requires-clause-class
 touch-requires-clause-class g c =
     let h = c.requires in
     let k = c.in-Some.c in
-    let untouched = meets_untouched c.args.d.now.own c.args.r.thread c.class_needed-needed.result k c.met-state.result c.met-state.ensures
+    let untouched = meets_untouched c.args.d.now.own.state c.args.r.thread c.class_needed-needed.result k c.met-state.result c.met-state.ensures
     c.in-Some.is c.in-Untouched.is in
     subst (λ (l : List ClassRecord). IsPlainClass l k) (sym c.classes-t.ensures)
     (plain_class (g.F.FrameStore.content c.args.frames.now) c.args.w.now h.0 c.args.d.now c.args.r h.1 h.2 h.3 k untouched)
@@ -60,10 +64,10 @@ touch-requires-clause-class g c =
 pub touch-requires-clause-state : goal.touch-requires-clause-state
 touch-requires-clause-state g c =
     let k = c.in-Some.c in
-    let untouched = meets_untouched c.args.d.now.own c.args.r.thread c.class_needed-needed.result k c.met-state.result c.met-state.ensures
+    let untouched = meets_untouched c.args.d.now.own.state c.args.r.thread c.class_needed-needed.result k c.met-state.result c.met-state.ensures
     c.in-Some.is c.in-Untouched.is in
     let pays = subst (PaysFor c.args.d.now c.pays.new.d) c.if-not-pays.false c.pays.ensures in
-    subst (λ (o : OwnState). HasState o k) (sym (paid_own c.args.d.now c.pays.new.d pays)) (untouched_has_state c.args.d.now.own k untouched)
+    subst (λ (o : OwnState). HasState o k) (sym (paid_own c.args.d.now c.pays.new.d pays)) (untouched_has_state c.args.d.now.own.state k untouched)
 
 pub touch-requires-clause-frames : goal.touch-requires-clause-frames
 touch-requires-clause-frames g c =
@@ -108,15 +112,19 @@ returns-in-Broken g c =
     let needs = subst (λ (l : List ClassRecord). IsNeeded l c.head-head.result c.class_needed-needed.result) c.classes-t.ensures
     c.class_needed-needed.ensures in
     let pays = subst (PaysFor d c.pays.new.d) c.if-not-pays.false c.pays.ensures in
-    let leaves = subst (λ (l : List ClassRecord). LeavesSegment l old new c.args.r.segment c.pays.new.d.own c.throw.new.own NO_CLASS_DEF_FOUND_ERROR
-    c.throw.result) c.classes-t.ensures c.throw.ensures in
-    record {
-      keeps = keeps_own d c.pays.new.d c.throw.new.own (keeps_paid d c.pays.new.d pays)
-          (left_keeps_out c.args.w.now.classes leaves.frames c.pays.new.d.own c.throw.new.own NO_CLASS_DEF_FOUND_ERROR c.throw.result leaves.leaves);
+    let leaves = subst (λ (l : List ClassRecord). LeavesSegment l old new c.args.r.segment c.pays.new.d.own.state c.throw.new.own.state NO_CLASS_DEF_FOUND_ERROR
+    c.throw.result) c.classes-t.ensures c.throw.ensures.leaves in
+    let after : with_own_state c.pays.new.d c.throw.new.own.state ≡ record c.pays.new.d { own = c.throw.new.own } =
+    ap (λ (own : KeptState). let x : DomainPart = record c.pays.new.d { own = own } in x) (sym c.throw.ensures.rooms) in
+    subst (λ (x : DomainPart). StepsBy old new c.args.w.now d x c.args.r (Came.EndedBy c.throw.result)) after
+    (record {
+      keeps = keeps_own d c.pays.new.d c.throw.new.own.state (keeps_paid d c.pays.new.d pays)
+          (left_keeps_names c.args.w.now.classes leaves.frames c.pays.new.d.own.state c.throw.new.own.state NO_CLASS_DEF_FOUND_ERROR c.throw.result
+          leaves.leaves);
       steps = λ names m p at. broke old c.args.w.now names d c.args.r m p at c.head-head.result c.head-head.ensures c.class_needed-needed.result needs
-          c.met-state.result c.met-state.ensures c.pays.new.d c.throw.new.own new c.throw.result (g.met.F.FrameStore.holds c.args.frames.now)
+          c.met-state.result c.met-state.ensures c.pays.new.d c.throw.new.own.state new c.throw.result (g.met.F.FrameStore.holds c.args.frames.now)
           c.in-Broken.is pays leaves;
-    }
+    })
 
 pub need_falls-requires-clause-top : goal.need_falls-requires-clause-top
 need_falls-requires-clause-top g c =
