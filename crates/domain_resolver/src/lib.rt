@@ -9,7 +9,6 @@ mod live_names;
 mod name_table;
 mod offers;
 mod resolver;
-mod words;
 mod world;
 
 pub use domain_names::DomainNames;

@@ -7,10 +7,10 @@ ghost use Rattle.jk_model.specs.ScriptGrammar.{is_name as is_domain_word};
 ghost use Rattle.jk_model_classes.specs.Resolver.{is_class_word, words_say, line_reading};
 ghost use Rattle.domain_resolver.specs.Reading.{reading};
 
-use crate::words::next_word;
 use jk_model::{Bytes, OutOfMemory};
 use jk_model_classes::ResolverWord;
 use std::alloc::Global;
+use text_lines::next_word;
 
 /// The most bytes of a domain's name.
 const MAX_NAME: usize = 32;

@@ -5,10 +5,10 @@ ghost use Rattle.jk_model_classes.specs.Resolver.{lines_say, resolver_of};
 ghost use Rattle.domain_resolver.specs.Answers.{onto, IsAnswer};
 
 use crate::line::{LineReading, read_line};
-use crate::words::next_line;
 use jk_model::{List, OutOfMemory};
 use jk_model_classes::ResolverLine;
 use std::alloc::Global;
+use text_lines::next_line;
 use thiserror::Error;
 
 /// Why a `resolver.txt` can't be read.

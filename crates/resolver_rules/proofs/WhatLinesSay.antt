@@ -7,7 +7,8 @@ use Rattle.jk_model_classes.specs.declared.sharing.ResolverLine.{ResolverLine}
 use Rattle.jk_model_classes.specs.declared.sharing.ResolverWord.{ResolverWord}
 use Rattle.jk_model_classes.specs.Resolver.{Reading, Says, Nothing, Outside, line_reading, lines_say, resolver_of}
 use Rattle.jk_model_classes.specs.ResolverRules.{BreaksL6, IsBadReading}
-use Rattle.resolver_rules.specs.Lines.{ArePassed, IsFirstOf, IsOneLine}
+use Rattle.text_lines.specs.FirstLines.{IsFirstLine}
+use Rattle.resolver_rules.specs.Lines.{ArePassed, IsOneLine}
 
 -- ---- A line by itself.
 
@@ -68,7 +69,7 @@ is_outside line n one e = by_reading (line_reading line) (sym (reads_as line one
 pub none_passed : (paths : List (List ℕ)) (bytes : List ℕ) → ArePassed paths bytes bytes 1
 none_passed paths bytes = record { front = []; lines = refl; count = refl; good = λ i line at. absurd cc }
 
-pub one_passed : (paths : List (List ℕ)) (bytes rest line after : List ℕ) (n : ℕ) → ArePassed paths bytes rest n → IsFirstOf rest line after
+pub one_passed : (paths : List (List ℕ)) (bytes rest line after : List ℕ) (n : ℕ) → ArePassed paths bytes rest n → IsFirstLine rest line after
     → (IsBadReading paths (line_reading line) → ⊥) → ArePassed paths bytes after (n + 1)
 one_passed paths bytes rest line after n p f good = record {
   front = p.front ++ line ∷ [];
@@ -87,7 +88,7 @@ none_before paths bytes rest n p m low (i, line, at, is, bad) =
     let there : slice_get (p.front ++ script_lines rest) i ≡ Some line = rw p.lines at at in
     p.good i line (sym (slice_get-front p.front (script_lines rest) i inside) ∙ there) bad
 
-pub breaks_here : (paths : List (List ℕ)) (bytes rest line after : List ℕ) (n : ℕ) → ArePassed paths bytes rest n → IsFirstOf rest line after
+pub breaks_here : (paths : List (List ℕ)) (bytes rest line after : List ℕ) (n : ℕ) → ArePassed paths bytes rest n → IsFirstLine rest line after
     → IsBadReading paths (line_reading line) → BreaksL6 paths bytes n × ((m : ℕ) → m < n → BreaksL6 paths bytes m → ⊥)
 breaks_here paths bytes rest line after n p f bad =
     let lines : script_lines bytes ≡ (p.front ++ line ∷ []) ++ script_lines after =

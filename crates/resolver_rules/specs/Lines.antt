@@ -1,5 +1,5 @@
 -- The lines of a `resolver.txt` in turn: a line by itself, and those that were passed.
-use Rattle.std.specs.Prelude.{◌≡◌, ℕ, ◌+◌, ◌<◌, ◌≤◌, List, [], ◌∷◌, ◌++◌, length, Option, Some, None, slice_get}
+use Rattle.std.specs.Prelude.{◌≡◌, ℕ, ◌+◌, ◌<◌, List, [], ◌∷◌, ◌++◌, length, Option, Some, None, slice_get}
 use Rattle.jk_model.specs.Script.{script_lines}
 use Rattle.jk_model_classes.specs.Resolver.{line_reading, lines_say, resolver_of}
 use Rattle.jk_model_classes.specs.ResolverRules.{BreaksL6, IsBadReading}
@@ -7,13 +7,6 @@ use Rattle.jk_model_classes.specs.ResolverRules.{BreaksL6, IsBadReading}
 -- the bytes are one line, so that as a text they say what the line says
 abbrev pub IsOneLine : List ℕ → Type 0
 IsOneLine line = resolver_of line ≡ lines_say 1 (line ∷ [])
-
--- the first line of a text, and what follows it
-pub record IsFirstOf (text line rest : List ℕ) : Type 0 where
-  pub lines : script_lines text ≡ line ∷ script_lines rest
-  pub one : IsOneLine line
-  pub within : length line ≤ length text
-  pub shorter : length rest < length text
 
 -- The lines before the one with this number keep L6, and these bytes follow them.
 pub record ArePassed (paths : List (List ℕ)) (bytes rest : List ℕ) (number : ℕ) : Type 0 where

@@ -9,11 +9,11 @@ ghost use Rattle.resolver_rules.specs.Lines.{IsLeastBadLine, IsOneLine};
 
 use crate::folder::Folder;
 use crate::outer::ResolverFault;
-use crate::text_lines::next_line;
 use domain_resolver::{ResolverError, read_resolver};
 use jk_model::{List, OutOfMemory};
 use jk_model_classes::{ResolverLine, ResolverWord};
 use std::alloc::Global;
+use text_lines::next_line;
 
 /// The units of a class's name, of which a line has the bytes. These are in ASCII.
 pub(crate) fn name_units(alloc: Global, bytes: &[u8]) -> Result<Vec<u16>, OutOfMemory>

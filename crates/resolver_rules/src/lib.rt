@@ -8,6 +8,5 @@ mod imports;
 mod judged;
 mod outer;
 mod system_names;
-mod text_lines;
 
 pub use outer::{OuterNames, ResolverFault, outer_names};

@@ -11,9 +11,10 @@ ghost use Rattle.script_reader.specs.StartWords.{start_words};
 use crate::error::LineError;
 use crate::number::number_within;
 use crate::options::quotas_given;
-use crate::words::{needed_word, next_word};
+use crate::words::needed_word;
 use jk_model::{Bytes, Event, FaultKind, List};
 use std::alloc::Global;
+use text_lines::next_word;
 
 /// The most bytes of a domain's name.
 const MAX_NAME: usize = 32;

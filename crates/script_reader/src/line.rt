@@ -8,9 +8,9 @@ ghost use Rattle.script_reader.specs.Answers.{Gives};
 
 use crate::commands::command_line;
 use crate::error::LineError;
-use crate::words::next_word;
 use jk_model::{Event, FaultKind};
 use std::alloc::Global;
+use text_lines::next_word;
 
 /// Whether a line may have a byte.
 fn is_line_byte(byte: u8) -> bool

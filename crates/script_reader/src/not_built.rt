@@ -9,9 +9,9 @@ ghost use Rattle.script_reader.specs.NotBuilt as not_built;
 
 use crate::error::LineError;
 use crate::line::line_event;
-use crate::words::next_word;
 use jk_model::{Event, FaultKind};
 use std::alloc::Global;
+use text_lines::next_word;
 
 /// Whether a word names an option that isn't built.
 fn is_later_option(word: &[u8]) -> bool

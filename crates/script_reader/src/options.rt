@@ -7,8 +7,9 @@ ghost use Rattle.jk_model.specs.ScriptGrammar as grammar;
 ghost use Rattle.script_reader.specs.Options as options;
 
 use crate::number::number_within;
-use crate::words::{needed_word, next_word};
+use crate::words::needed_word;
 use jk_model::{FaultKind, Quotas};
+use text_lines::next_word;
 
 /// An option of a `domain` line.
 #[derive(Clone, Copy, Debug)]

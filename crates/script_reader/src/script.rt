@@ -8,9 +8,9 @@ ghost use Rattle.script_reader.specs.NotBuilt as not_built;
 
 use crate::error::{LineError, ScriptError};
 use crate::not_built::built_event;
-use crate::words::next_line;
 use jk_model::{Event, FaultKind, List, ScriptFault};
 use std::alloc::Global;
+use text_lines::next_line;
 
 /// The most bytes of a script.
 const MAX_BYTES: usize = 1_048_576;

@@ -2,6 +2,7 @@
 use Rattle.std.proofs.Common.{arith}
 use Rattle.std.proofs.lemmas.Bool.{iff_false}
 use Rattle.jk_model_folders.specs.FolderRules.{class_paths}
+use Rattle.resolver_rules.proofs.LinesInTurn.{one_line}
 use Rattle.resolver_rules.proofs.WhatLinesSay.{all_passed, breaks_here, none_passed, one_passed}
 use Rattle.resolver_rules.proofs.grammar.first_bad_line.Goals as goal
 
@@ -27,3 +28,6 @@ pub returns : goal.returns
 returns c =
     all_passed (class_paths c.args.folder.now) c.args.folder.now.resolver c.loop-line.rest.now c.loop-line.number c.loop-line.invariant.passed
     c.in_default.ensures
+
+pub is_bad_line-requires-clause-one : goal.is_bad_line-requires-clause-one
+is_bad_line-requires-clause-one c = one_line c.in-Some.line.now c.in-Some.ensures.plain

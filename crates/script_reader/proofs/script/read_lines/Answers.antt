@@ -9,7 +9,7 @@ pub returns-in_err-event : goal.returns-in_err-event
 returns-in_err-event c =
     let p = err_from_is_err_and c.from_residual.result c.from_residual.ensures.1 in
     rw (p.1, p.2) (refused_line built_event c.args.bytes.now c.loop-line.rest.now c.in-Some.line.now c.in-Some.after.now
-    c.loop-line.number c.loop-line.events c.in_err-event.field-0.0 c.loop-line.invariant c.in-Some.ensures.0
+    c.loop-line.number c.loop-line.events c.in_err-event.field-0.0 c.loop-line.invariant c.in-Some.ensures.lines
     c.if-number-gt-MAX_LINES.false c.in_err-event.ensures)
 
 pub loop-line-preserved : goal.loop-line-preserved
@@ -17,10 +17,10 @@ loop-line-preserved c =
     elim c.match-branch-2.branch [
       | in-Some-2+in_ok-push w ↦
           rw (w.events-is, w.in_ok-push.ensures.ok) (after_event built_event c.args.bytes.now c.loop-line.rest.now c.in-Some.line.now
-          c.in-Some.after.now c.loop-line.number c.loop-line.events w.in-Some-2.event c.loop-line.invariant c.in-Some.ensures.0
+          c.in-Some.after.now c.loop-line.number c.loop-line.events w.in-Some-2.event c.loop-line.invariant c.in-Some.ensures.lines
           c.if-number-gt-MAX_LINES.false (rw w.in-Some-2.is at c.in_ok-event.ensures))
       | in_default-2 w ↦
           rw w.events-is (after_no_event built_event c.args.bytes.now c.loop-line.rest.now c.in-Some.line.now c.in-Some.after.now
-          c.loop-line.number c.loop-line.events c.loop-line.invariant c.in-Some.ensures.0
+          c.loop-line.number c.loop-line.events c.loop-line.invariant c.in-Some.ensures.lines
           c.if-number-gt-MAX_LINES.false (rw w.in_default-2.is at c.in_ok-event.ensures))
     ]

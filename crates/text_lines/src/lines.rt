@@ -1,10 +1,9 @@
-//! The lines of a `resolver.txt`, one after the other.
+//! The lines of a text.
 
-ghost use Rattle.std.specs.Prelude.{◌≡◌, ◌==◌, [], position};
-ghost use Rattle.std.specs.Option.{MatchOption};
+ghost use Rattle.std.specs.Prelude.{◌≡◌, ◌==◌, [], position, MatchOption};
 ghost use Rattle.std.specs.Str.Lines.{strip_carriage_return};
 ghost use Rattle.jk_model.specs.Script.{script_lines};
-ghost use Rattle.resolver_rules.specs.Lines.{IsFirstOf};
+ghost use Rattle.text_lines.specs.FirstLines.{IsFirstLine};
 
 /// What a line feed ends, without the carriage return that may stand before it.
 fn without_carriage_return(line: &[u8]) -> &[u8]
@@ -23,10 +22,11 @@ fn line_end(text: &[u8]) -> Option<usize>
     text.iter().position(|byte| *byte == b'\n')
 }
 
-/// The first of some lines and what follows it, or `None` where no line is left.
-#[tactic(auto, using(crate::proofs::LinesInTurn::last_line))]
-pub(crate) fn next_line(text: &[u8]) -> Option<(&[u8], &[u8])>
-    ensures { MatchOption result (script_lines text.now ≡ []) (λ found. IsFirstOf text.now found.0.now found.1.now) }
+/// The first line of a text and what follows it, or `None` where no line is left. A line ends before a line feed, or before the
+/// carriage return that stands directly before one; what no line feed ends is a line as it stands. It takes time in
+/// proportion to the line.
+pub fn next_line(text: &[u8]) -> Option<(&[u8], &[u8])>
+    ensures { MatchOption result (script_lines text.now ≡ []) (λ found. IsFirstLine text.now found.0.now found.1.now) }
 {
     if text.is_empty() {
         return None;

@@ -1,7 +1,7 @@
 -- The first word stands from the first byte that is no blank to the next blank.
 use Rattle.std.proofs.Common.{◌≡◌, ◌-◌, length, take, drop, sym, take_all, arith, length-drop}
 use Rattle.model_lemmas.proofs.WordsInTurn.{word_stands}
-use Rattle.domain_resolver.proofs.words.next_word.Goals as goal
+use Rattle.text_lines.proofs.words.next_word.Goals as goal
 
 pub returns : goal.returns
 returns c =

@@ -1,0 +1,2 @@
+-- What the first line of a text is.
+pub mod FirstLines
