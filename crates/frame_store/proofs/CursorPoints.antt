@@ -1,19 +1,19 @@
 -- The top frame of a segment, where a cursor or a look-up has it.
-use Rattle.std.proofs.Common.{◌≡◌, ◌*◌, ◌<◌, ◌-◌, ℕ, List, ◌∷◌, ◌++◌, [], length, arith, Option, Some, None, IsSome, is_some, nat_eq, option_map, slice_get, refl, sym, ap, subst, zero, suc, ◌∙◌}
+use Rattle.std.proofs.Common.{◌≡◌, ◌*◌, ◌<◌, ◌≤◌, ◌-◌, ℕ, List, ◌∷◌, ◌++◌, [], length, arith, Option, Some, None, IsSome, is_some, nat_eq, option_map, slice_get, refl, sym, ap, subst, zero, suc, ◌∙◌}
 use Rattle.std.specs.HashMap.{WritesThrough}
 use Rattle.std.proofs.lemmas.List.{length_push}
 use Rattle.std.proofs.lemmas.Option.{slice_get-map, slice_get_within, same_Some}
 use Rattle.std.specs.Map.{values_of}
 use Rattle.jk_model.specs.declared.identifiers.SegmentNo.{SegmentNo}
 use Rattle.jk_model_frames.specs.Frames.{FrameState}
-use Rattle.indexmap.specs.IndexMap.{IndexMap, get, values, with_value_at, set_value_at}
+use Rattle.indexmap.specs.IndexMap.{IndexMap, IsUnique, get, values, with_value_at, set_value_at}
 use Rattle.frame_store.specs.declared.chains.Chains.{Chains}
 use Rattle.frame_store.specs.declared.cursor.Cursor.{Cursor}
 use Rattle.frame_store.specs.declared.domain_frames.DomainFrames.{DomainFrames}
 use Rattle.frame_store.specs.declared.segment_table.Place.{Place}
 use Rattle.frame_store.specs.declared.segment_table.SegmentTable.{SegmentTable}
 use Rattle.frame_store.specs.declared.slot_set.SlotSet.{SlotSet}
-use Rattle.frame_store.specs.FrameContents.{TopFrame}
+use Rattle.frame_store.specs.FrameContents.{IsThere, TopFrame, HasTop as HasTopFrame}
 use Rattle.frame_store.specs.TableMoves as table
 use Rattle.frame_store.specs.Builds.{length-build}
 use Rattle.frame_store.specs.SlotMoves.{IsLive}
@@ -21,10 +21,10 @@ use Rattle.frame_store.specs.ChainMoves.{count, place}
 use Rattle.frame_store.specs.DomainMoves.{depth_of, frames_of, locals_at, start_of, top_number, value_at, HasTop, IsSlot, IsTopOf, IsFrameNumber, Becomes}
 use Rattle.frame_store.specs.StoreContents.{content_of, IsStore, IsFound, IsStanding, StandsAt}
 use Rattle.frame_store.specs.StoreIsContent.{stands}
-use Rattle.frame_store.specs.Cursors.{HasDomainAt, HasTopAt, HasValuesAt, IsTopAt, PointsAt}
-use Rattle.frame_store.proofs.StoreChanges.{found_top_is, get_here}
+use Rattle.frame_store.specs.Cursors.{HasDomainAt, HasValuesAt, IsAimed, IsCursor, IsRightFor, IsTopAt, PointsAt}
+use Rattle.frame_store.proofs.StoreChanges.{found_slot, found_top, found_top_is, get_here, standing_at, standing_there}
 use Rattle.frame_store.proofs.TopIsWritten.{is_top_frame}
-use Rattle.frame_store.proofs.WrittenAt.{read_at}
+use Rattle.frame_store.proofs.WrittenAt.{read_at, written_at}
 
 -- where something stands at a place of a list of pairs
 pub second_at : {X : Type 0} (es : List (ℕ × X)) (i k : ℕ) (x : X) → slice_get es i ≡ Some (k, x) → Some x ≡ slice_get (values_of es) i
@@ -91,11 +91,17 @@ module _ {S : Type 0} (m : IndexMap ℕ DomainFrames S) (t : SegmentTable) (owed
   found_read x e =
       record { domain = found_at.2.domain; at = found_at.2.at; is = read_at m found_at.2.domain at stands_at x e }
 
+-- what is written at a place of a list of pairs
+pub set_here : {X : Type 0} (es : List (ℕ × X)) (i d : ℕ) (x y : X) → slice_get es i ≡ Some (d, x) → slice_get (set_value_at es i y) i ≡ Some (d, y)
+set_here [] i d x y e = absurd (cc)
+set_here (f ∷ es) zero d x y e = let same : f.0 ≡ d = cc in ap (λ k. Some (k, y)) same
+set_here (f ∷ es) (suc i) d x y e = set_here es i d x y e
+
 -- ---- A cursor that has what is found.
 
 module _ {S : Type 0} (m : IndexMap ℕ DomainFrames S) (t : SegmentTable) (s : ℕ) (c : Cursor) (x : DomainFrames) (slot : ℕ) (f : IsFound m t s x slot)
-    (entry_is : slice_get m.entries c.domain ≡ Some (f.domain, x)) (top_is : IsTopOf x slot c.frame)
-    (values_are : HasValuesAt x c) (place_is : table.place_in t s ≡ Some c.place) where
+    (is_place : c.place ≡ record { domain = f.domain; slot = slot }) (is_entry : slice_get m.entries c.domain ≡ Some (f.domain, x))
+    (is_top : HasTop x slot → c.frame ≡ top_number x slot) (are_values : HasTop x slot → HasValuesAt x c) where
   module _ (z : DomainFrames) (i : ℕ) (g : IsFound m t s z i) where
     same_place : (let here : Place = record { domain = g.domain; slot = i } in let there : Place = record { domain = f.domain; slot = slot } in here ≡ there)
     same_place = same_Some _ _ (sym g.at ∙ f.at)
@@ -103,47 +109,161 @@ module _ {S : Type 0} (m : IndexMap ℕ DomainFrames S) (t : SegmentTable) (s : 
     same_domain : g.domain ≡ f.domain
     same_domain = ap (λ (q : Place). q.domain) same_place
 
+    same_slot : i ≡ slot
+    same_slot = ap (λ (q : Place). q.slot) same_place
+
     same_frames : z ≡ x
     same_frames = same_Some z x (sym g.is ∙ ap (get nat_eq m) same_domain ∙ f.is)
 
     entry_at : slice_get m.entries c.domain ≡ Some (g.domain, z)
-    entry_at = entry_is ∙ ap (λ d. Some (d, x)) (sym same_domain) ∙ ap (λ (w : DomainFrames). Some (g.domain, w)) (sym same_frames)
+    entry_at = is_entry ∙ ap (λ d. Some (d, x)) (sym same_domain) ∙ ap (λ (w : DomainFrames). Some (g.domain, w)) (sym same_frames)
 
-    top_at : IsTopOf z i c.frame
-    top_at =
-        let Here : ℕ → Type 0 = λ j. IsTopOf x j c.frame in
-        let There : DomainFrames → Type 0 = λ (w : DomainFrames). IsTopOf w i c.frame in
-        subst There (sym same_frames) (subst Here (sym (ap (λ (q : Place). q.slot) same_place)) top_is)
+    top_here : HasTop z i → HasTop x slot
+    top_here top =
+        let Here : ℕ → Type 0 = λ j. HasTop z j in
+        let There : DomainFrames → Type 0 = λ (w : DomainFrames). HasTop w slot in
+        subst There same_frames (subst Here same_slot top)
 
-    values_at : HasValuesAt z c
-    values_at =
+    frame_at : HasTop z i → c.frame ≡ top_number z i
+    frame_at top = is_top (top_here top) ∙ ap (λ (w : DomainFrames). top_number w slot) (sym same_frames) ∙ ap (top_number z) (sym same_slot)
+
+    values_at : HasTop z i → HasValuesAt z c
+    values_at top =
         let P : DomainFrames → Type 0 = λ (w : DomainFrames). HasValuesAt w c in
-        subst P (sym same_frames) values_are
+        subst P (sym same_frames) (are_values (top_here top))
 
-  pub points : PointsAt m t s c
-  points = record { place = place_is; top = record { in_table = ap is_some f.at; entry = entry_at; top = top_at }; values = values_at }
+  pub is_right : IsRightFor m t s c
+  is_right = record { place = λ z i g. is_place ∙ sym (same_place z i g); entry = entry_at; frame = frame_at; values = values_at }
 
-module _ {S : Type 0} (m : IndexMap ℕ DomainFrames S) (t : SegmentTable) (s at slot : ℕ) (k : HasTopAt m t s at slot) where
-  abbrev pub place_stands : HasDomainAt m at
-  place_stands = (k.found.domain, record { domain = k.domain; entry = k.entry; is = k.found.is })
+module _ {S : Type 0} (m : IndexMap ℕ DomainFrames S) (t : SegmentTable) (s : ℕ) (c : Cursor) (none : table.place_in t s ≡ None) where
+  never_found : (x : DomainFrames) (slot : ℕ) → IsFound m t s x slot → ⊥
+  never_found x slot f =
+      let p : Place = record { domain = f.domain; slot = slot } in
+      let some : None ≡ Some p = sym none ∙ f.at in
+      absurd (cc)
 
-  -- where a call reads the domain at the place
-  pub points_at : (c : Cursor) (x : DomainFrames) → x ≡ k.domain → c.domain ≡ at → c.frame ≡ top_number x slot → HasValuesAt x c
-      → table.place_in t s ≡ Some c.place → PointsAt m t s c
-  points_at c x same here frame values place_is =
-      let z = k.domain in
-      let P : DomainFrames → Type 0 = λ (w : DomainFrames). HasValuesAt w c in
-      points m t s c z slot k.found
-      (ap (λ i. slice_get m.entries i) here ∙ k.entry)
-      (record { has_top = k.has_top; is = frame ∙ ap (λ (w : DomainFrames). top_number w slot) same })
-      (subst P same values) place_is
+  -- a cursor at a segment that isn't in the table says nothing
+  pub right_nowhere : IsRightFor m t s c
+  right_nowhere =
+      record {
+        place = λ x i f. absurd (never_found x i f);
+        entry = λ x i f. absurd (never_found x i f);
+        frame = λ x i f _. absurd (never_found x i f);
+        values = λ x i f _. absurd (never_found x i f);
+      }
+
+-- ---- What a cursor at a segment has.
+
+module _ {S : Type 0} (m : IndexMap ℕ DomainFrames S) (t : SegmentTable) (owed : ℕ) (s : SegmentNo) (h : IsStore m t owed) (c : Cursor)
+    (k : IsRightFor m t s.0 c) where
+  pub points : HasTopFrame (content_of m t) s → PointsAt m t s.0 c
+  points has =
+      let there = standing_at m t owed s h has.1.segment has.1.is_there in
+      let found = there.2 in
+      let top : (x : DomainFrames) (slot : ℕ) → IsFound m t s.0 x slot → HasTop x slot = λ x slot f. found_top m t owed s h x slot f has.0 has.1 in
+      record {
+        place = found.at ∙ ap (λ q. Some q) (sym (k.place there.0 there.1 found));
+        top = record {
+          in_table = ap is_some found.at;
+          entry = k.entry;
+          top = λ x slot f. record { has_top = top x slot f; is = k.frame x slot f (top x slot f) };
+        };
+        values = λ x slot f. k.values x slot f (top x slot f);
+      }
+
+  module _ (there : IsThere (content_of m t) s) where
+    abbrev found_there : IsStanding m t s.0
+    found_there = standing_there m t owed s h there
+
+    place_there : c.place ≡ record { domain = found_there.2.domain; slot = found_there.1 }
+    place_there = k.place found_there.0 found_there.1 found_there.2
+
+    -- the cursor's domain
+    abbrev found_cursor : IsFound m t s.0 found_there.0 c.place.slot
+    found_cursor =
+        record {
+          domain = c.place.domain;
+          at = found_there.2.at ∙ ap (λ q. Some q) (sym place_there);
+          is = ap (get nat_eq m) (ap (λ (q : Place). q.domain) place_there) ∙ found_there.2.is;
+        }
+
+    abbrev stands_cursor : StandsAt m c.place.domain c.domain
+    stands_cursor = record { domain = found_there.0; entry = k.entry found_there.0 c.place.slot found_cursor; is = found_cursor.is }
+
+    pub within_cursor : c.domain < length m.entries
+    within_cursor = slice_get_within m.entries c.domain _ stands_cursor.entry
+
+    -- where the domain at the cursor is read from the map's entries
+    module _ (es : List (ℕ × DomainFrames)) (same : es ≡ m.entries) (x : DomainFrames) (reads : slice_get (values_of es) c.domain ≡ Some x) where
+      same_read : found_there.0 ≡ x
+      same_read =
+          same_Some found_there.0 x
+          (second_at m.entries c.domain _ found_there.0 stands_cursor.entry
+          ∙ ap (λ (q : List (ℕ × DomainFrames)). slice_get (values_of q) c.domain) (sym same) ∙ reads)
+
+      pub found_where_read : IsFound m t s.0 x c.place.slot
+      found_where_read =
+          record { domain = c.place.domain; at = found_cursor.at; is = found_cursor.is ∙ ap (λ (w : DomainFrames). Some w) same_read }
+
+      pub slot_where_read : IsSlot x c.place.slot
+      slot_where_read = found_slot m t owed s h x c.place.slot found_where_read
+
+    module _ (x : DomainFrames) (d : ℕ) (reads : slice_get m.entries c.domain ≡ Some (d, x)) where
+      same_there : found_there.0 ≡ x
+      same_there = same_Some found_there.0 x (second_at m.entries c.domain _ found_there.0 stands_cursor.entry ∙ sym (second_at m.entries c.domain d x reads))
+
+      pub placed_there : table.place_in t s.0 ≡ Some c.place
+      placed_there = found_cursor.at
+
+      pub read_there : get nat_eq m c.place.domain ≡ Some x
+      read_there = found_cursor.is ∙ ap (λ (w : DomainFrames). Some w) same_there
+
+      -- the domain that is read at the cursor
+      abbrev pub found_read_at : IsFound m t s.0 x c.place.slot
+      found_read_at = record { domain = c.place.domain; at = placed_there; is = read_there }
+
+      pub slot_there : IsSlot x c.place.slot
+      slot_there = found_slot m t owed s h x c.place.slot found_read_at
+
+      pub top_there : HasTopFrame (content_of m t) s → HasTop x c.place.slot
+      top_there has = found_top m t owed s h x c.place.slot found_read_at has.0 has.1
+
+      module _ (y : DomainFrames) (unique : IsUnique nat_eq m) where
+        pub wrote_cursor : WritesThrough nat_eq (nat_eq c.place.domain) m y (with_value_at m c.domain y)
+        wrote_cursor = written_at m c.place.domain c.domain stands_cursor y unique
+
+        abbrev found_wrote : IsFound (with_value_at m c.domain y) t s.0 y c.place.slot
+        found_wrote =
+            record {
+              domain = c.place.domain;
+              at = placed_there;
+              is = get_here m (with_value_at m c.domain y) t owed s c.place x y h placed_there read_there wrote_cursor;
+            }
+
+        -- a cursor at the same place is right after a write there, if it is for the top frame
+        pub right_again : (b : Cursor) → b.place ≡ c.place → b.domain ≡ c.domain → (HasTop y c.place.slot → b.frame ≡ top_number y c.place.slot)
+            → (HasTop y c.place.slot → HasValuesAt y b) → IsRightFor (with_value_at m c.domain y) t s.0 b
+        right_again b at_place at_domain at_frame at_values =
+            let n = with_value_at m c.domain y in
+            is_right n t s.0 b y c.place.slot found_wrote at_place
+            (ap (slice_get n.entries) at_domain ∙ set_here m.entries c.domain c.place.domain found_there.0 y stands_cursor.entry) at_frame at_values
+
+        pub aimed_again : (b : Cursor) → IsAimed y c b → c.segment ≡ s.0 → IsCursor (with_value_at m c.domain y) t b
+        aimed_again b aimed here =
+            let P : ℕ → Type 0 = λ r. IsRightFor (with_value_at m c.domain y) t r b in
+            subst P (sym (aimed.segment ∙ here)) (right_again b aimed.place aimed.domain (λ _. aimed.frame) (λ _. aimed.values))
+
+module _ {S : Type 0} (m : IndexMap ℕ DomainFrames S) (t : SegmentTable) (owed : ℕ) (s : SegmentNo) (h : IsStore m t owed) (c : Cursor)
+    (k : IsRightFor m t s.0 c) (there : IsThere (content_of m t) s) (x : DomainFrames) (d : ℕ) (reads : slice_get m.entries c.domain ≡ Some (d, x))
+    (unique : IsUnique nat_eq m) (here : c.segment ≡ s.0) where
+  -- where nothing is written
+  pub same_again : IsCursor (with_value_at m c.domain x) t c
+  same_again =
+      let f = found_read_at m t owed s h c k there x d reads in
+      let P : ℕ → Type 0 = λ r. IsRightFor (with_value_at m c.domain x) t r c in
+      subst P (sym here) (right_again m t owed s h c k there x d reads x unique c refl refl (k.frame x c.place.slot f) (k.values x c.place.slot f))
 
 -- ---- After a write in the domain that leaves its chains as they are.
-
-set_here : {X : Type 0} (es : List (ℕ × X)) (i d : ℕ) (x y : X) → slice_get es i ≡ Some (d, x) → slice_get (set_value_at es i y) i ≡ Some (d, y)
-set_here [] i d x y e = absurd (cc)
-set_here (f ∷ es) zero d x y e = let same : f.0 ≡ d = cc in ap (λ k. Some (k, y)) same
-set_here (f ∷ es) (suc i) d x y e = set_here es i d x y e
 
 same_top : (x y : DomainFrames) (i frame : ℕ) → y.chunks ≡ x.chunks → y.frames ≡ x.frames → IsTopOf x i frame → IsTopOf y i frame
 same_top x y i frame chunks frames top =
@@ -167,19 +287,33 @@ module _ {S : Type 0} (m : IndexMap ℕ DomainFrames S) (t : SegmentTable) (owed
         room = omega (arith, was.room, locals);
       }
 
-  pub still_points : PointsAt (with_value_at m c.domain y) t s.0 c
-  still_points =
+  pub still_right : IsRightFor (with_value_at m c.domain y) t s.0 c
+  still_right =
       let n = with_value_at m c.domain y in
       let p : Place = record { domain = f.domain; slot = slot } in
       let g : IsFound n t s.0 y slot = record { domain = f.domain; at = f.at; is = get_here m n t owed s p x y h f.at f.is wrote } in
-      points n t s.0 c y slot g (set_here m.entries c.domain f.domain x y (k.top.entry x slot f)) (same_top x y slot c.frame chunks frames (k.top.top x slot f))
-      still_has k.place
+      is_right n t s.0 c y slot g (same_Some c.place p (sym k.place ∙ f.at)) (set_here m.entries c.domain f.domain x y (k.top.entry x slot f))
+      (λ _. (same_top x y slot c.frame chunks frames (k.top.top x slot f)).is) (λ _. still_has)
 
 -- ---- After a frame is pushed or popped in the domain.
 
 -- as many frames as the stack of the slot has nodes
 depth_is : (x : DomainFrames) (i : ℕ) → length (frames_of x i) ≡ depth_of x i
 depth_is x i = length-build (λ k. value_at x (place x.frames i k)) (depth_of x i)
+
+some_by : (a b n : ℕ) → n ≡ a → a ≡ b → 0 < n → 0 < b
+some_by a b n e f some = omega arith
+
+-- a segment of which the depth isn't 0 has a frame
+pub has_depth : (x : DomainFrames) (i : ℕ) → IsSlot x i → (n : ℕ) → n ≡ length (frames_of x i) → 0 < n → HasTop x i
+has_depth x i slot n e some = (slot.0, some_by (length (frames_of x i)) (depth_of x i) n e (depth_is x i) some)
+
+none_by : (a b n : ℕ) → n ≡ a → a ≡ b → n ≤ 0 → 0 < b → ⊥
+none_by a b n e f none some = omega arith
+
+-- a segment of which the depth is 0 has none
+pub has_no_depth : (x : DomainFrames) (i n : ℕ) → n ≡ length (frames_of x i) → n ≤ 0 → HasTop x i → ⊥
+has_no_depth x i n e none top = none_by (length (frames_of x i)) (depth_of x i) n e (depth_is x i) none top.1
 
 module _ (x y : DomainFrames) (i used : ℕ) (frames : List FrameState) (b : Becomes x y i frames used) (was : IsSlot x i) where
   pub still_slot : IsSlot y i
@@ -201,16 +335,25 @@ pub some_of_two : (fs : List FrameState) (f g : FrameState) → 0 < length (fs +
 some_of_two [] f g = omega arith
 some_of_two (h ∷ fs) f g = omega arith
 
-module _ {S : Type 0} (m : IndexMap ℕ DomainFrames S) (t : SegmentTable) (owed : ℕ) (s : SegmentNo) (x y : DomainFrames) (slot : ℕ)
-    (h : IsStore m t owed) (f : IsFound m t s.0 x slot) (at : ℕ) (stands : StandsAt m f.domain at)
-    (wrote : WritesThrough nat_eq (nat_eq f.domain) m y (with_value_at m at y)) where
-  -- the segment is found where it was
-  pub found_again : HasTop y slot → HasTopAt (with_value_at m at y) t s.0 at slot
-  found_again top =
-      let p : Place = record { domain = f.domain; slot = slot } in
+-- ---- After a change of the map or of the table elsewhere.
+
+module _ {S : Type 0} (m n : IndexMap ℕ DomainFrames S) (t u : SegmentTable) (s : ℕ) (c : Cursor) (k : IsRightFor m t s c)
+    (placed : (p : Place) → table.place_in u s ≡ Some p → table.place_in t s ≡ Some p)
+    (kept : (p : Place) (x : DomainFrames) → table.place_in u s ≡ Some p → get nat_eq n p.domain ≡ Some x → get nat_eq m p.domain ≡ Some x) where
+  abbrev before : (x : DomainFrames) (slot : ℕ) → IsFound n u s x slot → IsFound m t s x slot
+  before x slot f = record { domain = f.domain; at = placed _ f.at; is = kept _ x f.at f.is }
+
+  values_before : (i : ℕ) (x : DomainFrames) → HasValuesAt x c → HasValuesAt x (record c { domain = i })
+  values_before i x v = record { start = v.start; base = v.base; room = v.room }
+
+  -- the segment's domain stands at this place of the map now
+  pub right_moved : (i : ℕ)
+      → ((x : DomainFrames) (slot : ℕ) (f : IsFound n u s x slot) → slice_get m.entries c.domain ≡ Some (f.domain, x)
+      → slice_get n.entries i ≡ Some (f.domain, x)) → IsRightFor n u s (record c { domain = i })
+  right_moved i entries =
       record {
-        domain = y;
-        found = record { domain = f.domain; at = f.at; is = get_here m (with_value_at m at y) t owed s p x y h f.at f.is wrote };
-        entry = set_here m.entries at f.domain stands.domain y stands.entry;
-        has_top = top;
+        place = λ x slot f. k.place x slot (before x slot f);
+        entry = λ x slot f. entries x slot f (k.entry x slot (before x slot f));
+        frame = λ x slot f top. k.frame x slot (before x slot f) top;
+        values = λ x slot f top. values_before i x (k.values x slot (before x slot f) top);
       }

@@ -12,11 +12,11 @@ use Rattle.frame_store.specs.declared.segment_table.SegmentTable.{SegmentTable}
 use Rattle.frame_store.specs.FrameContents.{FrameContent, TopFrame, SetsTop, TakesEntry}
 use Rattle.frame_store.specs.DomainMoves.{locals_at, lower_of, top_of, value_at, IsFrameNumber, IsTopOf, Becomes, TakesTopEntry}
 use Rattle.frame_store.specs.StoreContents.{content_of, IsStore, IsFound}
-use Rattle.frame_store.specs.Cursors.{HasValuesAt, IsCursor, PointsAt}
+use Rattle.frame_store.specs.Cursors.{HasValuesAt, IsCursor, IsRightFor, PointsAt}
 use Rattle.frame_store.proofs.StoreChanges.{found_top, found_top_is, store_kept}
 use Rattle.frame_store.proofs.StoreSteps.{steps_top}
 use Rattle.frame_store.proofs.WrittenAt.{written_at}
-use Rattle.frame_store.proofs.CursorPoints.{found_at, stands_at, found_read, frame_is, second_at, value_is, still_points, within}
+use Rattle.frame_store.proofs.CursorPoints.{found_at, stands_at, found_read, frame_is, second_at, value_is, still_right, within}
 
 module _ {S : Type 0} (old : FrameContent) (m : IndexMap ℕ DomainFrames S) (t : SegmentTable) (owed : ℕ) (s : SegmentNo) (h : IsStore m t owed) (c : Cursor)
     (k : PointsAt m t s.0 c) (same : content_of m t ≡ old) where
@@ -72,9 +72,9 @@ module _ {S : Type 0} (old : FrameContent) (m : IndexMap ℕ DomainFrames S) (t 
       stays_by : (fs : List FrameState) → Becomes x y slot fs x.used → y.frames ≡ x.frames → y.parts ≡ x.parts → SameLocals → c.segment ≡ s.0 → Stays
       stays_by fs b frames parts locals at =
           let p : Place = record { domain = found.domain; slot = slot } in
-          let P : ℕ → Type 0 = λ q. PointsAt n t q c in (
+          let P : ℕ → Type 0 = λ q. IsRightFor n t q c in (
             store_kept m n t owed s p x y h found.at found.is wrote b.same_chunks b.same_slots,
-            λ _. subst P (sym at) (still_points m t owed s x y slot h c k found wrote b.same_chunks frames parts locals),
+            subst P (sym at) (still_right m t owed s x y slot h c k found wrote b.same_chunks frames parts locals),
           )
 
       sets_by : (f g : FrameState) → TopFrame old s f → Becomes x y slot (lower_of x slot ++ g ∷ []) x.used → SetsTop old (content_of n t) s g

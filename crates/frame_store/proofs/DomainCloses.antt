@@ -68,14 +68,14 @@ module _ {S : Type 0} (m n : IndexMap ℕ DomainFrames S) (t u : SegmentTable) (
     (is : get nat_eq m d ≡ Some x)
     (updates : (q : ℕ) → get nat_eq n q ≡ cond (nat_eq d q) None (get nat_eq m q)) (gone : get nat_eq n d ≡ None)
     (entries : n.entries ≡ swap_remove_entry (nat_eq d) m.entries) (forgotten : AreForgotten t u x.slots d x.slots.live) where
-  elsewhere : (q : ℕ) → q ≢ d → get nat_eq n q ≡ get nat_eq m q
+  pub elsewhere : (q : ℕ) → q ≢ d → get nat_eq n q ≡ get nat_eq m q
   elsewhere = others_by_updates m n d None updates
 
-  before : (r : ℕ) (q : Place) → table.place_in u r ≡ Some q → table.place_in t r ≡ Some q
+  pub before : (r : ℕ) (q : Place) → table.place_in u r ≡ Some q → table.place_in t r ≡ Some q
   before r q e = elim (forgotten.fewer r) [ inl same ↦ sym same ∙ e | inr none ↦ absurd (cc) ]
 
   -- no segment of the domain stands any more
-  other_domain : (r : ℕ) (q : Place) → table.place_in u r ≡ Some q → q.domain ≢ d
+  pub other_domain : (r : ℕ) (q : Place) → table.place_in u r ≡ Some q → q.domain ≢ d
   other_domain r q e same =
       let old = before r q e in
       let e_get : get nat_eq m q.domain ≡ Some x = ap (get nat_eq m) same ∙ is in

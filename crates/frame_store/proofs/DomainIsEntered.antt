@@ -50,7 +50,7 @@ sum_insert f d v (x ∷ es) e =
 module _ {S : Type 0} (m n : IndexMap ℕ DomainFrames S) (t u : SegmentTable) (owed : ℕ) (h : IsStore m t owed) where
   -- places in domains that are as before
   module _ (d : ℕ) (none : get nat_eq m d ≡ None) (others : (e : ℕ) → e ≢ d → get nat_eq n e ≡ get nat_eq m e) (places : table.IsSameTable t u) where
-    other_domain : (r : ℕ) (q : Place) → table.place_in t r ≡ Some q → q.domain ≢ d
+    pub other_domain : (r : ℕ) (q : Place) → table.place_in t r ≡ Some q → q.domain ≢ d
     other_domain r q e same =
         let x = stands m t owed h r q e in
         let f : get nat_eq m d ≡ Some x.0 = ap (get nat_eq m) (sym same) ∙ x.1.is in

@@ -1,5 +1,5 @@
 -- A frame is put on top of a segment: a free number and free blocks become its own.
-use Rattle.std.proofs.Common.{◌≡◌, ◌≢◌, ℕ, suc, ◌+◌, ◌-◌, ◌^◌, ◌<◌, ◌≤◌, List, [], ◌∷◌, ◌++◌, set, refl, sym, ap, subst, arith, inl, inr, ◌∙◌}
+use Rattle.std.proofs.Common.{◌≡◌, ◌≢◌, ℕ, suc, ◌+◌, ◌-◌, ◌*◌, ◌^◌, ◌<◌, ◌≤◌, List, [], ◌∷◌, ◌++◌, set, refl, sym, ap, subst, arith, inl, inr, ◌∙◌}
 use Rattle.std.proofs.lemmas.Bool.{cases_eq}
 use Rattle.std.proofs.lemmas.List.{length-set}
 use Rattle.jk_model.specs.declared.frames.FrameHead.{FrameHead}
@@ -13,7 +13,7 @@ use Rattle.frame_store.specs.Chains.{sum_below}
 use Rattle.frame_store.specs.ChainMoves.{count, place, nodes, stacks, MovesTop}
 use Rattle.frame_store.specs.SlotMoves.{place_in}
 use Rattle.frame_store.specs.FrameBlocks.{build, record_at, value_of, frame_of, lowest_in, cost_in, cost_below, IsFramed, IsDomain, TakesBlocks}
-use Rattle.frame_store.specs.DomainMoves.{depth_of, frames_of, value_at, IsSlot}
+use Rattle.frame_store.specs.DomainMoves.{depth_of, frames_of, start_of, value_at, IsFrameNumber, IsSlot}
 use Rattle.frame_store.proofs.PlacesApart.{place_lt}
 use Rattle.frame_store.specs.Builds.{build-same, build-more, build-replicate, le_count}
 use Rattle.frame_store.specs.SumsBelow.{sum_below-same, sum_below-change, sum_below-le}
@@ -35,7 +35,7 @@ free_number d room =
 
 module _ (d : DomainFrames) (frames parts : Chains) (values : List Value) (i f blocks : ℕ) (head : FrameHead) (slot : IsSlot d i)
     (cost : blocks ≡ head_chunks head) (room : d.used + blocks ≤ d.chunks) (small : head.max_stack < 2 ^ 16) (moves : MovesTop d.frames frames d.chunks i f)
-    (takes : TakesBlocks d.parts parts d.values.items values d.chunks f blocks) where
+    (takes : TakesBlocks d.parts parts d.values.items values d.chunks f blocks head.max_locals) where
   abbrev added : FrameRecord
   added = record { head = head; height = 0 }
 
@@ -85,6 +85,15 @@ module _ (d : DomainFrames) (frames parts : Chains) (values : List Value) (i f b
 
   same_blocks : (g : ℕ) → g < d.chunks → g ≢ f → count parts g ≡ count d.parts g
   same_blocks g lt ne = takes.others g ne (omega arith)
+
+  -- the values of a frame begin where they did
+  pub added_start : (g : ℕ) → IsFrameNumber d g → 20 * place parts g 0 ≡ start_of d g
+  added_start g is =
+      let s = some_free in
+      let free : count d.parts f ≡ 0 = ap (count d.parts) moves.was_top ∙ d.ok.bare (count d.frames d.chunks - 1) (omega arith) in
+      let ne : g ≢ f = λ e. let none : count d.parts g ≡ 0 = ap (count d.parts) e ∙ free in omega (arith, none, is.framed.blocks) in
+      let same = takes.same_index g 0 is.within ne (omega (arith, is.framed.blocks)) in
+      omega (arith, same)
 
   former_framed : (j n : ℕ) → j < d.chunks → n < depth_of d j → IsFramed parts records (place frames j n)
   former_framed j n lt low =
@@ -210,7 +219,7 @@ module _ (d : DomainFrames) (frames parts : Chains) (values : List Value) (i f b
   added_frame =
       let locals =
       build-replicate (value_of parts values f) head.max_locals Unset
-      (λ k lt. takes.unset k (omega (arith, cost))) in
+      (λ k lt. takes.unset k (omega (arith, cost)) lt) in
       ap (λ (r : FrameRecord). let s : FrameState = record {
         head = r.head;
         locals = build (value_of parts values f) r.head.max_locals;

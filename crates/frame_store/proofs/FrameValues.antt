@@ -1,5 +1,5 @@
 -- Values of different frames, and different values of a frame, are at different places.
-use Rattle.std.proofs.Common.{◌≡◌, ◌≢◌, ℕ, ◌+◌, ◌-◌, ◌*◌, ◌/◌, ◌%◌, ◌<◌, List, get_or, refl, sym, ap, arith, inl, inr, ◌∙◌}
+use Rattle.std.proofs.Common.{◌≡◌, ◌≢◌, ℕ, ◌+◌, ◌-◌, ◌*◌, ◌/◌, ◌%◌, ◌<◌, ◌≤◌, List, get_or, refl, sym, ap, arith, inl, inr, ◌∙◌}
 use Rattle.std.proofs.lemmas.Bool.{cases_eq}
 use Rattle.jk_model.specs.declared.values.Value.{Value}
 use Rattle.jk_model.specs.declared.values.Value.TheVariants.{Unset}
@@ -48,8 +48,8 @@ frame-same parts new_parts records new_records values new_values f e h =
 
 -- ---- Blocks are taken.
 
-pub none_taken : (c : Chains) (values : List Value) (last frame : ℕ) → count c frame ≡ 0 → TakesBlocks c c values values last frame 0
-none_taken c values last frame bare =
+pub none_taken : (c : Chains) (values : List Value) (last frame locals : ℕ) → count c frame ≡ 0 → TakesBlocks c c values values last frame 0 locals
+none_taken c values last frame locals bare =
     record {
       same_nodes = refl;
       same_stacks = refl;
@@ -59,11 +59,18 @@ none_taken c values last frame bare =
       others = λ _ _ _. refl;
       same_index = λ _ _ _ _ _. refl;
       same_value = λ _ _ _ _ _. refl;
-      unset = λ q lt. absurd (omega arith);
+      unset = λ q lt _. absurd (omega arith);
     }
 
-module _ (old c new : Chains) (old_values values new_values : List Value) (last frame n b : ℕ) (last_lt : last < stacks old) (frame_lt : frame < last)
-    (taken : TakesBlocks old c old_values values last frame n) (moves : MovesTop c new last frame b) (cleared : IsCleared values new_values b) where
+-- the lowest block stays
+pub lowest_stays : (old c new : Chains) (old_values values : List Value) (last frame n b : ℕ) {locals : ℕ} → last < stacks old → frame < last
+    → TakesBlocks old c old_values values last frame n locals → MovesTop c new last frame b → 1 ≤ n → place new frame 0 ≡ place c frame 0
+lowest_stays old c new old_values values last frame n b last_lt frame_lt taken moves some =
+    moves.others frame 0 (omega (arith, taken.same_stacks)) (omega (arith, taken.has)) (omega (arith, taken.has, moves.to_count))
+
+module _ (old c new : Chains) (old_values values new_values : List Value) (last frame n b locals some : ℕ) (last_lt : last < stacks old)
+    (frame_lt : frame < last) (taken : TakesBlocks old c old_values values last frame n locals) (moves : MovesTop c new last frame b)
+    (cleared : IsCleared values new_values b some) (enough : (k : ℕ) → k < 20 → 20 * n + k < locals → k < some) where
   in_c : (g : ℕ) → g < last → g < stacks c
   in_c g lt = omega (arith, taken.same_stacks)
 
@@ -93,7 +100,7 @@ module _ (old c new : Chains) (old_values values new_values : List Value) (last 
         | inr high ↦ (cleared.others (20 * a + x)).1 (omega arith)
       ]
 
-  pub one_taken : TakesBlocks old new old_values new_values last frame (n + 1)
+  pub one_taken : TakesBlocks old new old_values new_values last frame (n + 1) locals
   one_taken =
       record {
         same_nodes = moves.same_nodes ∙ taken.same_nodes;
@@ -111,14 +118,14 @@ module _ (old c new : Chains) (old_values values new_values : List Value) (last 
             ∙ kept (place c g (q / 20)) (q % 20) (other_block g (q / 20) lt (omega (arith, count_c g lt ne))) (omega arith)
             ∙ taken.same_value g q lt ne q_lt;
         unset =
-            λ q q_lt. elim (cases_eq (q / 20) n) [
+            λ q q_lt local. elim (cases_eq (q / 20) n) [
               | inl e ↦
                   let at : place new frame (q / 20) ≡ b = ap (place new frame) (e ∙ sym taken.has) ∙ moves.lands in
-                  ap (λ k. get_or new_values (20 * k + q % 20) Unset) at ∙ cleared.cleared (q % 20) (omega arith)
+                  ap (λ k. get_or new_values (20 * k + q % 20) Unset) at ∙ cleared.cleared (q % 20) (enough (q % 20) (omega arith) (omega arith))
               | inr ne ↦
                   let low : q / 20 < n = omega arith in
                   ap (λ k. get_or new_values (20 * k + q % 20) Unset) (place_frame (q / 20) low)
                   ∙ kept (place c frame (q / 20)) (q % 20) (other_block frame (q / 20) frame_lt (omega (arith, taken.has))) (omega arith)
-                  ∙ taken.unset q (omega arith)
+                  ∙ taken.unset q (omega arith) local
             ];
       }

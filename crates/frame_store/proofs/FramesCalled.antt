@@ -289,6 +289,18 @@ module _ (d e : DomainFrames) (i frame : ℕ) (head : FrameHead) (many used : �
       ∙ ap (λ (l : List FrameState). slice_get l (depth_of d i - 1)) on_top.0
       ∙ get-build (λ j. value_at d (place d.frames i j)) (depth_of d i) (depth_of d i - 1) (omega arith))
 
+  -- the frame is still on top where the chains stay
+  module _ (n : DomainFrames) (n_frames : n.frames ≡ e.frames) (n_chunks : n.chunks ≡ d.chunks) where
+    pub frame_last : frame ≡ top_number n i
+    frame_last = frame_top ∙ ap (λ (q : Chains). place q i (count q i - 1)) (sym n_frames)
+
+    pub number_last : IsFrameNumber n frame
+    number_last =
+        let P : ℕ → Type 0 = λ k. IsFrameNumber n k in
+        let deep : depth_of n i ≡ depth_of e i = ap (λ (q : Chains). count q i) n_frames in
+        let here : HasTop n i = (let within = top.0 in omega (arith, n_chunks), omega (arith, deep, one_deeper)) in
+        subst P (sym frame_last) (top_is_frame n i here)
+
   module _ (below given : List Value) (stack : (top_of d i).stack ≡ below ++ given) (as_many : length given ≡ many) where
     pub same_given : has.1 ≡ given
     same_given =

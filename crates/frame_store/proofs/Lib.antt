@@ -1,6 +1,7 @@
 pub mod ArgumentsInLocals
 pub mod BlocksAreGiven
 mod WrittenAt
+pub mod CursorIsKept
 pub mod CursorPoints
 pub mod CursorWrites
 pub mod DomainCloses
@@ -18,6 +19,7 @@ pub mod FreeChains
 pub mod MovesKeepChains
 pub mod NodeOfAKey
 pub mod PlacesApart
+pub mod RoomIsTested
 pub mod SegmentBegins
 pub mod SegmentGoes
 pub mod SegmentIsEmptied

@@ -47,6 +47,9 @@ one_less a b c d e s f g = omega arith
 owes_less : (c l c2 l2 : ℕ) → c2 ≡ c → l2 ≡ l + 1 → l < c → c2 - l2 + 1 ≡ c - l
 owes_less c l c2 l2 e f h = omega arith
 
+some_by : (a b c d e : ℕ) → a + b ≡ c + d → d + 1 ≡ b → e ≡ c → 0 < e
+some_by a b c d e s f g = omega arith
+
 room_less : (a b c : ℕ) → a ≤ b → c + 1 ≡ b → a - 1 ≤ c
 room_less a b c h e = omega arith
 
@@ -81,7 +84,7 @@ no_place m t owed h s (Some p) e f =
 
 module _ {S : Type 0} (m n : IndexMap ℕ DomainFrames S) (d : ℕ) (x y : DomainFrames) (is : get nat_eq m d ≡ Some x)
     (wrote : WritesThrough nat_eq (nat_eq d) m y n) where
-  here : get nat_eq n d ≡ Some y
+  pub here : get nat_eq n d ≡ Some y
   here = (wrote.3 (ap is_some is)).1
 
   elsewhere : (q : ℕ) → q ≢ d → get nat_eq n q ≡ get nat_eq m q
@@ -111,6 +114,10 @@ module _ {S : Type 0} (m n : IndexMap ℕ DomainFrames S) (d : ℕ) (x y : Domai
 
   sum_is : sum_by owed_by (values n) + owed_by x ≡ sum_by owed_by (values m) + owed_by y
   sum_is = ap (λ es. sum_by owed_by (values_of es) + owed_by x) wrote.0 ∙ sum_by-set_value owed_by (nat_eq d) m.entries x y is
+
+  -- the domain may begin a segment that it has begun after
+  pub some_owed : (owed : ℕ) → owed ≡ sum_by owed_by (values m) → y.chunks ≡ x.chunks → y.slots.live ≡ x.slots.live + 1 → x.slots.live < x.chunks → 0 < owed
+  some_owed owed e chunks live few = some_by _ _ _ _ owed sum_is (owes_less x.chunks x.slots.live y.chunks y.slots.live chunks live few) e
 
   -- the same is written
   all_is : y ≡ x → (q : ℕ) → get nat_eq n q ≡ get nat_eq m q

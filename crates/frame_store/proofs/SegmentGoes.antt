@@ -1,5 +1,5 @@
 -- A segment goes from its domain and from the table.
-use Rattle.std.proofs.Common.{◌≡◌, ◌≢◌, ℕ, ◌+◌, ◌-◌, ◌≤◌, Some, None, nat_eq, refl, sym, ap, subst, arith, ◌∙◌, inl, inr, sum_by, Result, Ok, Err, OnOk, OnErr}
+use Rattle.std.proofs.Common.{◌≡◌, ◌≢◌, ℕ, ◌+◌, ◌-◌, ◌≤◌, Some, None, nat_eq, refl, sym, ap, subst, arith, ◌∙◌, inl, inr, sum_by}
 use Rattle.std.specs.Option.{option_map_or}
 use Rattle.std.specs.HashMap.{WritesThrough}
 use Rattle.std.specs.Map.{values_of}
@@ -20,10 +20,6 @@ use Rattle.frame_store.specs.DomainMoves.{frames_of}
 use Rattle.frame_store.specs.DomainMoves as domain
 use Rattle.frame_store.specs.StoreContents.{content_of, stored, owed_by, IsStore}
 use Rattle.frame_store.proofs.StoreChanges.{segment_in, get_here, get_other, read_some, read_same, map_same, other_slot, slot_in, others_by, segment_is, used_is, lt_by}
-
-pub either_way : {T E : Type 0} (r : Result T E) (P Q R : Type 0) → (P → R) → (Q → R) → OnOk r P → OnErr r Q → R
-either_way (Ok x) P Q R f g h k = f h
-either_way (Err e) P Q R f g h k = g k
 
 one_more : (a b c d e w : ℕ) → a + b ≡ c + d → d ≡ b + 1 → e ≡ c → e + 1 ≡ a
 one_more a b c d e w s f g = omega arith

@@ -72,7 +72,8 @@ module _ {S : Type 0} (m n : IndexMap ℕ DomainFrames S) (t : SegmentTable) (ow
       let found : IsFound m t s.0 x p.slot = record { domain = p.domain; at = at; is = is } in
       let same = found_top_is m t owed s h x p.slot found f top in
       let segment = same_Some segment_here top.segment (sym (segment_is m n t owed s p x y h at is wrote) ∙ top.is_there) in
-      let frames : List FrameState → FrameState → List FrameState = λ lower (g : FrameState). lower ++ record g { stack = below } ∷ called_frame head given ∷ [] in
+      let frames : List FrameState → FrameState → List FrameState =
+      λ lower (g : FrameState). lower ++ record g { stack = below } ∷ called_frame head given ∷ [] in
       let c = store_changes m n t owed s p x y h at is wrote (frames (lower_of x p.slot) (top_of x p.slot)) (x.used + head_chunks head)
       (calls below given (ap (λ (g : FrameState). g.stack) (sym same.1) ∙ stack) many) in
       let P : ℕ → Type 0 = λ u. ChangesTo (frames (lower_of x p.slot) (top_of x p.slot)) (u + head_chunks head) in

@@ -1,12 +1,12 @@
 -- What is written at a place of the map of domains is written at the number that stands there.
-use Rattle.std.proofs.Common.{◌≡◌, ℕ, suc, zero, false, cond, List, ◌∷◌, [], Some, None, nat_eq, slice_get, sym, ap, ◌∙◌, refl, option_map, inl, inr, subst}
+use Rattle.std.proofs.Common.{◌≡◌, ℕ, suc, zero, ◌<◌, length, false, cond, List, ◌∷◌, [], Some, nat_eq, slice_get, sym, ap, ◌∙◌, refl, option_map, inl, inr, subst}
 use Rattle.std.specs.List.{AllByRecursion, IsDistinct}
 use Rattle.std.specs.Map.{keys_of, set_value}
 use Rattle.std.specs.HashMap.{WritesThrough}
 use Rattle.indexmap.specs.IndexMap.{set_value_at}
 use Rattle.std.proofs.lemmas.Bool.{eq-eqb, eqb-false, eqb-true}
 use Rattle.std.proofs.lemmas.Bool.Decides.{eqb_tells}
-use Rattle.std.proofs.lemmas.Option.{slice_get-map}
+use Rattle.std.proofs.lemmas.Option.{slice_get-map, slice_get_within}
 use Rattle.std.specs.Cmp.{IsEquivalence}
 use Rattle.std.proofs.lemmas.Map.Keys.{IsDistinct-head, IsDistinct-tail}
 use Rattle.indexmap.specs.IndexMap.{IndexMap, IsUnique, get, values, with_value_at}
@@ -63,9 +63,11 @@ module _ {S : Type 0} (m : IndexMap ℕ DomainFrames S) (d i : ℕ) (at : Stands
       let value = slice_get-map (λ (p : ℕ × DomainFrames). p.1) m.entries i ∙ ap (option_map (λ (p : ℕ × DomainFrames). p.1)) at.entry in
       at.is ∙ sym (e ∙ value)
 
-  -- something does
-  pub never_none : None ≡ slice_get (values m) i → ⊥
-  never_none e =
-      let value = slice_get-map (λ (p : ℕ × DomainFrames). p.1) m.entries i ∙ ap (option_map (λ (p : ℕ × DomainFrames). p.1)) at.entry in
-      let impossible : None ≡ Some at.domain = e ∙ value in
-      absurd (cc)
+  -- what stands there, read with its number
+  pub read_pair : (k : ℕ) (x : DomainFrames) → slice_get m.entries i ≡ Some (k, x) → get nat_eq m d ≡ Some x
+  read_pair k x e =
+      let value = slice_get-map (λ (p : ℕ × DomainFrames). p.1) m.entries i ∙ ap (option_map (λ (p : ℕ × DomainFrames). p.1)) e in
+      read_at x (sym value)
+
+  pub within_map : i < length m.entries
+  within_map = slice_get_within m.entries i _ at.entry

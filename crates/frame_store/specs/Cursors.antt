@@ -1,10 +1,10 @@
 -- Where the top frame of a segment is.
-use Rattle.std.specs.Prelude.{◌≡◌, ℕ, ◌+◌, ◌-◌, Some, IsSome, true, slice_get}
+use Rattle.std.specs.Prelude.{◌≡◌, ℕ, ◌+◌, ◌-◌, Some, IsSome, slice_get}
 use Rattle.indexmap.specs.IndexMap.{IndexMap}
 use Rattle.frame_store.specs.declared.cursor.Cursor.{Cursor}
 use Rattle.frame_store.specs.declared.domain_frames.DomainFrames.{DomainFrames}
 use Rattle.frame_store.specs.declared.segment_table.SegmentTable.{SegmentTable}
-use Rattle.frame_store.specs.DomainMoves.{locals_at, start_of, HasTop, IsTopOf}
+use Rattle.frame_store.specs.DomainMoves.{locals_at, start_of, top_number, HasTop, IsTopOf}
 use Rattle.frame_store.specs.StoreContents.{StandsAt, IsFound}
 use Rattle.frame_store.specs.TableMoves as table
 
@@ -14,6 +14,14 @@ pub record HasValuesAt (x : DomainFrames) (c : Cursor) : Type 0 where
   pub start : c.start ≡ start_of x c.frame
   pub base : c.base ≡ start_of x c.frame + locals_at x c.frame
   pub room : c.room ≡ 20 - locals_at x c.frame
+
+-- A cursor at a segment of this domain is moved to the segment's top frame.
+pub record IsAimed (x : DomainFrames) (old new : Cursor) : Type 0 where
+  pub segment : new.segment ≡ old.segment
+  pub place : new.place ≡ old.place
+  pub domain : new.domain ≡ old.domain
+  pub frame : new.frame ≡ top_number x old.place.slot
+  pub values : HasValuesAt x new
 
 module _ {S : Type 0} where
   -- The segment is in the table. The domain and the slot in which it is found: the domain is at this place of the map,
@@ -29,17 +37,19 @@ module _ {S : Type 0} where
     pub top : IsTopAt domains places s c.domain c.frame
     pub values : (x : DomainFrames) (slot : ℕ) → IsFound domains places s x slot → HasValuesAt x c
 
-  -- The cursor, where it is set, has where the top frame of its segment is.
+  -- The cursor is right for a segment. Where the segment is found, the cursor has its place, and where its domain stands in the
+  -- map; where it has a frame too, the cursor has the number of the top one, and where that frame's values are.
+  pub record IsRightFor (domains : IndexMap ℕ DomainFrames S) (places : SegmentTable) (s : ℕ) (c : Cursor) : Type 0 where
+    pub place : (x : DomainFrames) (slot : ℕ) (found : IsFound domains places s x slot) → c.place ≡ record { domain = found.domain; slot = slot }
+    pub entry : (x : DomainFrames) (slot : ℕ) (found : IsFound domains places s x slot)
+        → slice_get domains.entries c.domain ≡ Some (found.domain, x)
+    pub frame : (x : DomainFrames) (slot : ℕ) → IsFound domains places s x slot → HasTop x slot → c.frame ≡ top_number x slot
+    pub values : (x : DomainFrames) (slot : ℕ) → IsFound domains places s x slot → HasTop x slot → HasValuesAt x c
+
+  -- The cursor is right for its segment.
   abbrev pub IsCursor : IndexMap ℕ DomainFrames S → SegmentTable → Cursor → Type 0
-  IsCursor domains places c = c.set ≡ true → PointsAt domains places c.segment c
+  IsCursor domains places c = IsRightFor domains places c.segment c
 
   -- A domain stands at this place of the map.
   abbrev pub HasDomainAt : IndexMap ℕ DomainFrames S → ℕ → Type 0
   HasDomainAt domains place = (d : ℕ) × StandsAt domains d place
-
-  -- The segment is found in this slot of the domain at this place of the map, and has a frame.
-  pub record HasTopAt (domains : IndexMap ℕ DomainFrames S) (places : SegmentTable) (s place slot : ℕ) : Type 0 where
-    pub domain : DomainFrames
-    pub found : IsFound domains places s domain slot
-    pub entry : slice_get domains.entries place ≡ Some (found.domain, domain)
-    pub has_top : HasTop domain slot

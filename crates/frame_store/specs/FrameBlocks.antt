@@ -84,15 +84,15 @@ pub record IsDomain (chunks used : ℕ) (slots : SlotSet) (frames parts : Chains
 
 -- ---- What calls on blocks do.
 
--- A block's values are unset, and the others are as before.
-pub record IsCleared (old new : List Value) (block : ℕ) : Type 0 where
+-- So many of a block's values, the first ones, are unset, and those of other blocks are as before.
+pub record IsCleared (old new : List Value) (block some : ℕ) : Type 0 where
   pub size : length new ≡ length old
-  pub cleared : (k : ℕ) → k < 20 → slice_index_or new (20 * block + k) Unset ≡ Unset
+  pub cleared : (k : ℕ) → k < some → slice_index_or new (20 * block + k) Unset ≡ Unset
   pub others : (k : ℕ) → (k < 20 * block → slice_index_or new k Unset ≡ slice_index_or old k Unset)
       × (20 * block + 20 ≤ k → slice_index_or new k Unset ≡ slice_index_or old k Unset)
 
--- A frame without blocks has so many, which came from the last stack, and their values are unset.
-pub record TakesBlocks (old new : Chains) (old_values new_values : List Value) (last frame blocks : ℕ) : Type 0 where
+-- A frame without blocks has so many, which came from the last stack, and so many of its values, the first ones, are unset.
+pub record TakesBlocks (old new : Chains) (old_values new_values : List Value) (last frame blocks locals : ℕ) : Type 0 where
   pub same_nodes : nodes new ≡ nodes old
   pub same_stacks : stacks new ≡ stacks old
   pub values_size : length new_values ≡ length old_values
@@ -101,7 +101,7 @@ pub record TakesBlocks (old new : Chains) (old_values new_values : List Value) (
   pub others : (g : ℕ) → g ≢ frame → g ≢ last → count new g ≡ count old g
   pub same_index : (g q : ℕ) → g < last → g ≢ frame → q < 20 * count old g → index_of new g q ≡ index_of old g q
   pub same_value : (g q : ℕ) → g < last → g ≢ frame → q < 20 * count old g → value_of new new_values g q ≡ value_of old old_values g q
-  pub unset : (q : ℕ) → q < 20 * blocks → value_of new new_values frame q ≡ Unset
+  pub unset : (q : ℕ) → q < 20 * blocks → q < locals → value_of new new_values frame q ≡ Unset
 
 -- A frame gives all its blocks to the last stack.
 pub record GivesBlocks (old new : Chains) (last frame : ℕ) : Type 0 where

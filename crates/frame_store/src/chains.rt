@@ -36,7 +36,7 @@ pub(crate) struct Chains {
 
 impl Chains {
     ghost use Rattle.std.specs.Prelude.{◌≡◌, ◌≢◌, ℕ, ◌+◌, ◌-◌, ◌<◌, ◌≤◌, ◌^◌, length, IfOk};
-    ghost use Rattle.frame_store.specs.Chains.{node_at};
+    ghost use Rattle.frame_store.specs.Chains.{node_at, stack_at, JumpsFrom};
     ghost use Rattle.frame_store.specs.ChainMoves.{count, place, nodes, stacks, stack_of, MovesTop};
 
     /// So many nodes, all on the last of the stacks, whose number is `last`.
@@ -105,6 +105,7 @@ impl Chains {
     }
 
     /// Moves the top node of a stack to the top of another.
+    #[inline]
     pub(crate) fn move_top(&mut self, from: usize, to: usize) -> usize
         requires from_there { from < stacks self.old }
         requires to_there { to < stacks self.old }
@@ -113,11 +114,47 @@ impl Chains {
         ensures moves { MovesTop self.old self.new from to result }
         ensures within { result < nodes self.old }
     {
+        let under = self.stacks[to];
+        let moved = self.stacks[from].top;
+        let jump = jump_above(self.nodes.as_slice(), under, moved);
+        self.link_top(from, to, jump)
+    }
+
+    /// As `move_top`, where no node of the other stack is looked for by its position, as of a stack of free nodes: the second
+    /// link is the one below too, which costs nothing to find.
+    #[inline]
+    pub(crate) fn free_top(&mut self, from: usize, to: usize) -> usize
+        requires from_there { from < stacks self.old }
+        requires to_there { to < stacks self.old }
+        requires apart { from ≢ to }
+        requires some { 0 < count self.old from }
+        ensures moves { MovesTop self.old self.new from to result }
+        ensures within { result < nodes self.old }
+    {
+        let under = self.stacks[to];
+        let jump = if under.count == 0 {
+            self.stacks[from].top
+        } else {
+            under.top
+        };
+        self.link_top(from, to, jump)
+    }
+
+    /// Moves the top node of a stack to the top of another, with this second link.
+    #[inline(always)]
+    fn link_top(&mut self, from: usize, to: usize, jump: usize) -> usize
+        requires from_there { from < stacks self.old }
+        requires to_there { to < stacks self.old }
+        requires apart { from ≢ to }
+        requires some { 0 < count self.old from }
+        requires jumps { JumpsFrom self.old.nodes.items (stack_at self.old.stacks.items to) (stack_at self.old.stacks.items from).top jump }
+        ensures moves { MovesTop self.old self.new from to result }
+        ensures within { result < nodes self.old }
+    {
         let taken = self.stacks[from];
         let under = self.stacks[to];
         let moved = taken.top;
         let below = self.nodes[moved].below;
-        let jump = jump_above(self.nodes.as_slice(), under, moved);
         self.stacks[from] = Stack {
             count: taken.count - 1,
             top: below,
@@ -162,7 +199,8 @@ fn jump_above(nodes: &[Node], under: Stack, moved: usize) -> usize
     let near = nodes[under.top];
     let far = nodes[near.jump];
     let furthest = nodes[far.jump].position;
-    if near.position.abs_diff(far.position) == far.position.abs_diff(furthest) {
+    // Positions fall from one to the next, so neither difference wraps.
+    if near.position.wrapping_sub(far.position) == far.position.wrapping_sub(furthest) {
         far.jump
     } else {
         under.top

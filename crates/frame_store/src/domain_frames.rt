@@ -7,7 +7,7 @@ ghost use Rattle.frame_store.specs.FrameBlocks.{IsDomain};
 use crate::chains::Chains;
 use crate::cursor::Cursor;
 use crate::frame_blocks::{
-    FrameRecord, entry_index, give_blocks, head_chunks, take_blocks, value_index,
+    BLOCK, FrameRecord, entry_index, give_blocks, head_chunks, take_blocks, value_index,
 };
 use crate::slot_set::SlotSet;
 use jk_model::{ClassId, FrameHead, NoChunks, OutOfMemory, Value};
@@ -33,7 +33,7 @@ impl DomainFrames {
     ghost use Rattle.jk_model.specs.declared.values.Value.{Value as AValue};
     ghost use Rattle.jk_model_frames.specs.Frames.{FrameState as AFrame, called_frame, new_frame, head_chunks, frames_chunks};
     ghost use Rattle.frame_store.specs.ChainMoves.{MovesTop, place};
-    ghost use Rattle.frame_store.specs.Cursors.{HasValuesAt};
+    ghost use Rattle.frame_store.specs.Cursors.{HasValuesAt, IsAimed};
     ghost use Rattle.frame_store.specs.DomainMoves.{MayGive, GivesTo, HasGiven, CallsOn, depth_of, frames_of, top_of, top_number, locals_at, lower_of, start_of, value_at, IsSlot, HasTop, IsTopOf, IsFrameNumber, IsFresh, Opens, Becomes, Begins, Ends, TakesTopEntry};
 
     /// A domain without segments, which may use so many chunks.
@@ -78,7 +78,7 @@ impl DomainFrames {
             return Err(NoChunks);
         }
         let slot = self.open(number);
-        let _frame = self.add(slot, head, blocks);
+        let _added = self.add(slot, head, blocks);
         Ok(slot)
     }
 
@@ -92,57 +92,47 @@ impl DomainFrames {
         self.used -= 1;
     }
 
-    /// Puts a frame on top of a segment.
-    pub(crate) fn push(&mut self, slot: u32, head: FrameHead) -> Result<(), NoChunks>
-        requires { IsSlot self.old slot }
-        ensures ok { OnOk result (Becomes self.old self.new slot (frames_of self.old slot ++ new_frame head ∷ []) (self.old.used + head_chunks head)) }
-        ensures err { OnErr result (self.new ≡ self.old) }
-        ensures room { OnOk result (head_chunks head ≤ self.old.chunks - self.old.used) }
-        ensures no_room { OnErr result (self.old.chunks - self.old.used < head_chunks head) }
+    /// Puts a frame on top of a segment, where the chunks that it costs are free.
+    pub(crate) fn push(&mut self, slot: u32, head: FrameHead, blocks: u32)
+        requires slot { IsSlot self.old slot }
+        requires cost { blocks ≡ head_chunks head }
+        requires room { blocks ≤ self.old.chunks - self.old.used }
+        requires small { head.max_stack < 2 ^ 16 }
+        ensures { Becomes self.old self.new slot (frames_of self.old slot ++ new_frame head ∷ []) (self.old.used + head_chunks head) }
     {
-        let blocks = head_chunks(&head);
-        if blocks > self.chunks - self.used {
-            return Err(NoChunks);
-        }
-        let _frame = self.add(slot, head, blocks);
-        Ok(())
+        let _added = self.add(slot, head, blocks);
     }
 
-    /// Puts a frame on top of a segment, and moves so many arguments from the frame below into its first locals.
-    pub(crate) fn call(
-        &mut self,
-        slot: u32,
-        head: FrameHead,
-        arguments: u16,
-    ) -> Result<(), NoChunks>
-        requires slot { IsSlot self.old slot }
-        requires top { HasTop self.old slot }
-        requires given { HasGiven self.old slot head arguments }
-        ensures ok { OnOk result (CallsOn self.old self.new slot head arguments) }
-        ensures err { OnErr result (self.new ≡ self.old) }
-        ensures room { OnOk result (head_chunks head ≤ self.old.chunks - self.old.used) }
-        ensures no_room { OnErr result (self.old.chunks - self.old.used < head_chunks head) }
+    /// Puts a frame on top of a segment, where the chunks that it costs are free, and moves so many arguments from the frame
+    /// below, at which the cursor is, into its first locals. The cursor moves to the new frame.
+    #[inline(always)]
+    pub(crate) fn call(&mut self, c: &mut Cursor, head: FrameHead, blocks: u32, arguments: u16)
+        requires slot { IsSlot self.old c.old.place.slot }
+        requires top { IsTopOf self.old c.old.place.slot c.old.frame }
+        requires values { HasValuesAt self.old c.old }
+        requires given { HasGiven self.old c.old.place.slot head arguments }
+        requires cost { blocks ≡ head_chunks head }
+        requires room { blocks ≤ self.old.chunks - self.old.used }
+        requires small { head.max_stack < 2 ^ 16 }
+        requires few_locals { head.max_locals < 2 ^ 16 }
+        ensures calls { CallsOn self.old self.new c.old.place.slot head arguments }
+        ensures aims { IsAimed self.new c.old c.new }
     {
-        let blocks = head_chunks(&head);
-        if blocks > self.chunks - self.used {
-            return Err(NoChunks);
-        }
-        let caller = self.frames.top(slot as usize);
-        let frame = self.add(slot, head, blocks);
-        self.give(caller, frame, arguments);
-        self.shorten(caller, arguments);
-        Ok(())
+        let (frame, start) = self.add(c.place.slot, head, blocks);
+        self.give(c.frame, c.start, frame, start, arguments);
+        self.shorten(c.frame, arguments);
+        self.aim_at(c, frame, start);
     }
 
     /// Takes the top frame off a segment.
+    #[inline(always)]
     pub(crate) fn pop(&mut self, slot: u32)
         requires { HasTop self.old slot }
         ensures { Becomes self.old self.new slot (lower_of self.old slot) (self.old.used - head_chunks (top_of self.old slot).head) }
     {
-        let frame = self.frames.top(slot as usize);
+        let frame = self.frames.free_top(slot as usize, self.chunks as usize);
         let blocks = self.parts.count(frame) as u32;
         give_blocks(&mut self.parts, self.chunks as usize, frame);
-        let _ = self.frames.move_top(slot as usize, self.chunks as usize);
         self.used -= blocks;
     }
 
@@ -152,6 +142,32 @@ impl DomainFrames {
         ensures { result ≡ length (frames_of self.now slot) }
     {
         self.frames.count(slot as usize) as u32
+    }
+
+    /// Moves a cursor at a segment to the segment's top frame.
+    pub(crate) fn aim(&self, c: &mut Cursor)
+        requires { HasTop self.now c.old.place.slot }
+        ensures { IsAimed self.now c.old c.new }
+    {
+        let frame = self.top(c.place.slot);
+        let start = self.start(frame);
+        self.aim_at(c, frame, start);
+    }
+
+    /// Moves a cursor at a segment to the segment's top frame, which has this number, and the values of which begin here.
+    #[inline(always)]
+    fn aim_at(&self, c: &mut Cursor, frame: usize, start: usize)
+        requires is_frame { IsFrameNumber self.now frame }
+        requires top { frame ≡ top_number self.now c.old.place.slot }
+        requires start { start ≡ start_of self.now frame }
+        requires few { start < 5242880 }
+        ensures { IsAimed self.now c.old c.new }
+    {
+        let locals = self.locals(frame);
+        c.frame = frame;
+        c.start = start;
+        c.base = start + usize::from(locals);
+        c.room = BLOCK.saturating_sub(locals);
     }
 
     /// The number of the top frame of a segment.
@@ -179,6 +195,15 @@ impl DomainFrames {
         ensures { result ≡ (value_at self.now frame).head }
     {
         self.records[frame].head
+    }
+
+    /// How many locals a frame has.
+    #[inline(always)]
+    fn locals(&self, frame: usize) -> u16
+        requires { IsFrameNumber self.now frame }
+        ensures { result ≡ locals_at self.now frame }
+    {
+        self.records[frame].head.max_locals
     }
 
     /// How many entries the operand stack of a frame has.
@@ -301,14 +326,16 @@ impl DomainFrames {
         self.values[index]
     }
 
-    /// Copies the topmost entries of a frame's operand stack, so many, into the first locals of the frame above.
-    fn give(&mut self, caller: usize, frame: usize, count: u16)
-        requires { MayGive self.old caller frame count }
+    /// Copies the topmost entries of a frame's operand stack, so many, into the first locals of the frame above. The values of
+    /// both begin at these places.
+    fn give(&mut self, caller: usize, low: usize, frame: usize, start: usize, count: u16)
+        requires may { MayGive self.old caller frame count }
+        requires low { low ≡ start_of self.old caller }
+        requires start { start ≡ start_of self.old frame }
         ensures frames { self.new.frames ≡ self.old.frames }
+        ensures parts { self.new.parts ≡ self.old.parts }
         ensures gives { (may : MayGive self.old caller frame count) → GivesTo self.old self.new may.slot may.head may.given }
     {
-        let low = self.start(caller);
-        let start = self.start(frame);
         let first = self.height(caller) - count;
         let mut at = 0;
         for k in 0..count {
@@ -322,7 +349,9 @@ impl DomainFrames {
     fn shorten(&mut self, frame: usize, count: u16)
         requires frame { IsFrameNumber self.old frame }
         requires enough { count ≤ length (value_at self.old frame).stack }
-        ensures { (slot n : ℕ) (below given : List AValue) → slot < self.old.chunks → n < depth_of self.old slot → frame ≡ place self.old.frames slot n
+        ensures frames { self.new.frames ≡ self.old.frames }
+        ensures parts { self.new.parts ≡ self.old.parts }
+        ensures becomes { (slot n : ℕ) (below given : List AValue) → slot < self.old.chunks → n < depth_of self.old slot → frame ≡ place self.old.frames slot n
             → (value_at self.old frame).stack ≡ below ++ given → length given ≡ count
             → Becomes self.old self.new slot (slice_set (frames_of self.old slot) n (record (value_at self.old frame) { stack = below })) self.old.used }
     {
@@ -339,26 +368,31 @@ impl DomainFrames {
         slot
     }
 
-    /// Puts a frame on top of a segment, where the chunks that it costs are free. The answer is its number.
-    fn add(&mut self, slot: u32, head: FrameHead, blocks: u32) -> usize
+    /// Puts a frame on top of a segment, where the chunks that it costs are free. The answer is its number, and where its values begin.
+    #[inline(always)]
+    fn add(&mut self, slot: u32, head: FrameHead, blocks: u32) -> (usize, usize)
         requires slot { IsSlot self.old slot }
         requires cost { blocks ≡ head_chunks head }
         requires room { self.old.used + blocks ≤ self.old.chunks }
         requires small { head.max_stack < 2 ^ 16 }
         ensures becomes { Becomes self.old self.new slot (frames_of self.old slot ++ new_frame head ∷ []) (self.old.used + blocks) }
-        ensures moves { MovesTop self.old.frames self.new.frames self.old.chunks slot result }
+        ensures moves { MovesTop self.old.frames self.new.frames self.old.chunks slot result.0 }
+        ensures start { result.1 ≡ start_of self.new result.0 }
+        ensures few { result.1 < 5242880 }
+        ensures starts { (g : ℕ) → IsFrameNumber self.old g → start_of self.new g ≡ start_of self.old g }
     {
         let frame = self.frames.move_top(self.chunks as usize, slot as usize);
         self.records[frame] = FrameRecord { head, height: 0 };
-        take_blocks(
+        let lowest = take_blocks(
             &mut self.parts,
             &mut self.values,
             self.chunks as usize,
             frame,
             blocks,
+            head.max_locals,
         );
         self.used += blocks;
-        frame
+        (frame, 20 * lowest)
     }
 
     /// Takes all frames off a segment.

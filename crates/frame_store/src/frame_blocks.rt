@@ -85,25 +85,38 @@ fn far_index(parts: &Chains, frame: usize, value: u32) -> usize
     20 * block + (value % 20) as usize
 }
 
-/// Gives a frame without blocks so many of the free ones, which are on the last stack, and unsets their values.
+/// Gives a frame without blocks so many of the free ones, which are on the last stack, and unsets its locals. The entries of
+/// its operand stack have no meaning before they are pushed, so they are left as they are. The answer is the lowest block, the
+/// only one of most frames.
+#[inline(always)]
 pub(crate) fn take_blocks(
     parts: &mut Chains,
     values: &mut Vec<Value>,
     last: usize,
     frame: usize,
     blocks: u32,
-)
+    locals: u16,
+) -> usize
     requires there { last < stacks parts.old }
     requires frame { frame < last }
+    requires some { 1 ≤ blocks }
     requires bare { count parts.old frame ≡ 0 }
     requires enough { blocks ≤ count parts.old last }
     requires values { length values.old.items ≡ 20 * nodes parts.old }
-    ensures { TakesBlocks parts.old parts.new values.old.items values.new.items last frame blocks }
+    ensures takes { TakesBlocks parts.old parts.new values.old.items values.new.items last frame blocks locals }
+    ensures lowest { result ≡ place parts.new frame 0 }
+    ensures within { result < nodes parts.old }
 {
-    for _ in 0..blocks {
+    let lowest = parts.move_top(last, frame);
+    clear(values, lowest, locals.min(BLOCK));
+    let mut left = locals.saturating_sub(BLOCK);
+    for _ in 1..blocks {
         let block = parts.move_top(last, frame);
-        clear(values, block);
+        let here = left.min(BLOCK);
+        clear(values, block, here);
+        left -= here;
     }
+    lowest
 }
 
 /// Gives back all blocks of a frame.
@@ -113,16 +126,18 @@ pub(crate) fn give_blocks(parts: &mut Chains, last: usize, frame: usize)
     ensures { GivesBlocks parts.old parts.new last frame }
 {
     while parts.count(frame) > 0 {
-        let _ = parts.move_top(frame, last);
+        let _ = parts.free_top(frame, last);
     }
 }
 
-/// Unsets the values of a block.
-fn clear(values: &mut Vec<Value>, block: usize)
-    requires { 20 * block + 20 ≤ length values.old.items }
-    ensures { IsCleared values.old.items values.new.items block }
+/// Unsets the first values of a block, so many.
+fn clear(values: &mut Vec<Value>, block: usize, some: u16)
+    requires there { 20 * block + 20 ≤ length values.old.items }
+    requires within { some ≤ 20 }
+    ensures { IsCleared values.old.items values.new.items block some }
 {
-    for k in 0..20 {
-        values[20 * block + k] = Value::Unset;
+    let start = 20 * block;
+    for k in 0..usize::from(some) {
+        values[start + k] = Value::Unset;
     }
 }

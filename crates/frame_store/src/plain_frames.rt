@@ -5,9 +5,9 @@ ghost use Rattle.indexmap.specs.IndexMap.{get};
 ghost use Rattle.frame_store.specs.StoreContents.{IsStore, AreForgotten};
 ghost use Rattle.frame_store.specs.Cursors.{IsCursor};
 
-use crate::cursor::{Cursor, UNSET};
+use crate::cursor::{Cursor, NOWHERE};
 use crate::domain_frames::DomainFrames;
-use crate::frame_blocks::BLOCK;
+use crate::frame_blocks::head_chunks;
 use crate::segment_table::{Place, SegmentTable};
 use crate::slot_set::SlotSet;
 use crate::store::FrameStore;
@@ -51,7 +51,7 @@ impl PlainFrames {
             domains: IndexMap::new(alloc),
             places: SegmentTable::empty(alloc),
             owed: 0,
-            cursor: UNSET,
+            cursor: NOWHERE,
         }
     }
 
@@ -99,7 +99,6 @@ impl PlainFrames {
         ensures ok { OnOk result (Enters self.old.domains self.new.domains self.old.places self.new.places d fresh) }
         ensures err { OnErr result (IsUnentered self.old.domains self.new.domains self.old.places self.new.places) }
     {
-        self.cursor.set = false;
         let more = self.owed + u64::from(fresh.chunks);
         self.places.reserve(self.alloc, more as usize)?;
         self.domains.insert(d, fresh)?;
@@ -118,41 +117,32 @@ impl PlainFrames {
 }
 
 impl PlainFrames {
-    ghost use Rattle.std.specs.Prelude.{◌≡◌, ℕ, ◌-◌, Some, IsSome, IsTrue, ◌↔◌, length, slice_get};
+    ghost use Rattle.std.specs.Prelude.{◌≡◌, ℕ, ◌-◌, Some, IsSome, IsTrue, ◌↔◌, length, option_map, slice_get};
     ghost use Rattle.frame_store.specs.TableMoves.{place_in};
     ghost use Rattle.jk_model_frames.specs.Frames.{FrameState as AFrame};
-    ghost use Rattle.frame_store.specs.FrameContents.{HasTop, HasLocal, HasEntry, TopFrame};
+    ghost use Rattle.frame_store.specs.FrameContents.{HasTop, HasLocal, HasEntry, IsThere, TopFrame};
     ghost use Rattle.frame_store.specs.StoreContents.{content_of, StandsAt};
-    ghost use Rattle.frame_store.specs.Cursors.{HasDomainAt, HasTopAt, IsTopAt, PointsAt};
-
-    /// Where a segment's domain stands in the map, and where the segment stands. The cursor has both where it is at the segment.
-    fn whereabouts(&self, s: SegmentNo) -> (usize, Place)
-        requires { IsSome (place_in self.now.places s.0) }
-        ensures place { place_in self.now.places s.0 ≡ Some result.1 }
-        ensures stands { StandsAt self.now.domains result.1.domain result.0 }
-    {
-        if self.is_at(s) {
-            return (self.cursor.domain, self.cursor.place);
-        }
-        let p = self.place(s);
-        (self.index_of(p.domain), p)
-    }
+    ghost use Rattle.frame_store.specs.Cursors.{HasDomainAt, IsRightFor, IsTopAt, PointsAt};
 
     /// Whether the cursor is at a segment.
+    #[inline(always)]
     fn is_at(&self, s: SegmentNo) -> bool
-        ensures is { IsTrue result ↔ (IsTrue self.now.cursor.set × (self.now.cursor.segment ≡ s.0)) }
-        ensures points { IsTrue result → PointsAt self.now.domains self.now.places s.0 self.now.cursor }
+        ensures is { IsTrue result ↔ (self.now.cursor.segment ≡ s.0) }
+        ensures right { IsTrue result → IsRightFor self.now.domains self.now.places s.0 self.now.cursor }
+        ensures points { IsTrue result → HasTop (content_of self.now.domains self.now.places) s
+            → PointsAt self.now.domains self.now.places s.0 self.now.cursor }
     {
-        self.cursor.set && self.cursor.segment == s.0
+        self.cursor.segment == s.0
     }
 
     /// Moves the cursor to a segment, if it isn't there.
     #[inline(always)]
     fn touch(&mut self, s: SegmentNo)
-        requires { HasTop (content_of self.old.domains self.old.places) s }
+        requires { IsThere (content_of self.old.domains self.old.places) s }
         ensures same { content_of self.new.domains self.new.places ≡ content_of self.old.domains self.old.places }
         ensures at { self.new.cursor.segment ≡ s.0 }
-        ensures points { PointsAt self.new.domains self.new.places s.0 self.new.cursor }
+        ensures right { IsRightFor self.new.domains self.new.places s.0 self.new.cursor }
+        ensures points { HasTop (content_of self.old.domains self.old.places) s → PointsAt self.new.domains self.new.places s.0 self.new.cursor }
     {
         if !self.is_at(s) {
             self.move_to(s);
@@ -163,57 +153,28 @@ impl PlainFrames {
     #[cold]
     #[inline(never)]
     fn move_to(&mut self, s: SegmentNo)
-        requires { HasTop (content_of self.old.domains self.old.places) s }
+        requires { IsThere (content_of self.old.domains self.old.places) s }
         ensures same { content_of self.new.domains self.new.places ≡ content_of self.old.domains self.old.places }
         ensures at { self.new.cursor.segment ≡ s.0 }
-        ensures points { PointsAt self.new.domains self.new.places s.0 self.new.cursor }
+        ensures right { IsRightFor self.new.domains self.new.places s.0 self.new.cursor }
     {
         self.cursor = self.look_up(s);
     }
 
-    /// Where the top frame of a segment is.
+    /// Where a segment is, and its top frame, if it has one.
     fn look_up(&self, s: SegmentNo) -> Cursor
-        requires { HasTop (content_of self.now.domains self.now.places) s }
-        ensures set { IsTrue result.set }
+        requires { IsThere (content_of self.now.domains self.now.places) s }
         ensures segment { result.segment ≡ s.0 }
-        ensures points { PointsAt self.now.domains self.now.places s.0 result }
+        ensures right { IsRightFor self.now.domains self.now.places s.0 result }
     {
-        let p = self.place(s);
-        let domain = self.index_of(p.domain);
-        self.cursor_at(s, domain, p)
-    }
-
-    /// Moves the cursor to a segment that was found.
-    fn aim(&mut self, s: SegmentNo, place: usize, p: Place)
-        requires found { HasTopAt self.old.domains self.old.places s.0 place p.slot }
-        requires place { place_in self.old.places s.0 ≡ Some p }
-        ensures { content_of self.new.domains self.new.places ≡ content_of self.old.domains self.old.places }
-    {
-        self.cursor = self.cursor_at(s, place, p);
-    }
-
-    /// Where the top frame of a segment is, which stands so, in the domain at this place of the map.
-    fn cursor_at(&self, s: SegmentNo, place: usize, p: Place) -> Cursor
-        requires found { HasTopAt self.now.domains self.now.places s.0 place p.slot }
-        requires place { place_in self.now.places s.0 ≡ Some p }
-        ensures set { IsTrue result.set }
-        ensures segment { result.segment ≡ s.0 }
-        ensures points { PointsAt self.now.domains self.now.places s.0 result }
-    {
-        let x = self.at(place);
-        let frame = x.top(p.slot);
-        let start = x.start(frame);
-        let locals = x.head(frame).max_locals;
-        Cursor {
-            set: true,
-            segment: s.0,
-            place: p,
-            domain: place,
-            frame,
-            start,
-            base: start + usize::from(locals),
-            room: BLOCK.saturating_sub(locals),
+        let place = self.place(s);
+        let domain = self.index_of(place.domain);
+        let mut found = cursor_at(s.0, place, domain);
+        let x = self.at(domain);
+        if x.depth(place.slot) > 0 {
+            x.aim(&mut found);
         }
+        found
     }
 
     /// The domain at a place of the map.
@@ -249,6 +210,17 @@ impl PlainFrames {
     {
         let found = self.look_up(s);
         (found.domain, found.frame)
+    }
+
+    /// As `depth`, where the cursor is elsewhere.
+    #[cold]
+    #[inline(never)]
+    fn far_depth(&self, s: SegmentNo) -> u32
+        requires { IsThere (content_of self.now.domains self.now.places) s }
+        ensures { Some result ≡ option_map (λ g. length g.frames) ((content_of self.now.domains self.now.places).segment s) }
+    {
+        let (x, slot) = self.find(s);
+        x.depth(slot)
     }
 
     /// As `local`, where the cursor is elsewhere.
@@ -292,18 +264,23 @@ impl FrameStore for PlainFrames {
     }
 
     fn begin(&mut self, d: DomainId, s: SegmentNo, head: FrameHead) -> Result<(), NoChunks> {
-        self.cursor.set = false;
-        if let Some(x) = self.domains.get_mut(&d.0) {
-            let slot = x.begin(s.0, head)?;
-            self.places.insert(s.0, Place { domain: d.0, slot });
-            self.owed -= 1;
-        }
+        let domain = self.index_of(d.0);
+        // The segment isn't in the table yet, so the cursor may be at it.
+        self.cursor.segment = s.0;
+        let (_, x) = self.domains.pair_mut(domain);
+        let slot = x.begin(s.0, head)?;
+        let place = Place { domain: d.0, slot };
+        self.places.insert(s.0, place);
+        self.owed -= 1;
+        self.cursor = cursor_at(s.0, place, domain);
+        x.aim(&mut self.cursor);
         Ok(())
     }
 
     fn end(&mut self, s: SegmentNo) {
-        self.cursor.set = false;
         let p = self.place(s);
+        // The segment goes from the table, so the cursor may be at it.
+        self.cursor.segment = s.0;
         if let Some(x) = self.domains.get_mut(&p.domain) {
             x.end(p.slot);
             self.places.remove(s.0);
@@ -312,45 +289,46 @@ impl FrameStore for PlainFrames {
     }
 
     fn push(&mut self, s: SegmentNo, head: FrameHead) -> Result<(), NoChunks> {
-        let (place, p) = self.whereabouts(s);
-        self.cursor.set = false;
-        match self.domains.get_index_mut(place) {
-            Some(x) => x.push(p.slot, head)?,
-            None => unreachable!(),
+        self.touch(s);
+        let (_, x) = self.domains.pair_mut(self.cursor.domain);
+        let blocks = head_chunks(&head);
+        if blocks > x.free() {
+            return Err(NoChunks);
         }
-        self.aim(s, place, p);
+        x.push(self.cursor.place.slot, head, blocks);
+        x.aim(&mut self.cursor);
         Ok(())
     }
 
     fn call(&mut self, s: SegmentNo, head: FrameHead, arguments: u16) -> Result<(), NoChunks> {
-        let (place, p) = self.whereabouts(s);
-        self.cursor.set = false;
-        match self.domains.get_index_mut(place) {
-            Some(x) => x.call(p.slot, head, arguments)?,
-            None => unreachable!(),
+        self.touch(s);
+        let (_, x) = self.domains.pair_mut(self.cursor.domain);
+        let blocks = head_chunks(&head);
+        if blocks > x.free() {
+            return Err(NoChunks);
         }
-        self.aim(s, place, p);
+        x.call(&mut self.cursor, head, blocks, arguments);
         Ok(())
     }
 
     fn pop(&mut self, s: SegmentNo) {
-        let (place, p) = self.whereabouts(s);
-        self.cursor.set = false;
-        let frames = match self.domains.get_index_mut(place) {
-            Some(x) => {
-                x.pop(p.slot);
-                x.depth(p.slot)
-            }
-            None => unreachable!(),
-        };
-        if frames > 0 {
-            self.aim(s, place, p);
+        self.touch(s);
+        let slot = self.cursor.place.slot;
+        let (_, x) = self.domains.pair_mut(self.cursor.domain);
+        x.pop(slot);
+        if x.depth(slot) > 0 {
+            x.aim(&mut self.cursor);
         }
     }
 
+    #[inline(always)]
     fn depth(&self, s: SegmentNo) -> u32 {
-        let (x, slot) = self.find(s);
-        x.depth(slot)
+        if self.is_at(s) {
+            let domains = self.domains.as_slice();
+            domains[self.cursor.domain].depth(self.cursor.place.slot)
+        } else {
+            self.far_depth(s)
+        }
     }
 
     #[inline(always)]
@@ -414,13 +392,16 @@ impl FrameStore for PlainFrames {
     }
 
     fn close(&mut self, d: DomainId) {
-        self.cursor.set = false;
         if let Some(x) = self.domains.get(&d.0) {
             let chunks = x.chunks;
             let live = x.slots.live;
             forget_all(&mut self.places, &x.slots, d.0);
             let _ = self.domains.swap_remove(&d.0);
             self.owed -= u64::from(chunks - live);
+            // The domain of the cursor's segment may stand elsewhere in the map now.
+            if let Some((index, _, _)) = self.domains.get_full(&self.cursor.place.domain) {
+                self.cursor.domain = index;
+            }
         }
     }
 
@@ -454,6 +435,19 @@ impl FrameStore for PlainFrames {
     }
 
     ghost holds = { λ x. store_holds x.domains x.places x.owed x.ok };
+}
+
+/// A cursor at a segment that stands so, in the domain at this place of the map, with nothing of a frame yet.
+fn cursor_at(segment: u64, place: Place, domain: usize) -> Cursor
+    ensures segment { result.segment ≡ segment }
+    ensures place { result.place ≡ place }
+    ensures domain { result.domain ≡ domain }
+{
+    let mut cursor = NOWHERE;
+    cursor.segment = segment;
+    cursor.place = place;
+    cursor.domain = domain;
+    cursor
 }
 
 /// Takes out the segments of all live slots of a domain.

@@ -109,7 +109,7 @@ impl SegmentTable {
             let bucket = self.bucket(number);
             let top = self.chains.top(bucket);
             self.entries[entry] = self.entries[top];
-            let _ = self.chains.move_top(bucket, self.buckets);
+            let _ = self.chains.free_top(bucket, self.buckets);
         }
     }
 

@@ -5,7 +5,8 @@ use Rattle.frame_store.proofs.frame_blocks.clear.Given as goal
 
 abbrev pub invariant-loop-k : goal.invariant-loop-k
 invariant-loop-k l =
-    (length l.values.items ≡ length l.initial.values.items)
-    × ((j : ℕ) → j < l.k → get_or l.values.items (20 * l.block + j) Unset ≡ Unset)
+    (l.start ≡ 20 * l.block)
+    × (length l.values.items ≡ length l.initial.values.items)
+    × ((j : ℕ) → j < l.k → get_or l.values.items (l.start + j) Unset ≡ Unset)
     × ((j : ℕ) → j < 20 * l.block → get_or l.values.items j Unset ≡ get_or l.initial.values.items j Unset)
     × ((j : ℕ) → 20 * l.block + 20 ≤ j → get_or l.values.items j Unset ≡ get_or l.initial.values.items j Unset)

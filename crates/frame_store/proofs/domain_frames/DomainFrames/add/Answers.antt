@@ -1,6 +1,6 @@
 -- A free number and free blocks are those of the frame.
 use Rattle.std.proofs.Common.{refl, arith}
-use Rattle.frame_store.proofs.FrameIsAdded.{free_number, added_keeps, added_top, added_others}
+use Rattle.frame_store.proofs.FrameIsAdded.{free_number, added_keeps, added_start, added_top, added_others}
 use Rattle.frame_store.proofs.domain_frames.DomainFrames.add.Goals as goal
 
 pub move_top-frame-requires-clause-some : goal.move_top-frame-requires-clause-some
@@ -9,10 +9,10 @@ move_top-frame-requires-clause-some c = free_number c.args.self.now (omega (arit
 pub invariant_of-self : goal.invariant_of-self
 invariant_of-self c =
     let d = c.args.self.now in
-    let takes = c.take_blocks.ensures in
+    let takes = c.take_blocks-lowest.ensures.takes in
     record {
       ok =
-          added_keeps d c.move_top-frame.new.self c.take_blocks.new.parts c.take_blocks.new.values.items c.args.slot c.move_top-frame.result
+          added_keeps d c.move_top-frame.new.self c.take_blocks-lowest.new.parts c.take_blocks-lowest.new.values.items c.args.slot c.move_top-frame.result
           c.args.blocks c.args.head
           c.requires.slot c.requires.cost c.requires.room c.requires.small c.move_top-frame.ensures.moves takes;
     }
@@ -20,17 +20,23 @@ invariant_of-self c =
 pub returns-clause-becomes : goal.returns-clause-becomes
 returns-clause-becomes c =
     let d = c.args.self.now in
-    let takes = c.take_blocks.ensures in
+    let takes = c.take_blocks-lowest.ensures.takes in
     record {
       same_chunks = refl;
       same_slots = refl;
       becomes =
-          added_top d c.move_top-frame.new.self c.take_blocks.new.parts c.take_blocks.new.values.items c.args.slot c.move_top-frame.result
+          added_top d c.move_top-frame.new.self c.take_blocks-lowest.new.parts c.take_blocks-lowest.new.values.items c.args.slot c.move_top-frame.result
           c.args.blocks c.args.head
           c.requires.slot c.requires.cost c.requires.room c.requires.small c.move_top-frame.ensures.moves takes;
       others =
-          added_others d c.move_top-frame.new.self c.take_blocks.new.parts c.take_blocks.new.values.items c.args.slot c.move_top-frame.result
+          added_others d c.move_top-frame.new.self c.take_blocks-lowest.new.parts c.take_blocks-lowest.new.values.items c.args.slot c.move_top-frame.result
           c.args.blocks c.args.head
           c.requires.slot c.requires.cost c.requires.room c.requires.small c.move_top-frame.ensures.moves takes;
       uses = refl;
     }
+
+pub returns-clause-starts : goal.returns-clause-starts
+returns-clause-starts c =
+    added_start c.args.self.now c.move_top-frame.new.self c.take_blocks-lowest.new.parts c.take_blocks-lowest.new.values.items c.args.slot
+    c.move_top-frame.result
+    c.args.blocks c.args.head c.requires.slot c.requires.cost c.requires.room c.requires.small c.move_top-frame.ensures.moves c.take_blocks-lowest.ensures.takes

@@ -10,19 +10,20 @@ use Rattle.frame_store.proofs.domain_frames.DomainFrames.pop.Goals as goal
 pub overflow_cast-blocks : goal.overflow_cast-blocks
 overflow_cast-blocks c =
     let d = c.args.self.now in
-    let f = c.top-frame.result in
-    let few = count_le d.parts.nodes.items d.parts.stacks.items f d.parts.ok (in_stacks d f (is_top_frame d c.args.slot f c.requires c.top-frame.ensures.top)) in
+    let f = c.free_top-frame.result in
+    let is_frame = is_top_frame d c.args.slot f c.requires c.free_top-frame.ensures.moves.was_top in
+    let few = count_le d.parts.nodes.items d.parts.stacks.items f d.parts.ok (in_stacks d f is_frame) in
     record { fits = omega (arith, c.count-blocks.ensures, few, d.ok.parts_are, d.ok.most) }
 
 pub invariant_of-self : goal.invariant_of-self
 invariant_of-self c =
     let d = c.args.self.now in
-    let P : ℕ → Type 0 = λ n. IsDomain d.chunks (d.used - n) d.slots c.move_top.new.self c.give_blocks.new.parts d.records.items d.values.items in
+    let P : ℕ → Type 0 = λ n. IsDomain d.chunks (d.used - n) d.slots c.free_top-frame.new.self c.give_blocks.new.parts d.records.items d.values.items in
     record {
       ok =
           subst P (sym c.count-blocks.ensures)
-          (off_keeps d c.move_top.new.self c.give_blocks.new.parts c.args.slot c.top-frame.result _ c.requires c.top-frame.ensures.top
-          c.move_top.ensures.moves c.give_blocks.ensures);
+          (off_keeps d c.free_top-frame.new.self c.give_blocks.new.parts c.args.slot c.free_top-frame.result _ c.requires c.free_top-frame.ensures.moves.was_top
+          c.free_top-frame.ensures.moves c.give_blocks.ensures);
     }
 
 pub returns : goal.returns
@@ -32,15 +33,16 @@ returns c =
       same_chunks = refl;
       same_slots = refl;
       becomes =
-          off_top d c.move_top.new.self c.give_blocks.new.parts c.args.slot c.top-frame.result _ c.requires c.top-frame.ensures.top
-          c.move_top.ensures.moves c.give_blocks.ensures;
+          off_top d c.free_top-frame.new.self c.give_blocks.new.parts c.args.slot c.free_top-frame.result _ c.requires c.free_top-frame.ensures.moves.was_top
+          c.free_top-frame.ensures.moves c.give_blocks.ensures;
       others =
-          off_others d c.move_top.new.self c.give_blocks.new.parts c.args.slot c.top-frame.result _ c.requires c.top-frame.ensures.top
-          c.move_top.ensures.moves c.give_blocks.ensures;
+          off_others d c.free_top-frame.new.self c.give_blocks.new.parts c.args.slot c.free_top-frame.result _ c.requires c.free_top-frame.ensures.moves.was_top
+          c.free_top-frame.ensures.moves c.give_blocks.ensures;
       uses =
           ap (λ n. d.used - n)
           (c.count-blocks.ensures
-          ∙ blocks_are d c.move_top.new.self c.give_blocks.new.parts c.args.slot c.top-frame.result _ c.requires c.top-frame.ensures.top
-          c.move_top.ensures.moves c.give_blocks.ensures
-          ∙ ap (λ g. head_chunks (record_at d.records.items g).head) c.top-frame.ensures.top);
+          ∙ blocks_are d c.free_top-frame.new.self c.give_blocks.new.parts c.args.slot c.free_top-frame.result _ c.requires
+          c.free_top-frame.ensures.moves.was_top
+          c.free_top-frame.ensures.moves c.give_blocks.ensures
+          ∙ ap (λ g. head_chunks (record_at d.records.items g).head) c.free_top-frame.ensures.moves.was_top);
     }

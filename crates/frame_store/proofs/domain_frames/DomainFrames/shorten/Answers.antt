@@ -33,8 +33,8 @@ invariant_of-self c =
           (ap (λ (x : FrameRecord). head_chunks x.head) read) (omega (arith, is.framed.low)) (subst Q (sym read) is.framed.small);
     }
 
-pub returns : goal.returns
-returns c =
+pub returns-clause-becomes : goal.returns-clause-becomes
+returns-clause-becomes c =
     let d = c.args.self.now in
     let f = c.args.frame in
     let is = c.requires.frame in

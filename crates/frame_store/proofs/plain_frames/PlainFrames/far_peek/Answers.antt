@@ -1,36 +1,36 @@
 -- The top frame is found in its domain.
-use Rattle.std.proofs.Common.{◌<◌, ◌-◌, ◌∙◌, length, slice_get, ap, subst}
+use Rattle.std.proofs.Common.{◌<◌, ◌-◌, ◌∙◌, length, slice_get, ap, subst, is_some}
 use Rattle.jk_model_frames.specs.Frames.{FrameState}
-use Rattle.frame_store.proofs.CursorPoints.{has_domain, found_here, frame_here, value_here}
+use Rattle.frame_store.proofs.CursorPoints.{has_domain, found_here, frame_here, points, value_here}
 use Rattle.frame_store.proofs.plain_frames.PlainFrames.far_peek.Goals as goal
 
 pub look_up-found-requires : goal.look_up-found-requires
-look_up-found-requires c = (c.requires.0, c.requires.1)
+look_up-found-requires c = ap is_some c.requires.1.is_there
 
 pub at-requires : goal.at-requires
 at-requires c =
     let st = c.args.self.now in
-    let k = c.look_up-found.ensures.points in
+    let k = points _ _ _ c.args.s st.ok _ c.look_up-found.ensures.right (c.requires.0, c.requires.1) in
     has_domain _ _ _ c.args.s st.ok _ _ k.top
 
 pub entry_below-requires-clause-frame : goal.entry_below-requires-clause-frame
 entry_below-requires-clause-frame c =
     let st = c.args.self.now in
-    let k = c.look_up-found.ensures.points in
+    let k = points _ _ _ c.args.s st.ok _ c.look_up-found.ensures.right (c.requires.0, c.requires.1) in
     let x = c.at.result.now in
     frame_here _ _ _ c.args.s st.ok _ _ k.top x c.at.ensures
 
 pub entry_below-requires-clause-values : goal.entry_below-requires-clause-values
 entry_below-requires-clause-values c =
     let st = c.args.self.now in
-    let k = c.look_up-found.ensures.points in
+    let k = points _ _ _ c.args.s st.ok _ c.look_up-found.ensures.right (c.requires.0, c.requires.1) in
     let x = c.at.result.now in
     k.values x _ (found_here _ _ _ c.args.s st.ok _ _ k.top x c.at.ensures)
 
 pub entry_below-requires-clause-there : goal.entry_below-requires-clause-there
 entry_below-requires-clause-there c =
     let st = c.args.self.now in
-    let k = c.look_up-found.ensures.points in
+    let k = points _ _ _ c.args.s st.ok _ c.look_up-found.ensures.right (c.requires.0, c.requires.1) in
     let x = c.at.result.now in
     let P : FrameState → Type 0 = λ (g : FrameState). c.args.below < length g.stack in
     subst P (value_here _ _ _ c.args.s st.ok _ _ k.top x c.at.ensures c.requires.0 c.requires.1) c.requires.2
@@ -38,7 +38,7 @@ entry_below-requires-clause-there c =
 pub returns : goal.returns
 returns c =
     let st = c.args.self.now in
-    let k = c.look_up-found.ensures.points in
+    let k = points _ _ _ c.args.s st.ok _ c.look_up-found.ensures.right (c.requires.0, c.requires.1) in
     let x = c.at.result.now in
     λ f top.
     ap (λ (g : FrameState). slice_get g.stack (length g.stack - 1 - c.args.below)) (value_here _ _ _ c.args.s st.ok _ _ k.top x c.at.ensures f top)

@@ -1,6 +1,7 @@
 -- The segment goes from its domain and from the table.
 use Rattle.std.proofs.Common.{sym, arith}
 use Rattle.frame_store.specs.StoreContents.{IsFound}
+use Rattle.frame_store.proofs.CursorPoints.{right_nowhere}
 use Rattle.frame_store.proofs.StoreChanges.{found_slot}
 use Rattle.frame_store.proofs.SegmentBegins.{room_small, owed_small}
 use Rattle.frame_store.proofs.SegmentGoes.{gone_kept, gone_ends}
@@ -21,8 +22,8 @@ overflow_add-self c =
     let small = owed_small st.owed _ st.ok.enough (room_small st.places) in
     omega (arith, small)
 
-pub invariant_of-self-in-Some : goal.invariant_of-self-in-Some
-invariant_of-self-in-Some c =
+pub invariant_of-self : goal.invariant_of-self
+invariant_of-self c =
     let st = c.args.self.now in
     let x = c.in-Some.x.now in
     let p = c.place-p.result in
@@ -32,7 +33,7 @@ invariant_of-self-in-Some c =
     let wrote = c.get_mut.follows.holds y in
     record {
       ok = gone_kept _ _ st.places c.remove.new.self st.owed c.args.s p x y st.ok c.place-p.ensures is wrote c.end.ensures c.remove.ensures;
-      at = λ e. absurd (cc);
+      at = right_nowhere _ _ _ _ c.remove.ensures.is_out;
     }
 
 pub returns-in-Some : goal.returns-in-Some

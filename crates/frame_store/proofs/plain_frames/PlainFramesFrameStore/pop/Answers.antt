@@ -1,92 +1,126 @@
 -- The top frame goes in its domain.
-use Rattle.std.proofs.Common.{ℕ, ◌<◌, List, length, subst, sym, ap, ◌∙◌}
-use Rattle.jk_model_frames.specs.Frames.{FrameState}
-use Rattle.frame_store.specs.FrameContents.{FrameContent, Pops}
-use Rattle.frame_store.specs.StoreContents.{content_of, IsFound}
-use Rattle.frame_store.proofs.StoreChanges.{found_slot, found_top, store_kept}
-use Rattle.frame_store.proofs.WrittenAt.{never_none, read_at, written_at}
+use Rattle.std.proofs.Common.{ap, is_some, refl, subst, sym}
+use Rattle.indexmap.specs.IndexMap.{with_value_at}
+use Rattle.frame_store.specs.StoreContents.{content_of}
+use Rattle.frame_store.specs.FrameContents.{IsThere, Pops, TopFrame}
+use Rattle.frame_store.specs.Cursors.{IsRightFor}
+use Rattle.frame_store.proofs.CursorPoints.{within_cursor, slot_there, top_there, placed_there, read_there, wrote_cursor, aimed_again, right_again, still_slot, has_depth, has_no_depth}
+use Rattle.frame_store.proofs.StoreChanges.{store_kept}
 use Rattle.frame_store.proofs.StoreSteps.{steps_pop}
-use Rattle.frame_store.proofs.CursorPoints.{still_slot, has_some, found_again}
 use Rattle.frame_store.proofs.plain_frames.PlainFramesFrameStore.pop.Goals as goal
+
+pub pair_mut-x-requires : goal.pair_mut-x-requires
+pair_mut-x-requires c =
+    let st = c.touch.new.self in
+    let there = subst (λ q. IsThere q c.args.s) (sym c.touch.ensures.same) (ap is_some c.requires.1.is_there) in
+    within_cursor _ _ _ c.args.s st.ok st.cursor c.touch.ensures.right there
 
 pub pop-requires : goal.pop-requires
 pop-requires c =
-    let st = c.args.self.now in
-    let x = c.in-Some.x.now in
-    let p = c.whereabouts-place.result.1 in
-    let is = read_at st.domains p.domain c.whereabouts-place.result.0 c.whereabouts-place.ensures.stands x c.in-Some.ensures.value in
-    let found : IsFound st.domains st.places c.args.s.0 x p.slot = record { domain = p.domain; at = c.whereabouts-place.ensures.place; is = is } in
-    found_top _ _ _ c.args.s st.ok x p.slot found c.requires.0 c.requires.1
+    let st = c.touch.new.self in
+    let x = c.pair_mut-x.result.1.now in
+    let right = c.touch.ensures.right in
+    let there = subst (λ q. IsThere q c.args.s) (sym c.touch.ensures.same) (ap is_some c.requires.1.is_there) in
+    let reads = c.pair_mut-x.ensures.value in
+    let top = subst (λ q. TopFrame q c.args.s c.requires.0) (sym c.touch.ensures.same) c.requires.1 in
+    top_there _ _ _ c.args.s st.ok st.cursor right there x _ reads (c.requires.0, top)
+
+pub depth-requires : goal.depth-requires
+depth-requires c =
+    let st = c.touch.new.self in
+    let x = c.pair_mut-x.result.1.now in
+    let right = c.touch.ensures.right in
+    let there = subst (λ q. IsThere q c.args.s) (sym c.touch.ensures.same) (ap is_some c.requires.1.is_there) in
+    let reads = c.pair_mut-x.ensures.value in
+    still_slot x c.pop.new.self st.cursor.place.slot _ _ c.pop.ensures (slot_there _ _ _ c.args.s st.ok st.cursor right there x _ reads)
+
+pub aim-requires : goal.aim-requires
+aim-requires c =
+    let st = c.touch.new.self in
+    let x = c.pair_mut-x.result.1.now in
+    let right = c.touch.ensures.right in
+    let there = subst (λ q. IsThere q c.args.s) (sym c.touch.ensures.same) (ap is_some c.requires.1.is_there) in
+    let reads = c.pair_mut-x.ensures.value in
+    let slot = slot_there _ _ _ c.args.s st.ok st.cursor right there x _ reads in
+    has_depth c.pop.new.self st.cursor.place.slot (still_slot x c.pop.new.self st.cursor.place.slot _ _ c.pop.ensures slot)
+    c.depth.result c.depth.ensures c.if-depth-gt0.true
 
 pub invariant_of-self : goal.invariant_of-self
 invariant_of-self c =
-    let st = c.args.self.now in
-    let x = c.in-Some.x.now in
-    let p = c.whereabouts-place.result.1 in
-    let is = read_at st.domains p.domain c.whereabouts-place.result.0 c.whereabouts-place.ensures.stands x c.in-Some.ensures.value in
-    let found : IsFound st.domains st.places c.args.s.0 x p.slot = record { domain = p.domain; at = c.whereabouts-place.ensures.place; is = is } in
+    let st = c.touch.new.self in
+    let x = c.pair_mut-x.result.1.now in
+    let right = c.touch.ensures.right in
+    let there = subst (λ q. IsThere q c.args.s) (sym c.touch.ensures.same) (ap is_some c.requires.1.is_there) in
+    let reads = c.pair_mut-x.ensures.value in
+    let unique = c.pair_mut-x.ensures.unique in
     let y = c.pop.new.self in
-    let wrote = written_at st.domains p.domain c.whereabouts-place.result.0 c.whereabouts-place.ensures.stands y c.get_index_mut.ensures.unique in
+    let placed = placed_there _ _ _ c.args.s st.ok st.cursor right there x _ reads in
+    let read = read_there _ _ _ c.args.s st.ok st.cursor right there x _ reads in
+    let wrote = wrote_cursor _ _ _ c.args.s st.ok st.cursor right there x _ reads y unique in
     let b = c.pop.ensures in
-    record { ok = store_kept _ _ st.places st.owed c.args.s p x y st.ok c.whereabouts-place.ensures.place is wrote b.same_chunks b.same_slots; at = λ e. absurd (cc) }
+    record {
+      ok =
+          store_kept _ _ st.places st.owed c.args.s st.cursor.place x y st.ok placed read wrote
+          b.same_chunks b.same_slots;
+      at = aimed_again _ _ _ c.args.s st.ok st.cursor right there x _ reads y unique _ c.aim.ensures c.touch.ensures.at;
+    }
 
-pub depth-frames-requires : goal.depth-frames-requires
-depth-frames-requires c =
-    let st = c.args.self.now in
-    let x = c.in-Some.x.now in
-    let p = c.whereabouts-place.result.1 in
-    let at = c.whereabouts-place.result.0 in
-    let stands = c.whereabouts-place.ensures.stands in
-    let is = read_at st.domains p.domain at stands x c.in-Some.ensures.value in
-    let found : IsFound st.domains st.places c.args.s.0 x p.slot = record { domain = p.domain; at = c.whereabouts-place.ensures.place; is = is } in
-    still_slot x c.pop.new.self p.slot _ _ c.pop.ensures (found_slot _ _ _ c.args.s st.ok x p.slot found)
-
-pub aim-requires-clause-found : goal.aim-requires-clause-found
-aim-requires-clause-found c =
-    let st = c.args.self.now in
-    let x = c.in-Some.x.now in
-    let p = c.whereabouts-place.result.1 in
-    let at = c.whereabouts-place.result.0 in
-    let stands = c.whereabouts-place.ensures.stands in
-    let is = read_at st.domains p.domain at stands x c.in-Some.ensures.value in
-    let found : IsFound st.domains st.places c.args.s.0 x p.slot = record { domain = p.domain; at = c.whereabouts-place.ensures.place; is = is } in
+pub invariant_of-self-else-depth-gt0 : goal.invariant_of-self-else-depth-gt0
+invariant_of-self-else-depth-gt0 c =
+    let st = c.touch.new.self in
+    let x = c.pair_mut-x.result.1.now in
+    let right = c.touch.ensures.right in
+    let there = subst (λ q. IsThere q c.args.s) (sym c.touch.ensures.same) (ap is_some c.requires.1.is_there) in
+    let reads = c.pair_mut-x.ensures.value in
+    let unique = c.pair_mut-x.ensures.unique in
     let y = c.pop.new.self in
-    let wrote = written_at st.domains p.domain at stands y c.get_index_mut.ensures.unique in
-    let Some_left : ℕ → Type 0 = λ n. 0 < n in
-    let some = subst Some_left (c.depth-frames.ensures ∙ ap (λ (fs : List FrameState). length fs) c.pop.ensures.becomes) c.if-frames-gt0.true in
-    let top = has_some x y p.slot _ _ c.pop.ensures (found_slot _ _ _ c.args.s st.ok x p.slot found) some in
-    found_again st.domains st.places st.owed c.args.s x y p.slot st.ok found at stands wrote top
+    let placed = placed_there _ _ _ c.args.s st.ok st.cursor right there x _ reads in
+    let read = read_there _ _ _ c.args.s st.ok st.cursor right there x _ reads in
+    let wrote = wrote_cursor _ _ _ c.args.s st.ok st.cursor right there x _ reads y unique in
+    let b = c.pop.ensures in
+    record {
+      ok =
+          store_kept _ _ st.places st.owed c.args.s st.cursor.place x y st.ok placed read wrote
+          b.same_chunks b.same_slots;
+      at =
+          subst (λ r. IsRightFor (with_value_at st.domains st.cursor.domain y) st.places r st.cursor) (sym c.touch.ensures.at)
+          (right_again _ _ _ c.args.s st.ok st.cursor right there x _ reads y unique st.cursor refl refl
+          (λ top. absurd (has_no_depth y st.cursor.place.slot c.depth.result c.depth.ensures c.if-depth-gt0.false top))
+          (λ top. absurd (has_no_depth y st.cursor.place.slot c.depth.result c.depth.ensures c.if-depth-gt0.false top)));
+    }
 
-pub returns-then-frames-gt0 : goal.returns-then-frames-gt0
-returns-then-frames-gt0 c =
-    let st = c.args.self.now in
-    let x = c.in-Some.x.now in
-    let p = c.whereabouts-place.result.1 in
-    let at = c.whereabouts-place.result.0 in
-    let stands = c.whereabouts-place.ensures.stands in
-    let is = read_at st.domains p.domain at stands x c.in-Some.ensures.value in
-    let found : IsFound st.domains st.places c.args.s.0 x p.slot = record { domain = p.domain; at = c.whereabouts-place.ensures.place; is = is } in
+pub returns-then-depth-gt0 : goal.returns-then-depth-gt0
+returns-then-depth-gt0 c =
+    let st = c.touch.new.self in
+    let x = c.pair_mut-x.result.1.now in
+    let right = c.touch.ensures.right in
+    let there = subst (λ q. IsThere q c.args.s) (sym c.touch.ensures.same) (ap is_some c.requires.1.is_there) in
+    let reads = c.pair_mut-x.ensures.value in
+    let unique = c.pair_mut-x.ensures.unique in
     let y = c.pop.new.self in
-    let wrote = written_at st.domains p.domain at stands y c.get_index_mut.ensures.unique in
-    let top = found_top _ _ _ c.args.s st.ok x p.slot found c.requires.0 c.requires.1 in
-    let P : FrameContent → Type 0 = λ q. Pops (content_of st.domains st.places) q c.args.s in
-    subst P (sym c.aim.ensures)
-    (steps_pop _ _ st.places st.owed c.args.s p x y st.ok c.whereabouts-place.ensures.place is wrote top c.pop.ensures)
+    let placed = placed_there _ _ _ c.args.s st.ok st.cursor right there x _ reads in
+    let read = read_there _ _ _ c.args.s st.ok st.cursor right there x _ reads in
+    let wrote = wrote_cursor _ _ _ c.args.s st.ok st.cursor right there x _ reads y unique in
+    let top = subst (λ q. TopFrame q c.args.s c.requires.0) (sym c.touch.ensures.same) c.requires.1 in
+    let pops =
+    steps_pop _ _ st.places st.owed c.args.s st.cursor.place x y st.ok placed read wrote
+    (top_there _ _ _ c.args.s st.ok st.cursor right there x _ reads (c.requires.0, top)) c.pop.ensures in
+    subst (λ q. Pops q (content_of (with_value_at st.domains st.cursor.domain y) st.places) c.args.s) c.touch.ensures.same pops
 
-pub returns-else-frames-gt0 : goal.returns-else-frames-gt0
-returns-else-frames-gt0 c =
-    let st = c.args.self.now in
-    let x = c.in-Some.x.now in
-    let p = c.whereabouts-place.result.1 in
-    let at = c.whereabouts-place.result.0 in
-    let stands = c.whereabouts-place.ensures.stands in
-    let is = read_at st.domains p.domain at stands x c.in-Some.ensures.value in
-    let found : IsFound st.domains st.places c.args.s.0 x p.slot = record { domain = p.domain; at = c.whereabouts-place.ensures.place; is = is } in
+pub returns-else-depth-gt0 : goal.returns-else-depth-gt0
+returns-else-depth-gt0 c =
+    let st = c.touch.new.self in
+    let x = c.pair_mut-x.result.1.now in
+    let right = c.touch.ensures.right in
+    let there = subst (λ q. IsThere q c.args.s) (sym c.touch.ensures.same) (ap is_some c.requires.1.is_there) in
+    let reads = c.pair_mut-x.ensures.value in
+    let unique = c.pair_mut-x.ensures.unique in
     let y = c.pop.new.self in
-    let wrote = written_at st.domains p.domain at stands y c.get_index_mut.ensures.unique in
-    let top = found_top _ _ _ c.args.s st.ok x p.slot found c.requires.0 c.requires.1 in
-    steps_pop _ _ st.places st.owed c.args.s p x y st.ok c.whereabouts-place.ensures.place is wrote top c.pop.ensures
-
-pub unreachable-requires : goal.unreachable-requires
-unreachable-requires c =
-    never_none c.args.self.now.domains c.whereabouts-place.result.1.domain c.whereabouts-place.result.0 c.whereabouts-place.ensures.stands c.in-None.ensures.value
+    let placed = placed_there _ _ _ c.args.s st.ok st.cursor right there x _ reads in
+    let read = read_there _ _ _ c.args.s st.ok st.cursor right there x _ reads in
+    let wrote = wrote_cursor _ _ _ c.args.s st.ok st.cursor right there x _ reads y unique in
+    let top = subst (λ q. TopFrame q c.args.s c.requires.0) (sym c.touch.ensures.same) c.requires.1 in
+    let pops =
+    steps_pop _ _ st.places st.owed c.args.s st.cursor.place x y st.ok placed read wrote
+    (top_there _ _ _ c.args.s st.ok st.cursor right there x _ reads (c.requires.0, top)) c.pop.ensures in
+    subst (λ q. Pops q (content_of (with_value_at st.domains st.cursor.domain y) st.places) c.args.s) c.touch.ensures.same pops

@@ -1,134 +1,127 @@
 -- A frame is pushed in the domain.
-use Rattle.std.proofs.Common.{◌≡◌, ℕ, ◌+◌, ◌-◌, ◌<◌, ◌≤◌, ◌++◌, ◌∷◌, ◌∙◌, [], Some, nat_eq, option_map, arith, subst, sym, ap}
-use Rattle.std.specs.Option.{option_map_or}
-use Rattle.std.proofs.lemmas.Option.{same_Some}
-use Rattle.list_lemmas.proofs.FoundItems.{on_err}
-use Rattle.jk_model_frames.specs.Frames.{new_frame, head_chunks}
-use Rattle.frame_store.specs.declared.domain_frames.DomainFrames.{DomainFrames}
-use Rattle.indexmap.specs.IndexMap.{IndexMap, get, with_value_at}
-use Rattle.jk_model.specs.declared.identifiers.DomainId.{DomainId}
-use Rattle.frame_store.specs.declared.segment_table.SegmentTable.{SegmentTable}
-use Rattle.frame_store.specs.FrameContents.{FrameContent, HasRoomFor, Pushes, StoredSegment, free_chunks}
-use Rattle.frame_store.specs.StoreContents.{content_of, IsFound, IsStore}
-use Rattle.frame_store.specs.DomainMoves.{frames_of, Becomes}
-use Rattle.frame_store.proofs.StoreChanges.{found_segment, found_slot, segment_in, store_kept}
-use Rattle.frame_store.proofs.WrittenAt.{never_none, read_at, written_at}
-use Rattle.frame_store.proofs.StoreSteps.{steps_push, steps_none}
-use Rattle.frame_store.proofs.SegmentGoes.{either_way}
-use Rattle.frame_store.proofs.CursorPoints.{has_some, some_pushed, found_again}
+use Rattle.std.proofs.Common.{refl, subst, sym, arith}
+use Rattle.jk_model_frames.specs.Frames.{new_frame}
+use Rattle.frame_store.specs.DomainMoves.{frames_of}
+use Rattle.indexmap.specs.IndexMap.{with_value_at}
+use Rattle.frame_store.specs.StoreContents.{content_of}
+use Rattle.frame_store.specs.FrameContents.{IsSame, IsThere, Pushes}
+use Rattle.frame_store.proofs.CursorPoints.{within_cursor, slot_there, found_read_at, placed_there, read_there, wrote_cursor, same_again, aimed_again, has_some, some_pushed}
+use Rattle.frame_store.proofs.RoomIsTested.{has_room, has_none}
+use Rattle.frame_store.proofs.StoreChanges.{store_kept}
+use Rattle.frame_store.proofs.StoreSteps.{steps_none, steps_push}
 use Rattle.frame_store.proofs.plain_frames.PlainFramesFrameStore.push.Goals as goal
 
-pub push-requires : goal.push-requires
-push-requires c =
-    let st = c.args.self.now in
-    let x = c.in-Some.x.now in
-    let p = c.whereabouts-place.result.1 in
-    let is = read_at st.domains p.domain c.whereabouts-place.result.0 c.whereabouts-place.ensures.stands x c.in-Some.ensures.value in
-    let found : IsFound st.domains st.places c.args.s.0 x p.slot = record { domain = p.domain; at = c.whereabouts-place.ensures.place; is = is } in
-    found_slot _ _ _ c.args.s st.ok x p.slot found
+pub pair_mut-x-requires : goal.pair_mut-x-requires
+pair_mut-x-requires c =
+    let st = c.touch.new.self in
+    let there = subst (λ q. IsThere q c.args.s) (sym c.touch.ensures.same) c.requires in
+    within_cursor _ _ _ c.args.s st.ok st.cursor c.touch.ensures.right there
 
 pub invariant_of-self : goal.invariant_of-self
 invariant_of-self c =
-    let st = c.args.self.now in
-    let x = c.in-Some.x.now in
-    let p = c.whereabouts-place.result.1 in
-    let is = read_at st.domains p.domain c.whereabouts-place.result.0 c.whereabouts-place.ensures.stands x c.in-Some.ensures.value in
-    let found : IsFound st.domains st.places c.args.s.0 x p.slot = record { domain = p.domain; at = c.whereabouts-place.ensures.place; is = is } in
-    let y = c.push.new.self in
-    let wrote = written_at st.domains p.domain c.whereabouts-place.result.0 c.whereabouts-place.ensures.stands y c.get_index_mut.ensures.unique in
+    let st = c.touch.new.self in
+    let x = c.pair_mut-x.result.1.now in
+    let right = c.touch.ensures.right in
+    let there = subst (λ q. IsThere q c.args.s) (sym c.touch.ensures.same) c.requires in
+    let reads = c.pair_mut-x.ensures.value in
+    let unique = c.pair_mut-x.ensures.unique in
+    let placed = placed_there _ _ _ c.args.s st.ok st.cursor right there x _ reads in
+    let read = read_there _ _ _ c.args.s st.ok st.cursor right there x _ reads in
+    let wrote = wrote_cursor _ _ _ c.args.s st.ok st.cursor right there x _ reads x unique in
     record {
       ok =
-          either_way c.push.result _ _ (IsStore (with_value_at st.domains c.whereabouts-place.result.0 y) st.places st.owed)
-          (λ (b : Becomes x y p.slot (frames_of x p.slot ++ new_frame c.args.head ∷ []) (x.used + head_chunks c.args.head)).
-          store_kept _ _ st.places st.owed c.args.s p x y st.ok c.whereabouts-place.ensures.place is wrote b.same_chunks b.same_slots)
-          (λ (e : y ≡ x).
-          store_kept _ _ st.places st.owed c.args.s p x y st.ok c.whereabouts-place.ensures.place is wrote
-          (ap (λ (z : DomainFrames). z.chunks) e) (ap (λ (z : DomainFrames). z.slots) e))
-          c.push.ensures.ok c.push.ensures.err;
-      at = λ e. absurd (cc);
+          store_kept _ _ st.places st.owed c.args.s st.cursor.place x x st.ok placed read wrote refl refl;
+      at = same_again _ _ _ c.args.s st.ok st.cursor right there x _ reads unique c.touch.ensures.at;
     }
 
-pub returns-in_err-push-in-Some-clause-err : goal.returns-in_err-push-in-Some-clause-err
-returns-in_err-push-in-Some-clause-err c =
-    let st = c.args.self.now in
-    let x = c.in-Some.x.now in
-    let p = c.whereabouts-place.result.1 in
-    let at = c.whereabouts-place.result.0 in
-    let stands = c.whereabouts-place.ensures.stands in
-    let is = read_at st.domains p.domain at stands x c.in-Some.ensures.value in
-    let y = c.push.new.self in
-    let wrote = written_at st.domains p.domain at stands y c.get_index_mut.ensures.unique in
-    on_err _ _ (steps_none _ _ st.places st.owed c.args.s p x y st.ok c.whereabouts-place.ensures.place is wrote c.in_err-push-in-Some.ensures.err)
+pub returns-then-blocks-free-clause-err : goal.returns-then-blocks-free-clause-err
+returns-then-blocks-free-clause-err c =
+    let st = c.touch.new.self in
+    let x = c.pair_mut-x.result.1.now in
+    let right = c.touch.ensures.right in
+    let there = subst (λ q. IsThere q c.args.s) (sym c.touch.ensures.same) c.requires in
+    let reads = c.pair_mut-x.ensures.value in
+    let unique = c.pair_mut-x.ensures.unique in
+    let placed = placed_there _ _ _ c.args.s st.ok st.cursor right there x _ reads in
+    let read = read_there _ _ _ c.args.s st.ok st.cursor right there x _ reads in
+    let wrote = wrote_cursor _ _ _ c.args.s st.ok st.cursor right there x _ reads x unique in
+    let none =
+    steps_none _ _ st.places st.owed c.args.s st.cursor.place x x st.ok placed read wrote refl in
+    subst (λ q. IsSame q (content_of (with_value_at st.domains st.cursor.domain x) st.places)) c.touch.ensures.same none
 
-pub aim-requires-clause-found : goal.aim-requires-clause-found
-aim-requires-clause-found c =
-    let st = c.args.self.now in
-    let x = c.in-Some.x.now in
-    let p = c.whereabouts-place.result.1 in
-    let at = c.whereabouts-place.result.0 in
-    let stands = c.whereabouts-place.ensures.stands in
-    let is = read_at st.domains p.domain at stands x c.in-Some.ensures.value in
-    let found : IsFound st.domains st.places c.args.s.0 x p.slot = record { domain = p.domain; at = c.whereabouts-place.ensures.place; is = is } in
+pub returns-then-blocks-free-clause-no_room : goal.returns-then-blocks-free-clause-no_room
+returns-then-blocks-free-clause-no_room c =
+    let st = c.touch.new.self in
+    let x = c.pair_mut-x.result.1.now in
+    let right = c.touch.ensures.right in
+    let there = subst (λ q. IsThere q c.args.s) (sym c.touch.ensures.same) c.requires in
+    let reads = c.pair_mut-x.ensures.value in
+    let found = found_read_at _ _ _ c.args.s st.ok st.cursor right there x _ reads in
+    has_none _ _ _ _ c.args.s st.ok x _ found c.args.head c.touch.ensures.same (omega arith)
+
+pub push-requires-clause-slot : goal.push-requires-clause-slot
+push-requires-clause-slot c =
+    let st = c.touch.new.self in
+    let x = c.pair_mut-x.result.1.now in
+    let right = c.touch.ensures.right in
+    let there = subst (λ q. IsThere q c.args.s) (sym c.touch.ensures.same) c.requires in
+    let reads = c.pair_mut-x.ensures.value in
+    slot_there _ _ _ c.args.s st.ok st.cursor right there x _ reads
+
+pub aim-requires : goal.aim-requires
+aim-requires c =
+    let st = c.touch.new.self in
+    let x = c.pair_mut-x.result.1.now in
+    let right = c.touch.ensures.right in
+    let there = subst (λ q. IsThere q c.args.s) (sym c.touch.ensures.same) c.requires in
+    let reads = c.pair_mut-x.ensures.value in
+    let slot = slot_there _ _ _ c.args.s st.ok st.cursor right there x _ reads in
+    let some = some_pushed (frames_of x st.cursor.place.slot) (new_frame c.args.head) in
+    has_some x c.push.new.self st.cursor.place.slot _ _ c.push.ensures slot some
+
+pub invariant_of-self-2 : goal.invariant_of-self-2
+invariant_of-self-2 c =
+    let st = c.touch.new.self in
+    let x = c.pair_mut-x.result.1.now in
+    let right = c.touch.ensures.right in
+    let there = subst (λ q. IsThere q c.args.s) (sym c.touch.ensures.same) c.requires in
+    let reads = c.pair_mut-x.ensures.value in
+    let unique = c.pair_mut-x.ensures.unique in
     let y = c.push.new.self in
-    let wrote = written_at st.domains p.domain at stands y c.get_index_mut.ensures.unique in
-    let some = some_pushed (frames_of x p.slot) (new_frame c.args.head) in
-    let top = has_some x y p.slot _ _ c.in_ok-push-in-Some.ensures.ok (found_slot _ _ _ c.args.s st.ok x p.slot found) some in
-    found_again st.domains st.places st.owed c.args.s x y p.slot st.ok found at stands wrote top
+    let placed = placed_there _ _ _ c.args.s st.ok st.cursor right there x _ reads in
+    let read = read_there _ _ _ c.args.s st.ok st.cursor right there x _ reads in
+    let wrote = wrote_cursor _ _ _ c.args.s st.ok st.cursor right there x _ reads y unique in
+    let b = c.push.ensures in
+    record {
+      ok =
+          store_kept _ _ st.places st.owed c.args.s st.cursor.place x y st.ok placed read wrote
+          b.same_chunks b.same_slots;
+      at = aimed_again _ _ _ c.args.s st.ok st.cursor right there x _ reads y unique _ c.aim.ensures c.touch.ensures.at;
+    }
 
 pub returns-clause-ok : goal.returns-clause-ok
 returns-clause-ok c =
-    let st = c.args.self.now in
-    let x = c.in-Some.x.now in
-    let p = c.whereabouts-place.result.1 in
-    let at = c.whereabouts-place.result.0 in
-    let stands = c.whereabouts-place.ensures.stands in
-    let is = read_at st.domains p.domain at stands x c.in-Some.ensures.value in
+    let st = c.touch.new.self in
+    let x = c.pair_mut-x.result.1.now in
+    let right = c.touch.ensures.right in
+    let there = subst (λ q. IsThere q c.args.s) (sym c.touch.ensures.same) c.requires in
+    let reads = c.pair_mut-x.ensures.value in
+    let unique = c.pair_mut-x.ensures.unique in
     let y = c.push.new.self in
-    let wrote = written_at st.domains p.domain at stands y c.get_index_mut.ensures.unique in
-    let P : FrameContent → Type 0 = λ q. Pushes (content_of st.domains st.places) q c.args.s c.args.head in
-    subst P (sym c.aim.ensures)
-    (steps_push _ _ st.places st.owed c.args.s p x y st.ok c.whereabouts-place.ensures.place is wrote c.args.head c.in_ok-push-in-Some.ensures.ok)
-
--- what the domain may still use
-free_is : {S : Type 0} (m : IndexMap ℕ DomainFrames S) (places : SegmentTable) (d : DomainId) (x : DomainFrames) → get nat_eq m d.0 ≡ Some x
-    → free_chunks (content_of m places) d ≡ x.chunks - x.used
-free_is m places d x is =
-    ap (λ o. option_map_or (λ q. q - option_map_or (λ (z : DomainFrames). z.used) o 0) (option_map (λ (z : DomainFrames). z.chunks) o) 0) is
-
-too_many : (a b c : ℕ) → a < b → b ≤ c → c ≡ a → ⊥
-too_many a b c low high same = omega arith
+    let placed = placed_there _ _ _ c.args.s st.ok st.cursor right there x _ reads in
+    let read = read_there _ _ _ c.args.s st.ok st.cursor right there x _ reads in
+    let wrote = wrote_cursor _ _ _ c.args.s st.ok st.cursor right there x _ reads y unique in
+    let pushes =
+    steps_push _ _ st.places st.owed c.args.s st.cursor.place x y st.ok placed read wrote
+    c.args.head c.push.ensures in
+    subst (λ q. Pushes q (content_of (with_value_at st.domains st.cursor.domain y) st.places) c.args.s c.args.head) c.touch.ensures.same pushes
 
 pub returns-clause-room : goal.returns-clause-room
 returns-clause-room c =
-    let st = c.args.self.now in
-    let x = c.in-Some.x.now in
-    let p = c.whereabouts-place.result.1 in
-    let at = c.whereabouts-place.result.0 in
-    let stands = c.whereabouts-place.ensures.stands in
-    let is = read_at st.domains p.domain at stands x c.in-Some.ensures.value in
-    let d : DomainId = record { 0 = p.domain } in
-    let found : IsFound st.domains st.places c.args.s.0 x p.slot = record { domain = p.domain; at = c.whereabouts-place.ensures.place; is = is } in (
-      segment_in x p.domain p.slot,
-      found_segment _ _ _ c.args.s st.ok x p.slot found,
-      subst (λ k. head_chunks c.args.head ≤ k) (sym (free_is st.domains st.places d x is)) c.in_ok-push-in-Some.ensures.room,
-    )
-
-pub returns-in_err-push-in-Some-clause-no_room : goal.returns-in_err-push-in-Some-clause-no_room
-returns-in_err-push-in-Some-clause-no_room c =
-    let st = c.args.self.now in
-    let x = c.in-Some.x.now in
-    let p = c.whereabouts-place.result.1 in
-    let at = c.whereabouts-place.result.0 in
-    let stands = c.whereabouts-place.ensures.stands in
-    let is = read_at st.domains p.domain at stands x c.in-Some.ensures.value in
-    let found : IsFound st.domains st.places c.args.s.0 x p.slot = record { domain = p.domain; at = c.whereabouts-place.ensures.place; is = is } in
-    let never : HasRoomFor (content_of st.domains st.places) c.args.s c.args.head → ⊥ =
-    λ room.
-    let same = same_Some (segment_in x p.domain p.slot) room.0 (sym (found_segment _ _ _ c.args.s st.ok x p.slot found) ∙ room.1) in
-    let of_domain : get nat_eq st.domains room.0.domain.0 ≡ Some x = ap (λ (g : StoredSegment). get nat_eq st.domains g.domain.0) (sym same) ∙ is in
-    too_many _ _ _ c.in_err-push-in-Some.ensures.no_room room.2 (free_is st.domains st.places room.0.domain x of_domain) in
-    on_err _ _ never
-
-pub unreachable-requires : goal.unreachable-requires
-unreachable-requires c =
-    never_none c.args.self.now.domains c.whereabouts-place.result.1.domain c.whereabouts-place.result.0 c.whereabouts-place.ensures.stands c.in-None.ensures.value
+    let st = c.touch.new.self in
+    let x = c.pair_mut-x.result.1.now in
+    let right = c.touch.ensures.right in
+    let there = subst (λ q. IsThere q c.args.s) (sym c.touch.ensures.same) c.requires in
+    let reads = c.pair_mut-x.ensures.value in
+    let found = found_read_at _ _ _ c.args.s st.ok st.cursor right there x _ reads in
+    has_room _ _ _ _ c.args.s st.ok x _ found c.args.head c.touch.ensures.same (omega arith)

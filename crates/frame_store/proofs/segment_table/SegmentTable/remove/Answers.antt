@@ -16,7 +16,7 @@ invariant_of-self c =
     let t = c.args.self.now in
     record {
       ok =
-          taken_keeps t c.move_top.new.self c.args.number c.bucket-bucket.result c.in-Some.entry _ c.index.result.now
+          taken_keeps t c.free_top.new.self c.args.number c.bucket-bucket.result c.in-Some.entry _ c.index.result.now
           (record {
             some = found_some t c.args.number c.in-Some.entry (sym c.in-Some.ensures);
             bucket = c.bucket-bucket.ensures;
@@ -24,14 +24,14 @@ invariant_of-self c =
             is_last =
                 get_or_read t.entries.items _ _ (omega (arith, c.top-top.ensures.within, t.ok.as_many)) c.index.ensures no_entry
                 ∙ ap (entry_at t.entries.items) c.top-top.ensures.top;
-            moves = c.move_top.ensures.moves;
+            moves = c.free_top.ensures.moves;
           });
     }
 
 pub returns-in-Some : goal.returns-in-Some
 returns-in-Some c =
     let t = c.args.self.now in
-    taken_removes t c.move_top.new.self c.args.number c.bucket-bucket.result c.in-Some.entry _ c.index.result.now
+    taken_removes t c.free_top.new.self c.args.number c.bucket-bucket.result c.in-Some.entry _ c.index.result.now
     (record {
       some = found_some t c.args.number c.in-Some.entry (sym c.in-Some.ensures);
       bucket = c.bucket-bucket.ensures;
@@ -39,6 +39,6 @@ returns-in-Some c =
       is_last =
           get_or_read t.entries.items _ _ (omega (arith, c.top-top.ensures.within, t.ok.as_many)) c.index.ensures no_entry
           ∙ ap (entry_at t.entries.items) c.top-top.ensures.top;
-      moves = c.move_top.ensures.moves;
+      moves = c.free_top.ensures.moves;
     })
     _ refl refl refl refl
