@@ -11,6 +11,7 @@ ghost use Rattle.jk_model_folders.specs.FolderRules.{IsFolderFault, IsLive};
 ghost use Rattle.jk_model_folders.specs.FolderTrees.{MOST_ENTRIES, MOST_LEVELS};
 ghost use Rattle.jk_model_folders.specs.Loads.{MayLoad};
 ghost use Rattle.jk_outside.specs.Counts.{HasTaken};
+ghost use Rattle.folder_reader.specs.AskedOnce.{AsksOnce};
 ghost use Rattle.folder_reader.specs.FolderAnswers.{AskedFor, AsksWithin};
 ghost use Rattle.folder_loader.specs.LinkedFolders.{AreTypedFrom};
 ghost use Rattle.folder_loader.specs.LoadAnswers.{HasLoaded, IsRefused, IsReadRefusal};
@@ -99,6 +100,8 @@ pub fn load<F: Files>(
     ensures faults { NeverFalls (F.faults files.old) (F.faults files.new) }
     ensures taken { NeverFalls (F.taken files.old) (F.taken files.new) }
     ensures asks { (more : List Ask) × (F.asked files.new ≡ F.asked files.old ++ more) × AllByRecursion (AsksWithin (root.now /- name.now)) more }
+    // Each file is asked for at most once, and each folder of a told tree.
+    ensures once { AsksOnce (F.tree files.old) (F.asked files.old) (F.asked files.new) }
 {
     if is_live(world, name) {
         return Err(LoadAnswer::Refused(Rule::L1, Place::Whole));

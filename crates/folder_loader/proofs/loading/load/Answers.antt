@@ -1,5 +1,5 @@
 -- What the parts answer is answered of the folder.
-use Rattle.std.proofs.Common.{Err, ap, subst, sym, ◌∙◌}
+use Rattle.std.proofs.Common.{Err, ap, refl, subst, sym, ◌∙◌}
 use Rattle.std.specs.Prelude.{List, ℕ}
 use Rattle.jk_model.specs.declared.output.Place.TheVariants.{Whole}
 use Rattle.jk_model.specs.declared.output.Rule.TheVariants.{L1, L2, L5}
@@ -7,6 +7,7 @@ use Rattle.jk_model.specs.Outside.{FolderIsAbsent, ListOf, ◌/-◌}
 use Rattle.jk_model_folders.specs.FolderRules.{IsLive}
 use Rattle.jk_model_folders.specs.FolderTrees.{MOST_ENTRIES}
 use Rattle.folder_reader.specs.FolderAnswers.{AskedFor}
+use Rattle.folder_reader.proofs.AsksApart.{asks_nothing}
 use Rattle.folder_loader.specs.declared.answers.LoadAnswer.TheVariants.{Refused}
 use Rattle.folder_loader.proofs.FaultsAreAnswered.{fault_answered}
 use Rattle.folder_loader.proofs.LoadedFolders.{folder_loads}
@@ -47,7 +48,8 @@ pub returns-clause-refused : goal.returns-clause-refused
 returns-clause-refused g c = λ rule place e.
     read_refused (g.F.Files.tree c.args.files.now) c.args.root.now c.args.world.now c.args.name.now c.as_str.result.now c.in-Err.e c.not_read.result
     rule place (not_live_by c.args.world.now c.args.name.now c.is_live.result c.is_live.ensures c.if-is_live.false)
-    (c.as_str.ensures.value ∙ c.in_ok-folder.ensures) (λ is. absent_told _ _ _ _ (c.in-Err.ensures.no_folder (ap Err is))) (λ is. c.in-Err.ensures.too_large (ap Err is))
+    (c.as_str.ensures.value ∙ c.in_ok-folder.ensures) (λ is. absent_told _ _ _ _ (c.in-Err.ensures.no_folder (ap Err is)))
+    (λ is. c.in-Err.ensures.too_large (ap Err is))
     c.not_read.ensures (refused_by _ _ e)
 
 pub returns-clause-folder_fault : goal.returns-clause-folder_fault
@@ -122,3 +124,9 @@ returns-clause-live g c = λ live.
 pub returns-clause-live_asks : goal.returns-clause-live_asks
 returns-clause-live_asks g c = λ live.
     absurd (not_live_by c.args.world.now c.args.name.now c.is_live.result c.is_live.ensures c.if-is_live.false live)
+
+pub returns-then-is_live-clause-once : goal.returns-then-is_live-clause-once
+returns-then-is_live-clause-once g c = asks_nothing _ _ _ refl
+
+pub returns-in_err-folder-clause-once : goal.returns-in_err-folder-clause-once
+returns-in_err-folder-clause-once g c = asks_nothing _ _ _ refl
