@@ -1,5 +1,5 @@
 -- A static field is found by its place among all fields, and changed alone; and how the static fields of a class begin.
-use Rattle.std.proofs.Common.{◌≡◌, ℕ, zero, suc, ◌+◌, ◌<◌, ◌≤◌, ◌⊎◌, inl, inr, true, false, List, [], ◌∷◌, ◌++◌, length, map, filter, set, find, take, refl, sym, ◌∙◌, ap, arith, append-nil, Some, None, Result, Ok, Err, slice_get, get_or, nat_lt, eqb}
+use Rattle.std.proofs.Common.{◌≡◌, ℕ, zero, suc, ◌+◌, ◌<◌, ◌≤◌, ◌⊎◌, inl, inr, true, false, List, [], ◌∷◌, ◌++◌, length, map, filter, set, find, take, refl, subst, sym, ◌∙◌, ap, arith, append-nil, Some, None, Result, Ok, Err, slice_get, get_or, nat_lt, eqb}
 use Rattle.std.specs.Prelude.{◌==◌, MatchOption}
 use Rattle.std.specs.Option.{option_map}
 use Rattle.std.specs.Result.{result_ok}
@@ -16,7 +16,7 @@ use Rattle.std.proofs.lemmas.List.Sorted.{searchable_from_sorted}
 use Rattle.std.proofs.lemmas.Map.Lookups.{exact_unsigned}
 use Rattle.std.proofs.lemmas.Option.{slice_get_within, slice_get-get_or, get_or_from_slice_get, same_Some}
 use Rattle.jk_model.specs.Flags.{has}
-use Rattle.list_lemmas.proofs.ItemsByPlace.{old_or_last, comes_from, mapped_at}
+use Rattle.list_lemmas.proofs.ItemsByPlace.{comes_from, mapped_at, old_or_last, slice_get-set_cases}
 use Rattle.list_lemmas.proofs.LastItems.{enumerate_from-push}
 use Rattle.jk_model.specs.declared.values.Value.{Value}
 use Rattle.jk_model.specs.declared.values.Value.TheVariants as Held
@@ -25,7 +25,6 @@ use Rattle.jk_model_domains.specs.OwnStates.{StaticField, with_field, is_static_
 use Rattle.class_init.specs.declared.statics.FieldSlot.{FieldSlot}
 use Rattle.class_init.specs.Statics.{static_field, IsRising, IsIndexAt, LacksIndex, with_values, first_static, statics_from}
 use Rattle.class_init.proofs.ByKey.{Differ, found_none, found_at, unchanged, changed_at}
-use Rattle.class_init.proofs.PlacesInLists.{slice_get-set}
 
 -- ---- The search.
 
@@ -119,19 +118,16 @@ set_some xs index place v s rising at e =
 
 pub rising_set : (xs : List FieldSlot) (i : ℕ) (s : FieldSlot) (v : Value) → IsRising xs → slice_get xs i ≡ Some s
     → IsRising (set xs i (record { index = s.index; value = v }))
-rising_set xs i s v h at j k a b p q low = by_places (slice_get-set xs i new j a p) (slice_get-set xs i new k b q)
+rising_set xs i s v h at j k a b p q low = by_places (slice_get-set_cases xs i j new a p) (slice_get-set_cases xs i k new b q)
   where
     new : FieldSlot
     new = record { index = s.index; value = v }
 
-    by_places : ((j ≡ i) × (a ≡ new)) ⊎ ((j ≡ i → ⊥) × (slice_get xs j ≡ Some a)) → ((k ≡ i) × (b ≡ new)) ⊎ ((k ≡ i → ⊥) × (slice_get xs k ≡ Some b))
-        → a.index < b.index
+    by_places : ((i ≡ j) × (new ≡ a)) ⊎ (slice_get xs j ≡ Some a) → ((i ≡ k) × (new ≡ b)) ⊎ (slice_get xs k ≡ Some b) → a.index < b.index
     by_places (inl x) (inl y) = absurd (omega (arith, x.0, y.0, low))
-    by_places (inl x) (inr y) =
-        let below = h i k s b at y.1 (omega (arith, x.0, low)) in rw x.1 below
-    by_places (inr x) (inl y) =
-        let below = h j i a s x.1 at (omega (arith, y.0, low)) in rw y.1 below
-    by_places (inr x) (inr y) = h j k a b x.1 y.1 low
+    by_places (inl x) (inr y) = subst (λ (z : FieldSlot). z.index < b.index) x.1 (h i k s b at y (omega (arith, x.0, low)))
+    by_places (inr x) (inl y) = subst (λ (z : FieldSlot). a.index < z.index) y.1 (h j i a s x at (omega (arith, y.0, low)))
+    by_places (inr x) (inr y) = h j k a b x y low
 
 -- ---- All values in turn.
 

@@ -162,7 +162,7 @@ impl Own {
     }
 
     /// How many words the objects take together of the texts that are constants of static fields among these and have no object
-    /// yet, equal ones once. It takes no memory, and time in proportion to n log m for n fields and m texts that are known.
+    /// yet, equal ones once. It takes no memory, and time in proportion to n log m for n fields and m texts that have rooms.
     pub fn missing_words(&mut self, fields: &[FieldRecord]) -> u64
         requires { (f : AField) (text : AList ℕ) → Contains fields.now f → HasTextConstant f text → Contains self.old.rooms text }
         ensures words { IsCostOfMissing self.old.state fields.now result }

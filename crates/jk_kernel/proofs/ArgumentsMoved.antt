@@ -1,17 +1,14 @@
 -- The values on top of a frame's stack: one that is taken off, and arguments that are the first locals of the frame that is called.
-use Rattle.std.proofs.Common.{◌≡◌, ◌≤◌, ◌+◌, ◌-◌, ℕ, suc, List, [], ◌∷◌, ◌++◌, length, set, replicate, refl, sym, ap, subst, ◌∙◌, append_assoc, arith}
-use Rattle.std.proofs.lemmas.List.{append-nil, length-append}
+use Rattle.std.proofs.Common.{◌≡◌, ◌+◌, ℕ, List, [], ◌∷◌, ◌++◌, length, refl, sym, ap, subst, ◌∙◌, append_assoc, arith}
 use Rattle.list_lemmas.proofs.LastItems.{one_last}
 use Rattle.jk_model.specs.declared.frames.FrameHead.{FrameHead}
 use Rattle.jk_model.specs.declared.identifiers.DomainId.{DomainId}
 use Rattle.jk_model.specs.declared.identifiers.SegmentNo.{SegmentNo}
 use Rattle.jk_model.specs.declared.values.Value.{Value}
-use Rattle.jk_model.specs.declared.values.Value.TheVariants as Held
 use Rattle.jk_model_frames.specs.Frames.{FrameState, frames_chunks, head_chunks}
-use Rattle.jk_model_machine.specs.Executions.{as_locals}
 use Rattle.frame_store.specs.FrameContents.{Calls, FrameContent, TakesEntry, TopFrame}
 use Rattle.sealed_steps.proofs.FramesInARow.{chunks-push}
-use Rattle.jk_kernel.specs.Calling.{HasOnTop, begun, locals_of, with_stack}
+use Rattle.jk_kernel.specs.Calling.{HasOnTop, begun, with_stack}
 use Rattle.jk_kernel.specs.SegmentFrames.{GetsFrames, stored}
 use Rattle.jk_kernel.proofs.StoredFrames.{top_set, top_there}
 

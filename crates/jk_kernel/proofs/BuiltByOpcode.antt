@@ -1,10 +1,8 @@
 -- Which instruction is built is known by its opcode, where that is getstatic or that of a call; what is none of these, and loads no
 -- text, works on numbers.
-use Rattle.std.proofs.Common.{◌≡◌, ◌⊎◌, ℕ, zero, suc, ◌≤◌, ◌<◌, inl, inr, Bool, true, false, ◌&&◌, ◌||◌, List, [], ◌∷◌, Some, slice_get, refl, sym, subst, ◌∙◌, arith}
-use Rattle.std.specs.Prelude.{nat_le}
+use Rattle.std.proofs.Common.{◌≡◌, ◌⊎◌, ℕ, zero, suc, ◌≤◌, ◌<◌, inl, inr, List, [], ◌∷◌, refl, subst, arith}
 use Rattle.std.specs.List.{AllByRecursion}
 use Rattle.std.proofs.lemmas.Bool.{cases_lt}
-use Rattle.std.proofs.lemmas.Grind.{common_steps}
 use Rattle.std.proofs.lemmas.Option.{same_Some}
 use Rattle.jk_model.specs.declared.identifiers.ClassId.{ClassId}
 use Rattle.jk_model.specs.declared.identifiers.MemberId.{MemberId}
@@ -16,34 +14,11 @@ use Rattle.jk_model_classes.specs.declared.records.MethodRecord.{MethodRecord}
 use Rattle.jk_model_classes.specs.Items.{HasItem}
 use Rattle.class_lemmas.proofs.LinksToMembers.{one_linked}
 use Rattle.jk_model_typing.specs.Scopes.{CodeScope, LeadsToLink}
-use Rattle.jk_model_domains.specs.NumberRows.{IsOfNumbers, number_opcodes}
+use Rattle.jk_model_domains.specs.NumberRows.{IsOfNumbers}
 use Rattle.jk_model_sound_classes.specs.NamedMembers.{NamesMethod}
 use Rattle.type_rows.specs.Operands.{IsLink}
-use Rattle.number_ops.specs.Parts.{is_in}
 use Rattle.step_progress.specs.BuiltCodes.{CallsCode, CallsPrintln, IsBuiltInstr, ReadsSystemOut}
-
--- an opcode in one of the ranges
-in_range : (rows : List (ℕ × ℕ)) (op : ℕ) → HasItem (λ (r : ℕ × ℕ). (r.0 ≤ op) × (op ≤ r.1)) rows → is_in rows op ≡ true
-in_range rows op (k, r, at, (low, high)) = place rows k at
-  where
-    or_left : (a b : Bool) → a ≡ true → (a || b) ≡ true
-    or_left true b h = refl
-    or_left false b h = absurd cc
-
-    or_right : (a b : Bool) → b ≡ true → (a || b) ≡ true
-    or_right true b h = refl
-    or_right false b h = h
-
-    test : (x : ℕ × ℕ) → x.0 ≤ op → op ≤ x.1 → (nat_le x.0 op && nat_le op x.1) ≡ true
-    test x l h = grind (arith, common_steps)
-
-    place : (rs : List (ℕ × ℕ)) (n : ℕ) → slice_get rs n ≡ Some r → is_in rs op ≡ true
-    place [] n e = absurd cc
-    place (x ∷ rs) zero e =
-        let same : x ≡ r = same_Some x r e in
-        let here : (nat_le x.0 op && nat_le op x.1) ≡ true = subst (λ (y : ℕ × ℕ). (nat_le y.0 op && nat_le op y.1) ≡ true) (sym same) (test r low high) in
-        or_left (nat_le x.0 op && nat_le op x.1) (is_in rs op) here
-    place (x ∷ rs) (suc n) e = or_right (nat_le x.0 op && nat_le op x.1) (is_in rs op) (place rs n e)
+use Rattle.step_progress.proofs.NeededClasses.{no-number}
 
 -- outside a range: what isn't below it is above it
 pub apart : (op first last : ℕ) → (first ≤ op → last < op) → (op < first) ⊎ (last < op)
@@ -65,9 +40,6 @@ in_none (x ∷ rows) op (first, rest) (zero, r, at, (low, high)) =
     ]
 in_none (x ∷ rows) op (first, rest) (suc k, r, at, bounds) = in_none rows op rest (k, r, at, bounds)
 
-two_codes : (op a b : ℕ) → op ≡ a → op ≡ b → a ≡ b
-two_codes op a b e f = sym e ∙ f
-
 -- It is no load of a text, no getstatic and no call.
 pub record IsNoOther (s : CodeScope) (i : Instr) : Type 0 where
   pub no_text : i.op ≡ 0x13 → (text : List ℕ) → LeadsToLink s i (To.Text text) → ⊥
@@ -83,29 +55,22 @@ pub record CallsCodeOf (s : CodeScope) (i : Instr) (member : MemberId) : Type 0 
   pub body : method.body ≡ Linked code
 
 module _ (s : CodeScope) (i : Instr) where
-  no_number : (k : ℕ) → is_in number_opcodes k ≡ false → (0x13 ≡ k → ⊥) → i.op ≡ k → IsOfNumbers s i → ⊥
-  no_number k out apart e (inl item) =
-      let inside : is_in number_opcodes k ≡ true = subst (λ (op : ℕ). is_in number_opcodes op ≡ true) e (in_range number_opcodes i.op item) in
-      let both : true ≡ false = sym inside ∙ out in
-      absurd cc
-  no_number k out apart e (inr (op, leads)) = apart (two_codes i.op 0x13 k op e)
-
   pub gets_system_out : IsBuiltInstr s i → i.op ≡ 0xb2 → ReadsSystemOut s i
-  gets_system_out (inl number) e = absurd (no_number 0xb2 refl (λ x. omega (arith, x)) e number)
+  gets_system_out (inl number) e = absurd (no-number s i 0xb2 refl (λ x. omega (arith, x)) number e)
   gets_system_out (inr (inl text)) e = absurd (omega (arith, text.0, e))
   gets_system_out (inr (inr (inl out))) e = out
   gets_system_out (inr (inr (inr (inl line)))) e = absurd (omega (arith, line.0, e))
   gets_system_out (inr (inr (inr (inr call)))) e = absurd (omega (arith, call.0, e))
 
   pub calls_println : IsBuiltInstr s i → i.op ≡ 0xb6 → CallsPrintln s i
-  calls_println (inl number) e = absurd (no_number 0xb6 refl (λ x. omega (arith, x)) e number)
+  calls_println (inl number) e = absurd (no-number s i 0xb6 refl (λ x. omega (arith, x)) number e)
   calls_println (inr (inl text)) e = absurd (omega (arith, text.0, e))
   calls_println (inr (inr (inl out))) e = absurd (omega (arith, out.0, e))
   calls_println (inr (inr (inr (inl line)))) e = line
   calls_println (inr (inr (inr (inr call)))) e = absurd (omega (arith, call.0, e))
 
   pub calls_code : IsBuiltInstr s i → i.op ≡ 0xb8 → CallsCode s i
-  calls_code (inl number) e = absurd (no_number 0xb8 refl (λ x. omega (arith, x)) e number)
+  calls_code (inl number) e = absurd (no-number s i 0xb8 refl (λ x. omega (arith, x)) number e)
   calls_code (inr (inl text)) e = absurd (omega (arith, text.0, e))
   calls_code (inr (inr (inl out))) e = absurd (omega (arith, out.0, e))
   calls_code (inr (inr (inr (inl line)))) e = absurd (omega (arith, line.0, e))

@@ -36,7 +36,6 @@ pub mod PoppedValues
 pub mod PrintedTypes
 pub mod PrintedValues
 pub mod PrintlnCalled
-pub mod QuickSteps
 pub mod RoomsKept
 pub mod RunningThread
 pub mod SaidOnTop

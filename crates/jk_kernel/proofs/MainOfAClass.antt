@@ -1,9 +1,7 @@
 -- A class has one `main` at most: that which is found by its name and type, where it is public, static and has code. Its frame has room
 -- for the one argument.
-use Rattle.std.proofs.Common.{◌≡◌, ℕ, ◌≤◌, ◌&&◌, inl, inr, IsTrue, List, [], ◌∷◌, ◌++◌, length, flat_map, Some, None, slice_get, codes, refl, sym, ap, subst, ◌∙◌, arith}
-use Rattle.std.proofs.lemmas.Bool.{cases_order}
+use Rattle.std.proofs.Common.{◌≡◌, ◌≤◌, ◌&&◌, IsTrue, List, [], ◌∷◌, ◌++◌, length, flat_map, Some, None, codes, refl, sym, ap, subst, ◌∙◌, arith}
 use Rattle.std.proofs.lemmas.List.{length-append, length-map}
-use Rattle.std.proofs.lemmas.Option.{same_Some}
 use Rattle.list_lemmas.proofs.ItemsOfLists.{Contains-at}
 use Rattle.jk_model.specs.declared.descriptors.MethodType.{MethodType}
 use Rattle.jk_model.specs.declared.identifiers.ClassId.{ClassId}
@@ -25,7 +23,7 @@ use Rattle.jk_model_machine.specs.Machine.{Machine, tables_of}
 use Rattle.jk_model_machine.specs.Starts.{IsMain}
 use Rattle.descriptors.proofs.NoTextBeginsAnother.{one_method}
 use Rattle.class_lemmas.proofs.OneRecord.{one_method as one-method}
-use Rattle.class_lemmas.proofs.OneMember.{one_in_class, one_on}
+use Rattle.class_lemmas.proofs.OneMember.{one_on}
 use Rattle.typing_lemmas.proofs.OneScope.{one-scope}
 use Rattle.sealed_steps.proofs.MainTakesOneArray.{main-params}
 use Rattle.jk_kernel.specs.KernelStarts.{HasNoMain}

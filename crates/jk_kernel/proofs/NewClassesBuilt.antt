@@ -1,11 +1,11 @@
 -- The classes of an accepted folder that run are of the forms in which each thread has a step.
-use Rattle.std.proofs.Common.{◌≡◌, ◌≢◌, ℕ, zero, suc, pos, ◌+◌, ◌-◌, ◌<◌, ◌≤◌, inl, inr, Bool, IsTrue, List, [], ◌∷◌, length, take, Option, Some, slice_get, Contains, refl, sym, ap, subst, ◌∙◌, arith}
-use Rattle.std.specs.Prelude.{◌==◌, ◌&&◌, ◌||◌, not}
+use Rattle.std.proofs.Common.{◌≡◌, ◌≢◌, ℕ, pos, ◌+◌, ◌<◌, ◌≤◌, inl, inr, Bool, IsTrue, List, length, Option, Some, slice_get, Contains, refl, sym, ap, subst, ◌∙◌, arith}
+use Rattle.std.specs.Prelude.{◌==◌, ◌||◌, not}
 use Rattle.std.specs.Option.{option_map_or}
 use Rattle.std.proofs.lemmas.Bool.{cases_Bool}
 use Rattle.std.proofs.lemmas.Option.{same_Some, slice_get_within}
 use Rattle.list_lemmas.proofs.ItemsOfLists.{Contains-at, place_of, each-of}
-use Rattle.list_lemmas.proofs.ItemsByPlace.{item_there, slice_get-behind, slice_get-in_take}
+use Rattle.list_lemmas.proofs.ItemsByPlace.{item_there, slice_get-in_take}
 use Rattle.list_lemmas.proofs.TestsAndOrders.{both_true}
 use Rattle.jk_model.specs.Flags.{ABSTRACT, NATIVE, has}
 use Rattle.jk_model.specs.declared.class_file.MemberInfo.{MemberInfo}
@@ -45,7 +45,7 @@ use Rattle.class_growth.proofs.LinksDontMatter.{method-linked}
 use Rattle.sound_folders.proofs.ArraysHaveNoNames.{not_native}
 use Rattle.sound_folders.proofs.FoundByLinks.{method-found, only_links}
 use Rattle.sound_folders.proofs.NamesOfTables.{system_meant}
-use Rattle.sound_folders.proofs.NewClasses.{OwnFile, added, all, own_file, system_few, own_at}
+use Rattle.sound_folders.proofs.NewClasses.{OwnFile, added, all, system_few, own_at}
 use Rattle.step_progress.specs.BuiltCodes.{AreMoreBuilt, IsBuiltInstr as Goes}
 use Rattle.jk_kernel.specs.BuiltCode.{AreBuilt, IsBuiltCode, IsBuiltInstr, IsBuiltMethod, built_opcodes}
 

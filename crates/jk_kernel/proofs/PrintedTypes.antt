@@ -1,32 +1,18 @@
 -- A println of java/io/PrintStream takes one value at most, and a PrintStream is no text.
-use Rattle.std.proofs.Common.{◌≡◌, ◌≢◌, inl, inr, ℕ, zero, suc, ◌≤◌, ◌⊎◌, Bool, true, false, not, ◌&&◌, ◌==◌, List, [], ◌∷◌, length, take, Option, Some, None, slice_get, refl, sym, ap, subst, ◌∙◌, arith}
-use Rattle.std.specs.Prelude.{codes, option_map}
-use Rattle.std.specs.List.{AllByRecursion, list_all}
+use Rattle.std.proofs.Common.{◌≡◌, inl, inr, ℕ, ◌≤◌, List, [], ◌∷◌, length, take, Option, Some, None, refl, sym, ap, ◌∙◌, arith}
+use Rattle.std.specs.Prelude.{option_map}
 use Rattle.std.specs.Option.{option_map_or}
-use Rattle.std.proofs.lemmas.Bool.{and_parts}
-use Rattle.std.proofs.lemmas.Grind.{common_steps}
-use Rattle.std.proofs.lemmas.Option.{same_Some, slice_get_within}
+use Rattle.std.proofs.lemmas.Option.{same_Some}
 use Rattle.list_lemmas.proofs.ItemsByPlace.{slice_get-from_take, item_there}
-use Rattle.jk_model.specs.declared.descriptors.Base.{Base as Letter}
-use Rattle.jk_model.specs.declared.descriptors.Base.TheVariants as Said
-use Rattle.jk_model.specs.declared.descriptors.FieldType.{FieldType}
-use Rattle.jk_model.specs.declared.descriptors.MethodType.{MethodType}
 use Rattle.jk_model.specs.declared.identifiers.ClassId.{ClassId}
-use Rattle.jk_model.specs.Descriptors.{IsClassName, IsMethodText, IsNameUnit}
-use Rattle.jk_model.specs.Flags.{has, INTERFACE}
-use Rattle.jk_model.specs.SystemTable.{SystemClass, SystemMethod, parent_number, system_classes}
-use Rattle.jk_model_classes.specs.declared.records.BaseRef.{BaseRef}
-use Rattle.jk_model_classes.specs.declared.records.BaseRef.TheVariants as Base
+use Rattle.jk_model.specs.SystemTable.{parent_number, system_classes}
 use Rattle.jk_model_classes.specs.declared.records.ClassRecord.{ClassRecord}
-use Rattle.jk_model_classes.specs.declared.records.MethodRecord.{MethodRecord}
 use Rattle.jk_model_classes.specs.declared.records.TypeRef.{TypeRef}
-use Rattle.jk_model_classes.specs.Classes.{AreOrdered, is_interface_record, parents_of, record_of}
-use Rattle.jk_model_classes.specs.SystemRecords.{AreSystemRecords, AreTypesFor, IsBaseFor, system_meaning}
-use Rattle.jk_model_typing.specs.FrameTypes.{RefFits, STRING, array_type, erased_class}
+use Rattle.jk_model_classes.specs.Classes.{AreOrdered, parents_of, record_of}
+use Rattle.jk_model_classes.specs.SystemRecords.{AreSystemRecords}
+use Rattle.jk_model_typing.specs.FrameTypes.{RefFits, STRING}
 use Rattle.jk_model_domains.specs.Objects.{PRINT_STREAM, class_type}
-use Rattle.jk_model_machine.specs.Executions.{number_type}
 use Rattle.class_table.proofs.StandingAbove.{superclasses-cases, superclasses-lower}
-use Rattle.descriptors.proofs.NoTextBeginsAnother.{one_method}
 use Rattle.step_progress.proofs.PrintedTexts.{ArePrintable, class-one}
 
 pub one_at_most : (params : List TypeRef) → ArePrintable params → length params ≤ 1

@@ -1,12 +1,11 @@
 -- What a segment has after the store's calls, and what its domain uses then.
 use Rattle.std.proofs.Common.{◌≡◌, ◌+◌, ◌-◌, ℕ, List, [], ◌∷◌, ◌++◌, Option, Some, None, refl, sym, ap, subst, ◌∙◌, arith}
-use Rattle.std.proofs.lemmas.List.Sums.{sum_by-append}
 use Rattle.std.proofs.lemmas.Option.{same_Some}
 use Rattle.list_lemmas.proofs.LastItems.{one_last}
 use Rattle.jk_model.specs.declared.frames.FrameHead.{FrameHead}
 use Rattle.jk_model.specs.declared.identifiers.DomainId.{DomainId}
 use Rattle.jk_model.specs.declared.identifiers.SegmentNo.{SegmentNo}
-use Rattle.jk_model_frames.specs.Frames.{FrameState, frames_chunks, head_chunks, new_frame, segment_chunks}
+use Rattle.jk_model_frames.specs.Frames.{FrameState, head_chunks, new_frame, segment_chunks}
 use Rattle.frame_store.specs.FrameContents.{Changes, Ends, FrameContent, IsContent, IsSame, KeepsDomains, Pops, Pushes, SetsTop, StoredSegment, TopFrame}
 use Rattle.number_ops.proofs.TopFrames.{both_keep}
 use Rattle.sealed_steps.proofs.FramesInARow.{chunks-push}

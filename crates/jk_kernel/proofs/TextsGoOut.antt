@@ -1,6 +1,5 @@
 -- What goes out of texts that are put together.
-use Rattle.std.proofs.Common.{◌≡◌, List, [], ◌∷◌, ◌++◌, ℕ, Option, Some, None, refl, sym, ap, ◌∙◌, append_assoc}
-use Rattle.std.proofs.lemmas.List.{append-nil}
+use Rattle.std.proofs.Common.{◌≡◌, List, [], ◌∷◌, ◌++◌, ℕ, Option, refl, sym, ap, ◌∙◌, append_assoc}
 use Rattle.jk_model.specs.declared.output.Line.{Line}
 use Rattle.jk_model.specs.Outside.{Appends, AppendsPart}
 use Rattle.jk_model.specs.Output.{line_text, text_of}

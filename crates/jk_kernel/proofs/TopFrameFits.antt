@@ -1,5 +1,5 @@
 -- The top frame of a sealed segment: it stands at an instruction or initialises a class, and without a need it stands at one.
-use Rattle.std.proofs.Common.{◌≡◌, ◌≢◌, ◌<◌, ℕ, zero, suc, List, [], ◌∷◌, ◌++◌, length, Option, Some, None, slice_get, refl, sym, ◌∙◌, inl, inr, arith}
+use Rattle.std.proofs.Common.{◌≡◌, ◌≢◌, ◌<◌, List, length, Option, Some, None, refl, sym, ◌∙◌, inl, inr, arith}
 use Rattle.std.proofs.lemmas.Option.{slice_get_within}
 use Rattle.list_lemmas.proofs.ItemsByPlace.{item_there}
 use Rattle.jk_model.specs.declared.identifiers.ClassId.{ClassId}
@@ -8,7 +8,7 @@ use Rattle.jk_model_classes.specs.declared.records.ClassRecord.{ClassRecord}
 use Rattle.jk_model_typing.specs.Scopes.{CodeScope}
 use Rattle.jk_model_frames.specs.Frames.{FrameState}
 use Rattle.jk_model_domains.specs.Objects.{NamedObject}
-use Rattle.jk_model_machine.specs.Sealed.{FitsAsTop, FramesFit}
+use Rattle.jk_model_machine.specs.Sealed.{FitsAsTop}
 use Rattle.jk_kernel.specs.StandsAt.{StandsIn}
 
 pub stands_somewhere : (classes : List ClassRecord) (heap : List NamedObject) (f : FrameState) → FitsAsTop classes heap f → f.head.need ≡ None

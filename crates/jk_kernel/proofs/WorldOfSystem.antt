@@ -1,11 +1,6 @@
 -- A world of the system classes alone is one in which a folder may be loaded.
 use Rattle.std.proofs.Common.{◌≡◌, ℕ, List, [], length, sym, subst, ◌∙◌, arith, Some, None, slice_get}
-use Rattle.std.proofs.lemmas.Option.{slice_get_within}
-use Rattle.list_lemmas.proofs.ItemsByPlace.{item_there}
-use Rattle.jk_model.specs.declared.identifiers.ClassId.{ClassId}
-use Rattle.jk_model.specs.SystemTable.{system_classes}
-use Rattle.jk_model_classes.specs.declared.records.ClassRecord.{ClassRecord}
-use Rattle.jk_model_classes.specs.Classes.{AreOrdered, record_of}
+use Rattle.jk_model_classes.specs.Classes.{AreOrdered}
 use Rattle.jk_model_classes.specs.SystemRecords.{AreSystemRecords}
 use Rattle.jk_model_classes.specs.Worlds.{DomainRecord, IsWorld, WorldRecord}
 use Rattle.class_growth.proofs.SystemClassesClosed.{system_alone}

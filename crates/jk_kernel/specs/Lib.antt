@@ -21,4 +21,5 @@ pub mod StandsAt
 pub mod StaysApart
 pub mod StaysInFrame
 pub mod Throwing
+pub mod TopPlaces
 pub mod Touching

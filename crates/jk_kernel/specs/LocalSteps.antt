@@ -81,7 +81,8 @@ PrintsSo classes name texts t (Came.EndedBy c) lines =
 
 -- ---- What a step makes of the parts.
 
--- all but the steps left, and how far classes are initialised and what their static fields hold
+-- all but the steps left, the names of the standing throwables, and how far classes are initialised and what their static
+-- fields hold
 pub record KeepsPart (old new : DomainPart) : Type 0 where
   pub quotas : new.quotas ≡ old.quotas
   pub texts : new.texts ≡ old.texts

@@ -3,14 +3,13 @@
 ghost use Rattle.std.specs.Prelude.{◌≡◌, ℕ, IfNone, IfSome, List as AList, MatchOption, Some, pos, slice_get, true};
 ghost use Rattle.jk_model.specs.declared.identifiers.ClassId.{ClassId as AClassId};
 ghost use Rattle.jk_model.specs.declared.identifiers.MemberId.{MemberId as AMemberId};
-ghost use Rattle.jk_model.specs.declared.instructions.Instr.{Instr as AnInstr};
 ghost use Rattle.jk_model_classes.specs.declared.records.Link.TheVariants as To;
 ghost use Rattle.jk_model_typing.specs.Scopes.{CodeScope, IsScopeOf, LeadsToLink, NamesClass};
 ghost use Rattle.jk_model_machine.specs.Initialising.{InstrNeeds};
 ghost use Rattle.type_rows.specs.CodeViews.{scope_of};
 ghost use Rattle.type_rows.specs.Operands.{HasNoLink, IsLink};
-ghost use Rattle.jk_kernel.specs.StandsAt.{StandsIn};
 ghost use Rattle.jk_kernel.specs.StaysInFrame.{StaysInFrame};
+ghost use Rattle.jk_kernel.specs.TopPlaces.{IsPlaceOf};
 
 use class_table::ClassTable;
 use jk_model::opcodes::{
@@ -30,8 +29,7 @@ pub(crate) struct StandsAt<'a> {
 
 /// Where a frame with code stands.
 pub(crate) fn stands_at<'a>(t: &'a ClassTable, head: &FrameHead) -> Option<StandsAt<'a>>
-    ensures none { IfNone result ((s : CodeScope) (i : AnInstr) → StandsIn t.now head.now s i → ⊥) }
-    ensures some { IfSome result (λ at. StandsIn t.now head.now (scope_of at.code) at.instr.now) }
+    ensures { IsPlaceOf t.now head.now result }
 {
     let Some(m) = head.method else {
         return None;

@@ -1,13 +1,15 @@
 //! One step of the top segment of a thread, over the parts of the machine that it touches.
 
-ghost use Rattle.std.specs.Prelude.{◌≡◌, true, false};
+ghost use Rattle.std.specs.Prelude.{◌≡◌, None, true};
 ghost use Rattle.jk_kernel.specs.declared.happened.Happened.TheVariants as Came;
 ghost use Rattle.type_rows.specs.CodeViews.{scope_of};
 ghost use Rattle.jk_kernel.specs.Executing.{ExecutesSo, MayExecute};
 ghost use Rattle.jk_kernel.specs.Following.{FollowsSo, MayFollow};
 ghost use Rattle.jk_kernel.specs.Needs.{IsNeeded, Meets};
 ghost use Rattle.jk_kernel.specs.LocalSteps.{StandsInMachine, StepsBy};
+ghost use Rattle.jk_kernel.specs.StandsAt.{StandsIn};
 ghost use Rattle.jk_kernel.specs.StaysInFrame.{StaysInFrame};
+ghost use Rattle.jk_kernel.specs.TopPlaces.{IsPlaceOf, IsTopHead};
 
 use crate::calls::give_back;
 use crate::domain_parts::{DomainPart, pays};
@@ -33,13 +35,14 @@ pub(crate) struct Runs {
 }
 
 /// The class that a frame needs before it goes on: by its need, or else by its instruction.
-fn class_needed(t: &ClassTable, head: &FrameHead) -> Option<ClassId>
-    ensures { IsNeeded t.now head.now result }
+fn class_needed(_t: &ClassTable, head: &FrameHead, place: Option<StandsAt<'_>>) -> Option<ClassId>
+    requires { IsPlaceOf _t.now head.now place }
+    ensures { IsNeeded _t.now head.now result }
 {
     if let Some(c) = head.need {
         return Some(c);
     }
-    match stands_at(t, head) {
+    match place {
         Some(at) => needed_by(&at),
         None => None,
     }
@@ -56,6 +59,7 @@ fn met(own: &Own, t: ThreadNo, needed: Option<ClassId>) -> Look
 }
 
 /// One step. It takes no memory.
+#[inline(always)]
 pub(crate) fn step<F: FrameStore>(
     w: &World,
     d: &mut DomainPart,
@@ -66,8 +70,66 @@ pub(crate) fn step<F: FrameStore>(
     ensures { StepsBy (F.content frames.old) (F.content frames.new) w.now d.old d.new r result }
 {
     let head = frames.head(r.segment);
+    let place = stands_at(w.classes(), &head);
+    if let Some(at) = place {
+        if is_in_frame(&head, &at) {
+            return quick_step(w, d, frames, r, &head, &at);
+        }
+    }
+    other_step(w, d, frames, r, &head, place)
+}
+
+/// Whether a frame has no need, and the instruction at which it stands only computes or jumps within the frame, as most do.
+#[inline(always)]
+fn is_in_frame(head: &FrameHead, at: &StandsAt<'_>) -> bool
+    ensures { result ≡ true → (head.now.need ≡ None) × StaysInFrame (scope_of at.now.code) at.now.instr.now }
+{
+    match head.need {
+        Some(_) => false,
+        None => stays_in_frame(at),
+    }
+}
+
+/// One step whose instruction only computes or jumps within its frame.
+#[inline(always)]
+fn quick_step<F: FrameStore>(
+    w: &World,
+    d: &mut DomainPart,
+    frames: &mut F,
+    r: Runs,
+    head: &FrameHead,
+    at: &StandsAt<'_>,
+) -> Happened
+    requires machine { StandsInMachine (F.content frames.old) w.now d.old r }
+    requires head { IsTopHead (F.content frames.old) r.segment head.now }
+    requires need { head.now.need ≡ None }
+    requires stands { StandsIn w.now.classes head.now (scope_of at.now.code) at.now.instr.now }
+    requires stays { StaysInFrame (scope_of at.now.code) at.now.instr.now }
+    ensures { StepsBy (F.content frames.old) (F.content frames.new) w.now d.old d.new r result }
+{
+    if !pays(d) {
+        return Happened::Idle;
+    }
+    do_in_frame(w, d, frames, r, head, at);
+    Happened::Silent
+}
+
+/// One step of any kind.
+fn other_step<F: FrameStore>(
+    w: &World,
+    d: &mut DomainPart,
+    frames: &mut F,
+    r: Runs,
+    head: &FrameHead,
+    place: Option<StandsAt<'_>>,
+) -> Happened
+    requires machine { StandsInMachine (F.content frames.old) w.now d.old r }
+    requires head { IsTopHead (F.content frames.old) r.segment head.now }
+    requires place { IsPlaceOf w.now.classes head.now place }
+    ensures { StepsBy (F.content frames.old) (F.content frames.new) w.now d.old d.new r result }
+{
     let t = w.classes();
-    let needed = class_needed(t, &head);
+    let needed = class_needed(t, head, place);
     let state = met(&d.own, r.thread, needed);
     if state == Look::Waits {
         return Happened::Idle;
@@ -91,49 +153,19 @@ pub(crate) fn step<F: FrameStore>(
         )),
         _ => match head.need {
             Some(_) => {
-                need_falls(d, frames, r.segment, &head);
+                need_falls(d, frames, r.segment, head);
                 Happened::Silent
             }
-            None => match stands_at(t, &head) {
-                Some(at) => execute(w, d, frames, r, &head, &at),
+            None => match place {
+                Some(at) => execute(w, d, frames, r, head, &at),
                 None => unreachable!(),
             },
         },
     }
 }
 
-/// One step whose instruction only computes or jumps within its frame, as most do. It answers false where the next step is another;
-/// nothing changed then. It costs less than `step`, which does each kind of step.
-pub(crate) fn quick_step<F: FrameStore>(
-    w: &World,
-    d: &mut DomainPart,
-    frames: &mut F,
-    r: Runs,
-) -> bool
-    requires { StandsInMachine (F.content frames.old) w.now d.old r }
-    ensures yes { result ≡ true → StepsBy (F.content frames.old) (F.content frames.new) w.now d.old d.new r Came.Silent }
-    ensures no { result ≡ false → (frames.new ≡ frames.old) × (d.new ≡ d.old) }
-{
-    let head = frames.head(r.segment);
-    let t = w.classes();
-    match head.need {
-        Some(_) => return false,
-        None => {}
-    }
-    let Some(at) = stands_at(t, &head) else {
-        return false;
-    };
-    if !stays_in_frame(&at) {
-        return false;
-    }
-    if !pays(d) {
-        return false;
-    }
-    do_in_frame(w, d, frames, r, &head, &at);
-    true
-}
-
 /// Does an instruction that only computes or jumps within its frame.
+#[inline(always)]
 fn do_in_frame<F: FrameStore>(
     w: &World,
     _d: &DomainPart,

@@ -8,7 +8,7 @@ mod ItemsStay
 mod ListsSearched
 mod MachinesChange
 pub mod MoreClassesBuilt
-mod NeededClasses
+pub mod NeededClasses
 mod NumbersGoOn
 mod OpcodesByKind
 pub mod PrintedTexts

@@ -4,18 +4,18 @@ use Rattle.type_rows.specs.CodeViews.{scope_of}
 use Rattle.jk_kernel.proofs.OnePlace.{no_code, no_instr}
 use Rattle.jk_kernel.proofs.places.stands_at.Goals as goal
 
-pub returns-in_default-of-clause-none : goal.returns-in_default-of-clause-none
-returns-in_default-of-clause-none c = no_code c.args.t.now c.args.head.now c.in-Some.m c.in-Some.is c.in_default-of.ensures.none
+pub returns-in_default-of : goal.returns-in_default-of
+returns-in_default-of c = no_code c.args.t.now c.args.head.now c.in-Some.m c.in-Some.is c.in_default-of.ensures.none
 
-pub returns-in-Some-get-clause-some : goal.returns-in-Some-get-clause-some
-returns-in-Some-get-clause-some c = record {
+pub returns-in-Some-get : goal.returns-in-Some-get
+returns-in-Some-get c = record {
   method = c.in-Some.m;
   is_method = c.in-Some.is;
   is_scope = c.in-Some-of.ensures.some;
   stands = item_lent c.in-Some-of.code.code.now.instrs c.args.head.now.at c.in-Some-get.instr c.in-Some-get.ensures;
 }
 
-pub returns-in-None-clause-none : goal.returns-in-None-clause-none
-returns-in-None-clause-none c =
+pub returns-in-None : goal.returns-in-None
+returns-in-None c =
     no_instr c.args.t.now c.args.head.now c.in-Some.m (scope_of c.in-Some-of.code) c.in-Some.is c.in-Some-of.ensures.some
     (none_lent c.in-Some-of.code.code.now.instrs c.args.head.now.at c.in-None.ensures)
