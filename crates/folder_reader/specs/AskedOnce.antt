@@ -17,7 +17,7 @@ files_asked (ListOf path limit ∷ asks) = files_asked asks
 files_asked (BytesOf path limit ∷ asks) = path ∷ files_asked asks
 
 -- Each file was asked for at most once, and so was each folder of a told tree. Files that tell no tree may list a name twice,
--- and then the folder of that name is listed twice.
+-- and then the folder of that name may be listed twice.
 pub record AsksOnce (tree : Option Tree) (old new : List Ask) : Type 0 where
   pub more : List Ask
   pub is : new ≡ old ++ more

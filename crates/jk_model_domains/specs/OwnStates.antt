@@ -74,7 +74,7 @@ IsLook t (State.InProgress by) look = ((by ≡ t) × (look ≡ Sees.Ready)) ⊎ 
 IsLook t State.Done look = look ≡ Sees.Ready
 IsLook t State.Broken look = look ≡ Sees.Broken
 
--- the parts with this one changed; what uses this and the words below that rest on it asks that it is there
+-- the parts with this one changed; a step or a public call that changes one asks that it is there
 abbrev pub with_part : ClassId → (ClassPart → ClassPart) → List ClassPart → List ClassPart
 with_part c change parts = map (λ (e : ClassPart). if e.class.0 == c.0 then change e else e) parts
 

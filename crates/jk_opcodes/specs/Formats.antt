@@ -59,7 +59,8 @@ local_format op =
     if between ISTORE_0 ISTORE_3 op then def.Format.Short ISTORE ISTORE_0 else
     if between LSTORE_0 LSTORE_3 op then def.Format.Short LSTORE LSTORE_0 else
     if between ASTORE_0 ASTORE_3 op then def.Format.Short ASTORE ASTORE_0 else
-    if (op == IALOAD) || (op == LALOAD) || between AALOAD SALOAD op || (op == IASTORE) || (op == LASTORE) || between AASTORE SASTORE op then def.Format.AsIs else
+    if (op == IALOAD) || (op == LALOAD) || between AALOAD SALOAD op || (op == IASTORE) || (op == LASTORE) || between AASTORE SASTORE op
+    then def.Format.AsIs else
     def.Format.FloatFormat
 
 unfoldable pub number_format : ℕ → def.Format

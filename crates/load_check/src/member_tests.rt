@@ -245,8 +245,10 @@ const NAMED: &[Case<'static>] = &[
             B,
             (
                 "U.class",
-                "class 0021 U java/lang/Object|field 1 a I|field 1 a J|field 1 a S|field 1 a B|field 1 a Z|field 1 b I|field 1 b J|field 1 b S|field 1 b B|field 1 b Z|field 1 c I|field 1 c J\
-                |field 1 c S|field 1 c B|field 1 c Z|field 1 d I|field 1 d J|field 1 d S|field 1 d B|field 1 d Z|field 1 e I|field 1 e J|field 1 e S|field 1 e B|field 1 e Z\
+                "class 0021 U java/lang/Object|field 1 a I|field 1 a J|field 1 a S|field 1 a B|field 1 a Z\
+                |field 1 b I|field 1 b J|field 1 b S|field 1 b B|field 1 b Z\
+                |field 1 c I|field 1 c J|field 1 c S|field 1 c B|field 1 c Z|field 1 d I|field 1 d J|field 1 d S|field 1 d B|field 1 d Z\
+                |field 1 e I|field 1 e J|field 1 e S|field 1 e B|field 1 e Z\
                 |method 0009 m (LB;)V 1 1|getstatic U aa I|pop|aload 0|getfield B count I|pop|return|end",
             ),
         ],

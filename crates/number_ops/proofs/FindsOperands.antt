@@ -218,7 +218,8 @@ module _ (c : FrameContent) (s : SegmentNo) (scope : CodeScope) (heap : List Nam
   by_group h ReturnsReference shape is does = finds_returned h (Fitting (Ref is.0)) (subst (λ (x : Shape). Does scope place x before after) is.2 does)
   by_group h _ shape is does = tt
 
-pub finds : (c : FrameContent) (classes : List ClassRecord) (s : SegmentNo) (head : FrameHead) (i : Instr) → IsReady c classes s head i → Finds c s i (group_of i.op)
+pub finds : (c : FrameContent) (classes : List ClassRecord) (s : SegmentNo) (head : FrameHead) (i : Instr) → IsReady c classes s head i
+    → Finds c s i (group_of i.op)
 finds c classes s head i r =
     let max = sym (ap (λ (h : FrameHead). h.max_stack) r.ahead) ∙ r.room.1 in
     by_group c s r.scope r.heap r.frame head.at i r.before r.after

@@ -93,7 +93,8 @@ module _ (c d : FrameContent) (classes : List ClassRecord) (s : SegmentNo) (head
   pub used : (n : ℕ) → Uses c d s i → n ≡ head.at + 1 → DoesNumbers c d classes s head i (Next.Goto n)
   used n h e =
       subst (λ (m : ℕ). DoesNumbers c d classes s head i (Next.Goto m)) (sym e)
-      (row_done c d classes s head i r h.after _ (uses_local (subst (λ (x : FrameState). UsesLocal i x h.after) (same h.before h.after h.becomes) h.uses)) h.becomes.sets)
+      (row_done c d classes s head i r h.after _
+      (uses_local (subst (λ (x : FrameState). UsesLocal i x h.after) (same h.before h.after h.becomes) h.uses)) h.becomes.sets)
 
   pub divided : Refused c d s i.op → DoesNumbers c d classes s head i (Next.Raise (Fresh ARITHMETIC_EXCEPTION))
   divided h =

@@ -43,7 +43,7 @@ pub fn numbers_count_from_one()
     ensures steps { (m new : Machine) (t : ℕ) (lines : List ALine) → CountsFromOne m → Steps m t lines new → CountsFromOne new }
 {}
 
-/// One step of one thread keeps the machine sealed, and its classes and names as they were.
+/// One step of one thread keeps the machine sealed, and its classes and names sound.
 pub fn steps_stay_sealed()
     ensures sealed { (m new : Machine) (t : ℕ) (lines : List ALine) → IsSealed m → AreSoundClasses m.classes (tables_of m.domains)
         → Steps m t lines new → IsSealed new }

@@ -35,7 +35,8 @@ returns-in_err-add_entry-clause-log g c =
 pub returns-in_err-add_entry-clause-long : goal.returns-in_err-add_entry-clause-long
 returns-in_err-add_entry-clause-long g c =
     let same = c.next_name.ensures.stays ∙ c.loop-turn.invariant.stays in
-    let gives : GivesName (g.S.System.names_left c.loop-turn.names) (g.S.System.names_left c.next_name.new.folder) (Some c.as_str-name.result.now) = search rules in
+    let gives : GivesName (g.S.System.names_left c.loop-turn.names) (g.S.System.names_left c.next_name.new.folder) (Some c.as_str-name.result.now) =
+    search rules in
     let listed = subst (λ (at : Option Places). IsListedAs at c.args.folder.now c.as_str-name.result.now c.in_ok-sort.sort) same c.in_ok-sort.ensures.sort in
     λ long.
     let is : c.in_err-add_entry.field-0.0 ≡ TooLong = search rules in
@@ -47,7 +48,8 @@ loop-turn-preserved g c =
     let before = c.loop-turn.invariant in
     let same = c.next_name.ensures.stays ∙ before.stays in
     let went : is_err c.next_name.result ≡ false = search rules in
-    let gives : GivesName (g.S.System.names_left c.loop-turn.names) (g.S.System.names_left c.next_name.new.folder) (Some c.as_str-name.result.now) = search rules in
+    let gives : GivesName (g.S.System.names_left c.loop-turn.names) (g.S.System.names_left c.next_name.new.folder) (Some c.as_str-name.result.now) =
+    search rules in
     let listed = subst (λ (at : Option Places). IsListedAs at c.args.folder.now c.as_str-name.result.now c.in_ok-sort.sort) same c.in_ok-sort.ensures.sort in
     record {
       within = c.in_ok-add_entry.ensures.within;
@@ -56,6 +58,7 @@ loop-turn-preserved g c =
       names = c.in_ok-add_entry.ensures.names before.names;
       on = lists_on _ _ _ _ _ _ _ _ _ before.on gives listed c.in_ok-add_entry.ensures.ok;
       log = LogsOnly-after Is _ _ _ (LogsOnly-after Is _ _ _ before.log (LogsOnly-one Is _ _ _ c.next_name.ensures.log tt)) c.in_ok-sort.ensures.log;
-      well = LogsOnly-after GoesOn _ _ _ (LogsOnly-after GoesOn _ _ _ before.well (LogsOnly-one GoesOn _ _ _ c.next_name.ensures.log (inl went))) c.in_ok-sort.ensures.well;
+      well = LogsOnly-after GoesOn _ _ _
+          (LogsOnly-after GoesOn _ _ _ before.well (LogsOnly-one GoesOn _ _ _ c.next_name.ensures.log (inl went))) c.in_ok-sort.ensures.well;
       stays = c.in_ok-sort.ensures.stays ∙ same;
     }

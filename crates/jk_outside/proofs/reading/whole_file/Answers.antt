@@ -32,7 +32,8 @@ loop-turn-preserved g c =
     ] in
     let within : length c.read_more.new.bytes ≤ c.args.limit = c.in_ok-read_more.ensures.within in
     let counted : c.read_more.new.taken ≡ count_after c.args.taken.now (length c.read_more.new.bytes) = grind (arith, common_steps) in
-    let on : ReadsOn (g.S.System.bytes_left c.args.file.now) (g.S.System.bytes_left c.read_more.new.file) [] c.read_more.new.bytes = grind (arith, common_steps) in
+    let on : ReadsOn (g.S.System.bytes_left c.args.file.now) (g.S.System.bytes_left c.read_more.new.file) [] c.read_more.new.bytes =
+    grind (arith, common_steps) in
     let room : 0 < length (take c.loop-turn.piece.len (c.read_more.new.piece ++ drop (length c.read_more.new.piece) c.loop-turn.piece.items)) =
     grind (arith, common_steps) in
     record {
