@@ -36,6 +36,7 @@ pub mod PoppedValues
 pub mod PrintedTypes
 pub mod PrintedValues
 pub mod PrintlnCalled
+pub mod QuickSteps
 pub mod RoomsKept
 pub mod RunningThread
 pub mod SaidOnTop

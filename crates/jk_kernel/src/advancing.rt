@@ -13,7 +13,6 @@ use frame_store::FrameStore;
 use std::collections::BTreeMap;
 
 /// One step. It takes no memory, and where the thread ended, time in proportion to log n for n live threads.
-#[inline(always)]
 pub(crate) fn advance<F: FrameStore>(
     w: &World,
     d: &mut DomainPart,
@@ -34,7 +33,6 @@ pub(crate) fn advance<F: FrameStore>(
 }
 
 /// Whether the thread is gone then.
-#[inline(always)]
 pub(crate) fn has_ended(happened: Happened) -> bool
     ensures { result ≡ ends_thread happened }
 {
@@ -42,7 +40,6 @@ pub(crate) fn has_ended(happened: Happened) -> bool
 }
 
 /// Whether nothing changed.
-#[inline(always)]
 pub(crate) fn is_idle(happened: Happened) -> bool
     ensures yes { result ≡ true → happened ≡ Came.Idle }
 {

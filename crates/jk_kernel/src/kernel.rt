@@ -21,7 +21,7 @@ use crate::domain_parts::{DomainPart, ThreadPart};
 use crate::happened::Happened;
 use crate::sound_machines::{first_is_sound, steps_keep_sound, threads_go_on};
 use crate::starting::main_kind;
-use crate::stepping::Runs;
+use crate::stepping::{Runs, quick_step};
 use crate::telling::tell;
 use domain_resolver::World;
 use frame_store::FrameStore;
@@ -143,6 +143,9 @@ impl<F: FrameStore + Drop> Kernel<F> {
             return Ok(false);
         };
         for done in 0..steps {
+            if self.goes_on(r) {
+                continue;
+            }
             let happened = self.step_of(r, out)?;
             if has_ended(happened) {
                 return Ok(true);
@@ -168,8 +171,24 @@ impl<F: FrameStore + Drop> Kernel<F> {
         })
     }
 
+    /// The next step of a live thread, if its instruction only computes or jumps within its frame. It answers false where it is another
+    /// step; nothing changed then.
+    fn goes_on(&mut self, r: Runs) -> bool
+        requires { IsLiveAt self.old r }
+        ensures yes { result ≡ true → Steps self.old r.thread.0 [] self.new × IsLiveAt self.new r }
+        ensures no { result ≡ false → self.new ≡ self.old }
+        ensures sound { IsSoundMachine self.old × IsSoundMachine self.new }
+        ensures counts { (self.new.next_thread ≡ self.old.next_thread) × (self.new.next_segment ≡ self.old.next_segment)
+            × (length self.new.domains ≡ length self.old.domains) }
+        ensures apart { StaysApart self.old r.thread.0 self.new }
+    {
+        steps_keep_sound();
+        steps_stay_apart();
+        let place = r.domain.0 as usize;
+        quick_step(&self.world, &mut self.parts[place], &mut self.frames, r)
+    }
+
     /// One step of a live thread, whose line is printed. Where the sink fails, the step has happened.
-    #[inline(always)]
     fn step_of<S: Sink>(&mut self, r: Runs, out: &mut S) -> Result<Happened, SinkFailed>
         requires { IsLiveAt self.old r }
         ensures event { OnOk result ((lines : List Line) × Steps self.old r.thread.0 lines self.new

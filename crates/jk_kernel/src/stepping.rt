@@ -1,13 +1,12 @@
 //! One step of the top segment of a thread, over the parts of the machine that it touches.
 
-ghost use Rattle.std.specs.Prelude.{◌≡◌, None, true};
+ghost use Rattle.std.specs.Prelude.{◌≡◌, None, false, true};
 ghost use Rattle.jk_kernel.specs.declared.happened.Happened.TheVariants as Came;
 ghost use Rattle.type_rows.specs.CodeViews.{scope_of};
 ghost use Rattle.jk_kernel.specs.Executing.{ExecutesSo, MayExecute};
 ghost use Rattle.jk_kernel.specs.Following.{FollowsSo, MayFollow};
 ghost use Rattle.jk_kernel.specs.Needs.{IsNeeded, Meets};
 ghost use Rattle.jk_kernel.specs.LocalSteps.{StandsInMachine, StepsBy};
-ghost use Rattle.jk_kernel.specs.StandsAt.{StandsIn};
 ghost use Rattle.jk_kernel.specs.StaysInFrame.{StaysInFrame};
 ghost use Rattle.jk_kernel.specs.TopPlaces.{IsPlaceOf, IsTopHead};
 
@@ -59,7 +58,6 @@ fn met(own: &Own, t: ThreadNo, needed: Option<ClassId>) -> Look
 }
 
 /// One step. It takes no memory.
-#[inline(always)]
 pub(crate) fn step<F: FrameStore>(
     w: &World,
     d: &mut DomainPart,
@@ -71,16 +69,37 @@ pub(crate) fn step<F: FrameStore>(
 {
     let head = frames.head(r.segment);
     let place = stands_at(w.classes(), &head);
-    if let Some(at) = place {
-        if is_in_frame(&head, &at) {
-            return quick_step(w, d, frames, r, &head, &at);
-        }
-    }
-    other_step(w, d, frames, r, &head, place)
+    step_from(w, d, frames, r, &head, place)
 }
 
-/// Whether a frame has no need, and the instruction at which it stands only computes or jumps within the frame, as most do.
-#[inline(always)]
+/// One step whose instruction only computes or jumps within its frame, as most do. It answers false where the next step is another;
+/// nothing changed then. It costs less than `step`, which does each kind of step.
+pub(crate) fn quick_step<F: FrameStore>(
+    w: &World,
+    d: &mut DomainPart,
+    frames: &mut F,
+    r: Runs,
+) -> bool
+    requires { StandsInMachine (F.content frames.old) w.now d.old r }
+    ensures yes { result ≡ true → StepsBy (F.content frames.old) (F.content frames.new) w.now d.old d.new r Came.Silent }
+    ensures no { result ≡ false → (frames.new ≡ frames.old) × (d.new ≡ d.old) }
+{
+    let head = frames.head(r.segment);
+    let place = stands_at(w.classes(), &head);
+    let Some(at) = place else {
+        return false;
+    };
+    if !is_in_frame(&head, &at) {
+        return false;
+    }
+    if !pays(d) {
+        return false;
+    }
+    do_in_frame(w, d, frames, r, &head, &at);
+    true
+}
+
+/// Whether a frame has no need, and the instruction at which it stands only computes or jumps within the frame.
 fn is_in_frame(head: &FrameHead, at: &StandsAt<'_>) -> bool
     ensures { result ≡ true → (head.now.need ≡ None) × StaysInFrame (scope_of at.now.code) at.now.instr.now }
 {
@@ -90,32 +109,8 @@ fn is_in_frame(head: &FrameHead, at: &StandsAt<'_>) -> bool
     }
 }
 
-/// One step whose instruction only computes or jumps within its frame.
-#[inline(always)]
-fn quick_step<F: FrameStore>(
-    w: &World,
-    d: &mut DomainPart,
-    frames: &mut F,
-    r: Runs,
-    head: &FrameHead,
-    at: &StandsAt<'_>,
-) -> Happened
-    requires machine { StandsInMachine (F.content frames.old) w.now d.old r }
-    requires head { IsTopHead (F.content frames.old) r.segment head.now }
-    requires need { head.now.need ≡ None }
-    requires stands { StandsIn w.now.classes head.now (scope_of at.now.code) at.now.instr.now }
-    requires stays { StaysInFrame (scope_of at.now.code) at.now.instr.now }
-    ensures { StepsBy (F.content frames.old) (F.content frames.new) w.now d.old d.new r result }
-{
-    if !pays(d) {
-        return Happened::Idle;
-    }
-    do_in_frame(w, d, frames, r, head, at);
-    Happened::Silent
-}
-
-/// One step of any kind.
-fn other_step<F: FrameStore>(
+/// One step of a top frame with this head, which stands there.
+fn step_from<F: FrameStore>(
     w: &World,
     d: &mut DomainPart,
     frames: &mut F,
@@ -165,7 +160,6 @@ fn other_step<F: FrameStore>(
 }
 
 /// Does an instruction that only computes or jumps within its frame.
-#[inline(always)]
 fn do_in_frame<F: FrameStore>(
     w: &World,
     _d: &DomainPart,

@@ -20,7 +20,6 @@ use jk_outside::{LineRef, Sink, SinkFailed, print_line};
 use shared_values::Text;
 
 /// Prints the line of a step, if it has one.
-#[inline(always)]
 pub(crate) fn tell<S: Sink>(
     w: &World,
     texts: &List<Text>,

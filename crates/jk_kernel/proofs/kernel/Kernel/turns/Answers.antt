@@ -10,6 +10,7 @@ use Rattle.jk_kernel.specs.StaysApart.{StaysApart}
 use Rattle.jk_kernel.proofs.KernelAdvances.{same-answer}
 use Rattle.jk_kernel.proofs.OneRound.{none-turns}
 use Rattle.jk_kernel.proofs.OthersStayApart.{apart-join, apart-none}
+use Rattle.jk_kernel.proofs.TurnsSoFar.{TurnsSoFar}
 use Rattle.jk_kernel.proofs.WaysJoined.{StepOf, TurnsOf, turns-repeat, ways-rest}
 use Rattle.jk_kernel.proofs.WaysSoFar.{Prints, done-failed, done-more, done-no-more, done-none, done-rest, not-above, step-of-none}
 use Rattle.jk_kernel.proofs.kernel.Kernel.turns.Goals as goal
@@ -43,8 +44,10 @@ loop-done-init g c =
 pub returns-in_err-happened-clause-failed : goal.returns-in_err-happened-clause-failed
 returns-in_err-happened-clause-failed g c =
     let l = c.loop-done in
-    let mid = l.self in
-    let inv = l.invariant in
+    let mid = c.goes_on.new.self in
+    let still = c.goes_on.ensures.no c.if-goes_on.false in
+    let inv = subst (λ (m : Machine). TurnsSoFar c.args.thread c.in-Some.r l.done c.args.self.now m (g.S.Sink.bytes c.args.out.now)
+    (g.S.Sink.bytes l.out) (g.S.Sink.faults c.args.out.now) (g.S.Sink.faults l.out)) (sym still) l.invariant in
     let t = c.in-Some.r.thread.0 in
     let less : l.done < c.args.steps = omega (arith, c.loop-done-test.true) in
     let fails = c.in_err-happened.ensures.failed in
@@ -65,16 +68,20 @@ returns-in_err-happened-clause-failed g c =
 pub returns-in_err-happened-clause-apart : goal.returns-in_err-happened-clause-apart
 returns-in_err-happened-clause-apart g c =
     let l = c.loop-done in
-    let mid = l.self in
-    let inv = l.invariant in
+    let mid = c.goes_on.new.self in
+    let still = c.goes_on.ensures.no c.if-goes_on.false in
+    let inv = subst (λ (m : Machine). TurnsSoFar c.args.thread c.in-Some.r l.done c.args.self.now m (g.S.Sink.bytes c.args.out.now)
+    (g.S.Sink.bytes l.out) (g.S.Sink.faults c.args.out.now) (g.S.Sink.faults l.out)) (sym still) l.invariant in
     subst (λ (t : ℕ). StaysApart c.args.self.now t c.step_of.new.self) inv.2
     (apart-join c.args.self.now mid c.in-Some.r inv.5 inv.1 c.step_of.new.self inv.6 c.step_of.ensures.apart)
 
 pub returns-then-has_ended-clause-event : goal.returns-then-has_ended-clause-event
 returns-then-has_ended-clause-event g c =
     let l = c.loop-done in
-    let mid = l.self in
-    let inv = l.invariant in
+    let mid = c.goes_on.new.self in
+    let still = c.goes_on.ensures.no c.if-goes_on.false in
+    let inv = subst (λ (m : Machine). TurnsSoFar c.args.thread c.in-Some.r l.done c.args.self.now m (g.S.Sink.bytes c.args.out.now)
+    (g.S.Sink.bytes l.out) (g.S.Sink.faults c.args.out.now) (g.S.Sink.faults l.out)) (sym still) l.invariant in
     let t = c.in-Some.r.thread.0 in
     let less : l.done < c.args.steps = omega (arith, c.loop-done-test.true) in
     let more = done-more (StepOf t) (TurnsOf t) (turns-repeat t) l.done c.args.self.now mid c.step_of.new.self (g.S.Sink.bytes c.args.out.now)
@@ -89,16 +96,20 @@ returns-then-has_ended-clause-event g c =
 pub returns-then-has_ended-clause-apart : goal.returns-then-has_ended-clause-apart
 returns-then-has_ended-clause-apart g c =
     let l = c.loop-done in
-    let mid = l.self in
-    let inv = l.invariant in
+    let mid = c.goes_on.new.self in
+    let still = c.goes_on.ensures.no c.if-goes_on.false in
+    let inv = subst (λ (m : Machine). TurnsSoFar c.args.thread c.in-Some.r l.done c.args.self.now m (g.S.Sink.bytes c.args.out.now)
+    (g.S.Sink.bytes l.out) (g.S.Sink.faults c.args.out.now) (g.S.Sink.faults l.out)) (sym still) l.invariant in
     subst (λ (t : ℕ). StaysApart c.args.self.now t c.step_of.new.self) inv.2
     (apart-join c.args.self.now mid c.in-Some.r inv.5 inv.1 c.step_of.new.self inv.6 c.step_of.ensures.apart)
 
 pub returns-then-is_idle-clause-event : goal.returns-then-is_idle-clause-event
 returns-then-is_idle-clause-event g c =
     let l = c.loop-done in
-    let mid = l.self in
-    let inv = l.invariant in
+    let mid = c.goes_on.new.self in
+    let still = c.goes_on.ensures.no c.if-goes_on.false in
+    let inv = subst (λ (m : Machine). TurnsSoFar c.args.thread c.in-Some.r l.done c.args.self.now m (g.S.Sink.bytes c.args.out.now)
+    (g.S.Sink.bytes l.out) (g.S.Sink.faults c.args.out.now) (g.S.Sink.faults l.out)) (sym still) l.invariant in
     let t = c.in-Some.r.thread.0 in
     let less : l.done < c.args.steps = omega (arith, c.loop-done-test.true) in
     let more = done-more (StepOf t) (TurnsOf t) (turns-repeat t) l.done c.args.self.now mid c.step_of.new.self (g.S.Sink.bytes c.args.out.now)
@@ -114,8 +125,10 @@ returns-then-is_idle-clause-event g c =
 pub returns-then-is_idle-clause-rests : goal.returns-then-is_idle-clause-rests
 returns-then-is_idle-clause-rests g c = λ is.
     let l = c.loop-done in
-    let mid = l.self in
-    let inv = l.invariant in
+    let mid = c.goes_on.new.self in
+    let still = c.goes_on.ensures.no c.if-goes_on.false in
+    let inv = subst (λ (m : Machine). TurnsSoFar c.args.thread c.in-Some.r l.done c.args.self.now m (g.S.Sink.bytes c.args.out.now)
+    (g.S.Sink.bytes l.out) (g.S.Sink.faults c.args.out.now) (g.S.Sink.faults l.out)) (sym still) l.invariant in
     let t = c.in-Some.r.thread.0 in
     let none : l.done ≡ 0 = not-above l.done (same-answer is) in
     let first : mid ≡ c.args.self.now =
@@ -131,16 +144,20 @@ returns-then-is_idle-clause-rests g c = λ is.
 pub returns-then-is_idle-clause-apart : goal.returns-then-is_idle-clause-apart
 returns-then-is_idle-clause-apart g c =
     let l = c.loop-done in
-    let mid = l.self in
-    let inv = l.invariant in
+    let mid = c.goes_on.new.self in
+    let still = c.goes_on.ensures.no c.if-goes_on.false in
+    let inv = subst (λ (m : Machine). TurnsSoFar c.args.thread c.in-Some.r l.done c.args.self.now m (g.S.Sink.bytes c.args.out.now)
+    (g.S.Sink.bytes l.out) (g.S.Sink.faults c.args.out.now) (g.S.Sink.faults l.out)) (sym still) l.invariant in
     subst (λ (t : ℕ). StaysApart c.args.self.now t c.step_of.new.self) inv.2
     (apart-join c.args.self.now mid c.in-Some.r inv.5 inv.1 c.step_of.new.self inv.6 c.step_of.ensures.apart)
 
 pub loop-done-preserved : goal.loop-done-preserved
 loop-done-preserved g c =
     let l = c.loop-done in
-    let mid = l.self in
-    let inv = l.invariant in
+    let mid = c.goes_on.new.self in
+    let still = c.goes_on.ensures.no c.if-goes_on.false in
+    let inv = subst (λ (m : Machine). TurnsSoFar c.args.thread c.in-Some.r l.done c.args.self.now m (g.S.Sink.bytes c.args.out.now)
+    (g.S.Sink.bytes l.out) (g.S.Sink.faults c.args.out.now) (g.S.Sink.faults l.out)) (sym still) l.invariant in
     let t = c.in-Some.r.thread.0 in
     let less : l.done < c.args.steps = omega (arith, c.loop-done-test.true) in
     let more = done-more (StepOf t) (TurnsOf t) (turns-repeat t) l.done c.args.self.now mid c.step_of.new.self (g.S.Sink.bytes c.args.out.now)
@@ -153,4 +170,22 @@ loop-done-preserved g c =
       c.step_of.ensures.sound.1,
       inv.5,
       apart-join c.args.self.now mid c.in-Some.r inv.5 inv.1 c.step_of.new.self inv.6 c.step_of.ensures.apart,
+    )
+
+pub loop-done-preserved-then-goes_on : goal.loop-done-preserved-then-goes_on
+loop-done-preserved-then-goes_on g c =
+    let l = c.loop-done in
+    let inv = l.invariant in
+    let t = c.in-Some.r.thread.0 in
+    let went = c.goes_on.ensures.yes c.if-goes_on.true in
+    let next = c.goes_on.new.self in
+    let bytes = g.S.Sink.bytes l.out in (
+      done-more (StepOf t) (TurnsOf t) (turns-repeat t) l.done c.args.self.now l.self next (g.S.Sink.bytes c.args.out.now) bytes bytes inv.0
+          ([], went.0, Appends-nil bytes) c.goes_on.ensures.sound.1.sealed c.goes_on.ensures.counts,
+      went.1,
+      inv.2,
+      inv.3,
+      c.goes_on.ensures.sound.1,
+      inv.5,
+      apart-join c.args.self.now l.self c.in-Some.r inv.5 inv.1 next inv.6 c.goes_on.ensures.apart,
     )

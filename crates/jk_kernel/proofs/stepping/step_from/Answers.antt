@@ -21,7 +21,7 @@ use Rattle.jk_kernel.proofs.PartsOfAMachine.{left_keeps_names, paid_own}
 use Rattle.jk_kernel.proofs.PlainClasses.{plain_class, untouched_has_state}
 use Rattle.jk_kernel.proofs.SegmentsOfAMachine.{has_top, known_frames}
 use Rattle.jk_kernel.proofs.StepsByCase.{broke, does_next, executed, fell, keeps_all, keeps_fallen, keeps_on, keeps_own, keeps_paid, keeps_touched, known_on_top, ready_left, spent, stands_if_no_need, touched, waits}
-use Rattle.jk_kernel.proofs.stepping.other_step.Goals as goal
+use Rattle.jk_kernel.proofs.stepping.step_from.Goals as goal
 
 pub class_needed-needed-requires : goal.class_needed-needed-requires
 class_needed-needed-requires g c =
