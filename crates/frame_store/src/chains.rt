@@ -1,7 +1,7 @@
 //! Stacks of nodes with numbers, from which nothing is ever added or taken: a node moves from the top of one stack to the
 //! top of another. Whoever holds chains keeps what belongs to a node under the node's number. A node has links to the one
 //! below it and to one further below, as the nodes of a skew-binary list have: so the node at a position is found in a
-//! logarithm of the stack's size.
+//! logarithm of the stack's size, but for stacks of free nodes, in which nothing is looked for by its position.
 
 ghost use Rattle.std.specs.Prelude.{◌≡◌, ◌≢◌, ℕ, ◌+◌, ◌-◌, ◌<◌, ◌≤◌, ◌^◌, length, IfOk};
 ghost use Rattle.frame_store.specs.Chains.{IsChains, node_at, JumpsFrom, AreFree, IsOneStack};
