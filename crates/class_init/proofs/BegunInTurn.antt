@@ -9,7 +9,7 @@ use Rattle.list_lemmas.proofs.ItemsByPlace.{slice_get-longer}
 use Rattle.list_lemmas.proofs.ItemsOfLists.{Contains-none, Contains-at}
 use Rattle.jk_model.specs.declared.identifiers.ClassId.{ClassId}
 use Rattle.jk_model_classes.specs.declared.records.ClassRecord.{ClassRecord}
-use Rattle.jk_model_classes.specs.Classes.{HasClass, record_of}
+use Rattle.jk_model_classes.specs.Classes.{record_of}
 use Rattle.jk_model_classes.specs.Worlds.{NamedClass, IsNamed}
 use Rattle.jk_model_domains.specs.OwnStates.{ClassPart, IsTextOf}
 use Rattle.class_init.specs.Parts.{part_in, HasPartOf, first_part}
@@ -159,14 +159,3 @@ name_at table i c told = by_place (slice_get table i) refl told
 
 pub name_is_named : (table : List NamedClass) (i : ℕ) (e : NamedClass) → slice_get table i ≡ Some e → IsNamed table e.class
 name_is_named table i e at = (e.name, Contains-at table i (record { name = e.name; class = e.class }) at)
-
--- the classes of one name more are there
-pub each_is_there : (classes : List ClassRecord) (table : List NamedClass) (i : ℕ)
-    → ((k : ℕ) (e : NamedClass) → k < i → slice_get table k ≡ Some e → HasClass classes e.class)
-    → ((e : NamedClass) → slice_get table i ≡ Some e → HasClass classes e.class)
-    → (k : ℕ) (e : NamedClass) → k < i + 1 → slice_get table k ≡ Some e → HasClass classes e.class
-each_is_there classes table i before here k e low at = by_order (cases_lt k i)
-  where
-    by_order : (k < i) ⊎ (i ≤ k) → HasClass classes e.class
-    by_order (inl l) = before k e l at
-    by_order (inr l) = let same : k ≡ i = omega (arith, low, l) in here e (rw same at at)

@@ -12,8 +12,6 @@ mod making;
 mod missing_texts;
 mod own;
 mod statics;
-#[cfg(test)]
-mod tests;
 
 pub use looking::look;
 pub use own::Own;

@@ -29,8 +29,8 @@ use std::marker::Model;
 #[derive(Drop)]
 pub struct Own {
     alloc: Global,
-    pub(crate) classes: ClassParts,
-    pub(crate) literals: Literals,
+    classes: ClassParts,
+    literals: Literals,
     /// The name of the PrintStream.
     out: u32,
     /// The names of the standing throwables, in the order of `Standing`.

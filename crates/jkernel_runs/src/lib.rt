@@ -17,10 +17,3 @@ mod system_run;
 pub use program::jkernel;
 pub use status::Status;
 pub use system_run::run_on;
-
-#[cfg(test)]
-mod kernel_tests;
-#[cfg(test)]
-mod test_classes;
-#[cfg(test)]
-mod tests;

@@ -1,2 +1,3 @@
 -- Lemmas for tests.
+mod FirstStatics
 mod FirstWorld

@@ -1,7 +1,10 @@
-//! Tests of the crates that keep loaded classes, look in them and judge them together: small classes, worlds and tables of cases by
-//! hand. The crate has tests alone, so that none of those crates is proved a second time for its tests.
+//! Tests of the crates that keep loaded classes, look in them and judge them together, and of what a domain keeps of them: small
+//! classes, worlds and tables of cases by hand. The crate has tests alone, so that none of those crates is proved a second time for
+//! its tests.
 #![tactic(auto)]
 
+#[cfg(test)]
+mod class_init_tests;
 #[cfg(test)]
 mod class_table_tests;
 #[cfg(test)]

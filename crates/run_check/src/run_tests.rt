@@ -5,10 +5,10 @@ use crate::test_classes::{
     INNER, LESS_WIDE, LOWER, MEETING, NAMES_NODE, NODE, OWN_PARENT, PACKAGED, PROTECTED,
     SHORT_HELLO, TABLE_SWITCH, TWO, UNMADE, UPPER, WIDE, WITH_STATIC,
 };
-use crate::{Status, jkernel};
 use jk_model::OutOfMemory;
 use jk_outside::{MemoryFiles, MemorySink};
 use jkasm::{AsmError, assemble};
+use jkernel_runs::{Status, jkernel};
 use std::alloc::Global;
 use std::process::Abort;
 use std::test::Fail;

@@ -2,7 +2,6 @@
 
 ghost use Rattle.std.specs.Prelude.{◌≡◌, IfOk};
 
-use crate::events::PlainKernel;
 use crate::test_classes::SHORT_HELLO;
 use frame_store::PlainFrames;
 use jk_kernel::{AddAnswer, Kernel};
@@ -41,7 +40,7 @@ fn with_domain(
     rt: &impl Abort,
     alloc: Global,
     files: &mut MemoryFiles,
-) -> Result<PlainKernel, OutOfMemory>
+) -> Result<Kernel<PlainFrames>, OutOfMemory>
     ensures thread { IfOk result (λ k. k.next_thread ≡ 1) }
     ensures segment { IfOk result (λ k. k.next_segment ≡ 1) }
 {
