@@ -1,0 +1,5 @@
+pub mod Copiable
+pub mod Copies
+pub mod Examples
+pub mod Followed
+pub mod Reach

@@ -1,0 +1,11 @@
+pub mod CalledFrames
+pub mod Capabilities
+pub mod Heaps
+pub mod Instances
+pub mod NumberTexts
+pub mod References
+pub mod RunningCode
+pub mod StoredValues
+pub mod SystemClasses
+pub mod Throwables
+pub mod Workings

@@ -1,0 +1,3 @@
+pub mod OpenedDomains
+pub mod Openings
+pub mod PoolsOfMachines

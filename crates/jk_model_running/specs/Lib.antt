@@ -1,0 +1,6 @@
+pub mod Constants
+pub mod Executions
+pub mod Initialising
+pub mod LocalSteps
+pub mod Raising
+pub mod Ways

@@ -1,0 +1,4 @@
+pub mod AnsweringFrames
+pub mod FittingFrames
+pub mod SealedInsides
+pub mod SealedRuns

@@ -1,0 +1,3 @@
+-- Lemmas for worked examples.
+mod FrontOfTexts
+mod OneIsMade

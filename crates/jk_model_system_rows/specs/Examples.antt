@@ -1,0 +1,108 @@
+-- Worked examples: what a domain has inside before and after methods of system classes. `src/examples.rt` states what the definitions say
+-- of them.
+use Rattle.std.specs.Prelude.{ℕ, ℤ, pos, List, [], ◌∷◌, map, None, option_map, codes}
+use Rattle.jk_model.specs.declared.identifiers.ClassId.{ClassId}
+use Rattle.jk_model.specs.declared.values.Value.{Value}
+use Rattle.jk_model.specs.declared.values.Value.TheVariants as Held
+use Rattle.jk_model.specs.SystemTable.{SystemClass, SystemField, parent_number, system_classes}
+use Rattle.jk_model_classes.specs.declared.records.BaseRef.TheVariants as Base
+use Rattle.jk_model_classes.specs.declared.records.ClassRecord.{ClassRecord}
+use Rattle.jk_model_classes.specs.declared.records.FieldRecord.{FieldRecord}
+use Rattle.jk_model_classes.specs.declared.records.Link.TheVariants as To
+use Rattle.jk_model_classes.specs.Classes.{OBJECT}
+use Rattle.jk_model_typing.specs.FrameTypes.{STRING, array_type}
+use Rattle.jk_model_frames.specs.Frames.{FrameState}
+use Rattle.jk_model_domains.specs.Objects.{NamedObject, Array, Plain, Text, class_type}
+use Rattle.jk_model_heaps.specs.Heaps.{named}
+use Rattle.jk_model_heaps.specs.SystemClasses.{STRING_BUFFER}
+use Rattle.jk_model_heaps.specs.Workings.{Inside, Setting}
+
+-- ---- Where the methods run.
+
+-- The system classes with their fields, each of which stands for a text here, and without interfaces and methods.
+
+abbrev field_in : SystemField → FieldRecord
+field_in e = record { name = e.name; flags = e.flags; kind = class_type STRING; constant = To.Nothing }
+
+abbrev class_numbered : ℕ → ClassId
+class_numbered n = record { 0 = n }
+
+abbrev record_in : SystemClass → ClassRecord
+record_in e = record {
+  name = e.name;
+  home = None;
+  flags = e.flags;
+  parent = option_map class_numbered (parent_number e);
+  interfaces = [];
+  fields = map field_in e.fields;
+  methods = [];
+  links = [];
+  references = [];
+}
+
+abbrev pub classes : List ClassRecord
+classes = map record_in system_classes
+
+-- a heap of so many words
+abbrev pub setting : ℕ → Setting
+setting quota = record {
+  classes = classes;
+  caps = record { ranges = []; stand_ins = [] };
+  name = codes "a";
+  segment = record { 0 = 1 };
+  quota = quota;
+  chunks = 0;
+}
+
+-- a domain with these objects alone
+abbrev pub with_objects : List NamedObject → Inside
+with_objects heap = record {
+  own = record { classes = []; literals = []; out = 0; standing = [] };
+  heap = heap;
+  heap_at = None;
+  stack_at = None;
+}
+
+-- ---- A buffer of the text `ab`, which takes 11 words with it, and the same after a 7 was appended.
+
+abbrev pub buffer_before : Inside
+buffer_before = with_objects (named 1 (Plain STRING_BUFFER (Held.Obj 2 ∷ [])) ∷ named 2 (Text (codes "ab")) ∷ [])
+
+abbrev pub buffer_after : Inside
+buffer_after =
+    with_objects
+    (named 1 (Plain STRING_BUFFER (Held.Obj 3 ∷ [])) ∷ named 2 (Text (codes "ab")) ∷ named 3 (Text (codes "ab7")) ∷ [])
+
+-- ---- A frame at its fourth instruction, with these entries on its stack.
+
+abbrev pub frame_with : List Value → FrameState
+frame_with stack = record {
+  head = record { method = None; at = 3; need = None; initialises = None; max_locals = 0; max_stack = 4 };
+  locals = [];
+  stack = stack;
+}
+
+-- ---- An array of ints, and the same after its first three were copied one place further.
+
+abbrev pub ints : List ℕ → List Value
+ints items = map (λ (n : ℕ). Held.Int (pos n)) items
+
+abbrev pub with_ints : List ℕ → Inside
+with_ints items = with_objects (named 1 (Array (array_type 0 Base.Int) (ints items)) ∷ [])
+
+-- ---- An array of objects, the second of which is no text, and an array of texts that has these items.
+
+abbrev pub objects_and_texts : List Value → Inside
+objects_and_texts items =
+    with_objects
+    (named 1 (Array (class_type OBJECT) (Held.Obj 3 ∷ Held.Obj 4 ∷ Held.Obj 5 ∷ []))
+    ∷ named 2 (Array (class_type STRING) items)
+    ∷ named 3 (Text (codes "a"))
+    ∷ named 4 (Plain OBJECT [])
+    ∷ named 5 (Text (codes "b"))
+    ∷ [])
+
+-- the arguments of arraycopy
+abbrev pub copy_arguments : ℕ → ℤ → ℕ → ℤ → ℤ → List Value
+copy_arguments source from target to count =
+    Held.Obj source ∷ Held.Int from ∷ Held.Obj target ∷ Held.Int to ∷ Held.Int count ∷ []

@@ -1,0 +1,11 @@
+pub mod Answers
+pub mod ArrayCopies
+pub mod Examples
+pub mod HiddenTexts
+pub mod Meanings
+pub mod PackageJk
+pub mod ParsedNumbers
+pub mod SystemCalls
+pub mod SystemRows
+pub mod TextMethods
+pub mod Texts

@@ -1,0 +1,4 @@
+-- Lemmas for worked examples.
+mod ClassesOfThrowables
+mod OneIsMade
+mod RunningCodes

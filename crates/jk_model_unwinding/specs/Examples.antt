@@ -1,0 +1,154 @@
+-- Worked examples: a class with two methods that catch, and a segment with an initialiser frame on top. `src/examples.rt` states what the
+-- definitions say of them.
+use Rattle.std.specs.Prelude.{ℕ, pos, List, [], ◌∷◌, ◌++◌, map, Some, None, option_map, codes}
+use Rattle.jk_model.specs.declared.identifiers.ClassId.{ClassId}
+use Rattle.jk_model.specs.declared.opcodes.TheConstants.{NOP}
+use Rattle.jk_model.specs.declared.values.Value.{Value}
+use Rattle.jk_model.specs.declared.values.Value.TheVariants as Held
+use Rattle.jk_model.specs.Flags.{STATIC}
+use Rattle.jk_model.specs.Instructions.{plain}
+use Rattle.jk_model.specs.SystemTable.{SystemClass, SystemField, parent_number, public, system_classes}
+use Rattle.jk_model_classes.specs.declared.records.Body.TheVariants.{Linked}
+use Rattle.jk_model_classes.specs.declared.records.Caught.{Caught}
+use Rattle.jk_model_classes.specs.declared.records.ClassRecord.{ClassRecord}
+use Rattle.jk_model_classes.specs.declared.records.FieldRecord.{FieldRecord}
+use Rattle.jk_model_classes.specs.declared.records.Link.TheVariants as To
+use Rattle.jk_model_classes.specs.declared.records.LinkedCode.{LinkedCode}
+use Rattle.jk_model_classes.specs.declared.records.MethodRecord.{MethodRecord}
+use Rattle.jk_model_classes.specs.Classes.{OBJECT}
+use Rattle.jk_model_typing.specs.FrameTypes.{STRING}
+use Rattle.jk_model_frames.specs.Frames.{FrameState}
+use Rattle.jk_model_domains.specs.declared.states.ClassState.{ClassState}
+use Rattle.jk_model_domains.specs.NumberRows.{ARITHMETIC_EXCEPTION}
+use Rattle.jk_model_domains.specs.Objects.{NamedObject, Plain, class_type}
+use Rattle.jk_model_domains.specs.OwnStates.{ClassPart}
+use Rattle.jk_model_heaps.specs.Heaps.{named}
+use Rattle.jk_model_heaps.specs.SystemClasses.{EXCEPTION_IN_INITIALIZER_ERROR}
+use Rattle.jk_model_heaps.specs.Workings.{Inside, Setting}
+
+-- ---- Classes: those of the system, whose fields are texts here and which have no interfaces and methods, and one more.
+
+abbrev field_in : SystemField → FieldRecord
+field_in e = record { name = e.name; flags = e.flags; kind = class_type STRING; constant = To.Nothing }
+
+abbrev class_numbered : ℕ → ClassId
+class_numbered n = record { 0 = n }
+
+abbrev record_in : SystemClass → ClassRecord
+record_in e = record {
+  name = e.name;
+  home = None;
+  flags = e.flags;
+  parent = option_map class_numbered (parent_number e);
+  interfaces = [];
+  fields = map field_in e.fields;
+  methods = [];
+  links = [];
+  references = [];
+}
+
+-- java/lang/RuntimeException
+abbrev pub RUNTIME_EXCEPTION : ClassId
+RUNTIME_EXCEPTION = record { 0 = 17 }
+
+-- over the first instruction, to this place
+abbrev pub handler : ClassId → ℕ → Caught
+handler c place = record { start = 0; end = 1; handler = place; class = Some c }
+
+-- three instructions
+abbrev pub code : List Caught → LinkedCode
+code handlers = record {
+  max_stack = 1;
+  max_locals = 0;
+  instrs = plain 0 NOP (pos 0) (pos 0) ∷ plain 1 NOP (pos 0) (pos 0) ∷ plain 2 NOP (pos 0) (pos 0) ∷ [];
+  handlers = handlers;
+}
+
+-- catches at the second instruction what is a RuntimeException, and at the third what is an ArithmeticException
+abbrev pub careful : LinkedCode
+careful = code (handler RUNTIME_EXCEPTION 1 ∷ handler ARITHMETIC_EXCEPTION 2 ∷ [])
+
+-- catches at the third what an initialiser failed by
+abbrev pub initialising : LinkedCode
+initialising = code (handler EXCEPTION_IN_INITIALIZER_ERROR 2 ∷ [])
+
+abbrev pub method : List ℕ → LinkedCode → MethodRecord
+method name body = record {
+  name = name;
+  flags = STATIC;
+  kind = record { params = []; result = None };
+  params = [];
+  result = None;
+  body = Linked body;
+}
+
+abbrev pub MAIN : ClassId
+MAIN = record { 0 = 45 }
+
+abbrev pub main : ClassRecord
+main = record {
+  name = codes "Main";
+  home = Some (record { 0 = 0 });
+  flags = public;
+  parent = Some OBJECT;
+  interfaces = [];
+  fields = [];
+  methods = method (codes "careful") careful ∷ method (codes "initialising") initialising ∷ [];
+  links = [];
+  references = [];
+}
+
+abbrev pub classes : List ClassRecord
+classes = map record_in system_classes ++ main ∷ []
+
+-- ---- Frames.
+
+-- of a method of the class, at an instruction, with these entries on its stack
+abbrev pub frame : ℕ → ℕ → List Value → FrameState
+frame index at stack = record {
+  head = record {
+    method = Some (record { class = MAIN; index = index });
+    at = at;
+    need = None;
+    initialises = None;
+    max_locals = 0;
+    max_stack = 1;
+  };
+  locals = [];
+  stack = stack;
+}
+
+-- the initialiser frame of the class, which has no `<clinit>`, and needs java/lang/Object
+abbrev pub initialiser : FrameState
+initialiser = record {
+  head = record { method = None; at = 0; need = Some OBJECT; initialises = Some MAIN; max_locals = 0; max_stack = 0 };
+  locals = [];
+  stack = [];
+}
+
+-- ---- A domain in which the class has a state, with throwables of these classes, which are named from 1 on and have no message.
+
+abbrev pub part : ClassState → ClassPart
+part state = record { class = MAIN; state = state; statics = [] }
+
+abbrev pub thrown : ℕ → ClassId → NamedObject
+thrown a c = named a (Plain c (Held.Null ∷ []))
+
+abbrev pub domain : ClassState → List NamedObject → Inside
+domain state heap = record {
+  own = record { classes = part state ∷ []; literals = []; out = 0; standing = [] };
+  heap = heap;
+  heap_at = None;
+  stack_at = None;
+}
+
+-- a heap of so many words
+abbrev pub setting : ℕ → Setting
+setting quota = record {
+  classes = classes;
+  caps = record { ranges = []; stand_ins = [] };
+  name = codes "a";
+  segment = record { 0 = 1 };
+  quota = quota;
+  chunks = 0;
+}
