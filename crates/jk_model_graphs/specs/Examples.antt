@@ -1,7 +1,7 @@
 -- Worked examples: a ring of two objects, a text that is given twice, an array that holds itself and a capability, and an object with transient
 -- fields, each with a copy. `src/examples.rt` says what the definitions make of them.
-use Rattle.std.specs.Prelude.{ℕ, ◌+◌, pos, List, [], ◌∷◌, ◌++◌, Option, Some, None, codes}
-use Rattle.jk_model.specs.Flags.{PUBLIC, TRANSIENT}
+use Rattle.std.specs.Prelude.{ℕ, ◌+◌, pos, List, [], ◌∷◌, ◌++◌, Option, Some, None, codes, replicate}
+use Rattle.jk_model.specs.Flags.{INTERFACE, PUBLIC, TRANSIENT}
 use Rattle.jk_model.specs.declared.identifiers.ClassId.{ClassId}
 use Rattle.jk_model.specs.declared.values.Value.{Value}
 use Rattle.jk_model.specs.declared.values.Value.TheVariants as Held
@@ -12,11 +12,13 @@ use Rattle.jk_model_classes.specs.declared.records.FieldRecord.{FieldRecord}
 use Rattle.jk_model_classes.specs.declared.records.Link.TheVariants.{Nothing}
 use Rattle.jk_model_classes.specs.declared.records.TypeRef.{TypeRef}
 use Rattle.jk_model_classes.specs.Classes.{OBJECT}
+use Rattle.jk_model_classes.specs.Worlds.{NamedClass}
 use Rattle.jk_model_domains.specs.Objects.{NamedObject, Object, Array, Plain, Text, class_type}
 use Rattle.jk_model_graphs.specs.Reach.{Graph}
 use Rattle.jk_model_heaps.specs.Heaps.{named}
+use Rattle.jk_model_heaps.specs.SystemClasses.{SERIALIZABLE}
 
--- ---- Three classes. Of the system's, java/lang/Object alone is there.
+-- ---- Two classes of a folder, with the numbers 45 and 46. Of the system classes before them two have a meaning here.
 
 abbrev pub field : List ℕ → ℕ → TypeRef → FieldRecord
 field name flags kind = record { name = name; flags = flags; kind = kind; constant = Nothing }
@@ -35,25 +37,42 @@ class_of name parent fields = record {
 }
 
 abbrev pub NODE : ClassId
-NODE = record { 0 = 1 }
+NODE = record { 0 = 45 }
 
 abbrev pub HOLDER : ClassId
-HOLDER = record { 0 = 2 }
+HOLDER = record { 0 = 46 }
 
 abbrev pub int_type : TypeRef
 int_type = record { dims = 0; base = Base.Int }
 
--- class Node { Node next; int v; } and class Holder { int x; transient int y; transient Node o; }
+abbrev pub serializable : ClassRecord
+serializable = record (class_of (codes "java/io/Serializable") (Some OBJECT) []) { flags = PUBLIC + INTERFACE }
+
+-- class Node implements java.io.Serializable { Node next; int v; } and class Holder { int x; transient int y; transient Node o; }
 abbrev pub classes : List ClassRecord
 classes =
     class_of (codes "java/lang/Object") None []
-    ∷ class_of (codes "Node") (Some OBJECT) (field (codes "next") PUBLIC (class_type NODE) ∷ field (codes "v") PUBLIC int_type ∷ [])
+    ∷ serializable
+    ∷ replicate 43 (class_of (codes "another") (Some OBJECT) [])
+    ++ record (class_of (codes "Node") (Some OBJECT) (field (codes "next") PUBLIC (class_type NODE) ∷ field (codes "v") PUBLIC int_type ∷ []))
+    { interfaces = SERIALIZABLE ∷ [] }
     ∷ class_of (codes "Holder") (Some OBJECT)
     (field (codes "x") PUBLIC int_type
     ∷ field (codes "y") (PUBLIC + TRANSIENT) int_type
     ∷ field (codes "o") (PUBLIC + TRANSIENT) (class_type NODE)
     ∷ [])
     ∷ []
+
+-- ---- What names mean in two domains that share both classes, and in one whose Node is another class.
+
+abbrev pub meaning : List ℕ → ClassId → NamedClass
+meaning name class = record { name = name; class = class }
+
+abbrev pub both_shared : List NamedClass
+both_shared = meaning (codes "Node") NODE ∷ meaning (codes "Holder") HOLDER ∷ []
+
+abbrev pub own_node : List NamedClass
+own_node = meaning (codes "Node") HOLDER ∷ []
 
 -- ---- A heap into which copies are put. Its own object has a name that another heap uses too.
 

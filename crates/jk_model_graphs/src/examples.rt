@@ -9,7 +9,7 @@ ghost use Rattle.jk_model_classes.specs.Worlds.{NamedClass};
 ghost use Rattle.jk_model_domains.specs.Objects.{Plain, Task, Text, PRINT_STREAM};
 ghost use Rattle.jk_model_graphs.specs.Copiable.{IsCopiable};
 ghost use Rattle.jk_model_graphs.specs.Copies.{IsCopy};
-ghost use Rattle.jk_model_graphs.specs.Examples.{HOLDER, NODE, array_pairs, classes, empty_array, given_twice, holder, holder_copied, holder_pairs, one_text, ring, ring_pairs, self_holder, self_holder_copied, target, text_pairs, two_texts, with_ring};
+ghost use Rattle.jk_model_graphs.specs.Examples.{HOLDER, NODE, array_pairs, both_shared, classes, empty_array, given_twice, holder, holder_copied, holder_pairs, one_text, own_node, ring, ring_pairs, self_holder, self_holder_copied, target, text_pairs, two_texts, with_ring};
 ghost use Rattle.jk_model_graphs.specs.Reach.{Reach, ReachCosts};
 ghost use Rattle.jk_model_heaps.specs.SystemClasses.{STRING_BUFFER};
 
@@ -50,4 +50,14 @@ pub fn copiable_without_names()
     ensures unmarked { IsCopiable classes [] [] (Plain NODE []) → ⊥ }
     ensures print_stream { IsCopiable classes [] [] (Plain PRINT_STREAM []) → ⊥ }
     ensures task { (s : SegmentNo) (records : List ClassRecord) (from to : List NamedClass) → IsCopiable records from to (Task s) → ⊥ }
+{}
+
+/// What may be copied between domains that share two classes, one of which is serializable: its objects, and arrays of both. Two classes
+/// under one name are not shared.
+pub fn copiable_by_names()
+    ensures serializable { IsCopiable classes both_shared both_shared (Plain NODE []) }
+    ensures not_serializable { IsCopiable classes both_shared both_shared (Plain HOLDER []) → ⊥ }
+    ensures array { IsCopiable classes both_shared both_shared (empty_array (Base.Class HOLDER)) }
+    ensures two_classes { IsCopiable classes both_shared own_node (Plain NODE []) → ⊥ }
+    ensures array_of_two_classes { IsCopiable classes both_shared own_node (empty_array (Base.Class NODE)) → ⊥ }
 {}

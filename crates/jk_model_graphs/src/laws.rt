@@ -9,12 +9,12 @@ ghost use Rattle.jk_model_graphs.specs.Reach.{Graph};
 /// A copy by its names: each name that the heap had keeps its object, the copies of a pair have names that it lacked, and each name that
 /// it has now and lacked is that of a copy.
 pub fn copies_by_name()
-    ensures stays { (classes : List ClassRecord) (source : Graph) (before : List NamedObject) (copy : Graph) (pairs : List (ℕ × ℕ)) (b : ℕ) (object : Object)
-        → IsCopy classes source before copy pairs → object_named before b ≡ Some object → object_named copy.heap b ≡ Some object }
+    ensures stays { (classes : List ClassRecord) (source : Graph) (before : List NamedObject) (copy : Graph) (pairs : List (ℕ × ℕ)) (b : ℕ)
+        (object : Object) → IsCopy classes source before copy pairs → object_named before b ≡ Some object → object_named copy.heap b ≡ Some object }
     ensures new_names { (classes : List ClassRecord) (source : Graph) (before : List NamedObject) (copy : Graph) (pairs : List (ℕ × ℕ)) (a b : ℕ)
         → IsCopy classes source before copy pairs → Contains pairs (a, b)
         → (object_named before b ≡ None) × ArePaired classes source.heap copy.heap pairs a b }
-    ensures no_others { (classes : List ClassRecord) (source : Graph) (before : List NamedObject) (copy : Graph) (pairs : List (ℕ × ℕ)) (b : ℕ) (object : Object)
-        → IsCopy classes source before copy pairs → object_named copy.heap b ≡ Some object → object_named before b ≡ None
+    ensures no_others { (classes : List ClassRecord) (source : Graph) (before : List NamedObject) (copy : Graph) (pairs : List (ℕ × ℕ)) (b : ℕ)
+        (object : Object) → IsCopy classes source before copy pairs → object_named copy.heap b ≡ Some object → object_named before b ≡ None
         → (a : ℕ) × Contains pairs (a, b) }
 {}

@@ -1,6 +1,6 @@
 -- Capabilities: each domain has a range of numbers of its own, gives them out in order, and keeps them whatever becomes of it. A
 -- capability shows the remote interfaces of the class that its target had when it was created.
-use Rattle.std.specs.Prelude.{◌≡◌, ℕ, ◌+◌, ◌-◌, ◌⊎◌, ◌&&◌, Bool, List, Contains, find, Option, Some, option_and_then, option_map, slice_get, nat_le, nat_lt}
+use Rattle.std.specs.Prelude.{◌≡◌, ℕ, ◌+◌, ◌-◌, ◌⊎◌, ◌&&◌, Bool, List, Contains, find, Option, Some, None, option_and_then, option_map, slice_get, nat_le, nat_lt}
 use Rattle.jk_model.specs.declared.identifiers.CapId.{CapId}
 use Rattle.jk_model.specs.declared.identifiers.ClassId.{ClassId}
 use Rattle.jk_model.specs.declared.identifiers.DomainId.{DomainId}
@@ -8,7 +8,7 @@ use Rattle.jk_model_classes.specs.declared.records.BaseRef.TheVariants as Base
 use Rattle.jk_model_classes.specs.declared.records.ClassRecord.{ClassRecord}
 use Rattle.jk_model_classes.specs.declared.records.TypeRef.{TypeRef}
 use Rattle.jk_model_classes.specs.declared.sharing.Stub.{Stub}
-use Rattle.jk_model_classes.specs.Classes.{OBJECT}
+use Rattle.jk_model_classes.specs.Classes.{OBJECT, record_of}
 use Rattle.jk_model_classes.specs.Stubs.{IsRemoteInterfaceOf}
 use Rattle.jk_model_domains.specs.Objects.{CAPABILITY}
 use Rattle.jk_model_heaps.specs.SystemClasses.{REMOTE}
@@ -61,12 +61,14 @@ pub record KnownCapabilities : Type 0 where
 abbrev pub ShowsInterface : List ClassRecord → Capability → ClassId → Type 0
 ShowsInterface classes c i = IsRemoteInterfaceOf classes c.class i
 
-abbrev pub StandsInFor : List Stub → Capability → ClassId → Type 0
-StandsInFor stand_ins c i = (s : Stub) × Contains stand_ins s × (s.class ≡ c.class) × Contains s.interfaces i
+-- of a capability whose target's class isn't there
+abbrev pub StandsInFor : List ClassRecord → List Stub → Capability → ClassId → Type 0
+StandsInFor classes stand_ins c i =
+    (record_of classes c.class ≡ None) × ((s : Stub) × Contains stand_ins s × (s.class ≡ c.class) × Contains s.interfaces i)
 
 pub record CapabilityIsA (classes : List ClassRecord) (caps : KnownCapabilities) (k : CapId) (t : TypeRef) : Type 0 where
   pub class : ClassId
   pub no_array : t ≡ record { dims = 0; base = Base.Class class }
   pub above : (class ≡ OBJECT) ⊎ (class ≡ CAPABILITY) ⊎ (class ≡ REMOTE)
       ⊎ ((c : OwnedCapability) × (capability_numbered caps.ranges k ≡ Some c)
-      × (ShowsInterface classes c.capability class ⊎ StandsInFor caps.stand_ins c.capability class))
+      × (ShowsInterface classes c.capability class ⊎ StandsInFor classes caps.stand_ins c.capability class))

@@ -1,9 +1,8 @@
 -- Segments of a form without what they have besides: what is done to a stack of them is done to the stack of their shared parts.
 use Rattle.std.proofs.Common.{◌≡◌, ◌∙◌, Bool, true, false, cond, List, [], ◌∷◌, map, refl, ap}
-use Rattle.std.specs.Option.{option_map_or}
 use Rattle.jk_model.specs.declared.identifiers.DomainId.{DomainId}
 use Rattle.jk_model.specs.declared.identifiers.SegmentNo.{SegmentNo}
-use Rattle.jk_model_sharing.specs.Segments.{SegmentForm, SharedSegment, as_orphan, changed, is_numbered, is_of, left_above, segments_left, shared_form, top_is_of, top_of, with_revoked, with_segment, with_top}
+use Rattle.jk_model_sharing.specs.Segments.{SegmentForm, SharedSegment, as_orphan, changed, is_numbered, is_of, left_above, segments_left, shared_form, top_is_of, with_revoked, with_segment, with_top}
 
 module _ {S : Type 0} (form : SegmentForm S) (kept : (new : SharedSegment) (s : S) → form.shared (form.with_shared new s) ≡ new) where
   abbrev erased : List S → List SharedSegment
