@@ -7,32 +7,8 @@ use Rattle.jk_model_domains.specs.Objects.{NamedObject, Object, object_named}
 use Rattle.jk_model_graphs.specs.Copies.{ArePaired, IsCopy}
 use Rattle.jk_model_graphs.specs.Reach.{Graph}
 use Rattle.jk_model_heaps.specs.Heaps.{named}
+use Rattle.jk_model_heaps.proofs.NamesInHeaps.{by_first, in_front, behind}
 use Rattle.list_lemmas.proofs.ItemsOfLists.{Contains-here, Contains-there}
-
--- the object of a name in a heap whose first entry bears that name, or doesn't
-abbrev by_first : Bool → NamedObject → List NamedObject → ℕ → Option Object
-by_first t e heap b = option_map (λ (x : NamedObject). x.object) (cond t (Some e) (find (λ (x : NamedObject). x.name == b) heap))
-
--- what the first of two parts has
-front_step : (t : Bool) (e : NamedObject) (heap more : List NamedObject) (b : ℕ) (o : Object)
-    → (object_named heap b ≡ Some o → object_named (heap ++ more) b ≡ Some o) → by_first t e heap b ≡ Some o → by_first t e (heap ++ more) b ≡ Some o
-front_step true e heap more b o later is = is
-front_step false e heap more b o later is = later is
-
-pub in_front : (heap more : List NamedObject) (b : ℕ) (o : Object) → object_named heap b ≡ Some o → object_named (heap ++ more) b ≡ Some o
-in_front [] more b o is = absurd cc
-in_front (e ∷ heap) more b o is = front_step (e.name == b) e heap more b o (in_front heap more b o) is
-
--- what the first part lacks
-behind_step : (t : Bool) (e : NamedObject) (heap more : List NamedObject) (b : ℕ)
-    → (object_named heap b ≡ None → object_named (heap ++ more) b ≡ object_named more b) → by_first t e heap b ≡ None
-    → by_first t e (heap ++ more) b ≡ object_named more b
-behind_step true e heap more b later is = absurd cc
-behind_step false e heap more b later is = later is
-
-pub behind : (heap more : List NamedObject) (b : ℕ) → object_named heap b ≡ None → object_named (heap ++ more) b ≡ object_named more b
-behind [] more b is = refl
-behind (e ∷ heap) more b is = behind_step (e.name == b) e heap more b (behind heap more b) is
 
 -- an object that is found stands in the heap under its name
 same_entry : (x : NamedObject) (n : ℕ) (p : Object) → x.name ≡ n → x.object ≡ p → x ≡ named n p

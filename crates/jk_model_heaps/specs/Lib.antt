@@ -1,5 +1,6 @@
 pub mod CalledFrames
 pub mod Capabilities
+pub mod ExampleClasses
 pub mod Heaps
 pub mod Instances
 pub mod NumberTexts

@@ -1,3 +1,4 @@
+pub mod Examples
 pub mod OpenedDomains
 pub mod Openings
 pub mod PoolsOfMachines

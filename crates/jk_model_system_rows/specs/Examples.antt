@@ -1,10 +1,9 @@
 -- Worked examples: what a domain has inside before and after methods of system classes. `src/examples.rt` states what the definitions say
 -- of them.
-use Rattle.std.specs.Prelude.{ℕ, ℤ, pos, List, [], ◌∷◌, map, None, option_map, codes}
+use Rattle.std.specs.Prelude.{ℕ, ℤ, pos, List, [], ◌∷◌, map, None, codes}
 use Rattle.jk_model.specs.declared.identifiers.ClassId.{ClassId}
 use Rattle.jk_model.specs.declared.values.Value.{Value}
 use Rattle.jk_model.specs.declared.values.Value.TheVariants as Held
-use Rattle.jk_model.specs.SystemTable.{SystemClass, SystemField, parent_number, system_classes}
 use Rattle.jk_model_classes.specs.declared.records.BaseRef.TheVariants as Base
 use Rattle.jk_model_classes.specs.declared.records.ClassRecord.{ClassRecord}
 use Rattle.jk_model_classes.specs.declared.records.FieldRecord.{FieldRecord}
@@ -13,35 +12,15 @@ use Rattle.jk_model_classes.specs.Classes.{OBJECT}
 use Rattle.jk_model_typing.specs.FrameTypes.{STRING, array_type}
 use Rattle.jk_model_frames.specs.Frames.{FrameState}
 use Rattle.jk_model_domains.specs.Objects.{NamedObject, Array, Plain, Text, class_type}
+use Rattle.jk_model_heaps.specs.ExampleClasses.{system_records}
 use Rattle.jk_model_heaps.specs.Heaps.{named}
 use Rattle.jk_model_heaps.specs.SystemClasses.{STRING_BUFFER}
 use Rattle.jk_model_heaps.specs.Workings.{Inside, Setting}
 
 -- ---- Where the methods run.
 
--- The system classes with their fields, each of which stands for a text here, and without interfaces and methods.
-
-abbrev field_in : SystemField → FieldRecord
-field_in e = record { name = e.name; flags = e.flags; kind = class_type STRING; constant = To.Nothing }
-
-abbrev class_numbered : ℕ → ClassId
-class_numbered n = record { 0 = n }
-
-abbrev record_in : SystemClass → ClassRecord
-record_in e = record {
-  name = e.name;
-  home = None;
-  flags = e.flags;
-  parent = option_map class_numbered (parent_number e);
-  interfaces = [];
-  fields = map field_in e.fields;
-  methods = [];
-  links = [];
-  references = [];
-}
-
 abbrev pub classes : List ClassRecord
-classes = map record_in system_classes
+classes = system_records
 
 -- a heap of so many words
 abbrev pub setting : ℕ → Setting

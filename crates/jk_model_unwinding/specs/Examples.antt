@@ -1,13 +1,13 @@
 -- Worked examples: a class with two methods that catch, and a segment with an initialiser frame on top. `src/examples.rt` states what the
 -- definitions say of them.
-use Rattle.std.specs.Prelude.{ℕ, pos, List, [], ◌∷◌, ◌++◌, map, Some, None, option_map, codes}
+use Rattle.std.specs.Prelude.{ℕ, pos, List, [], ◌∷◌, ◌++◌, Some, None, codes}
 use Rattle.jk_model.specs.declared.identifiers.ClassId.{ClassId}
 use Rattle.jk_model.specs.declared.opcodes.TheConstants.{NOP}
 use Rattle.jk_model.specs.declared.values.Value.{Value}
 use Rattle.jk_model.specs.declared.values.Value.TheVariants as Held
 use Rattle.jk_model.specs.Flags.{STATIC}
 use Rattle.jk_model.specs.Instructions.{plain}
-use Rattle.jk_model.specs.SystemTable.{SystemClass, SystemField, parent_number, public, system_classes}
+use Rattle.jk_model.specs.SystemTable.{public}
 use Rattle.jk_model_classes.specs.declared.records.Body.TheVariants.{Linked}
 use Rattle.jk_model_classes.specs.declared.records.Caught.{Caught}
 use Rattle.jk_model_classes.specs.declared.records.ClassRecord.{ClassRecord}
@@ -22,30 +22,12 @@ use Rattle.jk_model_domains.specs.declared.states.ClassState.{ClassState}
 use Rattle.jk_model_domains.specs.NumberRows.{ARITHMETIC_EXCEPTION}
 use Rattle.jk_model_domains.specs.Objects.{NamedObject, Plain, class_type}
 use Rattle.jk_model_domains.specs.OwnStates.{ClassPart}
+use Rattle.jk_model_heaps.specs.ExampleClasses.{system_records}
 use Rattle.jk_model_heaps.specs.Heaps.{named}
 use Rattle.jk_model_heaps.specs.SystemClasses.{EXCEPTION_IN_INITIALIZER_ERROR}
 use Rattle.jk_model_heaps.specs.Workings.{Inside, Setting}
 
 -- ---- Classes: those of the system, whose fields are texts here and which have no interfaces and methods, and one more.
-
-abbrev field_in : SystemField → FieldRecord
-field_in e = record { name = e.name; flags = e.flags; kind = class_type STRING; constant = To.Nothing }
-
-abbrev class_numbered : ℕ → ClassId
-class_numbered n = record { 0 = n }
-
-abbrev record_in : SystemClass → ClassRecord
-record_in e = record {
-  name = e.name;
-  home = None;
-  flags = e.flags;
-  parent = option_map class_numbered (parent_number e);
-  interfaces = [];
-  fields = map field_in e.fields;
-  methods = [];
-  links = [];
-  references = [];
-}
 
 -- java/lang/RuntimeException
 abbrev pub RUNTIME_EXCEPTION : ClassId
@@ -99,7 +81,7 @@ main = record {
 }
 
 abbrev pub classes : List ClassRecord
-classes = map record_in system_classes ++ main ∷ []
+classes = system_records ++ main ∷ []
 
 -- ---- Frames.
 

@@ -1,0 +1,2 @@
+-- Lemmas on heaps that several crates cite.
+pub mod NamesInHeaps

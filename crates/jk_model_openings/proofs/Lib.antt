@@ -1,0 +1,2 @@
+-- Lemmas for the worked example.
+mod FirstNames
