@@ -1,2 +1,3 @@
 -- Lemmas on heaps that several crates cite.
+mod FieldsInOrder
 pub mod NamesInHeaps

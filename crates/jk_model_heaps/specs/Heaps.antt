@@ -1,6 +1,6 @@
 -- What a heap costs, what is made in it, and how it may grow. A heap is a list of named objects in the order of making; it is
 -- read by name alone, and nobody sees the order.
-use Rattle.std.specs.Prelude.{◌≡◌, ℕ, zero, suc, ◌+◌, ◌-◌, ◌==◌, ◌<◌, ◌≤◌, not, Bool, List, [], ◌∷◌, ◌++◌, length, filter, flat_map, map, replicate, sum_by, Contains, Option, Some, None, slice_get, if◌then◌else◌}
+use Rattle.std.specs.Prelude.{◌≡◌, ℕ, zero, suc, ◌+◌, ◌-◌, ◌==◌, ◌<◌, ◌≤◌, not, List, [], ◌∷◌, ◌++◌, length, filter, flat_map, map, replicate, sum_by, Contains, Some, None, slice_get, if◌then◌else◌}
 use Rattle.std.specs.Option.{option_map_or}
 use Rattle.jk_model.specs.Flags.{has, STATIC}
 use Rattle.jk_model.specs.declared.identifiers.ClassId.{ClassId}
@@ -8,6 +8,8 @@ use Rattle.jk_model.specs.declared.values.Value.{Value}
 use Rattle.jk_model_classes.specs.declared.records.ClassRecord.{ClassRecord}
 use Rattle.jk_model_classes.specs.declared.records.FieldRecord.{FieldRecord}
 use Rattle.jk_model_classes.specs.Classes.{parents_of, record_of}
+use Rattle.jk_model_classes.specs.Layouts.{InstanceField, type_words}
+use Rattle.jk_model_classes.specs.Lookups.{FieldIs}
 use Rattle.jk_model_domains.specs.Objects.{NamedObject, Object, Array, Plain, Task, Text, object_named, object_words}
 use Rattle.jk_model_domains.specs.OwnStates.{zero_of}
 use Rattle.jk_model_heaps.specs.declared.shapes.Shape.{Shape}
@@ -39,6 +41,10 @@ field_records_within (suc height) classes c =
 -- the records of the fields of an object of the class, those of the parents first, as `instance_fields` has their members
 abbrev pub field_records : List ClassRecord → ClassId → List FieldRecord
 field_records classes c = field_records_within (c.0 + 1) classes c
+
+-- the record is that of the member, which takes as many words as a value of its type
+abbrev pub IsFieldWith : List ClassRecord → InstanceField → FieldRecord → Type 0
+IsFieldWith classes g f = FieldIs classes g.member f × (g.words ≡ type_words f.kind)
 
 -- ---- New objects: zeros and nulls.
 

@@ -1,6 +1,6 @@
 -- What is an instance of what, by the real hierarchy, interfaces included (the Java Virtual Machine Specification, 6, checkcast,
 -- instanceof, aastore). Typing reads interfaces as java/lang/Object; this doesn't.
-use Rattle.std.specs.Prelude.{◌≡◌, ℕ, ◌<◌, ◌⊎◌, List, Some}
+use Rattle.std.specs.Prelude.{◌≡◌, ◌<◌, ◌⊎◌, List, Some}
 use Rattle.jk_model.specs.declared.identifiers.ClassId.{ClassId}
 use Rattle.jk_model.specs.declared.values.Value.{Value}
 use Rattle.jk_model.specs.declared.values.Value.TheVariants as Held

@@ -1,7 +1,12 @@
 //! What the definitions in `specs/` say by themselves. The functions have no bodies: each stands for its clauses.
 
-ghost use Rattle.std.specs.Prelude.{codes};
+ghost use Rattle.std.specs.Prelude.{List, codes};
+ghost use Rattle.std.specs.List.{AllZip};
+ghost use Rattle.jk_model.specs.declared.identifiers.ClassId.{ClassId};
+ghost use Rattle.jk_model_classes.specs.declared.records.ClassRecord.{ClassRecord};
+ghost use Rattle.jk_model_classes.specs.Layouts.{instance_fields};
 ghost use Rattle.jk_model_classes.specs.Stubs.{IsSystemNamed};
+ghost use Rattle.jk_model_heaps.specs.Heaps.{IsFieldWith, field_records};
 ghost use Rattle.jk_model_heaps.specs.SystemClasses.{ABSTRACT_METHOD_ERROR, ARRAY_INDEX_EXCEPTION, ARRAY_STORE_EXCEPTION, CLASS_CAST_EXCEPTION, CLONEABLE, DOMAIN, ERROR, EXCEPTION_IN_INITIALIZER_ERROR, ILLEGAL_ACCESS_ERROR, ILLEGAL_ARGUMENT_EXCEPTION, INCOMPATIBLE_CLASS_CHANGE_ERROR, INTEGER, NEGATIVE_ARRAY_SIZE_EXCEPTION, NOT_COPIABLE_EXCEPTION, NO_CLASS_DEF_FOUND_ERROR, NULL_POINTER_EXCEPTION, NUMBER_FORMAT_EXCEPTION, OUT_OF_MEMORY_ERROR, QUOTA_EXCEPTION, REMOTE, REMOTE_EXCEPTION, REPOSITORY, REVOKED_EXCEPTION, SECURITY_EXCEPTION, SERIALIZABLE, STACK_OVERFLOW_ERROR, STRING_BUFFER, STRING_BUILDER, STRING_INDEX_EXCEPTION, SYSTEM, THREAD_DEATH};
 
 /// The numbers by which rules name classes are those of the system table: of classes that are no throwables.
@@ -45,4 +50,9 @@ pub fn classes_of_errors()
     ensures illegal_access_error { IsSystemNamed (codes "java/lang/IllegalAccessError") ILLEGAL_ACCESS_ERROR }
     ensures out_of_memory_error { IsSystemNamed (codes "java/lang/OutOfMemoryError") OUT_OF_MEMORY_ERROR }
     ensures stack_overflow_error { IsSystemNamed (codes "java/lang/StackOverflowError") STACK_OVERFLOW_ERROR }
+{}
+
+/// An object's fields stand in one order, whether they are told by their members or by their records.
+pub fn fields_stand_in_one_order()
+    ensures { (classes : List ClassRecord) (c : ClassId) → AllZip (IsFieldWith classes) (instance_fields classes c) (field_records classes c) }
 {}

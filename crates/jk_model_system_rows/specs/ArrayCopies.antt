@@ -1,6 +1,6 @@
 -- java/lang/System.arraycopy: items of an array take the places of items of another, or of the same one. They are copied as if through a
 -- second array: what is read is read before anything is written.
-use Rattle.std.specs.Prelude.{◌≡◌, ℕ, ◌+◌, ◌<◌, ◌≤◌, ◌⊎◌, ◌==◌, ◌||◌, IsFalse, IsTrue, ℤ, pos, List, [], ◌∷◌, ◌++◌, length, take, drop, Option, Some, None, MatchOption, slice_get, if◌then◌else◌}
+use Rattle.std.specs.Prelude.{◌≡◌, ℕ, ◌+◌, ◌<◌, ◌≤◌, ◌==◌, ◌||◌, IsFalse, IsTrue, ℤ, pos, List, [], ◌∷◌, ◌++◌, length, take, drop, Option, Some, None, MatchOption, slice_get, if◌then◌else◌}
 use Rattle.jk_model.specs.declared.values.Value.{Value}
 use Rattle.jk_model.specs.declared.values.Value.TheVariants as Held
 use Rattle.jk_model_classes.specs.declared.records.BaseRef.{BaseRef}

@@ -1,13 +1,10 @@
 -- Worked examples: what a domain has inside before and after methods of system classes. `src/examples.rt` states what the definitions say
 -- of them.
 use Rattle.std.specs.Prelude.{ℕ, ℤ, pos, List, [], ◌∷◌, map, None, codes}
-use Rattle.jk_model.specs.declared.identifiers.ClassId.{ClassId}
 use Rattle.jk_model.specs.declared.values.Value.{Value}
 use Rattle.jk_model.specs.declared.values.Value.TheVariants as Held
 use Rattle.jk_model_classes.specs.declared.records.BaseRef.TheVariants as Base
 use Rattle.jk_model_classes.specs.declared.records.ClassRecord.{ClassRecord}
-use Rattle.jk_model_classes.specs.declared.records.FieldRecord.{FieldRecord}
-use Rattle.jk_model_classes.specs.declared.records.Link.TheVariants as To
 use Rattle.jk_model_classes.specs.Classes.{OBJECT}
 use Rattle.jk_model_typing.specs.FrameTypes.{STRING, array_type}
 use Rattle.jk_model_frames.specs.Frames.{FrameState}

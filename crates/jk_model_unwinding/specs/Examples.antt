@@ -11,16 +11,13 @@ use Rattle.jk_model.specs.SystemTable.{public}
 use Rattle.jk_model_classes.specs.declared.records.Body.TheVariants.{Linked}
 use Rattle.jk_model_classes.specs.declared.records.Caught.{Caught}
 use Rattle.jk_model_classes.specs.declared.records.ClassRecord.{ClassRecord}
-use Rattle.jk_model_classes.specs.declared.records.FieldRecord.{FieldRecord}
-use Rattle.jk_model_classes.specs.declared.records.Link.TheVariants as To
 use Rattle.jk_model_classes.specs.declared.records.LinkedCode.{LinkedCode}
 use Rattle.jk_model_classes.specs.declared.records.MethodRecord.{MethodRecord}
 use Rattle.jk_model_classes.specs.Classes.{OBJECT}
-use Rattle.jk_model_typing.specs.FrameTypes.{STRING}
 use Rattle.jk_model_frames.specs.Frames.{FrameState}
 use Rattle.jk_model_domains.specs.declared.states.ClassState.{ClassState}
 use Rattle.jk_model_domains.specs.NumberRows.{ARITHMETIC_EXCEPTION}
-use Rattle.jk_model_domains.specs.Objects.{NamedObject, Plain, class_type}
+use Rattle.jk_model_domains.specs.Objects.{NamedObject, Plain}
 use Rattle.jk_model_domains.specs.OwnStates.{ClassPart}
 use Rattle.jk_model_heaps.specs.ExampleClasses.{system_records}
 use Rattle.jk_model_heaps.specs.Heaps.{named}

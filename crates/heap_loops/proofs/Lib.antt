@@ -1,0 +1,2 @@
+-- How texts of a store change unit by unit.
+mod UnitsSoFar
