@@ -1,3 +1,2 @@
 -- Lemmas for worked examples.
 mod FrontOfTexts
-mod OneIsMade

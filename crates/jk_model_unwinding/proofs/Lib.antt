@@ -1,4 +1,3 @@
 -- Lemmas for worked examples.
 mod ClassesOfThrowables
-mod OneIsMade
 mod RunningCodes

@@ -7,7 +7,7 @@ use Rattle.jk_model_heaps.specs.Heaps.{named}
 use Rattle.jk_model_heaps.specs.SystemClasses.{STRING_BUFFER}
 use Rattle.jk_model_system_rows.specs.Examples.{buffer_before, classes}
 use Rattle.jk_model_system_rows.specs.HiddenTexts.{TextHolder}
-use Rattle.jk_model_system_rows.proofs.OneIsMade.{one_is_made}
+use Rattle.jk_model_heaps.proofs.OneIsMade.{one_is_made}
 use Rattle.jk_model_system_rows.proofs.examples.number_is_appended.Goals as goal
 
 abbrev buffer : TextHolder buffer_before.heap (Held.Obj 1)

@@ -13,7 +13,7 @@ use Rattle.jk_model_heaps.specs.SystemClasses.{EXCEPTION_IN_INITIALIZER_ERROR}
 use Rattle.jk_model_unwinding.specs.Examples.{MAIN, classes, domain, frame, handler, initialiser, initialising, method, part, setting, thrown}
 use Rattle.jk_model_unwinding.specs.Unwinding.{CatchesNot}
 use Rattle.jk_model_unwinding.proofs.ClassesOfThrowables.{is_no_error}
-use Rattle.jk_model_unwinding.proofs.OneIsMade.{one_is_made}
+use Rattle.jk_model_heaps.proofs.OneIsMade.{one_is_made}
 use Rattle.jk_model_unwinding.proofs.RunningCodes.{runs}
 use Rattle.jk_model_unwinding.proofs.examples.exception_leaves_an_initialiser.Goals as goal
 
