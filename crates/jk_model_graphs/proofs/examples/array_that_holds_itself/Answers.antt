@@ -27,14 +27,16 @@ returns-clause-copied c = record {
   one_to_one = one_to_one_by array_pairs 4 (refl, tt);
   each_reached = λ a b h. each-of (λ (p : ℕ × ℕ). Reach classes self_holder p.0) array_pairs (a, b) (array_is_reached, tt) h;
   all_reached = λ a reached. each-of (λ (d : ℕ). (b : ℕ) × Contains array_pairs (d, b)) array_names a ((8, pair), tt) (reach_of_array.all a reached);
-  each_made = λ a b h. each-of (λ (p : ℕ × ℕ). ArePaired classes self_holder.heap copies array_pairs p.0 p.1) array_pairs (a, b)
-      (record {
-        object = array (Held.Obj 4 ∷ capability ∷ []);
-        is_object = refl;
-        copy = array (Held.Obj 8 ∷ capability ∷ []);
-        is_copy = refl;
-        same = (refl, (pair, (refl, tt)));
-      }, tt) h;
+  each_made = λ a b h. each-of (λ (p : ℕ × ℕ). ArePaired classes self_holder.heap copies array_pairs p.0 p.1) array_pairs (a, b) (
+    record {
+      object = array (Held.Obj 4 ∷ capability ∷ []);
+      is_object = refl;
+      copy = array (Held.Obj 8 ∷ capability ∷ []);
+      is_copy = refl;
+      same = (refl, (pair, (refl, tt)));
+    },
+    tt,
+  ) h;
   all_made = λ e h. each-of (λ (f : NamedObject). (a : ℕ) × Contains array_pairs (a, f.name)) copies e ((4, pair), tt) h;
   values = (pair, (refl, (refl, tt)));
 }

@@ -59,14 +59,28 @@ returns-clause-opens c = record {
   standing = stands;
   nothing_else = λ e h. each-of (λ (f : NamedObject). IsOpeningName first_inside.own f.name) first_heap e (
     inl refl,
-    (inr (Stands.OutOfMemoryError, refl),
-    (inr (Stands.StackOverflowError, refl),
-    (inr (Stands.Revoked, refl),
-    (inr (Stands.Quota, refl),
-    (inr (Stands.NotCopiable, refl),
-    (inr (Stands.Remote, refl),
-    (inr (Stands.ThreadDeath, refl),
-    (inr (Stands.Security, refl), tt)))))))),
+    (
+      inr (Stands.OutOfMemoryError, refl),
+      (
+        inr (Stands.StackOverflowError, refl),
+        (
+          inr (Stands.Revoked, refl),
+          (
+            inr (Stands.Quota, refl),
+            (
+              inr (Stands.NotCopiable, refl),
+              (
+                inr (Stands.Remote, refl),
+                (
+                  inr (Stands.ThreadDeath, refl),
+                  (inr (Stands.Security, refl), tt),
+                ),
+              ),
+            ),
+          ),
+        ),
+      ),
+    ),
   ) h;
 }
 

@@ -11,6 +11,8 @@ returns-clause-goes_on c = λ m t p free left q no_stop not_revoked run step.
     (Worked, acts p Worked [] (with_run q run) free left (does q run GoesOn Worked [] (with_run q run) no_stop not_revoked step goes_on))
 
 pub returns-clause-says : goal.returns-clause-says
-returns-clause-says c = λ m t p free left q no_stop not_revoked run text step after.
-    (Worked, acts p Worked (Said after.home.domain.name text ∷ []) (with_run q run) free left
-    (does q run (Says text) Worked (Said after.home.domain.name text ∷ []) (with_run q run) no_stop not_revoked step (says after text)))
+returns-clause-says c = λ m t p free left q no_stop not_revoked run text step after. (
+  Worked,
+  acts p Worked (Said after.home.domain.name text ∷ []) (with_run q run) free left
+      (does q run (Says text) Worked (Said after.home.domain.name text ∷ []) (with_run q run) no_stop not_revoked step (says after text)),
+)
