@@ -1,0 +1,2 @@
+pub mod CallsAndAnswers
+pub mod SoundMachines

@@ -1,0 +1,75 @@
+-- From each sealed machine each thread goes on: a call through a capability enters or is refused, what comes back arrives, what is raised is
+-- caught or leaves the thread, and so each thread number has a step. The rest of an event rests on it whose lines didn't go out.
+use Rattle.std.specs.Prelude.{◌≡◌, ℕ, ◌⊎◌, List, Option}
+use Rattle.jk_model.specs.declared.identifiers.ThreadNo.{ThreadNo}
+use Rattle.jk_model.specs.declared.output.Line.{Line}
+use Rattle.jk_model.specs.declared.steps.Raise.{Raise}
+use Rattle.jk_model.specs.declared.values.Value.{Value}
+use Rattle.jk_model_heaps.specs.Workings.{Request}
+use Rattle.jk_model_machine_state.specs.Machines.{DomainState, IsLiveDomain, Machine}
+use Rattle.jk_model_machine_state.specs.Places.{RunningSegment}
+use Rattle.jk_model_crossings.specs.Answers.{Returns}
+use Rattle.jk_model_crossings.specs.DomainEnds.{Terminates}
+use Rattle.jk_model_crossings.specs.Passages.{IsTooLarge, IsUncopiable, Passage, Passes}
+use Rattle.jk_model_crossings.specs.RemoteCalls.{Enters, Refuses, RemoteCall}
+use Rattle.jk_model_crossings.specs.Requests.{Granted, Grants}
+use Rattle.jk_model_crossings.specs.Throwing.{RaisesInThread, Throws}
+use Rattle.jk_model_domains.specs.Objects.{NamedObject}
+use Rattle.jk_model_graphs.specs.Copiable.{AllCopiable}
+use Rattle.jk_model_runs.specs.Events.{Goes, IsWhole, Rounds, Turns}
+use Rattle.jk_model_runs.specs.Sealed.{IsSealed}
+use Rattle.jk_model_runs.specs.Steps.{Deed, StepsBy}
+use Rattle.crossing_premises.specs.CallsAndAnswers.{IsTaken, IsThrown, MayBeAsked, MayBeRaised, StandsAtCall}
+use Rattle.crossing_premises.specs.SoundMachines.{HasSoundClasses, IsSealedAtCall}
+use Rattle.heap_graphs.specs.CopiedGraphs.{IsWhollyThere}
+
+-- ---- Values pass, or one of the two reasons keeps them, whatever the heap is into which they pass.
+
+abbrev pub PassagesAreDecided : Type 0
+PassagesAreDecided =
+    (p : Passage) → IsWhollyThere p.classes p.source
+    → IsUncopiable p ⊎ IsTooLarge p ⊎ ((heap : List NamedObject) × (values : List Value) × Passes p heap values)
+
+-- ---- What follows a step past its segment.
+
+abbrev pub CallsAreDecided : Type 0
+CallsAreDecided =
+    (m : Machine) (t : ThreadNo) (c : RemoteCall m t) → IsSealed m → HasSoundClasses m → StandsAtCall c
+    → ((new : Machine) × Enters c new) ⊎ ((r : Raise) × Refuses c r)
+
+abbrev pub RaisesAreThere : Type 0
+RaisesAreThere =
+    (m : Machine) (t : ThreadNo) (p : RunningSegment m t) (r : Raise) → IsSealedAtCall m t → HasSoundClasses m → MayBeRaised p r
+    → (n : ℕ) × (lines : List Line) × (new : Machine) × RaisesInThread m t r n lines new
+
+abbrev pub ThrowsAreThere : Type 0
+ThrowsAreThere =
+    (m : Machine) (t : ThreadNo) (p : RunningSegment m t) (a : ℕ) → IsSealed m → HasSoundClasses m → IsThrown p a
+    → (n : ℕ) × (lines : List Line) × (new : Machine) × Throws t n m a lines new
+
+abbrev pub ReturnsAreThere : Type 0
+ReturnsAreThere =
+    (m : Machine) (t : ThreadNo) (p : RunningSegment m t) (v : Option Value) → IsSealed m → HasSoundClasses m → IsTaken m t v
+    → (n : ℕ) × (lines : List Line) × (new : Machine) × Returns m t v n lines new
+
+abbrev pub GrantsAreThere : Type 0
+GrantsAreThere =
+    (m : Machine) (t : ThreadNo) (p : RunningSegment m t) (request : Request) → IsSealedAtCall m t → MayBeAsked p request
+    → (granted : Granted) × (mid : Machine) × Grants p request granted mid
+
+abbrev pub EndsAreThere : Type 0
+EndsAreThere = (m : Machine) (d : DomainState) → IsLiveDomain d → (lines : List Line) × (new : Machine) × Terminates m d lines new
+
+-- ---- Whole steps, and steps in turn.
+
+abbrev pub StepsAreThere : Type 0
+StepsAreThere =
+    (m : Machine) (t : ThreadNo) → IsWhole m → HasSoundClasses m → (deed : Deed) × (lines : List Line) × (new : Machine) × StepsBy m t deed lines new
+
+pub record TurnsAreThere : Type 0 where
+  pub turns : (n : ℕ) (t : ThreadNo) (m : Machine) → IsWhole m → HasSoundClasses m
+      → (lines : List Line) × (new : Machine) × Turns n t m lines new × IsWhole new × HasSoundClasses new
+  pub goes : (steps thread : ℕ) (m : Machine) → IsWhole m → HasSoundClasses m
+      → (lines : List Line) × (new : Machine) × Goes steps thread m lines new × IsWhole new × HasSoundClasses new
+  pub rounds : (n steps : ℕ) (m : Machine) → IsWhole m → HasSoundClasses m
+      → (lines : List Line) × (new : Machine) × Rounds n steps m lines new × IsWhole new × HasSoundClasses new

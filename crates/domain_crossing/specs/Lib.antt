@@ -1,0 +1,3 @@
+pub mod AskedOfCrossings
+pub mod Crossings
+pub mod PrintedOfThreads

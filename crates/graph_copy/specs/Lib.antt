@@ -1,0 +1,2 @@
+pub mod AskedOfCopies
+pub mod CopyAnswers

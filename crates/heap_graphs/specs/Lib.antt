@@ -1,0 +1,2 @@
+pub mod CopiedGraphs
+pub mod ReachedNames

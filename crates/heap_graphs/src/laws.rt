@@ -1,0 +1,44 @@
+//! The laws. The functions have no bodies: each stands for its clause.
+
+ghost use Rattle.heap_graphs.specs.CopiedGraphs.{ACopyIsThere, CopiedValuesFit, CopiesCostTheirReach};
+ghost use Rattle.heap_graphs.specs.ReachedNames.{ClosedIsReach, DistinctFits, OneSum, ReachIsThere, ReachIsWithinHeap};
+
+/// Different numbers, all among others, are no more than these, whatever each counts.
+pub fn distinct_fits()
+    ensures { DistinctFits }
+{}
+
+/// A list that has what the values name, and that to which it leads, has all that is reached.
+pub fn closed_is_reach()
+    ensures { ClosedIsReach }
+{}
+
+/// What is reached costs one sum.
+pub fn one_sum()
+    ensures { OneSum }
+{}
+
+/// Whatever the heap and the values are, the names that are reached can be listed, each once.
+pub fn reach_is_there()
+    ensures { ReachIsThere }
+{}
+
+/// What is reached costs no more than the whole heap.
+pub fn reach_is_within_heap()
+    ensures { ReachIsWithinHeap }
+{}
+
+/// Where each name that is reached has its object, with a value for each field, there is a copy of all of them in any heap.
+pub fn a_copy_is_there()
+    ensures { ACopyIsThere }
+{}
+
+/// A copy costs what is reached of its source.
+pub fn copies_cost_their_reach()
+    ensures { CopiesCostTheirReach }
+{}
+
+/// A value that may stand where a type is declared has a copy that may stand there too.
+pub fn copied_values_fit()
+    ensures { CopiedValuesFit }
+{}

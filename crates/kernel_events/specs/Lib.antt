@@ -1,0 +1,4 @@
+pub mod FreedPages
+pub mod KernelCalls
+pub mod PrintedLines
+pub mod StepsInTurn

@@ -1,0 +1,3 @@
+pub mod AddedDomains
+pub mod FolderEvents
+pub mod StartedThreads

@@ -1,0 +1,2 @@
+pub mod DecodedCodes
+pub mod SoundKernels

@@ -1,0 +1,73 @@
+-- What holds of a kernel at every moment, and of the machine for which its parts stand.
+--
+-- pub struct KernelParts<H, F> { pub alloc: Global, pub world: World, pub owns: Vec<Option<Own>>, pub shared: Shared, pub heap: H,
+--     pub frames: F, pub main_kind: MethodType }
+--   ghost Value     = { Machine }
+--   ghost view      = { λ k. kernel_machine (content_of k) }
+--   ghost invariant = { λ k. IsSoundKernel (content_of k) }
+-- where `content_of k` is the record of `k.world`, `k.owns.items`, `k.shared`, `H.content k.heap`, `F.content k.frames` and `k.main_kind`.
+use Rattle.std.specs.Prelude.{◌≡◌, ℕ, ◌+◌, ◌*◌, ◌≤◌, List, length, map, Contains, Option, Some, codes, option_map, slice_get}
+use Rattle.jk_model.specs.declared.descriptors.MethodType.{MethodType}
+use Rattle.jk_model.specs.Descriptors.{IsMethodText}
+use Rattle.jk_model.specs.SystemTable.{system_classes}
+use Rattle.jk_model_classes.specs.Classes.{HasClass}
+use Rattle.jk_model_classes.specs.Worlds.{DomainRecord, IsWorld, WorldRecord}
+use Rattle.jk_model_heaps.specs.Capabilities.{Capability}
+use Rattle.jk_model_sharing.specs.SharedStates.{SharedState}
+use Rattle.jk_model_machine_state.specs.Machines.{DomainState, Machine}
+use Rattle.jk_model_runs.specs.Events.{IsWhole}
+use Rattle.class_init.specs.KeptStates.{HasRooms, KeptState}
+use Rattle.object_store.specs.HeapContents.{HeapContent}
+use Rattle.frame_store.specs.FrameContents.{FrameContent}
+use Rattle.sealed_openings.specs.FieldConstants.{HaveSuitingConstants}
+use Rattle.crossing_premises.specs.SoundMachines.{HasSoundClasses}
+use Rattle.machine_parts.specs.FittingParts.{AreFittingParts}
+use Rattle.machine_parts.specs.MachineParts.{MachineParts, machine_of}
+use Rattle.kernel_parts.specs.DecodedCodes.{AreDecoded}
+
+-- ---- Of the machine: it is sealed and its calls are answered, its classes and names are sound and linked, and code is as decoding gives it.
+
+pub record IsSoundMachine (m : Machine) : Type 0 where
+  pub whole : IsWhole m
+  pub sound : HasSoundClasses m
+  pub decoded : AreDecoded m.classes
+  -- each constant of a field is of the field's type
+  pub constants : HaveSuitingConstants m.classes
+  -- a run has no capability of a class that isn't there
+  pub capabilities : (d : DomainState) (c : Capability) → Contains m.domains d → Contains d.caps.made c → HasClass m.classes c.class
+
+-- ---- Of the parts, as contracts see them.
+
+pub record KernelContent : Type 0 where
+  pub world : WorldRecord
+  -- at each domain's number what is kept of its own state; nothing of one that was killed
+  pub owns : List (Option KeptState)
+  pub shared : SharedState
+  pub heap : HeapContent
+  pub frames : FrameContent
+  -- the type of `main`
+  pub main_kind : MethodType
+
+abbrev pub parts_of : KernelContent → MachineParts
+parts_of k = record {
+  world = k.world;
+  owns = map (option_map (λ (own : KeptState). own.state)) k.owns;
+  shared = k.shared;
+  heap = k.heap;
+  frames = k.frames;
+}
+
+abbrev pub kernel_machine : KernelContent → Machine
+kernel_machine k = machine_of (parts_of k)
+
+pub record IsSoundKernel (k : KernelContent) : Type 0 where
+  pub fitting : AreFittingParts (parts_of k)
+  pub machine : IsSoundMachine (kernel_machine k)
+  -- what loading a folder asks
+  pub world : IsWorld k.world (length k.world.domains)
+  pub few_domains : length k.world.domains ≤ 65535
+  pub few_classes : length k.world.classes ≤ length system_classes + 512 * length k.world.domains
+  -- each literal of a live domain has room for its object, so that no step takes memory
+  pub rooms : (i : ℕ) (names : DomainRecord) (own : KeptState) → slice_get k.world.domains i ≡ Some names → slice_get k.owns i ≡ Some (Some own)
+      → HasRooms k.world.classes names.table own
+  pub main : IsMethodText (codes "([Ljava/lang/String;)V") k.main_kind

@@ -1,0 +1,2 @@
+pub mod FittingParts
+pub mod MachineParts
