@@ -1,9 +1,12 @@
 -- When a step function may be called: all that it may rest on. Nothing is asked of other domains' heaps and of other segments.
-use Rattle.std.specs.Prelude.{◌≡◌, ◌≢◌, ℕ, ◌<◌, ◌⊎◌, true, List, [], ◌∷◌, ◌++◌, Contains, Some, None, slice_get}
+use Rattle.std.specs.Prelude.{◌≡◌, ◌≢◌, ℕ, ◌<◌, ◌⊎◌, ⊤, true, List, [], ◌∷◌, ◌++◌, length, Contains, Some, None, slice_get}
 use Rattle.jk_model.specs.declared.identifiers.CapId.{CapId}
 use Rattle.jk_model.specs.declared.identifiers.ClassId.{ClassId}
 use Rattle.jk_model.specs.declared.identifiers.DomainId.{DomainId}
+use Rattle.jk_model.specs.declared.steps.Raise.{Raise}
+use Rattle.jk_model.specs.declared.steps.Raise.TheVariants as Raised
 use Rattle.jk_model.specs.declared.values.Value.{Value}
+use Rattle.jk_model.specs.SystemTable.{system_classes}
 use Rattle.jk_model_classes.specs.declared.records.ClassRecord.{ClassRecord}
 use Rattle.jk_model_classes.specs.declared.sharing.Stub.{Stub}
 use Rattle.jk_model_classes.specs.Classes.{IsInterface, IsSubclass, record_of}
@@ -105,3 +108,9 @@ pub record MayRaise (c : Contents) (here : Here) : Type 0 where
 abbrev pub IsThrowable : List ClassRecord → List NamedObject → ℕ → Type 0
 IsThrowable classes heap a =
     (c : ClassId) × (fields : List Value) × (object_named heap a ≡ Some (Plain c fields)) × IsSubclass classes c THROWABLE
+
+-- it may be raised in the domain: a throwable of its heap, one that stands there, or a new one of a system class
+abbrev pub MayBeRaised : List ClassRecord → List NamedObject → Raise → Type 0
+MayBeRaised classes heap (Raised.Object a) = IsThrowable classes heap a
+MayBeRaised classes heap (Raised.Standing s) = ⊤
+MayBeRaised classes heap (Raised.Fresh c) = (c.0 < length system_classes) × IsSubclass classes c THROWABLE

@@ -33,6 +33,14 @@ pub record Here : Type 0 where
 abbrev pub here_at : WorldRecord → SharedState → DomainId → SegmentNo → Here
 here_at world shared d s = record { world = world; shared = shared; domain = d; segment = s }
 
+-- what a call leaves that may change what domains share, too
+pub record LeftBehind : Type 0 where
+  pub contents : Contents
+  pub shared : SharedState
+
+abbrev pub left_behind : Contents → SharedState → LeftBehind
+left_behind contents shared = record { contents = contents; shared = shared }
+
 -- ---- What they hold.
 
 -- what the domain has inside
