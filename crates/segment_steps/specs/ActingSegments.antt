@@ -18,7 +18,8 @@ use Rattle.jk_model_running.specs.Ways.{GoesOn, Says, Ended, Left, Crosses, Asks
 use Rattle.jk_model_sealing.specs.AnsweringFrames.{FramesAnswer}
 use Rattle.jk_model_sealing.specs.FittingFrames.{FitsAsTop}
 use Rattle.jk_model_sealing.specs.SealedRuns.{IsSealedRun}
-use Rattle.step_contents.specs.Conditions.{KeepsStates, KnowsDomain, around}
+use Rattle.sealed_rows.specs.RaisableObjects.{KeepsStates}
+use Rattle.step_contents.specs.Conditions.{KnowsDomain, around}
 use Rattle.step_contents.specs.Contents.{Becomes, Contents, Here, Holds, LeftBehind, with_frame}
 use Rattle.step_contents.specs.Settings.{IsSetting}
 use Rattle.system_calls.specs.SharedAnswers.{Answers}

@@ -1,21 +1,14 @@
 -- When a step function may be called: all that it may rest on. Nothing is asked of other domains' heaps and of other segments.
-use Rattle.std.specs.Prelude.{◌≡◌, ◌≢◌, ℕ, ◌<◌, ◌⊎◌, ⊤, true, List, [], ◌∷◌, ◌++◌, length, Contains, Some, None, slice_get}
+use Rattle.std.specs.Prelude.{◌≡◌, ◌≢◌, ℕ, ◌<◌, ◌⊎◌, true, List, [], ◌∷◌, ◌++◌, Contains, Some, None, slice_get}
 use Rattle.jk_model.specs.declared.identifiers.CapId.{CapId}
 use Rattle.jk_model.specs.declared.identifiers.ClassId.{ClassId}
 use Rattle.jk_model.specs.declared.identifiers.DomainId.{DomainId}
-use Rattle.jk_model.specs.declared.steps.Raise.{Raise}
-use Rattle.jk_model.specs.declared.steps.Raise.TheVariants as Raised
-use Rattle.jk_model.specs.declared.values.Value.{Value}
-use Rattle.jk_model.specs.SystemTable.{system_classes}
 use Rattle.jk_model_classes.specs.declared.records.ClassRecord.{ClassRecord}
 use Rattle.jk_model_classes.specs.declared.sharing.Stub.{Stub}
-use Rattle.jk_model_classes.specs.Classes.{IsInterface, IsSubclass, record_of}
+use Rattle.jk_model_classes.specs.Classes.{IsInterface, record_of}
 use Rattle.jk_model_classes.specs.Stubs.{ImplementsRemote, IsStub}
 use Rattle.jk_model_classes.specs.Worlds.{DomainRecord, domain_of}
-use Rattle.jk_model_typing.specs.FrameTypes.{THROWABLE}
 use Rattle.jk_model_frames.specs.Frames.{FrameState}
-use Rattle.jk_model_domains.specs.Objects.{NamedObject, Plain, object_named}
-use Rattle.jk_model_domains.specs.OwnStates.{HasState, OwnState}
 use Rattle.jk_model_heaps.specs.Capabilities.{IsGivenOut}
 use Rattle.jk_model_heaps.specs.Heaps.{heap_words}
 use Rattle.jk_model_heaps.specs.Workings.{Run, Working}
@@ -24,6 +17,7 @@ use Rattle.jk_model_sealing.specs.SealedInsides.{IsSealedInside, Surroundings}
 use Rattle.jk_model_sealing.specs.SealedRuns.{IsSealedRun}
 use Rattle.jk_model_sharing.specs.SharedStates.{SharedDomain, SharedState, caps_of, domain_numbered, stub_for, stub_of}
 use Rattle.class_init.specs.KeptStates.{HasRooms}
+use Rattle.sealed_rows.specs.RaisableObjects.{KeepsStates}
 use Rattle.sound_codes.specs.SoundCodes.{AreSoundCodes}
 use Rattle.sound_codes.specs.SoundTables.{IsSoundTable}
 use Rattle.step_contents.specs.Contents.{Contents, Here, Holds, inside_in}
@@ -92,10 +86,6 @@ working may = record { inside = may.run.inside; frame = may.frame }
 
 -- ---- Something may be raised. The top frame runs, or has called a segment that was taken away; or no frame is left.
 
--- the domain keeps a state of each class that one of the frames initialises
-abbrev pub KeepsStates : OwnState → List FrameState → Type 0
-KeepsStates own frames = (f : FrameState) (c : ClassId) → Contains frames f → f.head.initialises ≡ Some c → HasState own c
-
 pub record MayRaise (c : Contents) (here : Here) : Type 0 where
   pub domain : KnowsDomain c here
   pub run : Run
@@ -103,14 +93,3 @@ pub record MayRaise (c : Contents) (here : Here) : Type 0 where
   pub sealed : IsSealedRun (around domain) domain.quota
       (λ (f : FrameState). FitsAsTop here.world.classes run.inside.heap f ⊎ FitsAtCall here.world.classes run.inside.heap f) run
   pub states : KeepsStates run.inside.own run.frames
-
--- the object of this name is a throwable of the heap
-abbrev pub IsThrowable : List ClassRecord → List NamedObject → ℕ → Type 0
-IsThrowable classes heap a =
-    (c : ClassId) × (fields : List Value) × (object_named heap a ≡ Some (Plain c fields)) × IsSubclass classes c THROWABLE
-
--- it may be raised in the domain: a throwable of its heap, one that stands there, or a new one of a system class
-abbrev pub MayBeRaised : List ClassRecord → List NamedObject → Raise → Type 0
-MayBeRaised classes heap (Raised.Object a) = IsThrowable classes heap a
-MayBeRaised classes heap (Raised.Standing s) = ⊤
-MayBeRaised classes heap (Raised.Fresh c) = (c.0 < length system_classes) × IsSubclass classes c THROWABLE
