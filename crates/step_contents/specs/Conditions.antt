@@ -1,5 +1,5 @@
 -- When a step function may be called: all that it may rest on. Nothing is asked of other domains' heaps and of other segments.
-use Rattle.std.specs.Prelude.{◌≡◌, ◌≢◌, ℕ, ◌<◌, ◌⊎◌, true, List, [], ◌∷◌, ◌++◌, Contains, Some, None, slice_get}
+use Rattle.std.specs.Prelude.{◌≡◌, ◌≢◌, ℕ, ◌^◌, ◌<◌, ◌⊎◌, true, List, [], ◌∷◌, ◌++◌, Contains, Some, None, slice_get}
 use Rattle.jk_model.specs.declared.identifiers.CapId.{CapId}
 use Rattle.jk_model.specs.declared.identifiers.ClassId.{ClassId}
 use Rattle.jk_model.specs.declared.identifiers.DomainId.{DomainId}
@@ -31,8 +31,8 @@ pub record IsForeignStub (classes : List ClassRecord) (s : Stub) : Type 0 where
   pub interfaces : (i : ClassId) → Contains s.interfaces i → IsInterface classes i
   pub rising : (j k : ℕ) (a b : ClassId) → j < k → slice_get s.interfaces j ≡ Some a → slice_get s.interfaces k ≡ Some b → a.0 < b.0
 
--- The domain is live; each stub is that of its class; and there is one for each class of a folder that implements jk/Remote, and for
--- each capability.
+-- The domain is live; each stub is that of its class; there is one for each class of a folder that implements jk/Remote, and for each
+-- capability; and numbers of capabilities fit 24 bits.
 pub record SharesWell (classes : List ClassRecord) (shared : SharedState) (d : DomainId) : Type 0 where
   pub domain : SharedDomain
   pub is_domain : domain_numbered shared d ≡ Some domain
@@ -40,7 +40,7 @@ pub record SharesWell (classes : List ClassRecord) (shared : SharedState) (d : D
   pub stubs : (s : Stub) → Contains shared.stubs s → IsStub classes s.class s ⊎ IsForeignStub classes s
   pub remote : (c : ClassId) (r : ClassRecord) → record_of classes c ≡ Some r → r.home ≢ None → ImplementsRemote classes c
       → (s : Stub) × (stub_for shared c ≡ Some s)
-  pub capabilities : (k : CapId) → IsGivenOut (caps_of shared) k → (s : Stub) × (stub_of shared k ≡ Some s)
+  pub capabilities : (k : CapId) → IsGivenOut (caps_of shared) k → ((s : Stub) × (stub_of shared k ≡ Some s)) × (k.0 < 2 ^ 24)
 
 -- ---- What is known of the domain, whatever runs in it.
 
