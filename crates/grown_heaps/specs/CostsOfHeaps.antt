@@ -3,6 +3,7 @@ use Rattle.std.specs.Prelude.{◌≡◌, ◌+◌, ℕ, List, ◌++◌, Some}
 use Rattle.jk_model_classes.specs.declared.records.ClassRecord.{ClassRecord}
 use Rattle.jk_model_domains.specs.Objects.{NamedObject, Object, object_named, object_words}
 use Rattle.jk_model_heaps.specs.Heaps.{IsAlike, heap_words, with_object}
+use Rattle.grown_heaps.specs.NamedObjects.{NamesDiffer}
 
 -- two heaps cost together what each costs
 abbrev pub HeapsCostTogether : Type 0
@@ -16,5 +17,5 @@ AlikeObjectsCostTheSame =
 
 abbrev pub WritingCostsNothing : Type 0
 WritingCostsNothing =
-    (classes : List ClassRecord) (heap : List NamedObject) (a : ℕ) (old new : Object) → object_named heap a ≡ Some old → IsAlike old new
-    → heap_words classes (with_object a new heap) ≡ heap_words classes heap
+    (classes : List ClassRecord) (heap : List NamedObject) (a : ℕ) (old new : Object) → NamesDiffer heap → object_named heap a ≡ Some old
+    → IsAlike old new → heap_words classes (with_object a new heap) ≡ heap_words classes heap

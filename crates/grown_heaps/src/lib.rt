@@ -2,3 +2,5 @@
 //! length. What fitted still fits, and a domain that was sealed inside stays so. There is no code here but that of laws: functions that
 //! do nothing, whose contracts are theorems on the definitions.
 #![tactic(auto)]
+
+pub mod laws;
