@@ -1,0 +1,2 @@
+-- What a call makes of the store of frames.
+pub mod CallSteps

@@ -1,0 +1,2 @@
+-- What is said of rows of instructions of call.
+pub mod CallRowLaws

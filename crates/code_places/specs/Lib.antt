@@ -1,0 +1,4 @@
+-- Where frames stand, and what instructions lead to and work on.
+pub mod InstructionKinds
+pub mod Operands
+pub mod StandingFrames

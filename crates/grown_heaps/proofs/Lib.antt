@@ -1,0 +1,5 @@
+-- Lemmas on heaps that grow.
+pub mod AlikeObjects
+pub mod GrownHeaps
+pub mod ObjectsAfterChanges
+pub mod StillFits

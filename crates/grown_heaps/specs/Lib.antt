@@ -1,0 +1,6 @@
+-- What is said of heaps that grow.
+pub mod CostsOfHeaps
+pub mod Growth
+pub mod NamedObjects
+pub mod SealedChanges
+pub mod StillFitting

@@ -1,0 +1,75 @@
+-- What fits in a heap, or is known there, fits in one that has grown, and is known there.
+use Rattle.std.specs.Prelude.{List, ℕ}
+use Rattle.jk_model.specs.declared.identifiers.ClassId.{ClassId}
+use Rattle.jk_model.specs.declared.values.Value.{Value}
+use Rattle.jk_model_classes.specs.declared.records.ClassRecord.{ClassRecord}
+use Rattle.jk_model_classes.specs.declared.records.TypeRef.{TypeRef}
+use Rattle.jk_model_typing.specs.declared.frames.FrameType.{FrameType}
+use Rattle.jk_model_typing.specs.declared.frames.VType.{VType}
+use Rattle.jk_model_typing.specs.Scopes.{CodeScope}
+use Rattle.jk_model_frames.specs.Frames.{FrameState}
+use Rattle.jk_model_domains.specs.Objects.{NamedObject, Object}
+use Rattle.jk_model_domains.specs.ValueTypes.{EachValueFits, FrameHolds, HoldsDeclared, ValueFits}
+use Rattle.jk_model_heaps.specs.Capabilities.{CapRange}
+use Rattle.jk_model_heaps.specs.Heaps.{IsGrown}
+use Rattle.jk_model_sealing.specs.FittingFrames.{FitsAsTop, FitsAtCall, FitsHere, FramesFit}
+use Rattle.jk_model_sealing.specs.SealedInsides.{IsKnownValue, IsOfClass, IsSealedObject, Surroundings}
+use Rattle.jk_model_sealing.specs.SealedRuns.{AreSealedFrames, NamesKnown}
+use Rattle.sealed_rows.specs.RaisableObjects.{IsThrowable}
+
+-- what is said of a heap is so of each heap to which it grows
+abbrev pub StaysIn : (List NamedObject → Type 0) → Type 0
+StaysIn P = (old new : List NamedObject) → IsGrown old new → P old → P new
+
+-- ---- Values.
+
+abbrev pub ValuesFitStill : Type 0
+ValuesFitStill = (s : CodeScope) (v : Value) (t : VType) → StaysIn (λ heap. ValueFits s heap v t)
+
+abbrev pub ManyValuesFitStill : Type 0
+ManyValuesFitStill = (s : CodeScope) (values : List Value) (types : List VType) → StaysIn (λ heap. EachValueFits s heap values types)
+
+abbrev pub FramesHoldStill : Type 0
+FramesHoldStill = (s : CodeScope) (f : FrameState) (t : FrameType) → StaysIn (λ heap. FrameHolds s heap f t)
+
+abbrev pub DeclaredIsHeldStill : Type 0
+DeclaredIsHeldStill = (classes : List ClassRecord) (v : Value) (t : TypeRef) → StaysIn (λ heap. HoldsDeclared classes heap v t)
+
+abbrev pub ValuesAreKnownStill : Type 0
+ValuesAreKnownStill = (caps : List CapRange) (v : Value) → StaysIn (λ heap. IsKnownValue caps heap v)
+
+-- ---- Objects.
+
+abbrev pub ObjectsAreSealedStill : Type 0
+ObjectsAreSealedStill = (around : Surroundings) (object : Object) → StaysIn (λ heap. IsSealedObject around heap object)
+
+abbrev pub ObjectsKeepTheirClass : Type 0
+ObjectsKeepTheirClass = (a : ℕ) (c : ClassId) → StaysIn (λ heap. IsOfClass heap a c)
+
+abbrev pub ThrowablesStay : Type 0
+ThrowablesStay = (classes : List ClassRecord) (a : ℕ) → StaysIn (λ heap. IsThrowable classes heap a)
+
+-- ---- Frames.
+
+abbrev pub FramesFitHereStill : Type 0
+FramesFitHereStill = (classes : List ClassRecord) (f : FrameState) → StaysIn (λ heap. FitsHere classes heap f)
+
+abbrev pub TopFramesFitStill : Type 0
+TopFramesFitStill = (classes : List ClassRecord) (f : FrameState) → StaysIn (λ heap. FitsAsTop classes heap f)
+
+abbrev pub CallersFitStill : Type 0
+CallersFitStill = (classes : List ClassRecord) (f : FrameState) → StaysIn (λ heap. FitsAtCall classes heap f)
+
+abbrev pub FramesKnowStill : Type 0
+FramesKnowStill = (caps : List CapRange) (f : FrameState) → StaysIn (λ heap. NamesKnown caps heap f)
+
+-- what is asked of the top frame may rest on the heap
+abbrev pub RowsOfFramesFitStill : Type 0
+RowsOfFramesFitStill =
+    (classes : List ClassRecord) (Top : List NamedObject → FrameState → Type 0) (frames : List FrameState)
+    → ((f : FrameState) → StaysIn (λ heap. Top heap f)) → StaysIn (λ heap. FramesFit (Top heap) classes heap frames)
+
+abbrev pub SealedFramesStay : Type 0
+SealedFramesStay =
+    (around : Surroundings) (Top : List NamedObject → FrameState → Type 0) (frames : List FrameState)
+    → ((f : FrameState) → StaysIn (λ heap. Top heap f)) → StaysIn (λ heap. AreSealedFrames around (Top heap) heap frames)

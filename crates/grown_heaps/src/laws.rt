@@ -1,0 +1,61 @@
+//! The laws. The functions have no bodies: each stands for its clauses.
+
+ghost use Rattle.grown_heaps.specs.CostsOfHeaps.{AlikeObjectsCostTheSame, HeapsCostTogether, WritingCostsNothing};
+ghost use Rattle.grown_heaps.specs.Growth.{GrowthGoesOn, HeapsGrowByNothing, LikenessGoesOn, MakingGrows, ObjectsAreAlikeThemselves, WritingGrows};
+ghost use Rattle.grown_heaps.specs.NamedObjects.{MadeNamesDiffer, MadeObjectsAreThere, NothingElseIsThere, OldObjectsStay, OtherObjectsStay, WrittenNamesDiffer, WrittenObjectsAreThere};
+ghost use Rattle.grown_heaps.specs.StillFitting.{CallersFitStill, DeclaredIsHeldStill, FramesFitHereStill, FramesHoldStill, FramesKnowStill, ManyValuesFitStill, ObjectsAreSealedStill, ObjectsKeepTheirClass, RowsOfFramesFitStill, SealedFramesStay, ThrowablesStay, TopFramesFitStill, ValuesAreKnownStill, ValuesFitStill};
+
+/// A heap grows by nothing, by objects that are made in it, and where an object becomes another one that is alike; and what grew twice
+/// is grown.
+pub fn heaps_grow()
+    ensures alike { ObjectsAreAlikeThemselves }
+    ensures alike_twice { LikenessGoesOn }
+    ensures nothing { HeapsGrowByNothing }
+    ensures twice { GrowthGoesOn }
+    ensures made { MakingGrows }
+    ensures written { WritingGrows }
+{}
+
+/// Under each name stands what stood there, what was made under it, or what was written there; and names that differed still do.
+pub fn objects_are_found()
+    ensures old { OldObjectsStay }
+    ensures made { MadeObjectsAreThere }
+    ensures nothing_else { NothingElseIsThere }
+    ensures written { WrittenObjectsAreThere }
+    ensures others { OtherObjectsStay }
+    ensures made_differ { MadeNamesDiffer }
+    ensures written_differ { WrittenNamesDiffer }
+{}
+
+/// Objects cost what they cost apart, and writing costs nothing.
+pub fn costs_add_up()
+    ensures together { HeapsCostTogether }
+    ensures alike { AlikeObjectsCostTheSame }
+    ensures written { WritingCostsNothing }
+{}
+
+/// Values that fitted still fit, and names that were known are known.
+pub fn values_fit_still()
+    ensures values { ValuesFitStill }
+    ensures many { ManyValuesFitStill }
+    ensures frames { FramesHoldStill }
+    ensures declared { DeclaredIsHeldStill }
+    ensures known { ValuesAreKnownStill }
+{}
+
+/// Objects that were sealed, or of a class, still are.
+pub fn objects_stay_sealed()
+    ensures sealed { ObjectsAreSealedStill }
+    ensures of_class { ObjectsKeepTheirClass }
+    ensures throwables { ThrowablesStay }
+{}
+
+/// Frames that fitted where they stand still fit, and all frames of a segment together.
+pub fn frames_fit_still()
+    ensures here { FramesFitHereStill }
+    ensures top { TopFramesFitStill }
+    ensures callers { CallersFitStill }
+    ensures known { FramesKnowStill }
+    ensures rows { RowsOfFramesFitStill }
+    ensures sealed { SealedFramesStay }
+{}

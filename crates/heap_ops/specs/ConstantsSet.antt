@@ -1,0 +1,40 @@
+-- The constant texts of a class's static fields are set, as the need of its initialiser frame falls.
+use Rattle.std.specs.Prelude.{◌≡◌, Some}
+use Rattle.jk_model.specs.declared.identifiers.ClassId.{ClassId}
+use Rattle.jk_model_classes.specs.declared.records.ClassRecord.{ClassRecord}
+use Rattle.jk_model_classes.specs.Classes.{record_of}
+use Rattle.jk_model_domains.specs.OwnStates.{HasState}
+use Rattle.jk_model_heaps.specs.Workings.{Inside, Setting}
+use Rattle.jk_model_running.specs.Constants.{LacksConstants, SetsConstants}
+use Rattle.step_contents.specs.Conditions.{MayChange}
+use Rattle.step_contents.specs.Contents.{Contents, Here, InsideBecomes, inside_in}
+use Rattle.step_contents.specs.Settings.{IsSetting}
+
+-- pub fn set_constants<H: ObjectStore>(heap: &mut H, own: &mut Own, w: &World, d: DomainId, c: ClassId) -> Result<(), NoRoom>
+--   requires { (frames : FrameContent) × (shared : SharedState) × (s : SegmentNo)
+--       × MaySetConstants (contents_of (H.content heap.old) frames own.old) (here_at w.now shared d s) c }
+--   ensures ok { OnOk result ((frames : FrameContent) (shared : SharedState) (s : SegmentNo)
+--       → ConstantsSet (contents_of (H.content heap.old) frames own.old) (contents_of (H.content heap.new) frames own.new)
+--       (here_at w.now shared d s) c) }
+--   ensures err { OnErr result ((frames : FrameContent) (shared : SharedState) (s : SegmentNo)
+--       → ConstantsLack (contents_of (H.content heap.old) frames own.old) (here_at w.now shared d s) c) }
+--   ensures as_before { OnErr result (IsSame (H.content heap.old) (H.content heap.new) × (own.new ≡ own.old)) }
+-- No frame is asked for and none changes, so the clauses hold of whatever frames and segments there are. It takes no memory.
+
+-- The domain has static fields of the class.
+pub record MaySetConstants (c : Contents) (here : Here) (class : ClassId) : Type 0 where
+  pub may : MayChange c here
+  pub of_class : ClassRecord
+  pub is_class : record_of here.world.classes class ≡ Some of_class
+  pub is_there : HasState c.own.state class
+
+-- All constant texts of the class are set: those that had no object yet are made together.
+abbrev pub ConstantsSet : Contents → Contents → Here → ClassId → Type 0
+ConstantsSet old new here class =
+    (x : Setting) (may : MaySetConstants old here class) → IsSetting old here x
+    → (inside : Inside) × SetsConstants x class may.of_class (inside_in old here) inside × InsideBecomes old new here inside
+
+-- Those that have no object yet don't fit together.
+abbrev pub ConstantsLack : Contents → Here → ClassId → Type 0
+ConstantsLack c here class =
+    (x : Setting) (may : MaySetConstants c here class) → IsSetting c here x → LacksConstants x may.of_class (inside_in c here)

@@ -1,0 +1,3 @@
+-- What an instruction on objects, and the fall of an initialiser's need, make of the stores.
+pub mod ConstantsSet
+pub mod HeapSteps

@@ -1,0 +1,3 @@
+-- What is said of rows of instructions on heaps.
+pub mod HeapOperands
+pub mod HeapRowLaws

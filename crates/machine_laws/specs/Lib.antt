@@ -1,0 +1,5 @@
+pub mod KnownMachines
+pub mod SealedOpenings
+pub mod SealedSteps
+pub mod SoundFolders
+pub mod StepProgress

@@ -1,0 +1,5 @@
+pub mod ClassesInProgress
+pub mod FittingOutcomes
+pub mod KeptInsides
+pub mod RaisableObjects
+pub mod RunningFrames

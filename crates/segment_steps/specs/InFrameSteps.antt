@@ -1,0 +1,36 @@
+-- Steps that stay in their frame, as most do: they compute or jump, and need no class.
+use Rattle.std.specs.Prelude.{◌≡◌, ℕ, suc, ◌≤◌, List}
+use Rattle.jk_model.specs.declared.identifiers.ClassId.{ClassId}
+use Rattle.jk_model.specs.declared.identifiers.ThreadNo.{ThreadNo}
+use Rattle.jk_model_classes.specs.declared.records.ClassRecord.{ClassRecord}
+use Rattle.jk_model_heaps.specs.Workings.{Run, Setting}
+use Rattle.jk_model_running.specs.Initialising.{FrameNeeds}
+use Rattle.jk_model_running.specs.LocalSteps.{LocalStep, TopFrame}
+use Rattle.jk_model_running.specs.Ways.{GoesOn}
+use Rattle.step_contents.specs.Contents.{Becomes, Contents, Here}
+use Rattle.step_contents.specs.Settings.{IsSetting}
+use Rattle.segment_steps.specs.ActingSegments.{MayAct}
+
+-- pub fn run_in_frame<F: FrameStore>(w: &World, frames: &mut F, s: SegmentNo, steps: u32) -> u32
+--   requires { (heaps : HeapContent) × (own : KeptState) × (shared : SharedState) × (d : DomainId)
+--       × MayAct (contents_of heaps (F.content frames.old) own) (here_at w.now shared d s) }
+--   ensures few { result ≤ steps }
+--   ensures { (heaps : HeapContent) (own : KeptState) (shared : SharedState) (d : DomainId)
+--       → RunsInFrame (contents_of heaps (F.content frames.old) own) (contents_of heaps (F.content frames.new) own)
+--       (here_at w.now shared d s) result }
+-- It answers how many steps it took. It takes no memory, and neither heap nor own state.
+
+-- the top frame needs no class before it goes on
+abbrev pub NeedsNoClass : List ClassRecord → Run → Type 0
+NeedsNoClass classes run = (top : TopFrame run) (c : ClassId) → FrameNeeds classes top.frame c → ⊥
+
+-- so many steps of any thread from the one run to the other, of which each needs no class and leaves the domain's inside as it is
+pub data StepsInFrame (x : Setting) (t : ThreadNo) : ℕ → Run → Run → Type 0 where
+  none : (run : Run) → StepsInFrame x t 0 run run
+  one_more : (n : ℕ) (run mid new : Run) → NeedsNoClass x.classes run → LocalStep x t run mid GoesOn → mid.inside ≡ run.inside
+      → StepsInFrame x t n mid new → StepsInFrame x t (suc n) run new
+
+abbrev pub RunsInFrame : Contents → Contents → Here → ℕ → Type 0
+RunsInFrame old new here n =
+    (x : Setting) (t : ThreadNo) (may : MayAct old here) → IsSetting old here x
+    → (run : Run) × StepsInFrame x t n may.run run × Becomes old new here may.run run

@@ -1,0 +1,10 @@
+//! One step of one segment, over the stores and the domain's own state: what its thread meets there, and what the need or the
+//! instruction of the top frame does. What reaches past the segment is the caller's: a call through a capability, a lowest frame
+//! that is left, and the end of the domain. The contracts stand in `specs/`; the code comes under them.
+#![tactic(auto)]
+
+mod meeting;
+mod went;
+
+pub use meeting::{Meeting, Runs};
+pub use went::Went;

@@ -1,0 +1,3 @@
+pub mod NamedWell
+pub mod SoundCodes
+pub mod SoundTables

@@ -1,0 +1,95 @@
+-- When a step function may be called: all that it may rest on. Nothing is asked of other domains' heaps and of other segments.
+use Rattle.std.specs.Prelude.{◌≡◌, ◌≢◌, ℕ, ◌^◌, ◌<◌, ◌⊎◌, true, List, [], ◌∷◌, ◌++◌, Contains, Some, None, slice_get}
+use Rattle.jk_model.specs.declared.identifiers.CapId.{CapId}
+use Rattle.jk_model.specs.declared.identifiers.ClassId.{ClassId}
+use Rattle.jk_model.specs.declared.identifiers.DomainId.{DomainId}
+use Rattle.jk_model_classes.specs.declared.records.ClassRecord.{ClassRecord}
+use Rattle.jk_model_classes.specs.declared.sharing.Stub.{Stub}
+use Rattle.jk_model_classes.specs.Classes.{IsInterface, record_of}
+use Rattle.jk_model_classes.specs.Stubs.{ImplementsRemote, IsStub}
+use Rattle.jk_model_classes.specs.Worlds.{DomainRecord, domain_of}
+use Rattle.jk_model_frames.specs.Frames.{FrameState}
+use Rattle.jk_model_heaps.specs.Capabilities.{IsGivenOut}
+use Rattle.jk_model_heaps.specs.Heaps.{heap_words}
+use Rattle.jk_model_heaps.specs.Workings.{Run, Working}
+use Rattle.jk_model_sealing.specs.FittingFrames.{FitsAsTop, FitsAtCall}
+use Rattle.jk_model_sealing.specs.SealedInsides.{IsSealedInside, Surroundings}
+use Rattle.jk_model_sealing.specs.SealedRuns.{IsSealedRun}
+use Rattle.jk_model_sharing.specs.SharedStates.{SharedDomain, SharedState, caps_of, domain_numbered, stub_for, stub_of}
+use Rattle.class_init.specs.KeptStates.{HasRooms}
+use Rattle.sealed_rows.specs.RaisableObjects.{KeepsStates}
+use Rattle.sound_codes.specs.SoundCodes.{AreSoundCodes}
+use Rattle.sound_codes.specs.SoundTables.{IsSoundTable}
+use Rattle.step_contents.specs.Contents.{Contents, Here, Holds, inside_in}
+use Rattle.step_contents.specs.PlacesInCode.{IsPlaceIn, PlaceInCode}
+
+-- ---- What domains share.
+
+-- The stub of a class that isn't there, which stands for another domain's where one is replayed alone: it shows interfaces, in rising number.
+pub record IsForeignStub (classes : List ClassRecord) (s : Stub) : Type 0 where
+  pub not_there : record_of classes s.class ≡ None
+  pub interfaces : (i : ClassId) → Contains s.interfaces i → IsInterface classes i
+  pub rising : (j k : ℕ) (a b : ClassId) → j < k → slice_get s.interfaces j ≡ Some a → slice_get s.interfaces k ≡ Some b → a.0 < b.0
+
+-- The domain is live; each stub is that of its class; there is one for each class of a folder that implements jk/Remote, and for each
+-- capability; and numbers of capabilities fit 24 bits.
+pub record SharesWell (classes : List ClassRecord) (shared : SharedState) (d : DomainId) : Type 0 where
+  pub domain : SharedDomain
+  pub is_domain : domain_numbered shared d ≡ Some domain
+  pub live : domain.live ≡ true
+  pub stubs : (s : Stub) → Contains shared.stubs s → IsStub classes s.class s ⊎ IsForeignStub classes s
+  pub remote : (c : ClassId) (r : ClassRecord) → record_of classes c ≡ Some r → r.home ≢ None → ImplementsRemote classes c
+      → (s : Stub) × (stub_for shared c ≡ Some s)
+  pub capabilities : (k : CapId) → IsGivenOut (caps_of shared) k → ((s : Stub) × (stub_of shared k ≡ Some s)) × (k.0 < 2 ^ 24)
+
+-- ---- What is known of the domain, whatever runs in it.
+
+pub record KnowsDomain (c : Contents) (here : Here) : Type 0 where
+  pub names : DomainRecord
+  pub is_domain : domain_of here.world here.domain ≡ Some names
+  pub quota : ℕ
+  pub has_quota : c.heaps.quota here.domain ≡ Some quota
+  pub codes : AreSoundCodes here.world.classes
+  pub table : IsSoundTable here.world.classes names.table
+  pub shares : SharesWell here.world.classes here.shared here.domain
+  -- each text of the domain's classes has room among the literals
+  pub rooms : HasRooms here.world.classes names.table c.own
+  -- the store counts what the objects cost
+  pub used : c.heaps.used here.domain ≡ heap_words here.world.classes (c.heaps.heap here.domain)
+
+-- what the domain is judged in
+abbrev pub around : {c : Contents} {here : Here} → KnowsDomain c here → Surroundings
+around {here = here} k = record { classes = here.world.classes; table = k.names.table; caps = caps_of here.shared }
+
+-- What the domain has inside may change.
+pub record MayChange (c : Contents) (here : Here) : Type 0 where
+  pub domain : KnowsDomain c here
+  pub sealed : IsSealedInside (around domain) domain.quota (inside_in c here)
+
+-- ---- An instruction may be done: the segment's top frame, which has no need, stands at it.
+
+pub record MayDo (c : Contents) (here : Here) (at : PlaceInCode) : Type 0 where
+  pub domain : KnowsDomain c here
+  pub run : Run
+  pub holds : Holds c here run
+  pub sealed : IsSealedRun (around domain) domain.quota (FitsAsTop here.world.classes run.inside.heap) run
+  pub callers : List FrameState
+  pub frame : FrameState
+  pub are_frames : run.frames ≡ callers ++ frame ∷ []
+  pub head : at.head ≡ frame.head
+  pub no_need : at.head.need ≡ None
+  pub place : IsPlaceIn here.world.classes at
+
+-- what the instruction works on
+abbrev pub working : {c : Contents} {here : Here} {at : PlaceInCode} → MayDo c here at → Working
+working may = record { inside = may.run.inside; frame = may.frame }
+
+-- ---- Something may be raised. The top frame runs, or has called a segment that was taken away; or no frame is left.
+
+pub record MayRaise (c : Contents) (here : Here) : Type 0 where
+  pub domain : KnowsDomain c here
+  pub run : Run
+  pub holds : Holds c here run
+  pub sealed : IsSealedRun (around domain) domain.quota
+      (λ (f : FrameState). FitsAsTop here.world.classes run.inside.heap f ⊎ FitsAtCall here.world.classes run.inside.heap f) run
+  pub states : KeepsStates run.inside.own run.frames

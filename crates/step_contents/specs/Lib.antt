@@ -1,0 +1,5 @@
+pub mod Answers
+pub mod Conditions
+pub mod Contents
+pub mod PlacesInCode
+pub mod Settings

@@ -1,0 +1,2 @@
+-- What is said of objects in stores.
+pub mod LaidOutObjects

@@ -1,0 +1,4 @@
+-- What is said of typed values.
+pub mod CallOperands
+pub mod FittingInstances
+pub mod Operands

@@ -1,0 +1,4 @@
+//! What is raised, and how it unwinds a segment: there is an object and a way, and what is kept of the domain, of its frames and of its
+//! classes in progress. There is no code here but that of laws: functions that do nothing, whose contracts are theorems on the
+//! definitions.
+#![tactic(auto)]
