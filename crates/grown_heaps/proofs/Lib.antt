@@ -2,4 +2,7 @@
 pub mod AlikeObjects
 pub mod GrownHeaps
 pub mod ObjectsAfterChanges
+mod OwnStatesKept
+pub mod SealedStill
+mod StaticsAfterChanges
 pub mod StillFits

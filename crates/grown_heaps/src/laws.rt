@@ -3,6 +3,7 @@
 ghost use Rattle.grown_heaps.specs.CostsOfHeaps.{AlikeObjectsCostTheSame, HeapsCostTogether, WritingCostsNothing};
 ghost use Rattle.grown_heaps.specs.Growth.{GrowthGoesOn, HeapsGrowByNothing, LikenessGoesOn, MakingGrows, ObjectsAreAlikeThemselves, WritingGrows};
 ghost use Rattle.grown_heaps.specs.NamedObjects.{MadeNamesDiffer, MadeObjectsAreThere, NothingElseIsThere, OldObjectsStay, OtherObjectsStay, WrittenNamesDiffer, WrittenObjectsAreThere};
+ghost use Rattle.grown_heaps.specs.SealedChanges.{LiteralsStaySealed, MadeInsidesStaySealed, StatesStaySealed, StaticsStaySealed, WrittenInsidesStaySealed};
 ghost use Rattle.grown_heaps.specs.StillFitting.{CallersFitStill, DeclaredIsHeldStill, FramesFitHereStill, FramesHoldStill, FramesKnowStill, ManyValuesFitStill, ObjectsAreSealedStill, ObjectsKeepTheirClass, RowsOfFramesFitStill, SealedFramesStay, ThrowablesStay, TopFramesFitStill, ValuesAreKnownStill, ValuesFitStill};
 
 /// A heap grows by nothing, by objects that are made in it, and where an object becomes another one that is alike; and what grew twice
@@ -58,4 +59,14 @@ pub fn frames_fit_still()
     ensures known { FramesKnowStill }
     ensures rows { RowsOfFramesFitStill }
     ensures sealed { SealedFramesStay }
+{}
+
+/// A domain stays sealed inside where objects are made that fit, where an object gets contents that fit, where a static field gets
+/// a value that fits, where a text gets an object, and whatever state a class gets.
+pub fn insides_stay_sealed()
+    ensures made { MadeInsidesStaySealed }
+    ensures written { WrittenInsidesStaySealed }
+    ensures statics { StaticsStaySealed }
+    ensures literals { LiteralsStaySealed }
+    ensures states { StatesStaySealed }
 {}
