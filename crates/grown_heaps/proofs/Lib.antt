@@ -1,6 +1,7 @@
 -- Lemmas on heaps that grow.
 pub mod AlikeObjects
 pub mod GrownHeaps
+pub mod NewObjects
 pub mod ObjectsAfterChanges
 mod OwnStatesKept
 pub mod SealedStill

@@ -3,7 +3,7 @@
 ghost use Rattle.grown_heaps.specs.CostsOfHeaps.{AlikeObjectsCostTheSame, HeapsCostTogether, WritingCostsNothing};
 ghost use Rattle.grown_heaps.specs.Growth.{GrowthGoesOn, HeapsGrowByNothing, LikenessGoesOn, MakingGrows, ObjectsAreAlikeThemselves, WritingGrows};
 ghost use Rattle.grown_heaps.specs.NamedObjects.{MadeNamesDiffer, MadeObjectsAreThere, NothingElseIsThere, OldObjectsStay, OtherObjectsStay, WrittenNamesDiffer, WrittenObjectsAreThere};
-ghost use Rattle.grown_heaps.specs.SealedChanges.{LiteralsStaySealed, MadeInsidesStaySealed, StatesStaySealed, StaticsStaySealed, WrittenInsidesStaySealed};
+ghost use Rattle.grown_heaps.specs.SealedChanges.{LiteralsStaySealed, MadeInsidesStaySealed, NewObjectsAreSealed, StatesStaySealed, StaticsStaySealed, WrittenInsidesStaySealed};
 ghost use Rattle.grown_heaps.specs.StillFitting.{CallersFitStill, DeclaredIsHeldStill, FramesFitHereStill, FramesHoldStill, FramesKnowStill, ManyValuesFitStill, ObjectsAreSealedStill, ObjectsKeepTheirClass, RowsOfFramesFitStill, SealedFramesStay, ThrowablesStay, TopFramesFitStill, ValuesAreKnownStill, ValuesFitStill};
 
 /// A heap grows by nothing, by objects that are made in it, and where an object becomes another one that is alike; and what grew twice
@@ -44,8 +44,9 @@ pub fn values_fit_still()
     ensures known { ValuesAreKnownStill }
 {}
 
-/// Objects that were sealed, or of a class, still are.
+/// Objects that were sealed, or of a class, still are, and new ones of shapes that the domain may make are.
 pub fn objects_stay_sealed()
+    ensures new { NewObjectsAreSealed }
     ensures sealed { ObjectsAreSealedStill }
     ensures of_class { ObjectsKeepTheirClass }
     ensures throwables { ThrowablesStay }
