@@ -1,6 +1,6 @@
 -- The values of static fields after a class got another state, or a static field another value.
 use Rattle.std.proofs.Common.{◌≡◌, inl, inr, ℕ, ◌⊎◌, Bool, true, false, ◌==◌, List, [], ◌∷◌, find, Option, Some, refl, sym, ◌∙◌}
-use Rattle.std.specs.Prelude.{option_map, option_and_then, if◌then◌else◌}
+use Rattle.std.specs.Prelude.{option_map, option_and_then}
 use Rattle.std.proofs.lemmas.Bool.{eqb-true}
 use Rattle.jk_model.specs.declared.identifiers.ClassId.{ClassId}
 use Rattle.jk_model.specs.declared.identifiers.MemberId.{MemberId}

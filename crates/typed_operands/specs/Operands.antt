@@ -1,5 +1,5 @@
 -- What an instruction finds in a frame that fits, and that what it leaves fits too, in a heap that may have grown.
-use Rattle.std.specs.Prelude.{◌≡◌, ◌⊎◌, ℤ, ℕ, List, [], ◌∷◌, ⊤, Some}
+use Rattle.std.specs.Prelude.{◌≡◌, ◌⊎◌, ℤ, ℕ, List, [], ◌∷◌, ⊤}
 use Rattle.jk_model.specs.declared.identifiers.ClassId.{ClassId}
 use Rattle.jk_model.specs.declared.instructions.Instr.{Instr}
 use Rattle.jk_model.specs.declared.values.Value.{Value}
@@ -12,7 +12,7 @@ use Rattle.jk_model_typing.specs.Rows.{Meets}
 use Rattle.jk_model_typing.specs.Scopes.{CodeScope, NamesClass}
 use Rattle.jk_model_frames.specs.Frames.{FrameState}
 use Rattle.jk_model_domains.specs.NumberRows.{IsOnTop, Replaces}
-use Rattle.jk_model_domains.specs.Objects.{NamedObject, Array, Plain, object_named}
+use Rattle.jk_model_domains.specs.Objects.{NamedObject}
 use Rattle.jk_model_domains.specs.ValueTypes.{EachValueFits, FrameHolds, HoldsDeclared, ValueFits}
 use Rattle.jk_model_heaps.specs.Heaps.{IsGrown}
 use Rattle.jk_model_heaps.specs.References.{IsHeapArray}
