@@ -1,6 +1,5 @@
 -- What fits in a heap, or is known there, fits and is known in each heap to which it grows.
 use Rattle.std.proofs.Common.{inl, inr, ◌≡◌, ℕ, zero, suc, List, [], ◌∷◌, Some, refl, subst}
-use Rattle.std.specs.List.{AllByRecursion}
 use Rattle.jk_model.specs.declared.identifiers.ClassId.{ClassId}
 use Rattle.jk_model.specs.declared.values.Value.{Value}
 use Rattle.jk_model.specs.declared.values.Value.TheVariants as Held
@@ -19,7 +18,7 @@ use Rattle.jk_model_domains.specs.ValueTypes.{EachValueFits, FrameHolds, HoldsDe
 use Rattle.jk_model_heaps.specs.Capabilities.{CapRange}
 use Rattle.jk_model_heaps.specs.Heaps.{IsAlike, IsGrown}
 use Rattle.jk_model_sealing.specs.FittingFrames.{FitsAsCaller, FitsAsTop, FitsAtCall, FitsHere, FramesFit}
-use Rattle.jk_model_sealing.specs.SealedInsides.{HasFields, IsKnownValue, IsOfClass, IsSealedObject, Surroundings}
+use Rattle.jk_model_sealing.specs.SealedInsides.{IsKnownValue, IsOfClass, IsSealedObject, Surroundings}
 use Rattle.jk_model_sealing.specs.SealedRuns.{AreSealedFrames, NamesKnown}
 use Rattle.list_lemmas.proofs.ItemsOfLists.{each-weaker}
 use Rattle.sealed_rows.specs.RaisableObjects.{IsThrowable}

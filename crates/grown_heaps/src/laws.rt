@@ -3,6 +3,7 @@
 ghost use Rattle.grown_heaps.specs.CostsOfHeaps.{AlikeObjectsCostTheSame, HeapsCostTogether, WritingCostsNothing};
 ghost use Rattle.grown_heaps.specs.Growth.{GrowthGoesOn, HeapsGrowByNothing, LikenessGoesOn, MakingGrows, ObjectsAreAlikeThemselves, WritingGrows};
 ghost use Rattle.grown_heaps.specs.NamedObjects.{MadeNamesDiffer, MadeObjectsAreThere, NothingElseIsThere, OldObjectsStay, OtherObjectsStay, WrittenNamesDiffer, WrittenObjectsAreThere};
+ghost use Rattle.grown_heaps.specs.SealedChanges.{LiteralsStaySealed, MadeInsidesStaySealed, NewObjectsAreSealed, StatesStaySealed, StaticsStaySealed, WrittenInsidesStaySealed};
 ghost use Rattle.grown_heaps.specs.StillFitting.{CallersFitStill, DeclaredIsHeldStill, FramesFitHereStill, FramesHoldStill, FramesKnowStill, ManyValuesFitStill, ObjectsAreSealedStill, ObjectsKeepTheirClass, RowsOfFramesFitStill, SealedFramesStay, ThrowablesStay, TopFramesFitStill, ValuesAreKnownStill, ValuesFitStill};
 
 /// A heap grows by nothing, by objects that are made in it, and where an object becomes another one that is alike; and what grew twice
@@ -43,8 +44,9 @@ pub fn values_fit_still()
     ensures known { ValuesAreKnownStill }
 {}
 
-/// Objects that were sealed, or of a class, still are.
+/// Objects that were sealed, or of a class, still are, and new ones of shapes that the domain may make are.
 pub fn objects_stay_sealed()
+    ensures new { NewObjectsAreSealed }
     ensures sealed { ObjectsAreSealedStill }
     ensures of_class { ObjectsKeepTheirClass }
     ensures throwables { ThrowablesStay }
@@ -58,4 +60,14 @@ pub fn frames_fit_still()
     ensures known { FramesKnowStill }
     ensures rows { RowsOfFramesFitStill }
     ensures sealed { SealedFramesStay }
+{}
+
+/// A domain stays sealed inside where objects are made that fit, where an object gets contents that fit, where a static field gets
+/// a value that fits, where a text gets an object, and whatever state a class gets.
+pub fn insides_stay_sealed()
+    ensures made { MadeInsidesStaySealed }
+    ensures written { WrittenInsidesStaySealed }
+    ensures statics { StaticsStaySealed }
+    ensures literals { LiteralsStaySealed }
+    ensures states { StatesStaySealed }
 {}

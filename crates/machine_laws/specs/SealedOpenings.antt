@@ -1,6 +1,5 @@
 -- Domains that are opened: the new one is sealed inside, and the others stay so with more classes. Of the crate `sealed_openings`.
 use Rattle.std.specs.Prelude.{◌≡◌, ◌≤◌, ℕ, List, ◌++◌}
-use Rattle.jk_model.specs.declared.identifiers.DomainId.{DomainId}
 use Rattle.jk_model.specs.declared.output.Line.{Line}
 use Rattle.jk_model.specs.declared.script.Quotas.{Quotas}
 use Rattle.jk_model_classes.specs.declared.records.ClassRecord.{ClassRecord}

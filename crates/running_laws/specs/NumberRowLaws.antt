@@ -1,5 +1,4 @@
 -- Instructions on numbers, where a frame runs: there is a row, and each row keeps what is kept.
-use Rattle.std.specs.Prelude.{◌≡◌}
 use Rattle.jk_model.specs.declared.steps.After.{After}
 use Rattle.jk_model_frames.specs.Frames.{FrameState}
 use Rattle.jk_model_domains.specs.NumberRows.{IsOfNumbers, NumberRow}

@@ -1,5 +1,5 @@
 -- Steps that stay in their frame, as most do: they compute or jump, and need no class.
-use Rattle.std.specs.Prelude.{◌≡◌, ℕ, suc, ◌≤◌, List}
+use Rattle.std.specs.Prelude.{◌≡◌, ℕ, suc, List}
 use Rattle.jk_model.specs.declared.identifiers.ClassId.{ClassId}
 use Rattle.jk_model.specs.declared.identifiers.ThreadNo.{ThreadNo}
 use Rattle.jk_model_classes.specs.declared.records.ClassRecord.{ClassRecord}

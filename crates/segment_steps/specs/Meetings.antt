@@ -7,7 +7,6 @@ use Rattle.jk_model_domains.specs.declared.states.Look.TheVariants as Sees
 use Rattle.jk_model_domains.specs.OwnStates.{IsLook, OwnState, state_of}
 use Rattle.jk_model_running.specs.Initialising.{FrameNeeds}
 use Rattle.code_places.specs.StandingFrames.{IsPlaceOf, place_of}
-use Rattle.frame_store.specs.FrameContents.{FrameContent, TopFrame}
 use Rattle.segment_steps.specs.declared.meeting.Meeting.{Meeting}
 use Rattle.segment_steps.specs.declared.meeting.Runs.{Runs}
 

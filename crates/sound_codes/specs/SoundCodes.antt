@@ -21,7 +21,7 @@ use Rattle.jk_model_classes.specs.declared.records.MethodRecord.{MethodRecord}
 use Rattle.jk_model_classes.specs.declared.records.TypeRef.{TypeRef}
 use Rattle.jk_model_classes.specs.Classes.{AreOrdered, IsInterface, field_walk, method_walk, record_of}
 use Rattle.jk_model_classes.specs.Lookups.{FieldIs, MethodIs}
-use Rattle.jk_model_classes.specs.Members.{CLINIT}
+use Rattle.jk_model_classes.specs.Members.{CLINIT, INIT}
 use Rattle.jk_model_typing.specs.declared.frames.FrameType.{FrameType}
 use Rattle.jk_model_typing.specs.FrameTypes.{STRING}
 use Rattle.jk_model_typing.specs.Scopes.{CodeScope, IsScopeOf, is_static}
@@ -83,6 +83,8 @@ pub record AreSoundCodes (classes : List ClassRecord) : Type 0 where
   -- the initialiser of a class has code, is static, and takes and answers nothing (C8, C9)
   pub initialisers : (m : MemberId) (method : MethodRecord) → MethodIs classes m method → method.name ≡ CLINIT
       → ((code : LinkedCode) × (method.body ≡ Does.Linked code)) × IsTrue (is_static method) × (method.params ≡ []) × (method.result ≡ None)
+  -- a constructor answers nothing, and no method has more parameters than a call can give (C8)
+  pub constructors : (m : MemberId) (method : MethodRecord) → MethodIs classes m method → method.name ≡ INIT → method.result ≡ None
   pub few_params : (m : MemberId) (method : MethodRecord) → MethodIs classes m method → length method.params ≤ 255
   -- what the entries of a class's pool lead to: a member stands on the way up from the class that the entry names (C20), and no type has
   -- more dimensions than a class file can say (C7)

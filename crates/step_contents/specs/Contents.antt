@@ -8,7 +8,7 @@ use Rattle.jk_model_heaps.specs.Heaps.{heap_words}
 use Rattle.jk_model_heaps.specs.Workings.{Inside, Run}
 use Rattle.jk_model_sharing.specs.SharedStates.{SharedState}
 use Rattle.class_init.specs.KeptStates.{KeptState}
-use Rattle.frame_store.specs.FrameContents.{FrameContent, StoredSegment, Changes}
+use Rattle.frame_store.specs.FrameContents.{FrameContent, Changes}
 use Rattle.frame_store.specs.FrameContents.{IsSame as AreSameFrames}
 use Rattle.object_store.specs.HeapContents.{HeapContent, HeapBecomes}
 

@@ -1,15 +1,15 @@
 -- Sealed objects as a store has them.
-use Rattle.std.specs.Prelude.{◌≡◌, ◌≤◌, ◌<◌, ◌^◌, ℕ, List, length}
+use Rattle.std.specs.Prelude.{◌≡◌, ◌<◌, ◌^◌, ℕ, List}
 use Rattle.jk_model.specs.declared.identifiers.CapId.{CapId}
 use Rattle.jk_model.specs.declared.identifiers.DomainId.{DomainId}
 use Rattle.jk_model.specs.declared.values.Value.{Value}
 use Rattle.jk_model_classes.specs.declared.records.ClassRecord.{ClassRecord}
 use Rattle.jk_model_classes.specs.declared.records.TypeRef.{TypeRef}
-use Rattle.jk_model_domains.specs.Objects.{NamedObject, Object}
+use Rattle.jk_model_domains.specs.Objects.{NamedObject, Object, Text}
 use Rattle.jk_model_domains.specs.ValueTypes.{HoldsDeclared}
 use Rattle.jk_model_heaps.specs.declared.shapes.Shape.{Shape}
 use Rattle.jk_model_heaps.specs.Capabilities.{CapRange, IsGivenOut}
-use Rattle.jk_model_heaps.specs.Heaps.{IsAlike, zero_object}
+use Rattle.jk_model_heaps.specs.Heaps.{IsAlike}
 use Rattle.jk_model_sealing.specs.SealedInsides.{IsKnownValue, IsSealedObject, Surroundings}
 use Rattle.grown_heaps.specs.SealedChanges.{IsNamedShape}
 use Rattle.object_store.specs.HeapContents.{HeapContent, AreOfKind, HasShapeClasses, IsHeapContent, IsLaidOut, IsSmall, IsWritten}
@@ -35,9 +35,10 @@ KnownValuesAreSmall =
     (c : HeapContent) (d : DomainId) (caps : List CapRange) (v : Value) → IsHeapContent c → AreSmallNumbers caps
     → IsKnownValue caps (c.heap d) v → IsSmall v
 
--- an object that gets another value is alike
+-- an object that gets another value is alike, unless it is a text, whose units never change once it has a name in a program
 abbrev pub WrittenObjectsAreAlike : Type 0
-WrittenObjectsAreAlike = (object new : Object) (i : ℕ) (v : Value) → IsWritten object i v new → IsAlike object new
+WrittenObjectsAreAlike =
+    (object new : Object) (i : ℕ) (v : Value) → ((units : List ℕ) → object ≡ Text units → ⊥) → IsWritten object i v new → IsAlike object new
 
 -- what a domain may make has its classes
 abbrev pub NamedShapesHaveClasses : Type 0

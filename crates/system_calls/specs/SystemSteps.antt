@@ -52,35 +52,35 @@ pub record MayCall (c : Contents) (site : CallSite) : Type 0 where
       → (call : CallsSystem x site.at.scope site.at.instr (working may)) × (call.member ≡ site.member)
 
 -- What comes of it where the method is given these values, by the answer and the lines that go out. The frame's place is not moved.
-pub data SystemFollows {old : Contents} {site : CallSite} (x : Setting) (may : MayDo old site.here site.at) (given : List Value)
+pub data SystemFollows {old : Contents} (site : CallSite) (x : Setting) (may : MayDo old site.here site.at) (given : List Value)
     (left : LeftBehind) : After → List Line → Type 0 where
   goes_on : (w : Working) (n : ℕ) → DoesSystem x site.member given (working may) w (GoesOn n)
       → Becomes old left.contents site.here may.run (with_frame may.callers w.frame w.inside) → left.shared ≡ site.here.shared
-      → SystemFollows x may given left (Next.Goto n) []
+      → SystemFollows site x may given left (Next.Goto n) []
   says : (w : Working) (text : List ℕ) (n : ℕ) → DoesSystem x site.member given (working may) w (Says text n)
       → Becomes old left.contents site.here may.run (with_frame may.callers w.frame w.inside) → left.shared ≡ site.here.shared
-      → SystemFollows x may given left (Next.Goto n) (Said x.name text ∷ [])
+      → SystemFollows site x may given left (Next.Goto n) (Said x.name text ∷ [])
   -- the stack is as it was, and the heap too, but for items that were copied before one that doesn't fit
   raises : (w : Working) (r : Raise) → DoesSystem x site.member given (working may) w (Raises r)
       → Becomes old left.contents site.here may.run (with_frame may.callers w.frame w.inside) → left.shared ≡ site.here.shared
-      → SystemFollows x may given left (Next.Raise r) []
+      → SystemFollows site x may given left (Next.Raise r) []
   -- what is asked for is granted, and the answer is on the stack
   grants : (w : Working) (request : Request) (v : Option Value) → DoesSystem x site.member given (working may) w (Asks request)
       → Answers site.here.shared site.here.domain request (Ok v) left.shared
       → Becomes old left.contents site.here may.run
       (with_frame may.callers (record w.frame { stack = w.frame.stack ++ as_entries v }) w.inside)
-      → SystemFollows x may given left (Next.Goto (site.at.head.at + 1)) []
+      → SystemFollows site x may given left (Next.Goto (site.at.head.at + 1)) []
   -- it is denied, and the stores are as they were
   denies : (w : Working) (request : Request) (r : Raise) → DoesSystem x site.member given (working may) w (Asks request)
       → Answers site.here.shared site.here.domain request (Err r) left.shared → Becomes old left.contents site.here may.run may.run
-      → SystemFollows x may given left (Next.Raise r) []
+      → SystemFollows site x may given left (Next.Raise r) []
   -- the running domain is to be killed; nothing changed yet
   terminates : (w : Working) → DoesSystem x site.member given (working may) w Terminates
-      → Becomes old left.contents site.here may.run may.run → left.shared ≡ site.here.shared → SystemFollows x may given left Next.Terminate []
+      → Becomes old left.contents site.here may.run may.run → left.shared ≡ site.here.shared → SystemFollows site x may given left Next.Terminate []
 
 -- The method is done, and its lines went out so.
 abbrev pub SystemDone : Contents → CallSite → LeftBehind → After → (List Line → Type 0) → Type 0
 SystemDone old site left after GoOut =
     (x : Setting) (may : MayDo old site.here site.at) (call : CallsSystem x site.at.scope site.at.instr (working may))
     → IsSetting old site.here x → call.member ≡ site.member
-    → (lines : List Line) × SystemFollows {site = site} x may call.call.given left after lines × GoOut lines
+    → (lines : List Line) × SystemFollows site x may call.call.given left after lines × GoOut lines

@@ -1,23 +1,20 @@
 -- What a call finds on the stack of a frame that fits, what fits when it has left the frame, and when its answer has come.
-use Rattle.std.specs.Prelude.{◌≡◌, ◌≢◌, ◌≤◌, IsFalse, IsTrue, List, ℕ, [], ◌∷◌, length, Option, Some}
+use Rattle.std.specs.Prelude.{◌≡◌, ◌≢◌, ◌≤◌, IsFalse, IsTrue, List, [], ◌∷◌, length, Option}
 use Rattle.jk_model.specs.Flags.{has, STATIC}
 use Rattle.jk_model.specs.declared.identifiers.ClassId.{ClassId}
 use Rattle.jk_model.specs.declared.identifiers.MemberId.{MemberId}
 use Rattle.jk_model.specs.declared.opcodes.TheConstants.{INVOKESTATIC}
 use Rattle.jk_model.specs.declared.values.Value.{Value}
-use Rattle.jk_model.specs.declared.values.Value.TheVariants as Held
 use Rattle.jk_model_classes.specs.declared.records.Body.TheVariants as Does
 use Rattle.jk_model_classes.specs.declared.records.LinkedCode.{LinkedCode}
 use Rattle.jk_model_classes.specs.declared.records.MethodRecord.{MethodRecord}
 use Rattle.jk_model_classes.specs.declared.records.TypeRef.{TypeRef}
 use Rattle.jk_model_classes.specs.Classes.{IsSubclass}
 use Rattle.jk_model_classes.specs.Lookups.{MethodIs}
-use Rattle.jk_model_classes.specs.Worlds.{IsNamed}
-use Rattle.jk_model_frames.specs.Frames.{FrameState, called_frame, locals_of}
+use Rattle.jk_model_frames.specs.Frames.{FrameState, locals_of}
 use Rattle.jk_model_domains.specs.NumberRows.{IsOnTop, Replaces}
 use Rattle.jk_model_domains.specs.Objects.{NamedObject}
 use Rattle.jk_model_heaps.specs.CalledFrames.{IsCalledFrame, resumed}
-use Rattle.jk_model_heaps.specs.Heaps.{IsGrown}
 use Rattle.jk_model_heaps.specs.Instances.{RunsAs}
 use Rattle.jk_model_heaps.specs.RunningCode.{NamesMethod, RunsCode}
 use Rattle.jk_model_heaps.specs.Workings.{Setting, Working}

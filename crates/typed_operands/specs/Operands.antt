@@ -1,5 +1,5 @@
 -- What an instruction finds in a frame that fits, and that what it leaves fits too, in a heap that may have grown.
-use Rattle.std.specs.Prelude.{◌≡◌, ◌⊎◌, ℤ, ℕ, List, [], ◌∷◌, ⊤, Some}
+use Rattle.std.specs.Prelude.{◌≡◌, ◌⊎◌, ℤ, ℕ, List, [], ◌∷◌, ⊤}
 use Rattle.jk_model.specs.declared.identifiers.ClassId.{ClassId}
 use Rattle.jk_model.specs.declared.instructions.Instr.{Instr}
 use Rattle.jk_model.specs.declared.values.Value.{Value}
@@ -12,11 +12,12 @@ use Rattle.jk_model_typing.specs.Rows.{Meets}
 use Rattle.jk_model_typing.specs.Scopes.{CodeScope, NamesClass}
 use Rattle.jk_model_frames.specs.Frames.{FrameState}
 use Rattle.jk_model_domains.specs.NumberRows.{IsOnTop, Replaces}
-use Rattle.jk_model_domains.specs.Objects.{NamedObject, Array, Plain, object_named}
+use Rattle.jk_model_domains.specs.Objects.{NamedObject}
 use Rattle.jk_model_domains.specs.ValueTypes.{EachValueFits, FrameHolds, HoldsDeclared, ValueFits}
 use Rattle.jk_model_heaps.specs.Heaps.{IsGrown}
 use Rattle.jk_model_heaps.specs.References.{IsHeapArray}
 use Rattle.jk_model_sealing.specs.SealedInsides.{IsOfClass}
+use Rattle.erased_typings.specs.ErasedFrames.{IsErasedFrame}
 use Rattle.number_laws.specs.FrameLaws.{IsTyped}
 use Rattle.sound_codes.specs.SoundCodes.{AreSoundCodes}
 
@@ -50,7 +51,8 @@ PushedFit =
 
 -- ---- aaload.
 
--- an array, or null, and an index are on top; each item of the array may take their place
+-- an array, or null, and an index are on top; each item of the array may take their place, where typing has read interfaces as
+-- java/lang/Object
 abbrev pub ElementsAreFound : Type 0
 ElementsAreFound =
     (s : CodeScope) (heap : List NamedObject) (place : ℕ) (i : Instr) (f : FrameState) (before after : FrameType)
@@ -60,8 +62,8 @@ ElementsAreFound =
 abbrev pub ElementsFit : Type 0
 ElementsFit =
     (s : CodeScope) (heap : List NamedObject) (place : ℕ) (i : Instr) (f g : FrameState) (before after : FrameType) (array item : Value)
-    (index : ℤ) → AreSoundCodes s.classes → (typed : IsTyped s heap place i f before after) → typed.row.shape ≡ LoadsElement
-    → (a : IsHeapArray heap array) → HoldsDeclared s.classes heap item a.element → Replaces f g (array ∷ Held.Int index ∷ []) (item ∷ [])
+    (index : ℤ) → AreSoundCodes s.classes → IsErasedFrame s.classes before → (typed : IsTyped s heap place i f before after)
+    → typed.row.shape ≡ LoadsElement → (a : IsHeapArray heap array) → HoldsDeclared s.classes heap item a.element → Replaces f g (array ∷ Held.Int index ∷ []) (item ∷ [])
     → FrameHolds s heap g after
 
 -- ---- new.

@@ -1,6 +1,10 @@
 -- By the lemmas on objects in grown heaps.
+use Rattle.grown_heaps.proofs.NewObjects.{new_sealed}
 use Rattle.grown_heaps.proofs.StillFits.{object_sealed, of_class, throwable}
 use Rattle.grown_heaps.proofs.laws.objects_stay_sealed.Goals as goal
+
+pub returns-clause-new : goal.returns-clause-new
+returns-clause-new c = new_sealed
 
 pub returns-clause-sealed : goal.returns-clause-sealed
 returns-clause-sealed c = λ around object old new g h. object_sealed old new g around object h

@@ -1,0 +1,3 @@
+-- Lemmas on objects in stores.
+pub mod KindsOfTypes
+pub mod LaidOut
