@@ -1,4 +1,5 @@
 -- The derivations of the laws.
+pub mod CopiesAreSealed
 pub mod CopiesAreThere
 pub mod CopiesCostTheSame
 pub mod CopiesFit
