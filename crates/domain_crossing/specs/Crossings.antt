@@ -73,10 +73,10 @@ pub data LeavesByReturn (m : Machine) (t : ThreadNo) : Option Value → Left →
 -- ---- A segment that a throwable has left.
 
 pub data LeavesByThrow (m : Machine) (t : ThreadNo) (a : ℕ) : Left → Machine → Type 0 where
-  ends : (p : RunningSegment m t) (b : IsThrowable p a) → p.lower ≡ [] → p.segment.shared.orphan ≡ false
+  is_uncaught : (p : RunningSegment m t) (b : IsThrowable p a) → p.lower ≡ [] → p.segment.shared.orphan ≡ false
       → LeavesByThrow m t a (Became.EndedBy b.class) (without_thread t m)
   ends_orphan : (p : RunningSegment m t) → p.lower ≡ [] → p.segment.shared.orphan ≡ true → LeavesByThrow m t a Became.Ended (without_thread t m)
-  drops : (s : TopTwo m t) → s.left.segment.shared.orphan ≡ true → LeavesByThrow m t a Became.Delivered (with_revoked_below s)
+  drops_throwable : (s : TopTwo m t) → s.left.segment.shared.orphan ≡ true → LeavesByThrow m t a Became.Delivered (with_revoked_below s)
   -- a copy, or a standing throwable of the domain below, is raised there
   brings : (s : TopTwo m t) (r : Raise) (mid : Machine) → s.left.segment.shared.orphan ≡ false → Brings s a r mid
       → LeavesByThrow m t a (Became.Raised r) mid
