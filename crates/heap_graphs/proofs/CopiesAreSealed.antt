@@ -142,7 +142,7 @@ found_itself (x ∷ made) e differ h = elim (Contains-cases e x made h) [
 -- a place in two lists, one after the other, is one in the first or in the second
 front_or_back : (old made : List NamedObject) (k : ℕ) (e : NamedObject) → slice_get (old ++ made) k ≡ Some e
     → (slice_get old k ≡ Some e) ⊎ ((j : ℕ) × (k ≡ length old + j) × (slice_get made j ≡ Some e))
-front_or_back [] made k e at = inr (k, refl, at)
+front_or_back [] made k e at = inr (k, omega arith, at)
 front_or_back (x ∷ old) made zero e at = inl at
 front_or_back (x ∷ old) made (suc k) e at = elim (front_or_back old made k e at) [
   | inl first ↦ inl first

@@ -8,3 +8,4 @@ pub mod DistinctNumbers
 pub mod MappedLists
 pub mod ReachIsClosed
 pub mod ReachIsListed
+pub mod SealedGraphs

@@ -16,7 +16,7 @@ use Rattle.jk_model_graphs.specs.Reach.{Graph, Reach, ReachCosts}
 use Rattle.jk_model_heaps.specs.Capabilities.{CapRange}
 use Rattle.jk_model_heaps.specs.Heaps.{IsGrown, field_records, heap_words}
 use Rattle.jk_model_heaps.specs.Workings.{Inside, with_heap}
-use Rattle.jk_model_sealing.specs.SealedInsides.{IsKnownValue, IsSealedInside}
+use Rattle.jk_model_sealing.specs.SealedInsides.{IsKnownValue, IsSealedInside, Surroundings}
 
 -- ---- A copy is there.
 
@@ -34,6 +34,13 @@ abbrev pub ACopyIsThere : Type 0
 ACopyIsThere =
     (classes : List ClassRecord) (source : Graph) (before : List NamedObject) → IsWhollyThere classes source
     → (copy : Graph) × (pairs : List (ℕ × ℕ)) × IsCopy classes source before copy pairs
+
+-- In a domain that is sealed all that known values reach is so.
+abbrev pub SealedIsWhollyThere : Type 0
+SealedIsWhollyThere =
+    (around : Surroundings) (quota : ℕ) (inside : Inside) (values : List Value) → IsSealedInside around quota inside
+    → AllByRecursion (IsKnownValue around.caps inside.heap) values
+    → IsWhollyThere around.classes (record { heap = inside.heap; values = values })
 
 -- ---- What it costs, and what it is.
 

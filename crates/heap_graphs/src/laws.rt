@@ -1,6 +1,6 @@
 //! The laws. The functions have no bodies: each stands for its clause.
 
-ghost use Rattle.heap_graphs.specs.CopiedGraphs.{ACopyIsThere, CopiedValuesFit, CopiesCostTheirReach, CopiesKeepDomains};
+ghost use Rattle.heap_graphs.specs.CopiedGraphs.{ACopyIsThere, CopiedValuesFit, CopiesCostTheirReach, CopiesKeepDomains, SealedIsWhollyThere};
 ghost use Rattle.heap_graphs.specs.ReachedNames.{ClosedIsReach, DistinctFits, OneSum, ReachIsThere, ReachIsWithinHeap};
 
 /// Different numbers, all among others, are no more than these, whatever each counts.
@@ -31,6 +31,11 @@ pub fn reach_is_within_heap()
 /// Where each name that is reached has its object, with a value for each field, there is a copy of all of them in any heap.
 pub fn a_copy_is_there()
     ensures { ACopyIsThere }
+{}
+
+/// In a domain that is sealed each name that known values reach has its object, with a value for each field.
+pub fn sealed_is_wholly_there()
+    ensures { SealedIsWhollyThere }
 {}
 
 /// A copy costs what is reached of its source.
