@@ -66,10 +66,18 @@ abbrev pub StepsAreThere : Type 0
 StepsAreThere =
     (m : Machine) (t : ThreadNo) → IsWhole m → HasSoundClasses m → (deed : Deed) × (lines : List Line) × (new : Machine) × StepsBy m t deed lines new
 
+-- Each thread has a step from each machine that is whole, and each step leads to such a machine, and gives out no number of a thread.
+pub record StepsGoOn : Type 0 where
+  pub there : StepsAreThere
+  pub whole : (m new : Machine) (t : ThreadNo) (deed : Deed) (lines : List Line) → IsWhole m → HasSoundClasses m → StepsBy m t deed lines new
+      → IsWhole new × HasSoundClasses new
+  pub next : (m new : Machine) (t : ThreadNo) (deed : Deed) (lines : List Line) → StepsBy m t deed lines new → new.next_thread ≡ m.next_thread
+
+-- Where steps go on, so do turns and rounds.
 pub record TurnsAreThere : Type 0 where
-  pub turns : (n : ℕ) (t : ThreadNo) (m : Machine) → IsWhole m → HasSoundClasses m
+  pub turns : StepsGoOn → (n : ℕ) (t : ThreadNo) (m : Machine) → IsWhole m → HasSoundClasses m
       → (lines : List Line) × (new : Machine) × Turns n t m lines new × IsWhole new × HasSoundClasses new
-  pub goes : (steps thread : ℕ) (m : Machine) → IsWhole m → HasSoundClasses m
+  pub goes : StepsGoOn → (steps thread : ℕ) (m : Machine) → IsWhole m → HasSoundClasses m
       → (lines : List Line) × (new : Machine) × Goes steps thread m lines new × IsWhole new × HasSoundClasses new
-  pub rounds : (n steps : ℕ) (m : Machine) → IsWhole m → HasSoundClasses m
+  pub rounds : StepsGoOn → (n steps : ℕ) (m : Machine) → IsWhole m → HasSoundClasses m
       → (lines : List Line) × (new : Machine) × Rounds n steps m lines new × IsWhole new × HasSoundClasses new

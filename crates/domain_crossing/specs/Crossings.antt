@@ -73,10 +73,10 @@ pub data LeavesByReturn (m : Machine) (t : ThreadNo) : Option Value → Left →
 -- ---- A segment that a throwable has left.
 
 pub data LeavesByThrow (m : Machine) (t : ThreadNo) (a : ℕ) : Left → Machine → Type 0 where
-  ends : (p : RunningSegment m t) (b : IsThrowable p a) → p.lower ≡ [] → p.segment.shared.orphan ≡ false
+  is_uncaught : (p : RunningSegment m t) (b : IsThrowable p a) → p.lower ≡ [] → p.segment.shared.orphan ≡ false
       → LeavesByThrow m t a (Became.EndedBy b.class) (without_thread t m)
   ends_orphan : (p : RunningSegment m t) → p.lower ≡ [] → p.segment.shared.orphan ≡ true → LeavesByThrow m t a Became.Ended (without_thread t m)
-  drops : (s : TopTwo m t) → s.left.segment.shared.orphan ≡ true → LeavesByThrow m t a Became.Delivered (with_revoked_below s)
+  drops_throwable : (s : TopTwo m t) → s.left.segment.shared.orphan ≡ true → LeavesByThrow m t a Became.Delivered (with_revoked_below s)
   -- a copy, or a standing throwable of the domain below, is raised there
   brings : (s : TopTwo m t) (r : Raise) (mid : Machine) → s.left.segment.shared.orphan ≡ false → Brings s a r mid
       → LeavesByThrow m t a (Became.Raised r) mid
@@ -84,16 +84,16 @@ pub data LeavesByThrow (m : Machine) (t : ThreadNo) (a : ℕ) : Left → Machine
 -- ---- Laws: what is left, and what is raised below after it, are together a case of `Returns` or of `Throws`. The kernel cites them.
 
 pub record HalvesMakeReturns : Type 0 where
-  pub delivered : (m new : Machine) (t : ThreadNo) (v : Option Value) → LeavesByReturn m t v Became.Delivered new → Returns m t v 1 [] new
-  pub ended : (m new : Machine) (t : ThreadNo) (v : Option Value) (lines : List Line) → LeavesByReturn m t v Became.Ended new
+  pub delivered : (m : Machine) (t : ThreadNo) (v : Option Value) (new : Machine) → LeavesByReturn m t v Became.Delivered new → Returns m t v 1 [] new
+  pub ended : (m : Machine) (t : ThreadNo) (v : Option Value) (new : Machine) (lines : List Line) → LeavesByReturn m t v Became.Ended new
       → PrintedOf m.classes t Became.Ended lines → Returns m t v 1 lines new
-  pub raised : (m mid new : Machine) (t : ThreadNo) (v : Option Value) (r : Raise) (n : ℕ) (lines : List Line)
+  pub raised : (m : Machine) (t : ThreadNo) (v : Option Value) (r : Raise) (n : ℕ) (lines : List Line) (mid new : Machine)
       → LeavesByReturn m t v (Became.Raised r) mid → RaisesInThread mid t r n lines new → Returns m t v (suc n) lines new
 
 pub record HalvesMakeThrows : Type 0 where
-  pub delivered : (m new : Machine) (t : ThreadNo) (a : ℕ) → LeavesByThrow m t a Became.Delivered new → Throws t 1 m a [] new
+  pub delivered : (m : Machine) (t : ThreadNo) (a : ℕ) (new : Machine) → LeavesByThrow m t a Became.Delivered new → Throws t 1 m a [] new
   -- an end by a throwable's class, and an orphan's end
-  pub ended : (m new : Machine) (t : ThreadNo) (a : ℕ) (left : Left) (lines : List Line) → LeavesByThrow m t a left new
+  pub ended : (m : Machine) (t : ThreadNo) (a : ℕ) (left : Left) (new : Machine) (lines : List Line) → LeavesByThrow m t a left new
       → PrintedOf m.classes t left lines → ((r : Raise) → left ≡ Became.Raised r → ⊥) → Throws t 1 m a lines new
-  pub raised : (m mid new : Machine) (t : ThreadNo) (a : ℕ) (r : Raise) (n : ℕ) (lines : List Line)
+  pub raised : (m : Machine) (t : ThreadNo) (a : ℕ) (r : Raise) (n : ℕ) (lines : List Line) (mid new : Machine)
       → LeavesByThrow m t a (Became.Raised r) mid → RaisesInThread mid t r n lines new → Throws t (suc n) m a lines new

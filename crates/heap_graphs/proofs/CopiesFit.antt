@@ -81,11 +81,11 @@ object_fits classes heap other pairs a b p (Fresh place) h = absurd h
 object_fits classes heap other pairs a b p FreshThis h = absurd h
 
 -- a value that names no object is its own copy
-abbrev IsNoName : Value → Type 0
+abbrev pub IsNoName : Value → Type 0
 IsNoName (Held.Obj a) = ⊥
 IsNoName v = Unit {0}
 
-its_own : (pairs : List (ℕ × ℕ)) (v w : Value) → IsNoName v → Corresponds pairs v w → v ≡ w
+pub its_own : (pairs : List (ℕ × ℕ)) (v w : Value) → IsNoName v → Corresponds pairs v w → v ≡ w
 its_own pairs (Held.Int n) (Held.Int m) nameless h = h
 its_own pairs (Held.Int n) (Held.Long m) nameless h = h
 its_own pairs (Held.Int n) Held.Null nameless h = h

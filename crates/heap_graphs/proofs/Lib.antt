@@ -1,4 +1,5 @@
 -- The derivations of the laws.
+pub mod CopiesAreSealed
 pub mod CopiesAreThere
 pub mod CopiesCostTheSame
 pub mod CopiesFit
@@ -7,3 +8,4 @@ pub mod DistinctNumbers
 pub mod MappedLists
 pub mod ReachIsClosed
 pub mod ReachIsListed
+pub mod SealedGraphs

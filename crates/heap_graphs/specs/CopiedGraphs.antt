@@ -13,6 +13,7 @@ use Rattle.jk_model_domains.specs.ValueTypes.{HoldsDeclared}
 use Rattle.jk_model_graphs.specs.Copiable.{AllCopiable}
 use Rattle.jk_model_graphs.specs.Copies.{Corresponds, IsCopy}
 use Rattle.jk_model_graphs.specs.Reach.{Graph, Reach, ReachCosts}
+use Rattle.jk_model_heaps.specs.Capabilities.{CapRange}
 use Rattle.jk_model_heaps.specs.Heaps.{IsGrown, field_records, heap_words}
 use Rattle.jk_model_heaps.specs.Workings.{Inside, with_heap}
 use Rattle.jk_model_sealing.specs.SealedInsides.{IsKnownValue, IsSealedInside, Surroundings}
@@ -34,6 +35,13 @@ ACopyIsThere =
     (classes : List ClassRecord) (source : Graph) (before : List NamedObject) → IsWhollyThere classes source
     → (copy : Graph) × (pairs : List (ℕ × ℕ)) × IsCopy classes source before copy pairs
 
+-- In a domain that is sealed all that known values reach is so.
+abbrev pub SealedIsWhollyThere : Type 0
+SealedIsWhollyThere =
+    (around : Surroundings) (quota : ℕ) (inside : Inside) (values : List Value) → IsSealedInside around quota inside
+    → AllByRecursion (IsKnownValue around.caps inside.heap) values
+    → IsWhollyThere around.classes (record { heap = inside.heap; values = values })
+
 -- ---- What it costs, and what it is.
 
 abbrev pub CopiesCostTheirReach : Type 0
@@ -49,22 +57,21 @@ CopiedValuesFit =
 
 -- ---- The domain that takes it.
 
--- A copy from one domain to another, or to itself: what each is judged in and has inside, and the values.
-pub record CopyBetween (classes : List ClassRecord) : Type 0 where
-  pub giver : Surroundings
-  pub taker : Surroundings
-  pub same_classes : (giver.classes ≡ classes) × (taker.classes ≡ classes) × (giver.caps ≡ taker.caps)
+-- A copy from one domain to another, or to itself: what names mean in the two, what each has inside, and the values.
+pub record CopyBetween (classes : List ClassRecord) (caps : List CapRange) : Type 0 where
+  pub giver : List NamedClass
+  pub taker : List NamedClass
   pub from : Inside
   pub to : Inside
   pub quota_from : ℕ
   pub quota_to : ℕ
-  pub from_sealed : IsSealedInside giver quota_from from
-  pub to_sealed : IsSealedInside taker quota_to to
-  -- each domain knows the system classes
-  pub knows_system : (c : ClassId) → c.0 < length system_classes → IsNamed taker.table c
+  pub from_sealed : IsSealedInside (record { classes = classes; table = giver; caps = caps }) quota_from from
+  pub to_sealed : IsSealedInside (record { classes = classes; table = taker; caps = caps }) quota_to to
+  -- the taker knows the system classes
+  pub knows_system : (c : ClassId) → c.0 < length system_classes → IsNamed taker c
   pub values : List Value
-  pub known : AllByRecursion (IsKnownValue giver.caps from.heap) values
-  pub copiable : AllCopiable classes giver.table taker.table (record { heap = from.heap; values = values })
+  pub known : AllByRecursion (IsKnownValue caps from.heap) values
+  pub copiable : AllCopiable classes giver taker (record { heap = from.heap; values = values })
   pub heap : List NamedObject
   pub copied : List Value
   pub pairs : List (ℕ × ℕ)
@@ -76,6 +83,6 @@ pub record CopyBetween (classes : List ClassRecord) : Type 0 where
 -- The domain that takes it is sealed with it, has all that it had, and knows what it was given.
 abbrev pub CopiesKeepDomains : Type 0
 CopiesKeepDomains =
-    (classes : List ClassRecord) (c : CopyBetween classes)
-    → IsSealedInside c.taker c.quota_to (with_heap c.to c.heap) × IsGrown c.to.heap c.heap
-    × AllByRecursion (IsKnownValue c.taker.caps c.heap) c.copied
+    (classes : List ClassRecord) (caps : List CapRange) (c : CopyBetween classes caps)
+    → IsSealedInside (record { classes = classes; table = c.taker; caps = caps }) c.quota_to (with_heap c.to c.heap)
+    × IsGrown c.to.heap c.heap × AllByRecursion (IsKnownValue caps c.heap) c.copied

@@ -1,6 +1,6 @@
 //! The laws. The functions have no bodies: each stands for its clause.
 
-ghost use Rattle.heap_graphs.specs.CopiedGraphs.{ACopyIsThere, CopiedValuesFit, CopiesCostTheirReach};
+ghost use Rattle.heap_graphs.specs.CopiedGraphs.{ACopyIsThere, CopiedValuesFit, CopiesCostTheirReach, CopiesKeepDomains, SealedIsWhollyThere};
 ghost use Rattle.heap_graphs.specs.ReachedNames.{ClosedIsReach, DistinctFits, OneSum, ReachIsThere, ReachIsWithinHeap};
 
 /// Different numbers, all among others, are no more than these, whatever each counts.
@@ -33,6 +33,11 @@ pub fn a_copy_is_there()
     ensures { ACopyIsThere }
 {}
 
+/// In a domain that is sealed each name that known values reach has its object, with a value for each field.
+pub fn sealed_is_wholly_there()
+    ensures { SealedIsWhollyThere }
+{}
+
 /// A copy costs what is reached of its source.
 pub fn copies_cost_their_reach()
     ensures { CopiesCostTheirReach }
@@ -41,4 +46,9 @@ pub fn copies_cost_their_reach()
 /// A value that may stand where a type is declared has a copy that may stand there too.
 pub fn copied_values_fit()
     ensures { CopiedValuesFit }
+{}
+
+/// The domain that takes a copy is sealed with it, has all that it had, and knows what it was given.
+pub fn copies_keep_domains()
+    ensures { CopiesKeepDomains }
 {}
