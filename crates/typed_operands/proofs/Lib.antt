@@ -1,0 +1,3 @@
+-- Lemmas on typed values.
+pub mod BelowObject
+pub mod InstancesFitTypes
