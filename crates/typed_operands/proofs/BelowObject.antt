@@ -49,6 +49,12 @@ module _ (classes : List ClassRecord) (sound : AreSoundCodes classes) where
         said = sound.system.each c.0 class found.0 at found.1;
       }
 
+  pub system_there : (c : ClassId) → c.0 < length system_classes → HasClass classes c
+  system_there c low =
+      let class = item_there system_classes c.0 low in
+      let e = entry_of c class.0 class.1 in
+      slice_get_within classes c.0 e.of e.is
+
   -- ---- Interfaces of the system.
 
   flags_by : (c : ClassId) (o : Option SystemClass) → slice_get system_classes c.0 ≡ o

@@ -1,10 +1,9 @@
 -- An instance of a type fits the type as typing reads it.
-use Rattle.std.proofs.Common.{inl, inr, ◌≡◌, ◌⊎◌, ℕ, zero, suc, ◌<◌, Bool, true, false, List, [], ◌∷◌, Contains, Option, Some, None, flat_map, refl, sym, ap, subst, ◌∙◌, arith}
+use Rattle.std.proofs.Common.{inl, inr, ◌≡◌, ◌⊎◌, ℕ, zero, suc, ◌+◌, Bool, true, false, List, [], ◌∷◌, Contains, Option, Some, None, flat_map, refl, sym, ap, subst, ◌∙◌, arith}
 use Rattle.std.specs.Prelude.{if◌then◌else◌}
 use Rattle.std.specs.Option.{option_map_or}
 use Rattle.std.proofs.lemmas.Option.{slice_get_within}
 use Rattle.list_lemmas.proofs.ItemsOfLists.{Contains-cases, Contains-flat_map_from, Contains-none}
-use Rattle.jk_model.specs.Flags.{has, INTERFACE}
 use Rattle.jk_model.specs.declared.identifiers.CapId.{CapId}
 use Rattle.jk_model.specs.declared.identifiers.ClassId.{ClassId}
 use Rattle.jk_model.specs.declared.values.Value.{Value}
@@ -13,19 +12,17 @@ use Rattle.jk_model_classes.specs.declared.records.BaseRef.{BaseRef}
 use Rattle.jk_model_classes.specs.declared.records.BaseRef.TheVariants as Base
 use Rattle.jk_model_classes.specs.declared.records.ClassRecord.{ClassRecord}
 use Rattle.jk_model_classes.specs.declared.records.TypeRef.{TypeRef}
+use Rattle.jk_model_classes.specs.declared.sharing.Stub.{Stub}
 use Rattle.jk_model_classes.specs.Classes.{HasClass, Implements, IsInterface, IsSubclass, OBJECT, is_interface_record, own_interfaces, record_of, superclasses, with_interfaces}
-use Rattle.jk_model_typing.specs.FrameTypes.{IsClassBelow, RefFits, array_type, erased, erased_base, erased_class}
-use Rattle.jk_model_domains.specs.Objects.{NamedObject, Object, Array, Plain, Task, Text, CAPABILITY, class_type, type_of}
+use Rattle.jk_model_typing.specs.FrameTypes.{IsClassBelow, RefFits, STRING, array_type, erased, erased_base, erased_class}
+use Rattle.jk_model_domains.specs.Objects.{NamedObject, Object, Array, Plain, Task, Text, CAPABILITY, TASK, class_type, object_named, type_of}
 use Rattle.jk_model_domains.specs.ValueTypes.{HoldsDeclared}
-use Rattle.jk_model_heaps.specs.Capabilities.{CapabilityIsA}
+use Rattle.jk_model_heaps.specs.Capabilities.{CapabilityIsA, KnownCapabilities, OwnedCapability, ShowsInterface, StandsInFor, capability_numbered}
 use Rattle.jk_model_heaps.specs.Instances.{IsA, IsAboveArrays, IsClassA, IsInstance}
 use Rattle.jk_model_heaps.specs.SystemClasses.{CLONEABLE, REMOTE, SERIALIZABLE}
-use Rattle.jk_model_heaps.specs.Workings.{Setting}
-use Rattle.jk_model_sealing.specs.SealedInsides.{Surroundings}
-use Rattle.class_table.proofs.StandingAbove.{superclasses-trans}
-use Rattle.sealed_rows.specs.RunningFrames.{IsKnownSetting}
+use Rattle.class_table.proofs.StandingAbove.{is-own_superclass, superclasses-trans}
 use Rattle.sound_codes.specs.SoundCodes.{AreSoundCodes}
-use Rattle.typed_operands.proofs.BelowObject.{below_object, system_interface}
+use Rattle.typed_operands.proofs.BelowObject.{below_object, system_interface, system_there}
 
 -- ---- Classes that are there.
 
@@ -122,11 +119,8 @@ module _ (classes : List ClassRecord) (sound : AreSoundCodes classes) where
 
   -- ---- Capabilities.
 
-  capability_there : HasClass classes CAPABILITY
-  capability_there = system_there CAPABILITY (omega arith)
-
   capability_below : IsSubclass classes CAPABILITY OBJECT
-  capability_below = below_object classes sound CAPABILITY capability_there
+  capability_below = below_object classes sound CAPABILITY (system_there classes sound CAPABILITY (omega arith))
 
   -- an interface is read as java/lang/Object, to which a capability fits
   interface_fits : (c : ClassId) → is_interface_record (record_of classes c) ≡ true
@@ -134,3 +128,80 @@ module _ (classes : List ClassRecord) (sound : AreSoundCodes classes) where
   interface_fits c e =
       subst (λ (x : Bool). RefFits classes (class_type CAPABILITY) (array_type 0 (Base.Class (if x then OBJECT else c)))) (sym e)
       (inr (inl (refl, capability_below)))
+
+  -- what a capability is an instance of, where stand-ins show interfaces
+  abbrev StandInsShowInterfaces : List Stub → Type 0
+  StandInsShowInterfaces stand_ins =
+      (s : Stub) (i : ClassId) → Contains stand_ins s → record_of classes s.class ≡ None → Contains s.interfaces i → IsInterface classes i
+
+  shown_fits : (caps : KnownCapabilities) (c : OwnedCapability) (class : ClassId) → StandInsShowInterfaces caps.stand_ins
+      → ShowsInterface classes c.capability class ⊎ StandsInFor classes caps.stand_ins c.capability class
+      → RefFits classes (class_type CAPABILITY) (erased classes (class_type class))
+  shown_fits caps c class shows (inl remote) = interface_fits class (is_read class remote.0.0)
+  shown_fits caps c class shows (inr (none, s, has, same, listed)) =
+      interface_fits class (is_read class (shows s class has (subst (λ (d : ClassId). record_of classes d ≡ None) (sym same) none) listed))
+
+  above_fits : (caps : KnownCapabilities) (k : CapId) (class : ClassId) → StandInsShowInterfaces caps.stand_ins
+      → (class ≡ OBJECT) ⊎ (class ≡ CAPABILITY) ⊎ (class ≡ REMOTE)
+      ⊎ ((c : OwnedCapability) × (capability_numbered caps.ranges k ≡ Some c)
+      × (ShowsInterface classes c.capability class ⊎ StandsInFor classes caps.stand_ins c.capability class))
+      → RefFits classes (class_type CAPABILITY) (erased classes (class_type class))
+  above_fits caps k class shows (inl is) =
+      subst (λ (d : ClassId). RefFits classes (class_type CAPABILITY) (erased classes (class_type d))) (sym is)
+      (class_fits CAPABILITY OBJECT capability_below)
+  above_fits caps k class shows (inr (inl is)) =
+      subst (λ (d : ClassId). RefFits classes (class_type CAPABILITY) (erased classes (class_type d))) (sym is)
+      (class_fits CAPABILITY CAPABILITY (is-own_superclass classes sound.ordered CAPABILITY))
+  above_fits caps k class shows (inr (inr (inl is))) =
+      subst (λ (d : ClassId). RefFits classes (class_type CAPABILITY) (erased classes (class_type d))) (sym is)
+      (interface_fits REMOTE (system_interface classes sound REMOTE refl))
+  above_fits caps k class shows (inr (inr (inr (c, is, how)))) = shown_fits caps c class shows how
+
+  pub capability_fits : (caps : KnownCapabilities) (k : CapId) (t : TypeRef) → StandInsShowInterfaces caps.stand_ins
+      → CapabilityIsA classes caps k t → RefFits classes (class_type CAPABILITY) (erased classes t)
+  capability_fits caps k t shows h =
+      subst (λ (u : TypeRef). RefFits classes (class_type CAPABILITY) (erased classes u)) (sym h.no_array) (above_fits caps k h.class shows h.above)
+
+  -- ---- Values that are instances of a type are of references, and hold it.
+
+  abbrev IsReferenceBase : BaseRef → Type 0
+  IsReferenceBase (Base.Class c) = Unit {0}
+  IsReferenceBase base = ⊥
+
+  of_class : (c : ClassId) (base : BaseRef) → array_type 0 (Base.Class c) ≡ array_type 0 base → IsReferenceBase base
+  of_class c base e = subst IsReferenceBase (ap (λ (t : TypeRef). t.base) e) tt
+
+  same_base : (o : Object) (base : BaseRef) → type_of o ≡ array_type 0 base → IsReferenceBase base
+  same_base (Plain c fields) base e = of_class c base e
+  same_base (Array element items) base e =
+      let dims : element.dims + 1 ≡ 0 = ap (λ (t : TypeRef). t.dims) e in absurd (omega (arith, dims))
+  same_base (Text units) base e = of_class STRING base e
+  same_base (Task n) base e = of_class TASK base e
+
+  class_base : (a base : BaseRef) → IsClassA classes a base → IsReferenceBase base
+  class_base (Base.Class c) (Base.Class d) h = tt
+  class_base a base h = absurd h
+
+  above_base : (base : BaseRef) → IsAboveArrays base → IsReferenceBase base
+  above_base base (inl is) = subst IsReferenceBase (sym is) tt
+  above_base base (inr (inl is)) = subst IsReferenceBase (sym is) tt
+  above_base base (inr (inr is)) = subst IsReferenceBase (sym is) tt
+
+  reference_base : (o : Object) (base : BaseRef) → IsA classes (type_of o) (array_type 0 base) → IsReferenceBase base
+  reference_base o base (inl same) = same_base o base same
+  reference_base o base (inr (inl (dims, below))) = class_base (type_of o).base base below
+  reference_base o base (inr (inr (lower, above))) = above_base base above
+
+  object_held : (heap : List NamedObject) (a : ℕ) (o : Object) (dims : ℕ) (base : BaseRef) → object_named heap a ≡ Some o
+      → IsA classes (type_of o) (array_type dims base) → HoldsDeclared classes heap (Held.Obj a) (array_type dims base)
+  object_held heap a o zero (Base.Class c) is isa = (o, is, instance_fits (type_of o) (array_type 0 (Base.Class c)) isa)
+  object_held heap a o zero base is isa = absurd (reference_base o base isa)
+  object_held heap a o (suc dims) base is isa = (o, is, instance_fits (type_of o) (array_type (suc dims) base) isa)
+
+  pub instance_held : (caps : KnownCapabilities) (heap : List NamedObject) (v : Value) (t : TypeRef) → StandInsShowInterfaces caps.stand_ins
+      → IsInstance classes caps heap v t → HoldsDeclared classes heap v t
+  instance_held caps heap (Held.Obj a) t shows (o, is, isa) = object_held heap a o t.dims t.base is isa
+  instance_held caps heap (Held.Cap k) t shows h =
+      subst (λ (u : TypeRef). HoldsDeclared classes heap (Held.Cap k) u) (sym h.no_array)
+      (above_fits caps k h.class shows h.above)
+  instance_held caps heap v t shows h = absurd h
