@@ -138,7 +138,7 @@ module _ (classes : List ClassRecord) (sound : AreSoundCodes classes) where
       → ShowsInterface classes c.capability class ⊎ StandsInFor classes caps.stand_ins c.capability class
       → RefFits classes (class_type CAPABILITY) (erased classes (class_type class))
   shown_fits caps c class shows (inl remote) = interface_fits class (is_read class remote.0.0)
-  shown_fits caps c class shows (inr (none, s, has, same, listed)) =
+  shown_fits caps c class shows (inr (none, (s, has, same, listed))) =
       interface_fits class (is_read class (shows s class has (subst (λ (d : ClassId). record_of classes d ≡ None) (sym same) none) listed))
 
   above_fits : (caps : KnownCapabilities) (k : CapId) (class : ClassId) → StandInsShowInterfaces caps.stand_ins

@@ -63,8 +63,8 @@ abbrev pub ElementsFit : Type 0
 ElementsFit =
     (s : CodeScope) (heap : List NamedObject) (place : ℕ) (i : Instr) (f g : FrameState) (before after : FrameType) (array item : Value)
     (index : ℤ) → AreSoundCodes s.classes → IsErasedFrame s.classes before → (typed : IsTyped s heap place i f before after)
-    → typed.row.shape ≡ LoadsElement → (a : IsHeapArray heap array) → HoldsDeclared s.classes heap item a.element → Replaces f g (array ∷ Held.Int index ∷ []) (item ∷ [])
-    → FrameHolds s heap g after
+    → typed.row.shape ≡ LoadsElement → (a : IsHeapArray heap array) → HoldsDeclared s.classes heap item a.element
+    → Replaces f g (array ∷ Held.Int index ∷ []) (item ∷ []) → FrameHolds s heap g after
 
 -- ---- new.
 
