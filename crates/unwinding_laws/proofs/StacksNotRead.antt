@@ -75,10 +75,10 @@ module _ (x : Setting) (f : FrameState) (stack : List Value) where
 -- ---- A whole segment.
 
 -- the frames of a segment end with the top one
-same_last : (lower upper callers : List FrameState) (g catcher f : FrameState) → callers ++ f ∷ [] ≡ lower ++ catcher ∷ upper ++ g ∷ []
-    → (callers ≡ lower ++ catcher ∷ upper) × (f ≡ g)
+same_last : (lower upper callers : List FrameState) (g catcher f : FrameState) → callers ++ f ∷ [] ≡ lower ++ (catcher ∷ (upper ++ g ∷ []))
+    → (callers ≡ lower ++ (catcher ∷ upper)) × (f ≡ g)
 same_last lower upper callers g catcher f are =
-    one_last callers (lower ++ catcher ∷ upper) f g (are ∙ sym (append_assoc lower (catcher ∷ upper) (g ∷ [])))
+    one_last callers (lower ++ (catcher ∷ upper)) f g (are ∙ sym (append_assoc lower (catcher ∷ upper) (g ∷ [])))
 
 module _ (x : Setting) (old new : Run) (callers : List FrameState) (f : FrameState) (stack : List Value) (a : ℕ)
     (are : old.frames ≡ callers ++ f ∷ []) where
