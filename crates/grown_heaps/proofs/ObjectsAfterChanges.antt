@@ -2,7 +2,7 @@
 use Rattle.std.proofs.Common.{inl, inr, ◌≡◌, ◌≢◌, ◌⊎◌, ℕ, zero, suc, ◌+◌, ◌==◌, Bool, true, false, cond, List, [], ◌∷◌, ◌++◌, length, Option, Some, None, Contains, slice_get, refl, sym, ap, subst, ◌∙◌, arith}
 use Rattle.std.proofs.lemmas.Bool.{eq-eqb, eqb-true}
 use Rattle.std.proofs.lemmas.Bool.Decides.{eqb_tells}
-use Rattle.std.proofs.lemmas.List.Sums.{sum_by-append}
+use Rattle.std.proofs.lemmas.List.Sums.{sum_by-append, sum_by-cons}
 use Rattle.std.proofs.lemmas.Option.{none-some, same_Some}
 use Rattle.list_lemmas.proofs.ItemsByPlace.{comes_from}
 use Rattle.list_lemmas.proofs.ItemsOfLists.{Contains-at, Contains-here, Contains-there, stands_at}
@@ -131,7 +131,7 @@ InPart heap made i e =
     (slice_get heap i ≡ Some e) ⊎ ((k : ℕ) × (i ≡ length heap + k) × (slice_get made k ≡ Some e))
 
 part_of : (heap made : List NamedObject) (i : ℕ) (e : NamedObject) → slice_get (heap ++ made) i ≡ Some e → InPart heap made i e
-part_of [] made i e at = inr (i, refl, at)
+part_of [] made i e at = inr (i, omega arith, at)
 part_of (x ∷ heap) made zero e at = inl at
 part_of (x ∷ heap) made (suc i) e at = elim (part_of heap made i e at) [
   | inl here ↦ inl here
@@ -184,6 +184,10 @@ first_is_alone : (a : ℕ) (e : NamedObject) (es : List NamedObject) → NamesDi
 first_is_alone a e es differ same = λ k x at other.
     let there = differ 0 (suc k) e x refl at (same ∙ sym other) in absurd (omega arith)
 
+words_first : (classes : List ClassRecord) (e : NamedObject) (es : List NamedObject)
+    → heap_words classes (e ∷ es) ≡ object_words classes e.object + heap_words classes es
+words_first classes e es = sum_by-cons (λ (x : NamedObject). object_words classes x.object) e es
+
 written_words_by : (classes : List ClassRecord) (a : ℕ) (p o : Object) (e : NamedObject) (es : List NamedObject) → NamesDiffer (e ∷ es)
     → IsAlike o p → (t : Bool) → (e.name == a) ≡ t → by_first t e es a ≡ Some o
     → (object_named es a ≡ Some o → heap_words classes (with_object a p es) ≡ heap_words classes es)
@@ -192,10 +196,14 @@ written_words_by classes a p o e es differ alike true t is later =
     let rest : with_object a p es ≡ es = absent_as_is a p es (first_is_alone a e es differ (eqb-true e.name a t)) in
     let words : object_words classes p ≡ object_words classes e.object =
     alike_words classes o p alike ∙ ap (object_words classes) (sym (same_Some e.object o is)) in
-    ap (λ (more : List NamedObject). object_words classes p + heap_words classes more) rest
+    words_first classes (named a p) (with_object a p es)
+    ∙ ap (λ (more : List NamedObject). object_words classes p + heap_words classes more) rest
     ∙ ap (λ (n : ℕ). n + heap_words classes es) words
+    ∙ sym (words_first classes e es)
 written_words_by classes a p o e es differ alike false t is later =
-    ap (λ (n : ℕ). object_words classes e.object + n) (later is)
+    words_first classes e (with_object a p es)
+    ∙ ap (λ (n : ℕ). object_words classes e.object + n) (later is)
+    ∙ sym (words_first classes e es)
 
 pub written_words : (classes : List ClassRecord) (a : ℕ) (p o : Object) (heap : List NamedObject) → NamesDiffer heap → IsAlike o p
     → object_named heap a ≡ Some o → heap_words classes (with_object a p heap) ≡ heap_words classes heap

@@ -21,7 +21,7 @@ use Rattle.jk_model_sealing.specs.FittingFrames.{FitsAsCaller, FitsAsTop, FitsAt
 use Rattle.jk_model_sealing.specs.SealedInsides.{IsKnownValue, IsOfClass, IsSealedObject, Surroundings}
 use Rattle.jk_model_sealing.specs.SealedRuns.{AreSealedFrames, NamesKnown}
 use Rattle.list_lemmas.proofs.ItemsOfLists.{each-weaker}
-use Rattle.sealed_rows.specs.RaisableObjects.{IsThrowable}
+use Rattle.sealed_rows.specs.RaisableObjects.{IsThrowable, MayMeetRaise}
 use Rattle.grown_heaps.proofs.AlikeObjects.{alike_plain, alike_type}
 
 module _ (old new : List NamedObject) (g : IsGrown old new) where
@@ -147,6 +147,10 @@ module _ (old new : List NamedObject) (g : IsGrown old new) where
     locals = each_value_fits h.typing.scope f.locals h.after.locals h.locals;
     locals_before = each_value_fits h.typing.scope f.locals h.typing.type.locals h.locals_before;
   }
+
+  pub meets_raise : (classes : List ClassRecord) (f : FrameState) → MayMeetRaise classes old f → MayMeetRaise classes new f
+  meets_raise classes f (inl top) = inl (fits_as_top classes f top)
+  meets_raise classes f (inr call) = inr (fits_at_call classes f call)
 
   pub fits_as_caller : (classes : List ClassRecord) (f above : FrameState) → FitsAsCaller classes old f above → FitsAsCaller classes new f above
   fits_as_caller classes f above (inl (begun, top)) = inl (begun, fits_as_top classes f top)

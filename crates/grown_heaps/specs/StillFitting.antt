@@ -63,13 +63,11 @@ CallersFitStill = (classes : List ClassRecord) (f : FrameState) → StaysIn (λ 
 abbrev pub FramesKnowStill : Type 0
 FramesKnowStill = (caps : List CapRange) (f : FrameState) → StaysIn (λ heap. NamesKnown caps heap f)
 
--- what is asked of the top frame may rest on the heap
-abbrev pub RowsOfFramesFitStill : Type 0
-RowsOfFramesFitStill =
-    (classes : List ClassRecord) (Top : List NamedObject → FrameState → Type 0) (frames : List FrameState)
-    → ((f : FrameState) → StaysIn (λ heap. Top heap f)) → StaysIn (λ heap. FramesFit (Top heap) classes heap frames)
+-- All frames of a segment, whose top frame fits as this says. What runs, what has called, and what may be unwound stays so.
+abbrev pub RowsOfFramesFitStill : (List ClassRecord → List NamedObject → FrameState → Type 0) → Type 0
+RowsOfFramesFitStill Top =
+    (classes : List ClassRecord) (frames : List FrameState) → StaysIn (λ heap. FramesFit (Top classes heap) classes heap frames)
 
-abbrev pub SealedFramesStay : Type 0
-SealedFramesStay =
-    (around : Surroundings) (Top : List NamedObject → FrameState → Type 0) (frames : List FrameState)
-    → ((f : FrameState) → StaysIn (λ heap. Top heap f)) → StaysIn (λ heap. AreSealedFrames around (Top heap) heap frames)
+abbrev pub SealedFramesStay : (List ClassRecord → List NamedObject → FrameState → Type 0) → Type 0
+SealedFramesStay Top =
+    (around : Surroundings) (frames : List FrameState) → StaysIn (λ heap. AreSealedFrames around (Top around.classes heap) heap frames)

@@ -1,5 +1,7 @@
 //! The laws. The functions have no bodies: each stands for its clauses.
 
+ghost use Rattle.jk_model_sealing.specs.FittingFrames.{FitsAsTop, FitsAtCall};
+ghost use Rattle.sealed_rows.specs.RaisableObjects.{MayMeetRaise};
 ghost use Rattle.grown_heaps.specs.CostsOfHeaps.{AlikeObjectsCostTheSame, HeapsCostTogether, WritingCostsNothing};
 ghost use Rattle.grown_heaps.specs.Growth.{GrowthGoesOn, HeapsGrowByNothing, LikenessGoesOn, MakingGrows, ObjectsAreAlikeThemselves, WritingGrows};
 ghost use Rattle.grown_heaps.specs.NamedObjects.{MadeNamesDiffer, MadeObjectsAreThere, NothingElseIsThere, OldObjectsStay, OtherObjectsStay, WrittenNamesDiffer, WrittenObjectsAreThere};
@@ -58,8 +60,11 @@ pub fn frames_fit_still()
     ensures top { TopFramesFitStill }
     ensures callers { CallersFitStill }
     ensures known { FramesKnowStill }
-    ensures rows { RowsOfFramesFitStill }
-    ensures sealed { SealedFramesStay }
+    ensures running_rows { RowsOfFramesFitStill FitsAsTop }
+    ensures calling_rows { RowsOfFramesFitStill FitsAtCall }
+    ensures running { SealedFramesStay FitsAsTop }
+    ensures calling { SealedFramesStay FitsAtCall }
+    ensures raising { SealedFramesStay MayMeetRaise }
 {}
 
 /// A domain stays sealed inside where objects are made that fit, where an object gets contents that fit, where a static field gets

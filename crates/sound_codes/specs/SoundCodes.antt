@@ -1,7 +1,7 @@
 -- What holds of all classes where every folder was accepted, whatever domains know of them. The rule of loading that asks for a fact
 -- stands behind it.
 use Rattle.std.specs.Prelude.{◌≡◌, ◌≢◌, ℕ, ◌^◌, ◌<◌, ◌≤◌, ◌⊎◌, ⊤, IsFalse, IsTrue, List, [], length, map, Contains, Option, Some, None}
-use Rattle.jk_model.specs.Flags.{has, ABSTRACT, STATIC}
+use Rattle.jk_model.specs.Flags.{has, ABSTRACT, INTERFACE, STATIC}
 use Rattle.jk_model.specs.Instructions.{Rises}
 use Rattle.jk_model.specs.SystemTable.{system_classes}
 use Rattle.jk_model.specs.declared.identifiers.ClassId.{ClassId}
@@ -19,7 +19,7 @@ use Rattle.jk_model_classes.specs.declared.records.Link.TheVariants as To
 use Rattle.jk_model_classes.specs.declared.records.LinkedCode.{LinkedCode}
 use Rattle.jk_model_classes.specs.declared.records.MethodRecord.{MethodRecord}
 use Rattle.jk_model_classes.specs.declared.records.TypeRef.{TypeRef}
-use Rattle.jk_model_classes.specs.Classes.{AreOrdered, IsInterface, field_walk, method_walk, record_of}
+use Rattle.jk_model_classes.specs.Classes.{AreOrdered, IsInterface, OBJECT, field_walk, method_walk, record_of}
 use Rattle.jk_model_classes.specs.Lookups.{FieldIs, MethodIs}
 use Rattle.jk_model_classes.specs.Members.{CLINIT, INIT}
 use Rattle.jk_model_typing.specs.declared.frames.FrameType.{FrameType}
@@ -69,6 +69,9 @@ pub record AreSoundCodes (classes : List ClassRecord) : Type 0 where
   pub homed : (c : ClassId) (r : ClassRecord) → record_of classes c ≡ Some r → r.home ≢ None → (p : ClassId) × (r.parent ≡ Some p)
   pub class_parents : HaveClassParents classes
   pub open_parents : HaveOpenParents classes
+  -- that of an interface is java/lang/Object (C19)
+  pub interface_parents : (c : ClassId) (r : ClassRecord) → record_of classes c ≡ Some r → IsTrue (has r.flags INTERFACE)
+      → r.parent ≡ Some OBJECT
   -- fields of interfaces are static, and their methods abstract, initialisers apart (C6)
   pub interface_fields : (m : MemberId) (field : FieldRecord) → IsInterface classes m.class → FieldIs classes m field
       → IsTrue (has field.flags STATIC)

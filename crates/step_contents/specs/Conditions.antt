@@ -12,12 +12,12 @@ use Rattle.jk_model_frames.specs.Frames.{FrameState}
 use Rattle.jk_model_heaps.specs.Capabilities.{IsGivenOut}
 use Rattle.jk_model_heaps.specs.Heaps.{heap_words}
 use Rattle.jk_model_heaps.specs.Workings.{Run, Working}
-use Rattle.jk_model_sealing.specs.FittingFrames.{FitsAsTop, FitsAtCall}
+use Rattle.jk_model_sealing.specs.FittingFrames.{FitsAsTop}
 use Rattle.jk_model_sealing.specs.SealedInsides.{IsSealedInside, Surroundings}
 use Rattle.jk_model_sealing.specs.SealedRuns.{IsSealedRun}
 use Rattle.jk_model_sharing.specs.SharedStates.{SharedDomain, SharedState, caps_of, domain_numbered, stub_for, stub_of}
 use Rattle.class_init.specs.KeptStates.{HasRooms}
-use Rattle.sealed_rows.specs.RaisableObjects.{KeepsStates}
+use Rattle.sealed_rows.specs.RaisableObjects.{KeepsStates, MayMeetRaise}
 use Rattle.sound_codes.specs.SoundCodes.{AreSoundCodes}
 use Rattle.sound_codes.specs.SoundTables.{IsSoundTable}
 use Rattle.step_contents.specs.Contents.{Contents, Here, Holds, inside_in}
@@ -90,6 +90,5 @@ pub record MayRaise (c : Contents) (here : Here) : Type 0 where
   pub domain : KnowsDomain c here
   pub run : Run
   pub holds : Holds c here run
-  pub sealed : IsSealedRun (around domain) domain.quota
-      (λ (f : FrameState). FitsAsTop here.world.classes run.inside.heap f ⊎ FitsAtCall here.world.classes run.inside.heap f) run
+  pub sealed : IsSealedRun (around domain) domain.quota (MayMeetRaise here.world.classes run.inside.heap) run
   pub states : KeepsStates run.inside.own run.frames

@@ -8,8 +8,8 @@ use Rattle.jk_model_typing.specs.declared.frames.Demand.{Demand}
 use Rattle.jk_model_typing.specs.declared.frames.FrameType.{FrameType}
 use Rattle.jk_model_typing.specs.declared.frames.VType.{VType}
 use Rattle.jk_model_typing.specs.Groups.{LoadsElement, Makes, Takes}
-use Rattle.jk_model_typing.specs.Rows.{Meets}
-use Rattle.jk_model_typing.specs.Scopes.{CodeScope, NamesClass}
+use Rattle.jk_model_typing.specs.Rows.{MakesAt, Meets}
+use Rattle.jk_model_typing.specs.Scopes.{CodeScope}
 use Rattle.jk_model_frames.specs.Frames.{FrameState}
 use Rattle.jk_model_domains.specs.NumberRows.{IsOnTop, Replaces}
 use Rattle.jk_model_domains.specs.Objects.{NamedObject}
@@ -63,13 +63,13 @@ abbrev pub ElementsFit : Type 0
 ElementsFit =
     (s : CodeScope) (heap : List NamedObject) (place : ℕ) (i : Instr) (f g : FrameState) (before after : FrameType) (array item : Value)
     (index : ℤ) → AreSoundCodes s.classes → IsErasedFrame s.classes before → (typed : IsTyped s heap place i f before after)
-    → typed.row.shape ≡ LoadsElement → (a : IsHeapArray heap array) → HoldsDeclared s.classes heap item a.element → Replaces f g (array ∷ Held.Int index ∷ []) (item ∷ [])
-    → FrameHolds s heap g after
+    → typed.row.shape ≡ LoadsElement → (a : IsHeapArray heap array) → HoldsDeclared s.classes heap item a.element
+    → Replaces f g (array ∷ Held.Int index ∷ []) (item ∷ []) → FrameHolds s heap g after
 
 -- ---- new.
 
 abbrev pub NewObjectsFit : Type 0
 NewObjectsFit =
     (s : CodeScope) (heap new : List NamedObject) (place : ℕ) (i : Instr) (f g : FrameState) (before after : FrameType) (c : ClassId)
-    (a : ℕ) → (typed : IsTyped s heap place i f before after) → typed.row.shape ≡ Makes → NamesClass s i c → IsGrown heap new
+    (a : ℕ) → (typed : IsTyped s heap place i f before after) → typed.row.shape ≡ Makes → MakesAt s place c → IsGrown heap new
     → IsOfClass new a c → Replaces f g [] (Held.Obj a ∷ []) → FrameHolds s new g after

@@ -2,3 +2,5 @@
 //! instance of a type may stand where typing has the type. There is no code here but that of laws: functions that do nothing, whose
 //! contracts are theorems on the definitions.
 #![tactic(auto)]
+
+pub mod laws;

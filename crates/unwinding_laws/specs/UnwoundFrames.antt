@@ -16,12 +16,8 @@ use Rattle.jk_model_sealing.specs.SealedRuns.{AreSealedFrames, IsSealedRun}
 use Rattle.jk_model_unwinding.specs.Unwinding.{Catches, Unwinds}
 use Rattle.sealed_rows.specs.ClassesInProgress.{AreInProgress, KeepsProgress}
 use Rattle.sealed_rows.specs.KeptInsides.{KeepsInside}
-use Rattle.sealed_rows.specs.RaisableObjects.{IsThrowable, KeepsStates}
+use Rattle.sealed_rows.specs.RaisableObjects.{IsThrowable, KeepsStates, MayMeetRaise}
 use Rattle.sealed_rows.specs.RunningFrames.{IsKnownSetting}
-
--- the top frame of a segment in which something is raised runs, or has called a segment that was taken away
-abbrev pub MayMeetRaise : List ClassRecord → List NamedObject → FrameState → Type 0
-MayMeetRaise classes heap f = FitsAsTop classes heap f ⊎ FitsAtCall classes heap f
 
 -- the segment may be unwound by this object
 pub record MayUnwind (around : Surroundings) (x : Setting) (run : Run) (a : ℕ) : Type 0 where

@@ -1,5 +1,7 @@
 -- By the lemmas on frames over grown heaps.
-use Rattle.grown_heaps.proofs.StillFits.{fits_as_top, fits_at_call, fits_here, frames_fit, frames_sealed, names_known}
+use Rattle.jk_model_sealing.specs.FittingFrames.{FitsAsTop, FitsAtCall}
+use Rattle.sealed_rows.specs.RaisableObjects.{MayMeetRaise}
+use Rattle.grown_heaps.proofs.StillFits.{fits_as_top, fits_at_call, fits_here, frames_fit, frames_sealed, meets_raise, names_known}
 use Rattle.grown_heaps.proofs.laws.frames_fit_still.Goals as goal
 
 pub returns-clause-here : goal.returns-clause-here
@@ -14,10 +16,25 @@ returns-clause-callers c = λ classes f old new g h. fits_at_call old new g clas
 pub returns-clause-known : goal.returns-clause-known
 returns-clause-known c = λ caps f old new g h. names_known old new g caps f h
 
-pub returns-clause-rows : goal.returns-clause-rows
-returns-clause-rows c = λ classes Top frames stays old new g h.
-    frames_fit old new g (Top old) (Top new) (λ f top. stays f old new g top) classes frames h
+pub returns-clause-running_rows : goal.returns-clause-running_rows
+returns-clause-running_rows c = λ classes frames old new g h.
+    frames_fit old new g (FitsAsTop classes old) (FitsAsTop classes new) (λ f top. fits_as_top old new g classes f top) classes frames h
 
-pub returns-clause-sealed : goal.returns-clause-sealed
-returns-clause-sealed c = λ around Top frames stays old new g h.
-    frames_sealed old new g (Top old) (Top new) (λ f top. stays f old new g top) around frames h
+pub returns-clause-calling_rows : goal.returns-clause-calling_rows
+returns-clause-calling_rows c = λ classes frames old new g h.
+    frames_fit old new g (FitsAtCall classes old) (FitsAtCall classes new) (λ f top. fits_at_call old new g classes f top) classes frames h
+
+pub returns-clause-running : goal.returns-clause-running
+returns-clause-running c = λ around frames old new g h.
+    frames_sealed old new g (FitsAsTop around.classes old) (FitsAsTop around.classes new)
+    (λ f top. fits_as_top old new g around.classes f top) around frames h
+
+pub returns-clause-calling : goal.returns-clause-calling
+returns-clause-calling c = λ around frames old new g h.
+    frames_sealed old new g (FitsAtCall around.classes old) (FitsAtCall around.classes new)
+    (λ f top. fits_at_call old new g around.classes f top) around frames h
+
+pub returns-clause-raising : goal.returns-clause-raising
+returns-clause-raising c = λ around frames old new g h.
+    frames_sealed old new g (MayMeetRaise around.classes old) (MayMeetRaise around.classes new)
+    (λ f top. meets_raise old new g around.classes f top) around frames h

@@ -1,0 +1,6 @@
+-- Lemmas on typed operands.
+pub mod BelowObject
+pub mod ElementsOfArrays
+pub mod FreshObjects
+pub mod InstancesFitTypes
+pub mod OperandsOnTop

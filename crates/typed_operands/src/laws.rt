@@ -1,0 +1,34 @@
+//! The laws. The functions have no bodies: each stands for its clauses.
+
+ghost use Rattle.typed_operands.specs.FittingInstances.{AllAreBelowObject, CapabilitiesFit, InstancesAreHeld, InstancesFit};
+ghost use Rattle.typed_operands.specs.Operands.{ElementsAreFound, ElementsFit, NewObjectsFit, PushedFit, TakenMeet};
+
+/// Each class stands below java/lang/Object.
+pub fn classes_are_below_object()
+    ensures { AllAreBelowObject }
+{}
+
+/// An instance of a type fits the type as typing reads it, where interfaces are java/lang/Object, and may be held where the type is
+/// declared.
+pub fn instances_fit()
+    ensures types { InstancesFit }
+    ensures capabilities { CapabilitiesFit }
+    ensures values { InstancesAreHeld }
+{}
+
+/// What an instruction takes is on top of the stack and meets what it asks, and what fits the types that it gives may take its place.
+pub fn operands_are_on_top()
+    ensures taken { TakenMeet }
+    ensures pushed { PushedFit }
+{}
+
+/// Where an element is loaded, an array or null and an index are on top, and each item of the array may take their place.
+pub fn elements_are_found()
+    ensures operands { ElementsAreFound }
+    ensures items { ElementsFit }
+{}
+
+/// A new object fits its place on the stack.
+pub fn new_objects_fit()
+    ensures { NewObjectsFit }
+{}

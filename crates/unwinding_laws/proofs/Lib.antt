@@ -1,0 +1,3 @@
+-- Lemmas on unwinding.
+pub mod AnswersKept
+pub mod StacksNotRead
