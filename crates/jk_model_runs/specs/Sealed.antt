@@ -1,6 +1,6 @@
 -- What holds of a machine at every moment: no name crosses from one domain to another, each value fits where it stands, each frame
 -- fits its method's least typing, and nobody uses more than its quotas.
-use Rattle.std.specs.Prelude.{◌≡◌, ◌≢◌, ℕ, ◌+◌, ◌<◌, ◌≤◌, ◌⊎◌, ⊤, Bool, true, false, List, [], ◌∷◌, length, not, take, Contains, Option, Some, None, slice_get, count_by, ◌&&◌, filter, sum_by, ◌==◌, if◌then◌else◌}
+use Rattle.std.specs.Prelude.{◌≡◌, ◌≢◌, ℕ, ◌+◌, ◌<◌, ◌≤◌, ◌⊎◌, Bool, true, false, List, [], ◌∷◌, length, not, take, Contains, Some, None, slice_get, count_by, ◌&&◌, filter, sum_by, ◌==◌, if◌then◌else◌}
 use Rattle.std.specs.Option.{option_map_or}
 use Rattle.jk_model.specs.Capabilities.{last_number}
 use Rattle.jk_model.specs.declared.identifiers.ClassId.{ClassId}
@@ -12,11 +12,11 @@ use Rattle.jk_model_classes.specs.Classes.{record_of}
 use Rattle.jk_model_classes.specs.Stubs.{ImplementsRemote}
 use Rattle.jk_model_domains.specs.declared.states.ClassState.{ClassState}
 use Rattle.jk_model_domains.specs.declared.states.ClassState.TheVariants as State
-use Rattle.jk_model_domains.specs.Objects.{NamedObject, Task}
+use Rattle.jk_model_domains.specs.Objects.{Task}
 use Rattle.jk_model_domains.specs.OwnStates.{OwnState, state_of}
 use Rattle.jk_model_frames.specs.Frames.{FrameState}
 use Rattle.jk_model_frames.specs.Pools.{IsPlaced, Pool}
-use Rattle.jk_model_heaps.specs.Capabilities.{CapRange, Capability, IsGivenOut}
+use Rattle.jk_model_heaps.specs.Capabilities.{Capability, IsGivenOut}
 use Rattle.jk_model_heaps.specs.Workings.{Inside}
 use Rattle.jk_model_sealing.specs.FittingFrames.{FitsAsTop, FitsAtCall}
 use Rattle.jk_model_sealing.specs.SealedInsides.{IsOfClass, IsSealedInside, Surroundings}
@@ -24,7 +24,7 @@ use Rattle.jk_model_sealing.specs.SealedRuns.{AreSealedFrames}
 use Rattle.jk_model_sharing.specs.BoundNames.{BoundName, count_bound_by, longest_name}
 use Rattle.jk_model_machine_state.specs.Machines.{DomainState, Machine, Segment, Thread, IsLiveDomain, IsLiveThread, caps_of, chunks_used, is_live_domain, started_in}
 use Rattle.jk_model_machine_state.specs.Places.{LiveDomain}
-use Rattle.jk_model_openings.specs.PoolsOfMachines.{heap_pages_of, heap_pool, stack_pages_of, stack_pool}
+use Rattle.jk_model_openings.specs.PoolsOfMachines.{heap_pool, stack_pool}
 
 abbrev pub surroundings : Machine → DomainState → Surroundings
 surroundings m d = record { classes = m.classes; table = d.table; caps = caps_of m }
