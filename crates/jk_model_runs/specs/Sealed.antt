@@ -79,9 +79,9 @@ pub record AreSealedCapabilities (m : Machine) : Type 0 where
   pub chained : (i : ℕ) (d : DomainState) → slice_get m.domains i ≡ Some d → d.caps.first ≡ 1 + numbers_before m i
   pub within : (d : DomainState) → Contains m.domains d → length d.caps.made ≤ d.caps.count
   pub few : numbers_before m (length m.domains) ≤ last_number
-  -- the class of each implements jk/Remote, if it is one of these classes
-  pub remote : (d : DomainState) (c : Capability) (r : ClassRecord) → Contains m.domains d → Contains d.caps.made c
-      → record_of m.classes c.class ≡ Some r → ImplementsRemote m.classes c.class
+  -- the class of each implements jk/Remote; that of a stand-in isn't one of these classes
+  pub remote : (d : DomainState) (c : Capability) → Contains m.domains d → is_stand_in m.classes d ≡ false → Contains d.caps.made c
+      → ImplementsRemote m.classes c.class
   -- the target of one that isn't revoked is in its owner's heap and of its class, and the owner lives
   pub targets : (d : DomainState) (c : Capability) → Contains m.domains d → Contains d.caps.made c → c.revoked ≡ false
       → (inside : Inside) × (d.inside ≡ Some inside) × IsOfClass inside.heap c.target c.class
