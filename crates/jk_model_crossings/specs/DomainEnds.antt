@@ -7,7 +7,7 @@ use Rattle.jk_model.specs.declared.output.Line.TheVariants.{EndedByKill, Killed}
 use Rattle.jk_model_sharing.specs.BoundNames.{without_names_of}
 use Rattle.jk_model_sharing.specs.CapabilityCalls.{all_revoked}
 use Rattle.jk_model_sharing.specs.Segments.{segments_left}
-use Rattle.jk_model_machine_state.specs.Machines.{DomainState, IsLiveDomain, Machine, Segment, Thread, segment_form, with_domain, with_stacks}
+use Rattle.jk_model_machine_state.specs.Machines.{DomainState, IsLiveDomain, Machine, Thread, segment_form, with_domain, with_stacks}
 
 abbrev pub ended_domain : DomainState → DomainState
 ended_domain d = record d { caps = all_revoked d.caps; inside = None }

@@ -1,5 +1,6 @@
 pub mod Answers
 pub mod DomainEnds
+pub mod Examples
 pub mod Passages
 pub mod RemoteCalls
 pub mod Requests

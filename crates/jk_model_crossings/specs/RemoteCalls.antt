@@ -22,7 +22,7 @@ use Rattle.jk_model_heaps.specs.CalledFrames.{IsCalledFrame, call_head}
 use Rattle.jk_model_heaps.specs.Capabilities.{OwnedCapability, ShowsInterface, capability_numbered}
 use Rattle.jk_model_heaps.specs.SystemClasses.{ABSTRACT_METHOD_ERROR, ILLEGAL_ACCESS_ERROR, INCOMPATIBLE_CLASS_CHANGE_ERROR}
 use Rattle.jk_model_heaps.specs.Workings.{with_heap}
-use Rattle.jk_model_machine_state.specs.Machines.{Machine, Segment, Thread, caps_of, free_chunks, with_inside, with_thread}
+use Rattle.jk_model_machine_state.specs.Machines.{Machine, Thread, caps_of, free_chunks, with_inside, with_thread}
 use Rattle.jk_model_machine_state.specs.Places.{LiveDomain, RunningSegment, first_segment, with_running, with_segment_drawn}
 use Rattle.jk_model_crossings.specs.Passages.{IsTooLarge, IsUncopiable, MayPass, Passage, Passes, passage}
 

@@ -4,7 +4,7 @@ use Rattle.std.specs.List.{IsDistinct}
 use Rattle.jk_model_domains.specs.Objects.{Text, Plain}
 use Rattle.jk_model.specs.declared.values.Value.TheVariants as Held
 use Rattle.std.specs.Prelude.{pos, codes}
-use Rattle.jk_model_graphs.specs.Examples.{HOLDER, array, capability, classes, given_twice, holder, node, ring, self_holder}
+use Rattle.jk_model_graphs.specs.Examples.{HOLDER, SUB, array, capability, classes, given_twice, holder, node, of_sub, ring, self_holder}
 use Rattle.jk_model_graphs.specs.Reach.{IsReach, Reach, from_object, from_value}
 use Rattle.jk_model_graphs.proofs.ReachIsWithin.{reach_within}
 use Rattle.list_lemmas.proofs.ItemsOfLists.{Contains-here, Contains-there, each-of}
@@ -82,6 +82,42 @@ reach_of_holder = record {
   where
     it : Contains holder_names 1
     it = Contains-here 1 []
+
+-- ---- The object with fields of its parent.
+
+abbrev pub sub_names : List ℕ
+sub_names = 1 ∷ 2 ∷ []
+
+pub sub_is_reached : Reach classes of_sub 1
+sub_is_reached = from_value 1 (Contains-here (Held.Obj 1) [])
+
+pub node_is_reached : Reach classes of_sub 2
+node_is_reached = from_object 1 2 sub_is_reached (
+  Plain SUB (Held.Int (pos 1) ∷ Held.Long (pos 2) ∷ Held.Obj 2 ∷ Held.Obj 3 ∷ Held.Long (pos 4) ∷ Held.Long (pos 5) ∷ []),
+  refl,
+  Contains-there (Held.Obj 2) (Held.Int (pos 1)) (Held.Obj 2 ∷ Held.Long (pos 4) ∷ []) (Contains-here (Held.Obj 2) (Held.Long (pos 4) ∷ [])),
+)
+
+pub reach_of_sub : IsReach classes of_sub sub_names
+unfolding IsDistinct
+reach_of_sub = record {
+  distinct = ((refl, tt), (tt, tt));
+  each = λ a h. each-of (λ (b : ℕ). Reach classes of_sub b) sub_names a (sub_is_reached, (node_is_reached, tt)) h;
+  all = λ a reached. reach_within classes of_sub sub_names (first, tt) (
+    record {
+      object = Plain SUB (Held.Int (pos 1) ∷ Held.Long (pos 2) ∷ Held.Obj 2 ∷ Held.Obj 3 ∷ Held.Long (pos 4) ∷ Held.Long (pos 5) ∷ []);
+      is_object = refl;
+      within = (tt, (second, (tt, tt)));
+    },
+    (record { object = node 2 5; is_object = refl; within = (second, (tt, tt)) }, tt),
+  ) a reached;
+}
+  where
+    first : Contains sub_names 1
+    first = Contains-here 1 (2 ∷ [])
+
+    second : Contains sub_names 2
+    second = Contains-there 2 1 (2 ∷ []) (Contains-here 2 [])
 
 -- ---- The array.
 

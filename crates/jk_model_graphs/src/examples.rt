@@ -7,9 +7,9 @@ ghost use Rattle.jk_model_classes.specs.declared.records.BaseRef.TheVariants as 
 ghost use Rattle.jk_model_classes.specs.declared.records.ClassRecord.{ClassRecord};
 ghost use Rattle.jk_model_classes.specs.Worlds.{NamedClass};
 ghost use Rattle.jk_model_domains.specs.Objects.{Plain, Task, Text, PRINT_STREAM};
-ghost use Rattle.jk_model_graphs.specs.Copiable.{IsCopiable};
+ghost use Rattle.jk_model_graphs.specs.Copiable.{AllCopiable, IsCopiable, MeetsUncopiable};
 ghost use Rattle.jk_model_graphs.specs.Copies.{IsCopy};
-ghost use Rattle.jk_model_graphs.specs.Examples.{HOLDER, NODE, array_pairs, both_shared, classes, empty_array, given_twice, holder, holder_copied, holder_pairs, one_text, own_node, ring, ring_pairs, self_holder, self_holder_copied, target, text_pairs, two_texts, with_ring};
+ghost use Rattle.jk_model_graphs.specs.Examples.{HOLDER, NODE, all_shared, array_pairs, both_shared, classes, empty_array, given_twice, holder, holder_copied, holder_pairs, holders, of_sub, of_sub_copied, of_sub_pairs, one_text, own_node, ring, ring_pairs, self_holder, self_holder_copied, target, text_pairs, two_texts, with_ring};
 ghost use Rattle.jk_model_graphs.specs.Reach.{Reach, ReachCosts};
 ghost use Rattle.jk_model_heaps.specs.SystemClasses.{STRING_BUFFER};
 
@@ -38,6 +38,20 @@ pub fn transient_fields()
     ensures copied { IsCopy classes holder target holder_copied holder_pairs }
     ensures not_reached { Reach classes holder 2 → ⊥ }
     ensures costs { ReachCosts classes holder 7 }
+{}
+
+/// Fields of a parent are copied and followed as those of the class itself. Transient ones of both are left empty, a long as a long, and
+/// their words are paid.
+pub fn fields_of_parents()
+    ensures copied { IsCopy classes of_sub target of_sub_copied of_sub_pairs }
+    ensures not_reached { Reach classes of_sub 3 → ⊥ }
+    ensures costs { ReachCosts classes of_sub 19 }
+{}
+
+/// An object that may not be copied is met as an item of an array that may be. One that a transient field names isn't met.
+pub fn uncopiable_objects()
+    ensures met { MeetsUncopiable classes both_shared both_shared holders 2 }
+    ensures not_met { AllCopiable classes all_shared all_shared of_sub }
 {}
 
 /// What may be copied between domains of which neither has a name for any class: texts, arrays of whole numbers, and objects of system

@@ -64,8 +64,13 @@ pub data OpensWith (f : FolderFiles) (m : Machine) (name : List ℕ) (quotas : Q
 
 -- ---- In a told tree of files.
 
-pub data OpensIn (t : Tree) (root : List ℕ) (m : Machine) (name : List ℕ) (quotas : Quotas) : List Line → Machine → Type 0 where
-  refused : (rule : Rule) (place : Place) → IsFolderFault t root (world_of m) name rule place
-      → OpensIn t root m name quotas (Refused name rule place ∷ []) m
-  accepted : (f : FolderFiles) (lines : List Line) (new : Machine) → AreFiles f → AreFilesOf t (root /- name) f
-      → OpensWith f m name quotas lines new → OpensIn t root m name quotas lines new
+-- the tree, and the root of the folders in it
+pub record Folders : Type 0 where
+  pub tree : Tree
+  pub root : List ℕ
+
+pub data OpensIn (from : Folders) (m : Machine) (name : List ℕ) (quotas : Quotas) : List Line → Machine → Type 0 where
+  refused : (rule : Rule) (place : Place) → IsFolderFault from.tree from.root (world_of m) name rule place
+      → OpensIn from m name quotas (Refused name rule place ∷ []) m
+  accepted : (f : FolderFiles) (lines : List Line) (new : Machine) → AreFiles f → AreFilesOf from.tree (from.root /- name) f
+      → OpensWith f m name quotas lines new → OpensIn from m name quotas lines new

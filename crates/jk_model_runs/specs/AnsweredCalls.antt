@@ -1,7 +1,7 @@
 -- What holds besides at every moment of a run from the first machine on: each segment has a frame, its lowest frame initialises no class,
 -- and what stands above a call answers with the call's result type, also in the segment above, unless that is an orphan. Of a machine in
 -- which one domain is replayed alone this isn't asked.
-use Rattle.std.specs.Prelude.{◌≡◌, ℕ, ◌⊎◌, ⊤, true, List, [], ◌∷◌, ◌++◌, Contains}
+use Rattle.std.specs.Prelude.{◌≡◌, ◌⊎◌, ⊤, true, List, [], ◌∷◌, ◌++◌, Contains}
 use Rattle.jk_model_classes.specs.declared.records.ClassRecord.{ClassRecord}
 use Rattle.jk_model_frames.specs.Frames.{FrameState}
 use Rattle.jk_model_sealing.specs.AnsweringFrames.{FrameAnswers, FramesAnswer}

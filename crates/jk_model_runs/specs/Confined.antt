@@ -1,7 +1,7 @@
 -- What a step of a thread may change outside of the domain in which its top segment runs: by what the step was. That domain may change
 -- its own inside, capabilities and bound names.
-use Rattle.std.specs.Prelude.{◌≡◌, ◌≢◌, ℕ, ◌+◌, ◌≤◌, ◌⊎◌, true, List, [], ◌∷◌, ◌++◌, length, Contains, Some, None}
-use Rattle.std.specs.List.{AllZip}
+use Rattle.std.specs.Prelude.{◌≡◌, ◌≢◌, ℕ, ◌+◌, ◌≤◌, ◌⊎◌, false, true, List, [], ◌∷◌, ◌++◌, length, Contains, Some, None}
+use Rattle.std.specs.List.{AllByRecursion, AllZip}
 use Rattle.jk_model.specs.declared.identifiers.ClassId.{ClassId}
 use Rattle.jk_model.specs.declared.identifiers.CapId.{CapId}
 use Rattle.jk_model.specs.declared.identifiers.DomainId.{DomainId}
@@ -17,6 +17,7 @@ use Rattle.jk_model_heaps.specs.Workings.{Inside}
 use Rattle.jk_model_sharing.specs.BoundNames.{without_names_of}
 use Rattle.jk_model_sharing.specs.Segments.{SharedSegment, segments_left, with_revoked}
 use Rattle.jk_model_machine_state.specs.Machines.{DomainState, IsLiveThread, Machine, Segment, Thread, caps_of, domain_at, segment_form, thread_numbered}
+use Rattle.jk_model_machine_state.specs.Places.{first_segment}
 use Rattle.jk_model_runs.specs.Steps.{Deed, EndedDomain, Entered, Flagged, LeftSegments, Rested, Worked}
 
 -- The step of thread t from a machine.
@@ -31,16 +32,16 @@ pub record StepOf : Type 0 where
 abbrev pub Owns : Machine → DomainId → CapId → Type 0
 Owns m d k = (c : OwnedCapability) × (capability_numbered (caps_of m) k ≡ Some c) × (c.owner ≡ d)
 
--- a segment of the thread that a throwable or an answer may come to where so many are left: one of so many directly below the top one
+-- A segment of the thread that a throwable or an answer may come to where so many are left: at most so many stand above it, and no orphan, whose
+-- answer would be dropped.
 pub record IsReached (x : StepOf) (n : ℕ) (s : Segment) : Type 0 where
   pub of : Thread
   pub is_thread : thread_numbered x.machine x.thread ≡ Some of
   pub lower : List Segment
-  pub reached : List Segment
-  pub top : Segment
-  pub are_segments : of.segments ≡ lower ++ reached ++ top ∷ []
-  pub few : length reached ≤ n
-  pub among : Contains reached s
+  pub above : List Segment
+  pub are_segments : of.segments ≡ lower ++ s ∷ above
+  pub few : (1 ≤ length above) × (length above ≤ n)
+  pub no_orphans : AllByRecursion (λ (r : Segment). r.shared.orphan ≡ false) above
 
 -- ---- Another domain.
 
@@ -107,31 +108,35 @@ pub record HasOtherTop (old new : List Segment) : Type 0 where
   pub are : new ≡ lower ++ after ∷ []
   pub same : (after.shared.number ≡ before.shared.number) × (after.shared.domain ≡ before.shared.domain)
 
--- frames are dropped and one goes on, or a RevokedException is pending
-abbrev pub Resumes : Segment → Segment → Type 0
-Resumes old new =
-    ((new.shared ≡ old.shared)
+-- Directly below a segment that is left: frames are dropped and one goes on; or, where that is an orphan, a RevokedException is pending.
+abbrev pub Resumes : Segment → Segment → Segment → Type 0
+Resumes above old new =
+    ((above.shared.orphan ≡ false) × (new.shared ≡ old.shared)
     × ((callers : List FrameState) × (upper : List FrameState) × (f : FrameState) × (g : FrameState) × (old.frames ≡ callers ++ f ∷ upper)
     × (new.frames ≡ callers ++ g ∷ []) × (g.head.method ≡ f.head.method)))
-    ⊎ (new ≡ record old { shared = with_revoked true old.shared })
+    ⊎ ((above.shared.orphan ≡ true) × (new ≡ record old { shared = with_revoked true old.shared }))
 
 -- so many segments are left, and the one below them goes on; or none is below
 pub record HasLeft (n : ℕ) (old new : List Segment) : Type 0 where
   pub kept : List Segment
-  pub left : List Segment
-  pub were : old ≡ kept ++ left
-  pub as_many : length left ≡ n
+  pub lowest : Segment
+  pub others : List Segment
+  pub were : old ≡ kept ++ lowest ∷ others
+  pub as_many : 1 + length others ≡ n
   pub are : ((kept ≡ []) × (new ≡ []))
-      ⊎ ((lower : List Segment) × (s : Segment) × (r : Segment) × (kept ≡ lower ++ s ∷ []) × (new ≡ lower ++ r ∷ []) × Resumes s r)
+      ⊎ ((lower : List Segment) × (s : Segment) × (r : Segment) × (kept ≡ lower ++ s ∷ []) × (new ≡ lower ++ r ∷ []) × Resumes lowest s r)
 
 -- those of the thread that steps; none where it isn't live after that
-abbrev pub OwnChange : DomainId → Deed → List Segment → List Segment → Type 0
-OwnChange d Rested old new = new ≡ old
-OwnChange d Worked old new = HasOtherTop old new
-OwnChange d (Entered k m) old new = (mid : List Segment) × (s : Segment) × HasOtherTop old mid × (new ≡ mid ++ s ∷ [])
-OwnChange d (LeftSegments n) old new = HasLeft n old new
-OwnChange d (Flagged n) old new = (mid : List Segment) × HasOtherTop old mid × AllZip (HasFlags d n) mid new
-OwnChange d (EndedDomain e) old new = new ≡ segments_left segment_form e old
+abbrev pub OwnChange : StepOf → DomainId → Deed → List Segment → List Segment → Type 0
+OwnChange x d Rested old new = new ≡ old
+OwnChange x d Worked old new = HasOtherTop old new
+-- the new segment is one of the capability's owner, with one frame, the next number and no flag
+OwnChange x d (Entered k m) old new =
+    (mid : List Segment) × (owner : DomainId) × (frame : FrameState) × HasOtherTop old mid × Owns x.machine owner k
+    × (new ≡ mid ++ first_segment x.machine owner frame ∷ [])
+OwnChange x d (LeftSegments n) old new = HasLeft n old new
+OwnChange x d (Flagged n) old new = (mid : List Segment) × HasOtherTop old mid × AllZip (HasFlags d n) mid new
+OwnChange x d (EndedDomain e) old new = new ≡ segments_left segment_form e old
 
 -- a thread keeps what isn't its segments, or has none left and has ended
 abbrev pub ThreadChanges : (List Segment → List Segment → Type 0) → Thread → Machine → Type 0
@@ -157,7 +162,7 @@ pub record Confined (x : StepOf) (d : DomainId) (new : Machine) : Type 0 where
   pub names : without_names_of d new.names ≡ without_names_of d x.machine.names
   pub threads : (u : ThreadNo) (old : Thread) → u ≢ x.thread → thread_numbered x.machine u ≡ Some old
       → ThreadChanges (OthersChange d x.deed) old new
-  pub own_thread : (old : Thread) → thread_numbered x.machine x.thread ≡ Some old → ThreadChanges (OwnChange d x.deed) old new
+  pub own_thread : (old : Thread) → thread_numbered x.machine x.thread ≡ Some old → ThreadChanges (OwnChange x d x.deed) old new
   pub no_more : (u : ThreadNo) → IsLiveThread new u → IsLiveThread x.machine u
   -- it is its own domain that a step ends
   pub own_end : (e : DomainId) → x.deed ≡ EndedDomain e → e ≡ d

@@ -1,6 +1,6 @@
 -- What holds of a machine at every moment: no name crosses from one domain to another, each value fits where it stands, each frame
 -- fits its method's least typing, and nobody uses more than its quotas.
-use Rattle.std.specs.Prelude.{◌≡◌, ◌≢◌, ℕ, ◌+◌, ◌<◌, ◌≤◌, ◌⊎◌, ⊤, Bool, true, false, List, [], ◌∷◌, length, not, take, Contains, Option, Some, None, slice_get, count_by, ◌&&◌, filter, sum_by, ◌==◌, if◌then◌else◌}
+use Rattle.std.specs.Prelude.{◌≡◌, ◌≢◌, ℕ, ◌+◌, ◌<◌, ◌≤◌, ◌⊎◌, Bool, true, false, List, [], ◌∷◌, length, not, take, Contains, Some, None, slice_get, count_by, ◌&&◌, filter, sum_by, ◌==◌, if◌then◌else◌}
 use Rattle.std.specs.Option.{option_map_or}
 use Rattle.jk_model.specs.Capabilities.{last_number}
 use Rattle.jk_model.specs.declared.identifiers.ClassId.{ClassId}
@@ -12,11 +12,11 @@ use Rattle.jk_model_classes.specs.Classes.{record_of}
 use Rattle.jk_model_classes.specs.Stubs.{ImplementsRemote}
 use Rattle.jk_model_domains.specs.declared.states.ClassState.{ClassState}
 use Rattle.jk_model_domains.specs.declared.states.ClassState.TheVariants as State
-use Rattle.jk_model_domains.specs.Objects.{NamedObject, Task}
+use Rattle.jk_model_domains.specs.Objects.{Task}
 use Rattle.jk_model_domains.specs.OwnStates.{OwnState, state_of}
 use Rattle.jk_model_frames.specs.Frames.{FrameState}
 use Rattle.jk_model_frames.specs.Pools.{IsPlaced, Pool}
-use Rattle.jk_model_heaps.specs.Capabilities.{CapRange, Capability, IsGivenOut}
+use Rattle.jk_model_heaps.specs.Capabilities.{Capability, IsGivenOut}
 use Rattle.jk_model_heaps.specs.Workings.{Inside}
 use Rattle.jk_model_sealing.specs.FittingFrames.{FitsAsTop, FitsAtCall}
 use Rattle.jk_model_sealing.specs.SealedInsides.{IsOfClass, IsSealedInside, Surroundings}
@@ -24,7 +24,7 @@ use Rattle.jk_model_sealing.specs.SealedRuns.{AreSealedFrames}
 use Rattle.jk_model_sharing.specs.BoundNames.{BoundName, count_bound_by, longest_name}
 use Rattle.jk_model_machine_state.specs.Machines.{DomainState, Machine, Segment, Thread, IsLiveDomain, IsLiveThread, caps_of, chunks_used, is_live_domain, started_in}
 use Rattle.jk_model_machine_state.specs.Places.{LiveDomain}
-use Rattle.jk_model_openings.specs.PoolsOfMachines.{heap_pages_of, heap_pool, stack_pages_of, stack_pool}
+use Rattle.jk_model_openings.specs.PoolsOfMachines.{heap_pool, stack_pool}
 
 abbrev pub surroundings : Machine → DomainState → Surroundings
 surroundings m d = record { classes = m.classes; table = d.table; caps = caps_of m }
@@ -79,9 +79,9 @@ pub record AreSealedCapabilities (m : Machine) : Type 0 where
   pub chained : (i : ℕ) (d : DomainState) → slice_get m.domains i ≡ Some d → d.caps.first ≡ 1 + numbers_before m i
   pub within : (d : DomainState) → Contains m.domains d → length d.caps.made ≤ d.caps.count
   pub few : numbers_before m (length m.domains) ≤ last_number
-  -- the class of each implements jk/Remote, if it is one of these classes
-  pub remote : (d : DomainState) (c : Capability) (r : ClassRecord) → Contains m.domains d → Contains d.caps.made c
-      → record_of m.classes c.class ≡ Some r → ImplementsRemote m.classes c.class
+  -- the class of each implements jk/Remote; that of a stand-in isn't one of these classes
+  pub remote : (d : DomainState) (c : Capability) → Contains m.domains d → is_stand_in m.classes d ≡ false → Contains d.caps.made c
+      → ImplementsRemote m.classes c.class
   -- the target of one that isn't revoked is in its owner's heap and of its class, and the owner lives
   pub targets : (d : DomainState) (c : Capability) → Contains m.domains d → Contains d.caps.made c → c.revoked ≡ false
       → (inside : Inside) × (d.inside ≡ Some inside) × IsOfClass inside.heap c.target c.class

@@ -11,7 +11,6 @@ use Rattle.jk_model.specs.declared.values.Value.TheVariants as Held
 use Rattle.jk_model.specs.Descriptors.{IsMethodText}
 use Rattle.jk_model.specs.Flags.{has, PUBLIC, STATIC}
 use Rattle.jk_model_classes.specs.declared.records.Body.TheVariants as Does
-use Rattle.jk_model_classes.specs.declared.records.ClassRecord.{ClassRecord}
 use Rattle.jk_model_classes.specs.declared.records.LinkedCode.{LinkedCode}
 use Rattle.jk_model_classes.specs.declared.records.MethodRecord.{MethodRecord}
 use Rattle.jk_model_classes.specs.Layouts.{HEADER_WORDS}

@@ -1,14 +1,15 @@
 //! What the definitions in `specs/` say of worked examples. The functions have no bodies: each stands for its clauses, and the examples
 //! are in `specs/Examples.antt`.
 
-ghost use Rattle.std.specs.Prelude.{◌≡◌, [], ◌∷◌, Some, None, Ok, Err, codes, replicate, true};
+ghost use Rattle.std.specs.Prelude.{◌≡◌, [], ◌∷◌, Some, None, Ok, Err, codes, replicate, false, true};
 ghost use Rattle.jk_model.specs.declared.steps.Raise.TheVariants.{Fresh, Standing};
 ghost use Rattle.jk_model.specs.declared.steps.Standing.TheVariants as Stands;
 ghost use Rattle.jk_model_heaps.specs.SystemClasses.{ILLEGAL_ARGUMENT_EXCEPTION};
 ghost use Rattle.jk_model_sharing.specs.BoundNames.{Binds, LooksUp, Unbinds, without_names_of};
 ghost use Rattle.jk_model_sharing.specs.CapabilityCalls.{Creates, Revokes, all_revoked, revoked_capability};
-ghost use Rattle.jk_model_sharing.specs.Examples.{after_end_of, ann, bob, bound, cap, cid, class_of_target, first_capability, range_with, segment, two_names};
-ghost use Rattle.jk_model_sharing.specs.Segments.{as_orphan, shared_form, standing_below, is_numbered, stopped_in, suspended_in, with_revoked, with_stop, with_suspended};
+ghost use Rattle.jk_model_sharing.specs.Examples.{after_end_of, ann, bob, bound, cap, cid, class_of_target, first_capability, range_with, segment, shared_domain, state_with, thread, three_threads, two_names};
+ghost use Rattle.jk_model_sharing.specs.Segments.{as_orphan, count_started_in, shared_form, standing_below, is_numbered, stopped_in, suspended_in, with_revoked, with_stop, with_suspended};
+ghost use Rattle.jk_model_sharing.specs.SharedStates.{Drops};
 
 /// The end of a domain takes its segments out of a stack. What stood directly on one of them is an orphan, and nothing else is: of
 /// ann, bob, bob, cid without bob that of cid alone.
@@ -16,6 +17,7 @@ pub fn segments_are_taken_out()
     ensures middle { after_end_of bob (segment 1 ann ∷ segment 2 bob ∷ segment 3 ann ∷ []) ≡ segment 1 ann ∷ as_orphan (segment 3 ann) ∷ [] }
     ensures two_in_a_row { after_end_of bob (segment 1 ann ∷ segment 2 bob ∷ segment 3 bob ∷ segment 4 cid ∷ [])
         ≡ segment 1 ann ∷ as_orphan (segment 4 cid) ∷ [] }
+    ensures caller { after_end_of ann (segment 1 ann ∷ segment 2 bob ∷ []) ≡ as_orphan (segment 2 bob) ∷ [] }
     ensures lowest { after_end_of ann (segment 1 ann ∷ segment 2 bob ∷ segment 3 bob ∷ segment 4 cid ∷ [])
         ≡ as_orphan (segment 2 bob) ∷ segment 3 bob ∷ segment 4 cid ∷ [] }
     ensures orphan_stays { after_end_of cid (as_orphan (segment 2 bob) ∷ segment 3 bob ∷ []) ≡ as_orphan (segment 2 bob) ∷ segment 3 bob ∷ [] }
@@ -28,6 +30,17 @@ pub fn new_tops_are_revoked()
     ensures orphan { after_end_of ann (segment 1 ann ∷ segment 2 bob ∷ segment 3 ann ∷ []) ≡ with_revoked true (as_orphan (segment 2 bob)) ∷ [] }
     ensures two_ends { after_end_of cid (after_end_of bob (segment 1 ann ∷ segment 2 bob ∷ segment 3 bob ∷ segment 4 cid ∷ []))
         ≡ with_revoked true (segment 1 ann) ∷ [] }
+{}
+
+/// The end of bob: it isn't live, its capability is revoked, and the name that it bound is removed, though that led to a capability of ann.
+/// The thread in which bob called ann goes on as an orphan of ann, and is still one of those that were started in bob. The thread in which
+/// ann called bob has a RevokedException pending, and the one that had segments of bob alone has ended.
+pub fn a_domain_ends()
+    ensures drops { Drops three_threads bob
+        (state_with (shared_domain false bob (range_with (revoked_capability first_capability ∷ []))) (bound (codes "p") 1 ann ∷ [])
+        (thread 1 ann (with_revoked true (segment 1 ann) ∷ []) ∷ thread 3 bob (as_orphan (segment 5 ann) ∷ []) ∷ [])) }
+    ensures started { count_started_in (thread 1 ann (with_revoked true (segment 1 ann) ∷ []) ∷ thread 3 bob (as_orphan (segment 5 ann) ∷ []) ∷ []) bob
+        ≡ 1 }
 {}
 
 /// A flag is set of the segment of a number alone, and nothing changes where there is none.

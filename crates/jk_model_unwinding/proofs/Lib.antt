@@ -1,3 +1,3 @@
--- Lemmas for worked examples.
+-- Lemmas for worked examples, those of crates above too.
 mod ClassesOfThrowables
-mod RunningCodes
+pub mod RunningCodes

@@ -1,31 +1,19 @@
--- What two tables say of a name, and what stands above the two classes.
-use Rattle.std.proofs.Common.{◌≡◌, ◌≢◌, ℕ, Bool, true, false, cond, [], ◌∷◌, Some, None, refl, inl, inr, ap, arith}
+-- What two tables say of a name, and what stands above a class.
+use Rattle.std.proofs.Common.{◌≡◌, Bool, true, false, cond, [], Some, None, refl, inl, inr, ap, arith}
 use Rattle.std.proofs.lemmas.Option.{same_Some}
 use Rattle.std.specs.Prelude.{bytes_eq, codes, option_map}
 use Rattle.jk_model.specs.declared.identifiers.ClassId.{ClassId}
-use Rattle.jk_model_classes.specs.Classes.{Implements, OBJECT}
 use Rattle.jk_model_classes.specs.Worlds.{NamedClass}
 use Rattle.jk_model_graphs.specs.Copiable.{AreSharing}
-use Rattle.jk_model_graphs.specs.Examples.{HOLDER, NODE, both_shared, classes, meaning, own_node, serializable}
-use Rattle.jk_model_heaps.specs.SystemClasses.{SERIALIZABLE}
-use Rattle.list_lemmas.proofs.ItemsOfLists.{each-of}
+use Rattle.jk_model_graphs.specs.Examples.{HOLDER, NODE, both_shared, meaning, own_node, serializable}
+use Rattle.jk_model_graphs.proofs.ExamplesCopiable.{holder_is_uncopiable}
 use Rattle.jk_model_graphs.proofs.examples.copiable_by_names.Goals as goal
 
 pub returns-clause-serializable : goal.returns-clause-serializable
 returns-clause-serializable c = inr ((codes "Node", refl, refl), ((serializable, refl, refl), (1, omega arith, refl)))
 
--- nothing above Holder is java/io/Serializable
-holder_is_not : Implements classes HOLDER SERIALIZABLE → ⊥
-holder_is_not h = each-of (λ (d : ClassId). d ≢ SERIALIZABLE) (HOLDER ∷ OBJECT ∷ []) SERIALIZABLE (other 46 (omega arith), (other 0 (omega arith), tt)) h.1 refl
-  where
-    other : (n : ℕ) → n ≢ 1 → (record { 0 = n }) ≢ SERIALIZABLE
-    other n ne e = ne (ap (λ (d : ClassId). d.0) e)
-
 pub returns-clause-not_serializable : goal.returns-clause-not_serializable
-returns-clause-not_serializable c = λ h. elim h [
-  | inl marked ↦ absurd cc
-  | inr shared ↦ holder_is_not shared.1
-]
+returns-clause-not_serializable c = holder_is_uncopiable both_shared both_shared []
 
 pub returns-clause-array : goal.returns-clause-array
 returns-clause-array c = (codes "Holder", refl, refl)
