@@ -38,4 +38,4 @@ pub data OpensSomehow (root : List ℕ) (m : Machine) (name : List ℕ) (quotas 
 
 abbrev pub Opens : Option Tree → List ℕ → DomainEvent
 Opens None root m name quotas lines new = OpensSomehow root m name quotas lines new
-Opens (Some t) root m name quotas lines new = OpensIn t root m name quotas lines new
+Opens (Some t) root m name quotas lines new = OpensIn (record { tree = t; root = root }) m name quotas lines new
