@@ -1,6 +1,7 @@
 -- Lemmas on methods and arraycopy, and for worked examples.
 mod ArraysOfExamples
 mod CopiesAgree
+mod FailuresAgree
 mod FrontOfTexts
-mod HoldersOfExamples
 mod NumbersOfMethods
+mod OneHolder

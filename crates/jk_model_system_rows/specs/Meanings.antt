@@ -142,7 +142,8 @@ number_of m = method_number m.class.0 m.index
 
 -- what the method of a number means
 abbrev pub meaning_numbered : ℕ → Option SystemMeaning
-meaning_numbered number = option_map (λ (e : MethodMeaning). e.meaning) (slice_get (flat_map (λ (methods : List MethodMeaning). methods) system_meanings) number)
+meaning_numbered number =
+    option_map (λ (e : MethodMeaning). e.meaning) (slice_get (flat_map (λ (methods : List MethodMeaning). methods) system_meanings) number)
 
 -- ---- Names and descriptors alone, of the meanings and of the table, and the names of the table's fields.
 

@@ -3,6 +3,7 @@
 ghost use Rattle.std.specs.Prelude.{◌≡◌, ℕ, ◌<◌, List, [], ◌∷◌, map, Some, None, codes};
 ghost use Rattle.jk_model.specs.declared.identifiers.ClassId.{ClassId};
 ghost use Rattle.jk_model.specs.declared.identifiers.MemberId.{MemberId};
+ghost use Rattle.jk_model.specs.declared.steps.Raise.{Raise};
 ghost use Rattle.jk_model.specs.declared.values.Value.{Value};
 ghost use Rattle.jk_model.specs.SystemTable.{system_classes};
 ghost use Rattle.jk_model_classes.specs.Classes.{OBJECT};
@@ -15,7 +16,7 @@ ghost use Rattle.jk_model_heaps.specs.Workings.{Inside, Setting};
 ghost use Rattle.jk_model_system_rows.specs.declared.meanings.Shown.TheVariants as As;
 ghost use Rattle.jk_model_system_rows.specs.declared.meanings.SystemMeaning.{SystemMeaning};
 ghost use Rattle.jk_model_system_rows.specs.declared.meanings.SystemMeaning.TheVariants as Means;
-ghost use Rattle.jk_model_system_rows.specs.Answers.{Answered};
+ghost use Rattle.jk_model_system_rows.specs.Answers.{Answered, Fails};
 ghost use Rattle.jk_model_system_rows.specs.Meanings.{field_names, meaning_numbered, meaning_of, meant_signatures, number_of, system_meanings, table_signatures};
 ghost use Rattle.jk_model_system_rows.specs.SystemRows.{SystemRow};
 
@@ -40,13 +41,21 @@ pub fn meanings_by_place()
 pub fn meanings_by_number()
     ensures meaning { (m : MemberId) (meaning : SystemMeaning) → meaning_of m ≡ Some meaning → meaning_numbered (number_of m) ≡ Some meaning }
     ensures one { (m n : MemberId) (a b : SystemMeaning) → meaning_of m ≡ Some a → meaning_of n ≡ Some b → number_of m ≡ number_of n → m ≡ n }
-    ensures all { (number : ℕ) → number < 111 → (m : MemberId) × (meaning : SystemMeaning) × (meaning_of m ≡ Some meaning) × (number_of m ≡ number) }
+    ensures all { (number : ℕ) → number < 111
+        → (m : MemberId) × (meaning : SystemMeaning) × (meaning_of m ≡ Some meaning) × (number_of m ≡ number) }
 {}
 
 /// What arraycopy leaves, and its answer, are determined: no two of its refusals hold at once, and nothing is copied beside one.
 pub fn copies_of_arrays_are_determined()
     ensures { (x : Setting) (given : List Value) (old : Inside) (done other : Answered) → SystemRow x Means.CopiesArray given old done
         → SystemRow x Means.CopiesArray given old other → done ≡ other }
+{}
+
+/// Whether a method fails, and by what, is determined by its receiver, its arguments and the heap, whatever names new objects have: no case of
+/// its row in which it fails holds beside another.
+pub fn failures_of_methods_are_determined()
+    ensures { (x : Setting) (meaning : SystemMeaning) (given : List Value) (old : Inside) (done other : Answered) (raise : Raise)
+        → SystemRow x meaning given old done → SystemRow x meaning given old other → done.answer ≡ Fails raise → other.answer ≡ Fails raise }
 {}
 
 /// Buffers and throwables begin with their hidden text: the table gives them that one field.

@@ -8,7 +8,7 @@ use Rattle.jk_model_domains.specs.Objects.{Text}
 use Rattle.jk_model_heaps.specs.SystemClasses.{STRING_BUFFER}
 use Rattle.jk_model_system_rows.specs.Answers.{Answers, AnswersNew, gives_value}
 use Rattle.jk_model_system_rows.specs.Examples.{buffer_after, buffer_before, setting}
-use Rattle.jk_model_system_rows.proofs.HoldersOfExamples.{that_holder}
+use Rattle.jk_model_system_rows.proofs.OneHolder.{that_holder}
 use Rattle.jk_model_system_rows.proofs.examples.buffer_answers_its_text.Goals as goal
 
 pub returns-clause-again : goal.returns-clause-again

@@ -7,7 +7,7 @@ use Rattle.jk_model_heaps.specs.SystemClasses.{STRING_BUFFER}
 use Rattle.jk_model_heaps.specs.Workings.{with_heap}
 use Rattle.jk_model_system_rows.specs.Answers.{gives_nothing, with_answer}
 use Rattle.jk_model_system_rows.specs.Examples.{new_buffer}
-use Rattle.jk_model_system_rows.proofs.HoldersOfExamples.{that_holder}
+use Rattle.jk_model_system_rows.proofs.OneHolder.{that_holder}
 use Rattle.jk_model_system_rows.proofs.examples.buffer_is_begun_with_a_text.Goals as goal
 
 no_null : (a : ℕ) → Held.Obj a ≡ Held.Null → ⊥

@@ -13,7 +13,7 @@ use Rattle.jk_model_heaps.proofs.OneIsMade.{one_is_made}
 use Rattle.jk_model_system_rows.specs.Answers.{Answers, AnswersNew, gives_int, gives_value, with_answer}
 use Rattle.jk_model_system_rows.specs.Examples.{bare_and_empty, bare_buffer, classes, no_message, setting}
 use Rattle.jk_model_system_rows.specs.HiddenTexts.{HidesUnits, TextHolder}
-use Rattle.jk_model_system_rows.proofs.HoldersOfExamples.{that_holder}
+use Rattle.jk_model_system_rows.proofs.OneHolder.{that_holder}
 use Rattle.jk_model_system_rows.proofs.examples.hidden_texts_that_are_null.Goals as goal
 
 abbrev buffer : TextHolder bare_buffer.heap (Held.Obj 1)
