@@ -1,1 +1,6 @@
+-- Lemmas on calls: which methods the examples' classes select, and that all is determined.
+mod OneOutcome
+mod OneSelected
+mod PackagesOfExamples
+mod ReceiversOfExamples
 mod SelectedMethods

@@ -10,19 +10,20 @@ use Rattle.jk_model.specs.declared.identifiers.ClassId.{ClassId}
 use Rattle.jk_model.specs.declared.identifiers.MemberId.{MemberId}
 use Rattle.jk_model_classes.specs.declared.records.ClassRecord.{ClassRecord}
 use Rattle.jk_model_classes.specs.declared.records.MethodRecord.{MethodRecord}
-use Rattle.jk_model_classes.specs.Classes.{Implements, OBJECT, record_of}
+use Rattle.jk_model_classes.specs.Classes.{Implements, OBJECT, record_of, superclasses}
 use Rattle.jk_model_classes.specs.Items.{HasItemBefore}
-use Rattle.jk_model_classes.specs.Lookups.{Declares, IsAbstract, MethodIs, RunsFor, Selects}
+use Rattle.jk_model_classes.specs.Lookups.{Declares, IsAbstract, IsFirstOf, MethodIs, RunsFor, Selects}
+use Rattle.jk_model_classes.specs.Members.{INIT}
 use Rattle.jk_model_call_rows.specs.Examples.{A, B, C, HIDES, I, LACKS, classes_of_calls, member_at}
 
 -- ---- Of any classes.
 
-first_alone : {X : Type 0} (P : X → Type 0) (x : X) (xs : List X) → (P x → ⊥) → HasItemBefore 1 P (x ∷ xs) → ⊥
+pub first_alone : {X : Type 0} (P : X → Type 0) (x : X) (xs : List X) → (P x → ⊥) → HasItemBefore 1 P (x ∷ xs) → ⊥
 first_alone P x xs never (zero, y, below, at, p) = never (subst P (sym (same_Some x y at)) p)
 first_alone P x xs never (suc i, y, below, at, p) = absurd (omega (arith, below))
 
 module _ (classes : List ClassRecord) where
-  one_method : (m : MemberId) (a b : MethodRecord) → MethodIs classes m a → MethodIs classes m b → a ≡ b
+  pub one_method : (m : MemberId) (a b : MethodRecord) → MethodIs classes m a → MethodIs classes m b → a ≡ b
   one_method m a b (r, at, there) (s, also, too) =
       let same : r ≡ s = same_Some r s (sym at ∙ also) in
       same_Some a b (sym there ∙ ap (λ (x : ClassRecord). slice_get x.methods m.index) same ∙ too)
@@ -34,7 +35,7 @@ module _ (classes : List ClassRecord) where
       true≢false (sym abstract ∙ ap (λ (x : MethodRecord). has x.flags ABSTRACT) (sym one) ∙ plain)
 
   -- of another class than that of m
-  declares_none : (m : MemberId) (method : MethodRecord) (c : ClassId) (r : ClassRecord) → MethodIs classes m method
+  pub declares_none : (m : MemberId) (method : MethodRecord) (c : ClassId) (r : ClassRecord) → MethodIs classes m method
       → record_of classes c ≡ Some r → c ≢ m.class → AllByRecursion (λ (x : MethodRecord). x.name ≢ method.name) r.methods
       → Declares (RunsFor classes m) c → ⊥
   declares_none m method c r is at other names (i, runs) =
@@ -49,9 +50,20 @@ module _ (classes : List ClassRecord) where
         | inr by_name ↦ renamed (by_name.0 ∙ ap (λ (x : MethodRecord). x.name) (one_method m runs.method method runs.m_is is))
       ]
 
+  -- the first class of the walk that declares such a method has this one first, and it isn't abstract
+  pub selected_at : (receiver : ClassId) (m n : MemberId) (method : MethodRecord) (place : ℕ) → MethodIs classes n method
+      → has method.flags ABSTRACT ≡ false → IsFirstOf (RunsFor classes m) n → slice_get (superclasses classes receiver) place ≡ Some n.class
+      → (HasItemBefore place (Declares (RunsFor classes m)) (superclasses classes receiver) → ⊥) → Selects classes receiver m (Some n)
+  selected_at receiver m n method place is plain member visited earlier =
+      (Some n, record { member = member; place = place; visited = visited; earlier = earlier }, inr (not_abstract n method is plain, refl))
+
+-- the first method of its class is the first that runs for another
+pub first_of : (Suits : MemberId → Type 0) (c : ClassId) → Suits (record { class = c; index = 0 }) → IsFirstOf Suits (record { class = c; index = 0 })
+first_of Suits c suits = record { suits = suits; first = λ i before other. absurd (omega (arith, before)) }
+
 -- ---- Of the examples' classes.
 
-differ : (a b : ClassId) → a.0 ≢ b.0 → a ≢ b
+pub differ : (a b : ClassId) → a.0 ≢ b.0 → a ≢ b
 differ a b h e = h (ap (λ (c : ClassId). c.0) e)
 
 o_not_m : codes "o" ≢ codes "m"
@@ -62,6 +74,9 @@ m_not_o e = o_not_m (sym e)
 
 p_not_o : codes "p" ≢ codes "o"
 p_not_o e = absurd (omega (arith, ap (λ (units : List ℕ). slice_index units 0) e))
+
+init_not_o : INIT ≢ codes "o"
+init_not_o e = absurd (omega (arith, ap (λ (units : List ℕ). slice_index units 0) e))
 
 b_runs_for_a : RunsFor classes_of_calls (member_at A 0) (member_at B 0)
 b_runs_for_a = record {
@@ -149,7 +164,7 @@ at_lacks = (None, nowhere, refl)
 no_o_in_a : Declares (RunsFor classes_of_calls (member_at OBJECT 0)) A → ⊥
 no_o_in_a =
     declares_none classes_of_calls (member_at OBJECT 0) _ A _ (_, refl, refl) refl (differ A OBJECT (λ e. absurd (omega (arith, e))))
-    (m_not_o, (p_not_o, tt))
+    (m_not_o, (p_not_o, (init_not_o, tt)))
 
 -- the o of java/lang/Object at A
 pub at_a : Selects classes_of_calls A (member_at OBJECT 0) (Some (member_at OBJECT 0))

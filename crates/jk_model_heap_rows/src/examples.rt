@@ -1,7 +1,7 @@
 //! Worked examples of the rows. The functions have no bodies: each stands for its clauses, and what they speak of stands in
 //! `specs/Examples.antt`.
 
-ghost use Rattle.std.specs.Prelude.{◌≡◌, ℕ, List, [], ◌∷◌, Some, None, length, negsuc, pos};
+ghost use Rattle.std.specs.Prelude.{◌≡◌, ℕ, ◌+◌, List, [], ◌∷◌, Some, None, length, negsuc, pos};
 ghost use Rattle.jk_model.specs.declared.instructions.Instr.{Instr};
 ghost use Rattle.jk_model.specs.declared.opcodes.TheConstants.{AASTORE};
 ghost use Rattle.jk_model.specs.declared.steps.Raise.TheVariants as Raised;
@@ -14,11 +14,11 @@ ghost use Rattle.jk_model_typing.specs.FrameTypes.{STRING};
 ghost use Rattle.jk_model_typing.specs.Scopes.{CodeScope};
 ghost use Rattle.jk_model_domains.specs.NumberRows.{IsOnTop};
 ghost use Rattle.jk_model_domains.specs.Objects.{Array, class_type, object_named};
-ghost use Rattle.jk_model_heaps.specs.Heaps.{heap_words};
+ghost use Rattle.jk_model_heaps.specs.Heaps.{heap_words, with_object};
 ghost use Rattle.jk_model_heaps.specs.Instances.{IsA, IsInstance};
 ghost use Rattle.jk_model_heaps.specs.StoredValues.{stored};
 ghost use Rattle.jk_model_heaps.specs.SystemClasses.{ARRAY_INDEX_EXCEPTION, ARRAY_STORE_EXCEPTION, CLONEABLE, NULL_POINTER_EXCEPTION, SERIALIZABLE};
-ghost use Rattle.jk_model_heaps.specs.Workings.{Raises, Setting, Working};
+ghost use Rattle.jk_model_heaps.specs.Workings.{GoesOn, Outcome, Raises, Setting, Working};
 ghost use Rattle.jk_model_heap_rows.specs.ArrayTrees.{IsTree, tree_words};
 ghost use Rattle.jk_model_heap_rows.specs.ElementRows.{place_at};
 ghost use Rattle.jk_model_heap_rows.specs.Examples.{LOWER, UPPER, arrays_of, arrays_of_arrays, member_at, of_kind, three_arrays, upper_and_lower};
@@ -100,4 +100,27 @@ pub fn stores_that_fail()
         → object_named w.inside.heap 7 ≡ Some (Array (class_type STRING) (Held.Null ∷ []))
         → ¬ IsInstance x.classes x.caps w.inside.heap (Held.Obj a) (class_type STRING)
         → HeapRow x s i w w (Raises (Raised.Fresh ARRAY_STORE_EXCEPTION)) }
+{}
+
+/// None of these stores can come to anything else: no case of them holds beside another, so that null isn't met as a bad index, nor a bad
+/// index as a bad value, and nothing is stored. A store of a text is no failure: it leaves an array of the same type with the text in it.
+pub fn stores_that_fail_do_nothing_else()
+    ensures null { (x : Setting) (s : CodeScope) (i : Instr) (w new : Working) (outcome : Outcome) (v : Value) → i.op ≡ AASTORE
+        → IsOnTop w.frame (Held.Null ∷ Held.Int (pos 5) ∷ v ∷ []) → HeapRow x s i w new outcome
+        → (new ≡ w) × (outcome ≡ Raises (Raised.Fresh NULL_POINTER_EXCEPTION)) }
+    ensures index { (x : Setting) (s : CodeScope) (i : Instr) (w new : Working) (outcome : Outcome) (v : Value) → i.op ≡ AASTORE
+        → IsOnTop w.frame (Held.Obj 7 ∷ Held.Int (pos 5) ∷ v ∷ [])
+        → object_named w.inside.heap 7 ≡ Some (Array (class_type STRING) (Held.Null ∷ [])) → HeapRow x s i w new outcome
+        → (new ≡ w) × (outcome ≡ Raises (Raised.Fresh ARRAY_INDEX_EXCEPTION)) }
+    ensures value { (x : Setting) (s : CodeScope) (i : Instr) (w new : Working) (outcome : Outcome) (a : ℕ) → i.op ≡ AASTORE
+        → IsOnTop w.frame (Held.Obj 7 ∷ Held.Int (pos 0) ∷ Held.Obj a ∷ [])
+        → object_named w.inside.heap 7 ≡ Some (Array (class_type STRING) (Held.Null ∷ []))
+        → ¬ IsInstance x.classes x.caps w.inside.heap (Held.Obj a) (class_type STRING) → HeapRow x s i w new outcome
+        → (new ≡ w) × (outcome ≡ Raises (Raised.Fresh ARRAY_STORE_EXCEPTION)) }
+    ensures text { (x : Setting) (s : CodeScope) (i : Instr) (w new : Working) (outcome : Outcome) (a : ℕ) → i.op ≡ AASTORE
+        → IsOnTop w.frame (Held.Obj 7 ∷ Held.Int (pos 0) ∷ Held.Obj a ∷ [])
+        → object_named w.inside.heap 7 ≡ Some (Array (class_type STRING) (Held.Null ∷ []))
+        → IsInstance x.classes x.caps w.inside.heap (Held.Obj a) (class_type STRING) → HeapRow x s i w new outcome
+        → (new.inside.heap ≡ with_object 7 (Array (class_type STRING) (Held.Obj a ∷ [])) w.inside.heap)
+        × (outcome ≡ GoesOn (w.frame.head.at + 1)) }
 {}

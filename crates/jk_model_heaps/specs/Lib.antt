@@ -1,6 +1,7 @@
 pub mod CalledFrames
 pub mod Capabilities
 pub mod ExampleClasses
+pub mod Examples
 pub mod Heaps
 pub mod Instances
 pub mod NumberTexts

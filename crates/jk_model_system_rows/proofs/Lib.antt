@@ -1,2 +1,7 @@
--- Lemmas for worked examples.
+-- Lemmas on methods and arraycopy, and for worked examples.
+mod ArraysOfExamples
+mod CopiesAgree
+mod FailuresAgree
 mod FrontOfTexts
+mod NumbersOfMethods
+mod OneHolder

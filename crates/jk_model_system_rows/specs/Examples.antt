@@ -6,7 +6,7 @@ use Rattle.jk_model.specs.declared.values.Value.TheVariants as Held
 use Rattle.jk_model_classes.specs.declared.records.BaseRef.TheVariants as Base
 use Rattle.jk_model_classes.specs.declared.records.ClassRecord.{ClassRecord}
 use Rattle.jk_model_classes.specs.Classes.{OBJECT}
-use Rattle.jk_model_typing.specs.FrameTypes.{STRING, array_type}
+use Rattle.jk_model_typing.specs.FrameTypes.{STRING, THROWABLE, array_type}
 use Rattle.jk_model_frames.specs.Frames.{FrameState}
 use Rattle.jk_model_domains.specs.Objects.{NamedObject, Array, Plain, Text, class_type}
 use Rattle.jk_model_heaps.specs.ExampleClasses.{system_records}
@@ -82,3 +82,59 @@ objects_and_texts items =
 abbrev pub copy_arguments : ℕ → ℤ → ℕ → ℤ → ℤ → List Value
 copy_arguments source from target to count =
     Held.Obj source ∷ Held.Int from ∷ Held.Obj target ∷ Held.Int to ∷ Held.Int count ∷ []
+
+-- ---- Texts, one of them empty and one longer than another; the first and the empty one take 10 words.
+
+abbrev pub texts : Inside
+texts = with_objects (named 1 (Text (codes "ab")) ∷ named 2 (Text []) ∷ [])
+
+abbrev pub joined_texts : Inside
+joined_texts = with_objects (named 1 (Text (codes "ab")) ∷ named 2 (Text []) ∷ named 3 (Text (codes "ab")) ∷ [])
+
+abbrev pub unlike_texts : Inside
+unlike_texts = with_objects (named 1 (Text (codes "ac")) ∷ named 2 (Text (codes "abc")) ∷ named 3 (Text (codes "a")) ∷ [])
+
+-- ---- The buffer of the text `ab` after null was appended.
+
+abbrev pub buffer_with_null : Inside
+buffer_with_null =
+    with_objects
+    (named 1 (Plain STRING_BUFFER (Held.Obj 3 ∷ [])) ∷ named 2 (Text (codes "ab")) ∷ named 3 (Text (codes "abnull")) ∷ [])
+
+-- ---- A buffer without a text, which takes 5 words, the same with an empty text beside it, and after a 7 was appended.
+
+abbrev pub bare_buffer : Inside
+bare_buffer = with_objects (named 1 (Plain STRING_BUFFER (Held.Null ∷ [])) ∷ [])
+
+abbrev pub bare_and_empty : Inside
+bare_and_empty = with_objects (named 1 (Plain STRING_BUFFER (Held.Null ∷ [])) ∷ named 2 (Text []) ∷ [])
+
+abbrev pub bare_and_seven : Inside
+bare_and_seven = with_objects (named 1 (Plain STRING_BUFFER (Held.Obj 2 ∷ [])) ∷ named 2 (Text (codes "7")) ∷ [])
+
+-- ---- A new buffer and a text, and the same after the buffer was begun with the text.
+
+abbrev pub new_buffer : Inside
+new_buffer = with_objects (named 1 (Plain STRING_BUFFER (Held.Null ∷ [])) ∷ named 2 (Text (codes "ab")) ∷ [])
+
+-- ---- A throwable without a message.
+
+abbrev pub no_message : Inside
+no_message = with_objects (named 1 (Plain THROWABLE (Held.Null ∷ [])) ∷ [])
+
+-- ---- Arrays of four ints, two truth values, two bytes, two objects and two texts, and a text. The second of the objects is an array.
+
+abbrev pub arrays : Inside
+arrays =
+    with_objects
+    (named 1 (Array (array_type 0 Base.Int) (ints (1 ∷ 2 ∷ 3 ∷ 4 ∷ [])))
+    ∷ named 2 (Array (array_type 0 Base.Bool) (ints (0 ∷ 1 ∷ [])))
+    ∷ named 3 (Array (array_type 0 Base.Byte) (ints (0 ∷ 1 ∷ [])))
+    ∷ named 4 (Array (class_type OBJECT) (Held.Obj 6 ∷ Held.Obj 1 ∷ []))
+    ∷ named 5 (Array (class_type STRING) (Held.Null ∷ Held.Null ∷ []))
+    ∷ named 6 (Text (codes "a"))
+    ∷ [])
+
+-- the arguments of arraycopy, whatever the first and the third are
+abbrev pub copy_of : Value → ℤ → Value → ℤ → ℤ → List Value
+copy_of source from target to count = source ∷ Held.Int from ∷ target ∷ Held.Int to ∷ Held.Int count ∷ []

@@ -1,9 +1,9 @@
 -- What each method of the system classes means. There is a list for each class, in the order of the system table, and its methods stand
 -- in it in their order. That the names and descriptors beside the meanings are those of the table is a law of this crate.
-use Rattle.std.specs.Prelude.{ℕ, List, [], ◌∷◌, ◌++◌, map, replicate, Option, slice_get, option_and_then, option_map, codes}
+use Rattle.std.specs.Prelude.{ℕ, List, [], ◌∷◌, ◌++◌, flat_map, map, replicate, Option, slice_get, option_and_then, option_map, codes}
 use Rattle.jk_model.specs.declared.identifiers.ClassId.{ClassId}
 use Rattle.jk_model.specs.declared.identifiers.MemberId.{MemberId}
-use Rattle.jk_model.specs.SystemTable.{SystemClass, SystemField, SystemMethod, system_classes}
+use Rattle.jk_model.specs.SystemTable.{SystemClass, SystemField, SystemMethod, method_number, system_classes}
 use Rattle.jk_model_system_rows.specs.declared.meanings.Shown.TheVariants as As
 use Rattle.jk_model_system_rows.specs.declared.meanings.SystemMeaning.{SystemMeaning}
 use Rattle.jk_model_system_rows.specs.declared.meanings.SystemMeaning.TheVariants as Means
@@ -134,6 +134,16 @@ abbrev pub meaning_of : MemberId → Option SystemMeaning
 meaning_of m =
     option_and_then (λ (methods : List MethodMeaning). option_map (λ (e : MethodMeaning). e.meaning) (slice_get methods m.index))
     (slice_get system_meanings m.class.0)
+
+-- ---- The same by the numbers of the table, which count the methods of all classes in order from 0.
+
+abbrev pub number_of : MemberId → ℕ
+number_of m = method_number m.class.0 m.index
+
+-- what the method of a number means
+abbrev pub meaning_numbered : ℕ → Option SystemMeaning
+meaning_numbered number =
+    option_map (λ (e : MethodMeaning). e.meaning) (slice_get (flat_map (λ (methods : List MethodMeaning). methods) system_meanings) number)
 
 -- ---- Names and descriptors alone, of the meanings and of the table, and the names of the table's fields.
 

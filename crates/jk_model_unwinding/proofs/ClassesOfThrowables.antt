@@ -1,42 +1,38 @@
--- An ArithmeticException is a RuntimeException and no Error.
-use Rattle.std.proofs.Common.{◌≡◌, ℕ, zero, suc, inl, inr, [], ◌∷◌, Contains, refl, sym, ap, subst, arith}
+-- An ArithmeticException is a RuntimeException, no Error, and implements no interface; a throwable of the examples implements one.
+use Rattle.std.proofs.Common.{◌≡◌, ℕ, IsTrue, inl, inr, List, [], ◌∷◌, Some, refl, sym, subst, ◌∙◌, arith}
 use Rattle.std.proofs.lemmas.Option.{same_Some}
 use Rattle.jk_model.specs.declared.identifiers.ClassId.{ClassId}
 use Rattle.jk_model.specs.declared.values.Value.TheVariants as Held
-use Rattle.jk_model_classes.specs.declared.records.BaseRef.{BaseRef}
-use Rattle.jk_model_classes.specs.declared.records.BaseRef.TheVariants as Base
-use Rattle.jk_model_classes.specs.declared.records.TypeRef.{TypeRef}
 use Rattle.jk_model_classes.specs.Classes.{superclasses}
 use Rattle.jk_model_domains.specs.NumberRows.{ARITHMETIC_EXCEPTION}
-use Rattle.jk_model_domains.specs.Objects.{Object, Plain, class_type, type_of}
-use Rattle.jk_model_heaps.specs.Instances.{IsA}
-use Rattle.jk_model_heaps.specs.SystemClasses.{ERROR}
-use Rattle.jk_model_unwinding.specs.Examples.{RUNTIME_EXCEPTION, classes, setting, thrown}
-use Rattle.jk_model_unwinding.specs.Unwinding.{IsError}
+use Rattle.jk_model_domains.specs.Objects.{NamedObject, Object, Plain, class_type, object_named, type_of}
+use Rattle.jk_model_heaps.specs.Capabilities.{KnownCapabilities}
+use Rattle.jk_model_heaps.specs.Instances.{IsA, IsInstance}
+use Rattle.jk_model_heaps.specs.SystemClasses.{ERROR, EXCEPTION_IN_INITIALIZER_ERROR}
+use Rattle.jk_model_heaps.proofs.TypesApart.{are_apart, are_without, implemented_by, never_a}
+use Rattle.jk_model_unwinding.specs.Examples.{MARK, MINE, RUNTIME_EXCEPTION, classes}
 
 pub is_runtime_exception : IsA classes (class_type ARITHMETIC_EXCEPTION) (class_type RUNTIME_EXCEPTION)
 is_runtime_exception = inr (inl (refl, inl (1, omega arith, refl)))
 
-abbrev class_in : BaseRef → ℕ
-class_in (Base.Class c) = c.0
-class_in base = 0
+pub mine_is_mark : IsA classes (class_type MINE) (class_type MARK)
+mine_is_mark = inr (inl (refl, inr ((_, refl, refl), (1, omega arith, refl))))
 
-above_is_no_error : Contains (superclasses classes ARITHMETIC_EXCEPTION) ERROR → ⊥
-above_is_no_error (zero, low, is) = let same : 19 ≡ 16 = ap (λ (c : ClassId). c.0) is in absurd (omega (arith, same))
-above_is_no_error (suc zero, low, is) = let same : 17 ≡ 16 = ap (λ (c : ClassId). c.0) is in absurd (omega (arith, same))
-above_is_no_error (suc (suc zero), low, is) = let same : 15 ≡ 16 = ap (λ (c : ClassId). c.0) is in absurd (omega (arith, same))
-above_is_no_error (suc (suc (suc zero)), low, is) = let same : 9 ≡ 16 = ap (λ (c : ClassId). c.0) is in absurd (omega (arith, same))
-above_is_no_error (suc (suc (suc (suc zero))), low, is) = let same : 0 ≡ 16 = ap (λ (c : ClassId). c.0) is in absurd (omega (arith, same))
-above_is_no_error (suc (suc (suc (suc (suc k)))), low, is) = absurd (omega (arith, low))
+pub failure_is_error : IsA classes (class_type EXCEPTION_IN_INITIALIZER_ERROR) (class_type ERROR)
+failure_is_error = inr (inl (refl, inl (2, omega arith, refl)))
 
-type_is_no_error : IsA classes (class_type ARITHMETIC_EXCEPTION) (class_type ERROR) → ⊥
-type_is_no_error (inl same) = let numbers : 19 ≡ 16 = ap (λ (t : TypeRef). class_in t.base) same in absurd (omega (arith, numbers))
-type_is_no_error (inr (inl (dims, inl below))) = above_is_no_error below
-type_is_no_error (inr (inl (dims, inr implements))) = above_is_no_error implements.1
-type_is_no_error (inr (inr (lower, above))) = absurd (omega (arith, lower))
+-- an object of a class that isn't the other, nor below it, and doesn't implement it
+pub no_instance : (caps : KnownCapabilities) (heap : List NamedObject) (a : ℕ) (c d : ClassId) → IsTrue (are_apart c d)
+    → IsTrue (are_without (superclasses classes c) d) → IsTrue (are_without (implemented_by classes c) d)
+    → object_named heap a ≡ Some (Plain c (Held.Null ∷ [])) → IsInstance classes caps heap (Held.Obj a) (class_type d) → ⊥
+no_instance caps heap a c d other above implemented stands (object, is, below) =
+    let same : Plain c (Held.Null ∷ []) ≡ object = same_Some (Plain c (Held.Null ∷ [])) object (sym stands ∙ is) in
+    never_a classes c d other above implemented 0 (subst (λ (o : Object). IsA classes (type_of o) (class_type d)) (sym same) below)
 
-pub is_no_error : IsError (setting 10) (thrown 1 ARITHMETIC_EXCEPTION ∷ []) 1 → ⊥
-is_no_error (object, is, below) =
-    type_is_no_error
-    (subst (λ (o : Object). IsA classes (type_of o) (class_type ERROR))
-    (sym (same_Some (Plain ARITHMETIC_EXCEPTION (Held.Null ∷ [])) object is)) below)
+pub arithmetic_is_no_error : (caps : KnownCapabilities) (heap : List NamedObject) (a : ℕ)
+    → object_named heap a ≡ Some (Plain ARITHMETIC_EXCEPTION (Held.Null ∷ [])) → IsInstance classes caps heap (Held.Obj a) (class_type ERROR) → ⊥
+arithmetic_is_no_error caps heap a stands = no_instance caps heap a ARITHMETIC_EXCEPTION ERROR refl refl refl stands
+
+pub arithmetic_is_no_mark : (caps : KnownCapabilities) (heap : List NamedObject) (a : ℕ)
+    → object_named heap a ≡ Some (Plain ARITHMETIC_EXCEPTION (Held.Null ∷ [])) → IsInstance classes caps heap (Held.Obj a) (class_type MARK) → ⊥
+arithmetic_is_no_mark caps heap a stands = no_instance caps heap a ARITHMETIC_EXCEPTION MARK refl refl refl stands

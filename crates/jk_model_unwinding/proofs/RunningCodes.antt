@@ -1,17 +1,24 @@
 -- The code that a frame runs: there is one, and no other.
-use Rattle.std.proofs.Common.{◌≡◌, ℕ, List, Option, Some, None, slice_get, option_and_then, refl, sym, ap, ◌∙◌}
-use Rattle.std.proofs.lemmas.Option.{same_Some}
+use Rattle.std.proofs.Common.{◌≡◌, ℕ, zero, suc, List, Option, Some, None, slice_get, option_and_then, refl, sym, ap, subst, ◌∙◌, arith}
+use Rattle.std.proofs.lemmas.Option.{none-some, same_Some}
 use Rattle.jk_model.specs.declared.identifiers.MemberId.{MemberId}
+use Rattle.jk_model.specs.declared.instructions.Instr.{Instr}
+use Rattle.jk_model.specs.declared.values.Value.{Value}
 use Rattle.jk_model_classes.specs.declared.records.Body.{Body}
 use Rattle.jk_model_classes.specs.declared.records.Body.TheVariants.{Linked}
+use Rattle.jk_model_classes.specs.declared.records.Caught.{Caught}
 use Rattle.jk_model_classes.specs.declared.records.ClassRecord.{ClassRecord}
 use Rattle.jk_model_classes.specs.declared.records.LinkedCode.{LinkedCode}
 use Rattle.jk_model_classes.specs.declared.records.MethodRecord.{MethodRecord}
 use Rattle.jk_model_classes.specs.Classes.{record_of}
 use Rattle.jk_model_typing.specs.Scopes.{CodeScope, IsScopeOf}
+use Rattle.jk_model_typing.specs.Typing.{Covers}
 use Rattle.jk_model_frames.specs.Frames.{FrameState}
+use Rattle.jk_model_domains.specs.NumberRows.{ARITHMETIC_EXCEPTION}
+use Rattle.jk_model_domains.specs.Objects.{NamedObject}
 use Rattle.jk_model_heaps.specs.RunningCode.{RunsCode}
-use Rattle.jk_model_unwinding.specs.Examples.{MAIN, classes, main}
+use Rattle.jk_model_unwinding.specs.Examples.{MAIN, RUNTIME_EXCEPTION, careful, classes, frame, handler, main, setting}
+use Rattle.jk_model_unwinding.specs.Unwinding.{CatchesNot, HasCaughtClass}
 
 abbrev linked : Body → Option LinkedCode
 linked (Linked code) = Some code
@@ -42,3 +49,40 @@ pub runs : (index at : ℕ) (method : MethodRecord) (code : LinkedCode) → slic
     → method.body ≡ Linked code → IsScopeOf classes (record { class = MAIN; index = index })
     (record { classes = classes; self = MAIN; links = main.links; method = method; code = code })
 runs index at method code is body = record { all = refl; self = refl; class = main; class_is = refl; links = refl; method = is; body = body }
+
+-- a frame of a method of the class runs its code
+abbrev pub frame_runs : (index at : ℕ) (stack : List Value) (method : MethodRecord) (code : LinkedCode) (instr : Instr)
+    → slice_get main.methods index ≡ Some method → method.body ≡ Linked code → slice_get code.instrs at ≡ Some instr
+    → RunsCode classes (frame index at stack)
+frame_runs index at stack method code instr is body stands = record {
+  method = record { class = MAIN; index = index };
+  is_method = refl;
+  scope = record { classes = classes; self = MAIN; links = main.links; method = method; code = code };
+  is_scope = runs index at method code is body;
+  instr = instr;
+  stands = stands;
+}
+
+-- a frame catches nothing where each handler of its code fails
+pub catches_none : (quota : ℕ) (heap : List NamedObject) (a index at : ℕ) (stack : List Value) (code : LinkedCode)
+    → code_at classes (record { class = MAIN; index = index }) ≡ Some code
+    → ((place : ℕ) (h : Caught) → slice_get code.handlers place ≡ Some h → Covers h at → HasCaughtClass (setting quota) heap a h → ⊥)
+    → CatchesNot (setting quota) heap (frame index at stack) a
+catches_none quota heap a index at stack code is fails h catches =
+    let same : catches.code.scope.code ≡ code =
+    one_code classes (record { class = MAIN; index = index }) code (frame index at stack) refl is catches.code in
+    let listed : slice_get code.handlers catches.place ≡ Some h =
+    sym (ap (λ (k : LinkedCode). slice_get k.handlers catches.place) same) ∙ catches.listed in
+    fails catches.place h listed catches.covers catches.of_class
+
+-- both handlers of the first method end at its second instruction
+pub none_covers : (place : ℕ) (h : Caught) → slice_get careful.handlers place ≡ Some h → Covers h 1 → ⊥
+none_covers zero h at covers =
+    let covered : Covers (handler RUNTIME_EXCEPTION 1) 1 =
+    subst (λ (g : Caught). Covers g 1) (sym (same_Some (handler RUNTIME_EXCEPTION 1) h at)) covers in
+    absurd (omega (arith, covered.1))
+none_covers (suc zero) h at covers =
+    let covered : Covers (handler ARITHMETIC_EXCEPTION 2) 1 =
+    subst (λ (g : Caught). Covers g 1) (sym (same_Some (handler ARITHMETIC_EXCEPTION 2) h at)) covers in
+    absurd (omega (arith, covered.1))
+none_covers (suc (suc place)) h at covers = absurd (none-some h at)

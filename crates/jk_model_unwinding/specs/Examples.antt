@@ -1,11 +1,11 @@
--- Worked examples: a class with two methods that catch, and a segment with an initialiser frame on top. `src/examples.rt` states what the
--- definitions say of them.
-use Rattle.std.specs.Prelude.{ℕ, pos, List, [], ◌∷◌, ◌++◌, Some, None, codes}
+-- Worked examples: a class with methods that catch, an interface, a throwable that implements it, and segments with initialiser frames on
+-- top. `src/examples.rt` states what the definitions say of them.
+use Rattle.std.specs.Prelude.{ℕ, ◌+◌, pos, List, [], ◌∷◌, ◌++◌, Some, None, codes}
 use Rattle.jk_model.specs.declared.identifiers.ClassId.{ClassId}
 use Rattle.jk_model.specs.declared.opcodes.TheConstants.{NOP}
 use Rattle.jk_model.specs.declared.values.Value.{Value}
 use Rattle.jk_model.specs.declared.values.Value.TheVariants as Held
-use Rattle.jk_model.specs.Flags.{STATIC}
+use Rattle.jk_model.specs.Flags.{ABSTRACT, INTERFACE, STATIC}
 use Rattle.jk_model.specs.Instructions.{plain}
 use Rattle.jk_model.specs.SystemTable.{public}
 use Rattle.jk_model_classes.specs.declared.records.Body.TheVariants.{Linked}
@@ -21,18 +21,34 @@ use Rattle.jk_model_domains.specs.Objects.{NamedObject, Plain}
 use Rattle.jk_model_domains.specs.OwnStates.{ClassPart}
 use Rattle.jk_model_heaps.specs.ExampleClasses.{system_records}
 use Rattle.jk_model_heaps.specs.Heaps.{named}
-use Rattle.jk_model_heaps.specs.SystemClasses.{EXCEPTION_IN_INITIALIZER_ERROR}
+use Rattle.jk_model_heaps.specs.SystemClasses.{EXCEPTION_IN_INITIALIZER_ERROR, OUT_OF_MEMORY_ERROR}
 use Rattle.jk_model_heaps.specs.Workings.{Inside, Setting}
 
--- ---- Classes: those of the system, whose fields are texts here and which have no interfaces and methods, and one more.
+-- ---- Classes: those of the system, whose fields are texts here and which have no interfaces and methods, and four more.
 
 -- java/lang/RuntimeException
 abbrev pub RUNTIME_EXCEPTION : ClassId
 RUNTIME_EXCEPTION = record { 0 = 17 }
 
+abbrev pub MAIN : ClassId
+MAIN = record { 0 = 45 }
+
+abbrev pub MARK : ClassId
+MARK = record { 0 = 46 }
+
+abbrev pub MINE : ClassId
+MINE = record { 0 = 47 }
+
+abbrev pub LOWER : ClassId
+LOWER = record { 0 = 48 }
+
 -- over the first instruction, to this place
 abbrev pub handler : ClassId → ℕ → Caught
 handler c place = record { start = 0; end = 1; handler = place; class = Some c }
+
+-- the same without a class
+abbrev pub handler_of_any : ℕ → Caught
+handler_of_any place = record { start = 0; end = 1; handler = place; class = None }
 
 -- three instructions
 abbrev pub code : List Caught → LinkedCode
@@ -51,6 +67,18 @@ careful = code (handler RUNTIME_EXCEPTION 1 ∷ handler ARITHMETIC_EXCEPTION 2 �
 abbrev pub initialising : LinkedCode
 initialising = code (handler EXCEPTION_IN_INITIALIZER_ERROR 2 ∷ [])
 
+-- catches at the second instruction what implements an interface
+abbrev pub marking : LinkedCode
+marking = code (handler MARK 1 ∷ [])
+
+-- the same, and at the third all else
+abbrev pub sweeping : LinkedCode
+sweeping = code (handler MARK 1 ∷ handler_of_any 2 ∷ [])
+
+-- catches at the second what an initialiser failed by, and at the third want of memory
+abbrev pub sparing : LinkedCode
+sparing = code (handler EXCEPTION_IN_INITIALIZER_ERROR 1 ∷ handler OUT_OF_MEMORY_ERROR 2 ∷ [])
+
 abbrev pub method : List ℕ → LinkedCode → MethodRecord
 method name body = record {
   name = name;
@@ -61,24 +89,38 @@ method name body = record {
   body = Linked body;
 }
 
-abbrev pub MAIN : ClassId
-MAIN = record { 0 = 45 }
-
-abbrev pub main : ClassRecord
-main = record {
-  name = codes "Main";
+abbrev class_with : List ℕ → ℕ → ClassId → List ClassId → List MethodRecord → ClassRecord
+class_with name flags parent interfaces methods = record {
+  name = name;
   home = Some (record { 0 = 0 });
-  flags = public;
-  parent = Some OBJECT;
-  interfaces = [];
+  flags = flags;
+  parent = Some parent;
+  interfaces = interfaces;
   fields = [];
-  methods = method (codes "careful") careful ∷ method (codes "initialising") initialising ∷ [];
+  methods = methods;
   links = [];
   references = [];
 }
 
+abbrev pub main : ClassRecord
+main =
+    class_with (codes "Main") public OBJECT []
+    (method (codes "careful") careful
+    ∷ method (codes "initialising") initialising
+    ∷ method (codes "marking") marking
+    ∷ method (codes "sweeping") sweeping
+    ∷ method (codes "sparing") sparing
+    ∷ [])
+
+-- an interface, a throwable that implements it, and a class below the first one
 abbrev pub classes : List ClassRecord
-classes = system_records ++ main ∷ []
+classes =
+    system_records
+    ++ main
+    ∷ class_with (codes "Mark") (public + INTERFACE + ABSTRACT) OBJECT [] []
+    ∷ class_with (codes "Mine") public RUNTIME_EXCEPTION (MARK ∷ []) []
+    ∷ class_with (codes "Lower") public MAIN [] []
+    ∷ []
 
 -- ---- Frames.
 
@@ -105,6 +147,14 @@ initialiser = record {
   stack = [];
 }
 
+-- that of the class below it, which needs it first
+abbrev pub lower_initialiser : FrameState
+lower_initialiser = record {
+  head = record { method = None; at = 0; need = Some MAIN; initialises = Some LOWER; max_locals = 0; max_stack = 0 };
+  locals = [];
+  stack = [];
+}
+
 -- ---- A domain in which the class has a state, with throwables of these classes, which are named from 1 on and have no message.
 
 abbrev pub part : ClassState → ClassPart
@@ -120,6 +170,17 @@ domain state heap = record {
   heap_at = None;
   stack_at = None;
 }
+
+-- the same where the object 2 is the standing OutOfMemoryError
+abbrev pub standing_domain : ClassState → List NamedObject → Inside
+standing_domain state heap = record (domain state heap) { own = record (domain state heap).own { standing = 2 ∷ [] } }
+
+-- the same where the class below it has that state too
+abbrev pub two_classes : ClassState → List NamedObject → Inside
+two_classes state heap =
+    record (domain state heap) {
+      own = record (domain state heap).own { classes = part state ∷ record (part state) { class = LOWER } ∷ [] };
+    }
 
 -- a heap of so many words
 abbrev pub setting : ℕ → Setting

@@ -12,7 +12,7 @@ use Rattle.jk_model_heaps.specs.RunningCode.{RunsCode}
 use Rattle.jk_model_heaps.specs.SystemClasses.{EXCEPTION_IN_INITIALIZER_ERROR}
 use Rattle.jk_model_unwinding.specs.Examples.{MAIN, classes, domain, frame, handler, initialiser, initialising, method, part, setting, thrown}
 use Rattle.jk_model_unwinding.specs.Unwinding.{CatchesNot}
-use Rattle.jk_model_unwinding.proofs.ClassesOfThrowables.{is_no_error}
+use Rattle.jk_model_unwinding.proofs.ClassesOfThrowables.{arithmetic_is_no_error}
 use Rattle.jk_model_heaps.proofs.OneIsMade.{one_is_made}
 use Rattle.jk_model_unwinding.proofs.RunningCodes.{runs}
 use Rattle.jk_model_unwinding.proofs.examples.exception_leaves_an_initialiser.Goals as goal
@@ -47,7 +47,7 @@ returns c = record {
       refl,
       (part (State.InProgress (record { 0 = 1 })), refl),
       inr (
-        is_no_error,
+        arithmetic_is_no_error (setting 10).caps (thrown 1 ARITHMETIC_EXCEPTION ∷ []) 1 refl,
         inl (
           thrown 1 ARITHMETIC_EXCEPTION ∷ thrown 2 EXCEPTION_IN_INITIALIZER_ERROR ∷ [],
           one_is_made classes 10 (thrown 1 ARITHMETIC_EXCEPTION ∷ []) 2 (Plain EXCEPTION_IN_INITIALIZER_ERROR (Held.Null ∷ [])) refl (omega arith),
