@@ -4,3 +4,4 @@ pub mod ElementsOfArrays
 pub mod FreshObjects
 pub mod InstancesFitTypes
 pub mod OperandsOnTop
+pub mod StandsHere

@@ -2,6 +2,7 @@
 
 ghost use Rattle.typed_operands.specs.FittingInstances.{AllAreBelowObject, CapabilitiesFit, InstancesAreHeld, InstancesFit};
 ghost use Rattle.typed_operands.specs.Operands.{ElementsAreFound, ElementsFit, NewObjectsFit, PushedFit, TakenMeet};
+ghost use Rattle.typed_operands.specs.StandingFrames.{CodeIsOne, RunningFramesAreTyped, RunningFramesHaveCode};
 
 /// Each class stands below java/lang/Object.
 pub fn classes_are_below_object()
@@ -31,4 +32,11 @@ pub fn elements_are_found()
 /// A new object fits its place on the stack.
 pub fn new_objects_fit()
     ensures { NewObjectsFit }
+{}
+
+/// A frame that runs stands at an instruction, whose typing tells what it holds before and after.
+pub fn running_frames_are_typed()
+    ensures code { RunningFramesHaveCode }
+    ensures one_code { CodeIsOne }
+    ensures typed { RunningFramesAreTyped }
 {}
