@@ -73,20 +73,20 @@ code_is_one classes f a b =
 -- ---- The frame's typing in the scope of its code.
 
 module _ (classes : List ClassRecord) (sound : AreSoundCodes classes) (f : FrameState) (code : RunsCode classes f) (t : HasTyping classes f) where
-  same_method : t.method ≡ code.method
+  abbrev same_method : t.method ≡ code.method
   same_method = same_Some t.method code.method (sym t.is_method ∙ code.is_method)
 
   same_scope : t.scope ≡ code.scope
   same_scope =
       one-scope classes code.method t.scope code.scope (subst (λ (m : MemberId). IsScopeOf classes m t.scope) same_method t.is_scope) code.is_scope
 
-  least : IsLeastTyping classes code.method t.frames
+  abbrev least : IsLeastTyping classes code.method t.frames
   least = subst (λ (m : MemberId). IsLeastTyping classes m t.frames) same_method t.is_least
 
-  typed : least.typing.scope ≡ code.scope
+  abbrev typed : least.typing.scope ≡ code.scope
   typed = one-scope classes code.method least.typing.scope code.scope least.typing.scope_is code.is_scope
 
-  goes : GoesWell code.scope t.frames f.head.at code.instr t.type
+  abbrev goes : GoesWell code.scope t.frames f.head.at code.instr t.type
   goes =
       let instr : slice_get least.typing.scope.code.instrs f.head.at ≡ Some code.instr =
       subst (λ (s : CodeScope). slice_get s.code.instrs f.head.at ≡ Some code.instr) (sym typed) code.stands in

@@ -21,7 +21,7 @@ abbrev stacked : FrameState → List Value → FrameState
 stacked f stack = record f { stack = stack }
 
 module _ (x : Setting) (f : FrameState) (stack : List Value) where
-  code_stays : (classes : List ClassRecord) → RunsCode classes f → RunsCode classes (stacked f stack)
+  abbrev code_stays : (classes : List ClassRecord) → RunsCode classes f → RunsCode classes (stacked f stack)
   code_stays classes c = record {
     method = c.method;
     is_method = c.is_method;
@@ -31,7 +31,7 @@ module _ (x : Setting) (f : FrameState) (stack : List Value) where
     stands = c.stands;
   }
 
-  code_was : (classes : List ClassRecord) → RunsCode classes (stacked f stack) → RunsCode classes f
+  abbrev code_was : (classes : List ClassRecord) → RunsCode classes (stacked f stack) → RunsCode classes f
   code_was classes c = record {
     method = c.method;
     is_method = c.is_method;
