@@ -2,6 +2,7 @@
 pub mod BelowObject
 pub mod ElementsOfArrays
 pub mod FreshObjects
+pub mod InstancesDecided
 pub mod InstancesFitTypes
 pub mod OperandsOnTop
 pub mod StandsHere

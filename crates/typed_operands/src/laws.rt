@@ -1,6 +1,6 @@
 //! The laws. The functions have no bodies: each stands for its clauses.
 
-ghost use Rattle.typed_operands.specs.FittingInstances.{AllAreBelowObject, CapabilitiesFit, InstancesAreHeld, InstancesFit};
+ghost use Rattle.typed_operands.specs.FittingInstances.{AllAreBelowObject, CapabilitiesFit, InstancesAreDecided, InstancesAreHeld, InstancesFit};
 ghost use Rattle.typed_operands.specs.Operands.{ElementsAreFound, ElementsFit, NewObjectsFit, PushedFit, TakenMeet};
 ghost use Rattle.typed_operands.specs.StandingFrames.{CodeIsOne, RunningFramesAreTyped, RunningFramesHaveCode};
 
@@ -15,6 +15,11 @@ pub fn instances_fit()
     ensures types { InstancesFit }
     ensures capabilities { CapabilitiesFit }
     ensures values { InstancesAreHeld }
+{}
+
+/// A value is an instance of a type, or it isn't.
+pub fn instances_are_decided()
+    ensures { InstancesAreDecided }
 {}
 
 /// What an instruction takes is on top of the stack and meets what it asks, and what fits the types that it gives may take its place.
