@@ -1,6 +1,6 @@
 -- From some name on a heap has no objects, so that one more object can be made wherever it fits.
 use Rattle.std.proofs.Common.{◌≡◌, ◌≢◌, ℕ, suc, ◌+◌, ◌==◌, ◌≤◌, Bool, true, false, List, [], ◌∷◌, ◌++◌, None, refl, subst, sym, arith}
-use Rattle.std.proofs.lemmas.Bool.{eqb_tells}
+use Rattle.std.proofs.lemmas.Bool.{eqb-true}
 use Rattle.std.proofs.lemmas.List.Sums.{sum_by-cons}
 use Rattle.jk_model_classes.specs.declared.records.ClassRecord.{ClassRecord}
 use Rattle.jk_model_domains.specs.Objects.{NamedObject, Object, object_named, object_words}
@@ -15,7 +15,7 @@ above_names (e ∷ heap) = suc (e.name + above_names heap)
 
 passed : (t : Bool) (e : NamedObject) (heap : List NamedObject) (a : ℕ) → (e.name == a) ≡ t → e.name ≢ a → object_named heap a ≡ None
     → by_first t e heap a ≡ None
-passed true e heap a is other none = absurd (other ((eqb_tells e.name a).0 is))
+passed true e heap a is other none = absurd (other (eqb-true e.name a is))
 passed false e heap a is other none = none
 
 pub none_above : (heap : List NamedObject) (a : ℕ) → above_names heap ≤ a → object_named heap a ≡ None
