@@ -1,3 +1,4 @@
 -- What is said of rows of instructions on heaps.
 pub mod HeapOperands
 pub mod HeapRowLaws
+pub mod NewTrees

@@ -1,0 +1,3 @@
+-- Lemmas on rows of instructions on heaps.
+pub mod RowsFromOperands
+pub mod TreesOfArrays

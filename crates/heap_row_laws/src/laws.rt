@@ -1,0 +1,14 @@
+//! The laws. The functions have no bodies: each stands for its clauses.
+
+ghost use Rattle.heap_row_laws.specs.HeapRowLaws.{OperandsGiveRows};
+ghost use Rattle.heap_row_laws.specs.NewTrees.{FittingTreesAreMade};
+
+/// Where an instruction on objects finds its operands there is a row of it.
+pub fn operands_give_rows()
+    ensures { OperandsGiveRows }
+{}
+
+/// Arrays of arrays that fit can be made.
+pub fn fitting_trees_are_made()
+    ensures { FittingTreesAreMade }
+{}
