@@ -1,16 +1,13 @@
 -- Where an instruction finds its operands there is a row of it.
-use Rattle.std.proofs.Common.{inl, inr, ◌≡◌, ◌⊎◌, ℕ, zero, suc, ◌+◌, ◌<◌, ◌≤◌, ℤ, pos, negsuc, Bool, true, false, List, [], ◌∷◌, ◌++◌, length, map, Option, Some, None, slice_get, refl, sym, ap, subst, ◌∙◌, arith}
+use Rattle.std.proofs.Common.{inl, inr, ◌≡◌, ◌⊎◌, ℕ, ◌+◌, ◌≤◌, ℤ, pos, negsuc, Bool, true, false, List, [], ◌∷◌, ◌++◌, length, map, Option, Some, None, slice_get, refl, sym, subst, arith}
 use Rattle.std.specs.Prelude.{IsTrue, if◌then◌else◌, nat_lt, option_and_then, option_map}
 use Rattle.std.proofs.lemmas.Bool.{cases_eq, cases_lt, ltb-true}
 use Rattle.std.proofs.lemmas.List.{append-nil}
 use Rattle.std.proofs.lemmas.Option.{same_Some}
 use Rattle.list_lemmas.proofs.ItemsByPlace.{item_there}
-use Rattle.jk_model.specs.declared.identifiers.ClassId.{ClassId}
 use Rattle.jk_model.specs.declared.identifiers.MemberId.{MemberId}
 use Rattle.jk_model.specs.declared.instructions.Instr.{Instr}
 use Rattle.jk_model.specs.declared.opcodes.TheConstants.{AASTORE, ARRAYLENGTH, ATHROW, GETFIELD, LDC_W, MULTIANEWARRAY, PUTFIELD}
-use Rattle.jk_model.specs.declared.steps.Raise.{Raise}
-use Rattle.jk_model.specs.declared.steps.Raise.TheVariants as Raised
 use Rattle.jk_model.specs.declared.values.Value.{Value}
 use Rattle.jk_model.specs.declared.values.Value.TheVariants as Held
 use Rattle.jk_model_classes.specs.declared.records.FieldRecord.{FieldRecord}
@@ -22,19 +19,16 @@ use Rattle.jk_model_domains.specs.Objects.{NamedObject, Text, object_words}
 use Rattle.jk_model_domains.specs.OwnStates.{literal_named, with_static}
 use Rattle.jk_model_heaps.specs.declared.shapes.Shape.{Shape}
 use Rattle.jk_model_heaps.specs.declared.shapes.Shape.TheVariants as Of
-use Rattle.jk_model_heaps.specs.Heaps.{MakesOne, heap_words, zero_object}
-use Rattle.jk_model_heaps.specs.Instances.{IsInstance}
-use Rattle.jk_model_heaps.specs.References.{IsHeapArray, IsNullOrInstance}
+use Rattle.jk_model_heaps.specs.Heaps.{heap_words, zero_object}
+use Rattle.jk_model_heaps.specs.References.{IsNullOrInstance}
 use Rattle.jk_model_heaps.specs.RunningCode.{NamesField}
 use Rattle.jk_model_heaps.specs.StoredValues.{stored}
-use Rattle.jk_model_heaps.specs.SystemClasses.{ARRAY_INDEX_EXCEPTION, ARRAY_STORE_EXCEPTION, CLASS_CAST_EXCEPTION}
-use Rattle.jk_model_heaps.specs.Workings.{GoesOn, GoesOnWith, Inside, Outcome, Raises, RaisesHere, Setting, Working, with_heap, with_own}
-use Rattle.jk_model_heap_rows.specs.ElementRows.{FailsAtIndex, place_at, is_element_load, is_element_store, with_item}
-use Rattle.jk_model_heap_rows.specs.FieldRows.{HasField, with_field_value}
+use Rattle.jk_model_heaps.specs.Workings.{GoesOn, GoesOnWith, Inside, Outcome, Setting, Working, with_heap, with_own}
+use Rattle.jk_model_heap_rows.specs.ElementRows.{place_at, is_element_load, is_element_store, with_item}
+use Rattle.jk_model_heap_rows.specs.FieldRows.{with_field_value}
 use Rattle.jk_model_heap_rows.specs.HeapRows.{HeapRow, array_length, casts, gets_field, gets_static, loads_element, loads_text, makes_array, makes_arrays, makes_object, puts_field, puts_static, raises_object, stores_element, tests}
-use Rattle.jk_model_heap_rows.specs.NewObjectRows.{FailsForWords, LacksWords, MakesArrayOf, PushesNew, count_of, counts_of, with_literal}
+use Rattle.jk_model_heap_rows.specs.NewObjectRows.{LacksWords, MakesArrayOf, PushesNew, count_of, counts_of, with_literal}
 use Rattle.jk_model_heap_rows.specs.ArrayTrees.{MakesTree, tree_words}
-use Rattle.jk_model_heap_rows.specs.NullReferences.{FailsAtNull}
 use Rattle.decided_lookups.specs.Decisions.{IsDecided}
 use Rattle.decided_lookups.proofs.DecidedParts.{either_decided}
 use Rattle.grown_heaps.proofs.FreshNames.{fitting_made}

@@ -1,10 +1,9 @@
 -- An array and an index are on top of the stack where typing says so, and each item of the array fits where it is put in their place.
-use Rattle.std.proofs.Common.{inl, inr, ◌≡◌, ◌⊎◌, ℕ, zero, suc, ◌+◌, ◌-◌, ◌<◌, ◌≤◌, ℤ, Bool, true, false, List, [], ◌∷◌, ◌++◌, length, Contains, Option, Some, None, refl, sym, ap, subst, ◌∙◌, arith}
+use Rattle.std.proofs.Common.{inl, inr, ◌≡◌, ◌⊎◌, ℕ, zero, suc, ◌+◌, ◌-◌, ◌<◌, ◌≤◌, ℤ, Bool, true, false, List, [], ◌∷◌, ◌++◌, Option, Some, None, refl, sym, ap, subst, ◌∙◌, arith}
 use Rattle.std.specs.Prelude.{if◌then◌else◌, IsTrue}
 use Rattle.std.specs.List.{AllByRecursion}
 use Rattle.std.specs.Option.{option_map_or}
 use Rattle.std.proofs.lemmas.Option.{same_Some}
-use Rattle.list_lemmas.proofs.ItemsOfLists.{Contains-here}
 use Rattle.jk_model.specs.Flags.{has, INTERFACE}
 use Rattle.jk_model.specs.declared.identifiers.ClassId.{ClassId}
 use Rattle.jk_model.specs.declared.instructions.Instr.{Instr}
@@ -14,7 +13,7 @@ use Rattle.jk_model_classes.specs.declared.records.BaseRef.{BaseRef}
 use Rattle.jk_model_classes.specs.declared.records.BaseRef.TheVariants as Base
 use Rattle.jk_model_classes.specs.declared.records.ClassRecord.{ClassRecord}
 use Rattle.jk_model_classes.specs.declared.records.TypeRef.{TypeRef}
-use Rattle.jk_model_classes.specs.Classes.{IsInterface, IsSubclass, OBJECT, is_interface_record, parents_of, record_of, superclasses}
+use Rattle.jk_model_classes.specs.Classes.{IsInterface, IsSubclass, OBJECT, is_interface_record, parents_of, record_of}
 use Rattle.jk_model_typing.specs.declared.frames.FrameType.{FrameType}
 use Rattle.jk_model_typing.specs.declared.frames.VType.{VType}
 use Rattle.jk_model_typing.specs.declared.frames.VType.TheVariants.{Unusable, Int, Long, Null, Ref, Fresh, FreshThis}
@@ -34,7 +33,6 @@ use Rattle.number_laws.proofs.EntriesExchanged.{exchange_kept}
 use Rattle.number_laws.proofs.ValuesFit.{end_fits, int_fits}
 use Rattle.sound_codes.specs.SoundCodes.{AreSoundCodes}
 use Rattle.type_frames.proofs.OrderOfTypes.{RefFits-trans}
-use Rattle.typed_operands.proofs.BelowObject.{below_object, system_there}
 use Rattle.typed_operands.proofs.OperandsOnTop.{does_shape}
 
 -- ---- Arrays by their types.

@@ -1,5 +1,5 @@
 -- A frame that runs stands at an instruction of its method, and fits again where it goes on.
-use Rattle.std.proofs.Common.{◌≡◌, ℕ, pos, ℤ, List, [], ◌∷◌, Option, Some, slice_get, sym, ap, subst, ◌∙◌, arith}
+use Rattle.std.proofs.Common.{◌≡◌, ℕ, pos, List, [], ◌∷◌, Some, slice_get, sym, ap, subst, ◌∙◌, arith}
 use Rattle.std.proofs.lemmas.Option.{same_Some, slice_get_within}
 use Rattle.list_lemmas.proofs.ItemsByPlace.{item_there}
 use Rattle.list_lemmas.proofs.TestsAndOrders.{same_pos}
