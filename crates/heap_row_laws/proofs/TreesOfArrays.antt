@@ -1,6 +1,7 @@
 -- Arrays of arrays get rising names from any name on, and cost what they are said to cost.
 use Rattle.std.proofs.Common.{◌≡◌, ℕ, zero, suc, ◌+◌, ◌*◌, ◌≤◌, List, [], ◌∷◌, ◌++◌, length, map, Some, slice_get, refl, sym, ap, subst, ◌∙◌, arith}
 use Rattle.std.specs.Prelude.{flat_map}
+use Rattle.std.proofs.Math.Nat.{suc-mul, zero-mul}
 use Rattle.std.specs.List.{AllByRecursion}
 use Rattle.std.proofs.lemmas.List.{length-map}
 use Rattle.std.proofs.lemmas.List.Sums.{sum_by-append, sum_by-cons}
@@ -79,12 +80,11 @@ module _ (classes : List ClassRecord) where
   many_words : (t : TypeRef) (counts : List ℕ) (n : ℕ) (xs ys : List NamedObject) → heap_words classes xs ≡ tree_words t counts
       → heap_words classes ys ≡ n * tree_words t counts → heap_words classes (xs ++ ys) ≡ suc n * tree_words t counts
   many_words t counts n xs ys one rest =
-      sum_by-append (λ (e : NamedObject). object_words classes e.object) xs ys
-      ∙ ap (λ (k : ℕ). k + heap_words classes ys) one ∙ ap (λ (k : ℕ). tree_words t counts + k) rest
+      omega (arith, sum_by-append (λ (e : NamedObject). object_words classes e.object) xs ys, one, rest, suc-mul n (tree_words t counts))
 
   trees_from : (t : TypeRef) (counts : List ℕ) → ((first : ℕ) → TreeFrom t counts first) → (n first : ℕ) → TreesFrom t counts n first
   trees_from t counts one zero first =
-      record { next = first; items = []; as_many = refl; each = tt; rise = omega arith; words = refl }
+      record { next = first; items = []; as_many = refl; each = tt; rise = omega arith; words = sym (zero-mul (tree_words t counts)) }
   trees_from t counts one (suc n) first =
       let tree = one first in
       let rest = trees_from t counts one n tree.next in

@@ -6,3 +6,4 @@ pub mod InstancesDecided
 pub mod InstancesFitTypes
 pub mod OperandsOnTop
 pub mod StandsHere
+pub mod SystemParents

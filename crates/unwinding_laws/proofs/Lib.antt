@@ -1,3 +1,4 @@
 -- Lemmas on unwinding.
 pub mod AnswersKept
+pub mod Raised
 pub mod StacksNotRead

@@ -1,5 +1,6 @@
 //! The laws. The functions have no bodies: each stands for its clauses.
 
+ghost use Rattle.unwinding_laws.specs.RaisedObjects.{RaisedObjectsAreThere, RaisedObjectsAreThrowables};
 ghost use Rattle.unwinding_laws.specs.UnwoundFrames.{UnwindingKeepsAnswers, UnwindingReadsNoStack};
 
 /// What is on the stack of a segment's top frame is nothing to its unwinding.
@@ -10,4 +11,10 @@ pub fn stacks_are_not_read()
 /// Calls stay answered by what stands above them, where a frame catches.
 pub fn calls_stay_answered()
     ensures { UnwindingKeepsAnswers }
+{}
+
+/// Where something is raised there is an object, which is a throwable of the domain, and the domain stays sealed.
+pub fn raised_objects_are_throwables()
+    ensures there { RaisedObjectsAreThere }
+    ensures throwables { RaisedObjectsAreThrowables }
 {}
