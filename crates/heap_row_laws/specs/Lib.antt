@@ -2,3 +2,4 @@
 pub mod HeapOperands
 pub mod HeapRowLaws
 pub mod NewTrees
+pub mod ObjectFields

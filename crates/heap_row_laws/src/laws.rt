@@ -2,6 +2,7 @@
 
 ghost use Rattle.heap_row_laws.specs.HeapRowLaws.{OperandsGiveRows};
 ghost use Rattle.heap_row_laws.specs.NewTrees.{FittingTreesAreMade};
+ghost use Rattle.heap_row_laws.specs.ObjectFields.{ObjectsHaveTheirFields};
 
 /// Where an instruction on objects finds its operands there is a row of it.
 pub fn operands_give_rows()
@@ -11,4 +12,9 @@ pub fn operands_give_rows()
 /// Arrays of arrays that fit can be made.
 pub fn fitting_trees_are_made()
     ensures { FittingTreesAreMade }
+{}
+
+/// Objects have the fields of their class and of those above it.
+pub fn objects_have_their_fields()
+    ensures { ObjectsHaveTheirFields }
 {}
