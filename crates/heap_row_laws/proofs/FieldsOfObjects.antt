@@ -27,7 +27,7 @@ use Rattle.jk_model_sealing.specs.SealedInsides.{HasFields, Surroundings}
 -- ---- The first item that passes a test.
 
 passes_by : {X : Type 0} (p : X → Bool) (y : X) (xs : List X) (b : Bool) → p y ≡ b → (k : ℕ) (x : X) → slice_get (y ∷ xs) k ≡ Some x → p x ≡ true
-    → ((j : ℕ) → slice_get xs j ≡ Some x → position_or_len p xs ≤ j) → cond (not b) (suc (position_or_len p xs)) 0 ≤ k
+    → ((j : ℕ) → slice_get xs j ≡ Some x → position_or_len p xs ≤ j) → cond (not b) (1 + position_or_len p xs) 0 ≤ k
 passes_by p y xs true e k x at holds rest = omega arith
 passes_by p y xs false e zero x at holds rest =
     let same : p y ≡ true = ap p (same_Some y x at) ∙ holds in let both : false ≡ true = sym e ∙ same in absurd cc
