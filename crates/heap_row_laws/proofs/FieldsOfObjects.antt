@@ -1,5 +1,5 @@
 -- A field of a class, or of one above it, has a place among the values of an object of the class.
-use Rattle.std.proofs.Common.{inl, inr, ◌≡◌, ℕ, zero, suc, ◌+◌, ◌==◌, ◌&&◌, ◌<◌, ◌≤◌, Bool, true, false, not, cond, List, [], ◌∷◌, ◌++◌, length, map, filter, flat_map, Contains, Option, Some, None, slice_get, refl, sym, ap, subst, ◌∙◌, arith}
+use Rattle.std.proofs.Common.{inl, inr, ◌≡◌, ℕ, zero, suc, ◌+◌, ◌==◌, ◌&&◌, ◌<◌, ◌≤◌, Bool, true, false, not, cond, List, [], ◌∷◌, length, map, filter, flat_map, Contains, Option, Some, None, slice_get, refl, sym, ap, subst, ◌∙◌, arith}
 use Rattle.std.specs.Prelude.{IsFalse, position}
 use Rattle.std.specs.List.{enumerate_from, position_or_len}
 use Rattle.std.specs.Option.{option_map_or}
@@ -49,10 +49,10 @@ position_there p xs x has holds =
 
 -- ---- A class's own fields.
 
-abbrev as_field : ClassId → ℕ × FieldRecord → InstanceField
+abbrev pub as_field : ClassId → ℕ × FieldRecord → InstanceField
 as_field c p = record { member = record { class = c; index = p.0 }; words = type_words p.1.kind }
 
-abbrev at_member : ClassId → ℕ → FieldRecord → InstanceField
+abbrev pub at_member : ClassId → ℕ → FieldRecord → InstanceField
 at_member c n f = as_field c (n, f)
 
 own_here : (c : ClassId) (n : ℕ) (f : FieldRecord) (ps : List (ℕ × FieldRecord)) (b : Bool) → b ≡ true

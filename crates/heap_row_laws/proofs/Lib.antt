@@ -1,4 +1,6 @@
 -- Lemmas on rows of instructions on heaps.
+pub mod FieldsNamed
 pub mod FieldsOfObjects
 pub mod RowsFromOperands
 pub mod TreesOfArrays
+pub mod ValuesMet

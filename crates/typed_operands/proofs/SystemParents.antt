@@ -1,5 +1,5 @@
 -- Which system classes stand below which, by the table of system classes.
-use Rattle.std.proofs.Common.{◌≡◌, ℕ, zero, suc, ◌==◌, ◌||◌, Bool, true, false, List, [], ◌∷◌, Contains, Option, Some, None, slice_get, refl, sym, ap, subst, ◌∙◌}
+use Rattle.std.proofs.Common.{inl, inr, ◌≢◌, ◌≤◌, ◌≡◌, ℕ, zero, suc, ◌==◌, ◌||◌, Bool, true, false, List, [], ◌∷◌, Contains, Option, Some, None, slice_get, refl, sym, ap, subst, ◌∙◌, arith}
 use Rattle.std.specs.Prelude.{option_and_then, option_map}
 use Rattle.std.specs.Option.{option_map_or}
 use Rattle.std.proofs.lemmas.Bool.{eqb-true}
@@ -10,7 +10,9 @@ use Rattle.jk_model.specs.SystemTable.{SystemClass, parent_number, system_classe
 use Rattle.jk_model.specs.declared.identifiers.ClassId.{ClassId}
 use Rattle.jk_model_classes.specs.declared.records.ClassRecord.{ClassRecord}
 use Rattle.jk_model_classes.specs.Classes.{IsSubclass, parents_of}
-use Rattle.class_table.proofs.StandingAbove.{is-own_superclass, superclasses-of_parent}
+use Rattle.jk_model_typing.specs.FrameTypes.{STRING, THROWABLE}
+use Rattle.jk_model_domains.specs.Objects.{CAPABILITY, TASK}
+use Rattle.class_table.proofs.StandingAbove.{is-own_superclass, superclasses-cases, superclasses-lower, superclasses-of_parent}
 use Rattle.sound_codes.specs.SoundCodes.{AreSoundCodes}
 use Rattle.system_facts.proofs.SystemEntries.{entry_of}
 use Rattle.typed_operands.proofs.BelowObject.{system_there}
@@ -65,3 +67,27 @@ module _ (classes : List ClassRecord) (sound : AreSoundCodes classes) where
   below_listed zero n above listed = absurd cc
   below_listed (suc height) n above listed =
       below_by height n above (n == above) refl (listed_parent n) refl (λ p more. below_listed height p above more) listed
+
+  -- a child of java/lang/Object is no throwable, unless it is java/lang/Throwable
+  no_throwable : (n : ℕ) → n ≢ 9 → parents_of classes (numbered n) ≡ numbered 0 ∷ [] → IsSubclass classes (numbered n) THROWABLE → ⊥
+  no_throwable n other parents below = elim (superclasses-cases classes sound.ordered (numbered n) THROWABLE below) [
+    | inl same ↦ other (ap (λ (c : ClassId). c.0) same)
+    | inr (p, only, above) ↦
+        let one : numbered 0 ∷ [] ≡ p ∷ [] = sym parents ∙ only in
+        let object : numbered 0 ≡ p = cc in
+        let lower : 9 ≤ p.0 = superclasses-lower classes sound.ordered p THROWABLE above in
+        let zero : 0 ≡ p.0 = ap (λ (c : ClassId). c.0) object in
+        omega (arith, lower, zero)
+  ]
+
+  pub no_text : (c : ClassId) → IsSubclass classes c THROWABLE → c ≢ STRING
+  no_text c below is =
+      no_throwable 3 (λ e. absurd cc) (parents_listed classes sound 3 0 refl) (subst (λ (d : ClassId). IsSubclass classes d THROWABLE) is below)
+
+  pub no_task : (c : ClassId) → IsSubclass classes c THROWABLE → c ≢ TASK
+  no_task c below is =
+      no_throwable 14 (λ e. absurd cc) (parents_listed classes sound 14 0 refl) (subst (λ (d : ClassId). IsSubclass classes d THROWABLE) is below)
+
+  pub no_capability : (c : ClassId) → IsSubclass classes c THROWABLE → c ≢ CAPABILITY
+  no_capability c below is =
+      no_throwable 11 (λ e. absurd cc) (parents_listed classes sound 11 0 refl) (subst (λ (d : ClassId). IsSubclass classes d THROWABLE) is below)

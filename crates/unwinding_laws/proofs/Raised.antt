@@ -1,5 +1,5 @@
 -- What is raised: there is an object, which is a throwable of the domain, and the domain stays sealed.
-use Rattle.std.proofs.Common.{inl, inr, ◌≡◌, ◌≢◌, ℕ, ◌+◌, ◌≤◌, ◌<◌, List, [], ◌∷◌, length, refl, sym, ap, subst, ◌∙◌, arith}
+use Rattle.std.proofs.Common.{inl, inr, ◌≡◌, ℕ, ◌+◌, ◌<◌, List, [], ◌∷◌, length, refl, sym, ap, subst, ◌∙◌}
 use Rattle.std.proofs.lemmas.Bool.{cases_lt}
 use Rattle.std.proofs.lemmas.Option.{same_Some}
 use Rattle.list_lemmas.proofs.ItemsOfLists.{Contains-here, only_in}
@@ -10,15 +10,14 @@ use Rattle.jk_model.specs.declared.steps.Raise.TheVariants as Raised
 use Rattle.jk_model.specs.declared.steps.Standing.{Standing}
 use Rattle.jk_model.specs.declared.steps.Standing.TheVariants as Stands
 use Rattle.jk_model_classes.specs.declared.records.ClassRecord.{ClassRecord}
-use Rattle.jk_model_classes.specs.Classes.{IsSubclass, parents_of}
-use Rattle.jk_model_typing.specs.FrameTypes.{STRING, THROWABLE}
-use Rattle.jk_model_domains.specs.Objects.{NamedObject, Object, Plain, Task, CAPABILITY, TASK, object_words}
+use Rattle.jk_model_classes.specs.Classes.{IsSubclass}
+use Rattle.jk_model_typing.specs.FrameTypes.{THROWABLE}
+use Rattle.jk_model_domains.specs.Objects.{NamedObject, Object, Plain, Task, object_words}
 use Rattle.jk_model_heaps.specs.declared.shapes.Shape.TheVariants as Of
 use Rattle.jk_model_heaps.specs.Heaps.{MakesOne, heap_words, named, zero_fields}
 use Rattle.jk_model_heaps.specs.Throwables.{IsRaised, IsStanding, fresh_throwable, standing_class}
 use Rattle.jk_model_heaps.specs.Workings.{Inside, Setting, with_heap}
 use Rattle.jk_model_sealing.specs.SealedInsides.{IsSealedInside, IsSealedObject, Surroundings}
-use Rattle.class_table.proofs.StandingAbove.{superclasses-cases, superclasses-lower}
 use Rattle.grown_heaps.proofs.FreshNames.{fitting_made}
 use Rattle.grown_heaps.proofs.GrownHeaps.{grown_self, making_grows}
 use Rattle.grown_heaps.proofs.NewObjects.{new_sealed}
@@ -28,7 +27,7 @@ use Rattle.sealed_rows.specs.KeptInsides.{KeepsInside}
 use Rattle.sealed_rows.specs.RaisableObjects.{IsThrowable, MayBeRaised}
 use Rattle.sealed_rows.specs.RunningFrames.{IsKnownSetting}
 use Rattle.sound_codes.specs.SoundCodes.{AreSoundCodes}
-use Rattle.typed_operands.proofs.SystemParents.{below_listed, numbered, parents_listed}
+use Rattle.typed_operands.proofs.SystemParents.{below_listed, no_capability, no_task, no_text}
 
 -- ---- Classes.
 
@@ -42,30 +41,6 @@ module _ (classes : List ClassRecord) (sound : AreSoundCodes classes) where
   standing_below Stands.Remote = below_listed classes sound 9 (standing_class Stands.Remote).0 9 refl
   standing_below Stands.ThreadDeath = below_listed classes sound 9 (standing_class Stands.ThreadDeath).0 9 refl
   standing_below Stands.Security = below_listed classes sound 9 (standing_class Stands.Security).0 9 refl
-
-  -- a child of java/lang/Object is no throwable, unless it is java/lang/Throwable
-  no_throwable : (n : ℕ) → n ≢ 9 → parents_of classes (numbered n) ≡ numbered 0 ∷ [] → IsSubclass classes (numbered n) THROWABLE → ⊥
-  no_throwable n other parents below = elim (superclasses-cases classes sound.ordered (numbered n) THROWABLE below) [
-    | inl same ↦ other (ap (λ (c : ClassId). c.0) same)
-    | inr (p, only, above) ↦
-        let one : numbered 0 ∷ [] ≡ p ∷ [] = sym parents ∙ only in
-        let object : numbered 0 ≡ p = cc in
-        let lower : 9 ≤ p.0 = superclasses-lower classes sound.ordered p THROWABLE above in
-        let zero : 0 ≡ p.0 = ap (λ (c : ClassId). c.0) object in
-        omega (arith, lower, zero)
-  ]
-
-  no_text : (c : ClassId) → IsSubclass classes c THROWABLE → c ≢ STRING
-  no_text c below is =
-      no_throwable 3 (λ e. absurd cc) (parents_listed classes sound 3 0 refl) (subst (λ (d : ClassId). IsSubclass classes d THROWABLE) is below)
-
-  no_task : (c : ClassId) → IsSubclass classes c THROWABLE → c ≢ TASK
-  no_task c below is =
-      no_throwable 14 (λ e. absurd cc) (parents_listed classes sound 14 0 refl) (subst (λ (d : ClassId). IsSubclass classes d THROWABLE) is below)
-
-  no_capability : (c : ClassId) → IsSubclass classes c THROWABLE → c ≢ CAPABILITY
-  no_capability c below is =
-      no_throwable 11 (λ e. absurd cc) (parents_listed classes sound 11 0 refl) (subst (λ (d : ClassId). IsSubclass classes d THROWABLE) is below)
 
 -- ---- There is an object.
 
