@@ -2,5 +2,6 @@
 pub mod FieldsNamed
 pub mod FieldsOfObjects
 pub mod RowsFromOperands
+pub mod StaticsNamed
 pub mod TreesOfArrays
 pub mod ValuesMet
