@@ -26,7 +26,8 @@ use Rattle.jk_model_sealing.specs.SealedInsides.{HasFields, Surroundings}
 
 -- ---- The first item that passes a test.
 
-passes_by : {X : Type 0} (p : X → Bool) (y : X) (xs : List X) (b : Bool) → p y ≡ b → (k : ℕ) (x : X) → slice_get (y ∷ xs) k ≡ Some x → p x ≡ true
+passes_by : {X : Type 0} (p : X → Bool) (y : X) (xs : List X) (b : Bool) → p y ≡ b → (k : ℕ) (x : X) → slice_get (y ∷ xs) k ≡ Some x
+    → p x ≡ true
     → ((j : ℕ) → slice_get xs j ≡ Some x → position_or_len p xs ≤ j) → cond (not b) (1 + position_or_len p xs) 0 ≤ k
 passes_by p y xs true e k x at holds rest = omega arith
 passes_by p y xs false e zero x at holds rest =
@@ -114,21 +115,25 @@ module _ (classes : List ClassRecord) where
 
   -- ---- An object has as many values as fields.
 
-  own_count : (c : ClassId) (fs : List FieldRecord) (k : ℕ)
-      → length (map (as_field c) (filter is_instance_field (enumerate_from k fs))) ≡ length (filter (λ (f : FieldRecord). not (has f.flags STATIC)) fs)
+  abbrev is_plain : FieldRecord → Bool
+  is_plain f = not (has f.flags STATIC)
+
+  abbrev listed : ClassId → ℕ → List FieldRecord → List InstanceField
+  listed c k fs = map (as_field c) (filter is_instance_field (enumerate_from k fs))
+
+  one_more : (c : ClassId) (k : ℕ) (f : FieldRecord) (ps : List (ℕ × FieldRecord)) (fs : List FieldRecord) (b : Bool)
+      → length (map (as_field c) ps) ≡ length fs → length (map (as_field c) (cond b ((k, f) ∷ ps) ps)) ≡ length (cond b (f ∷ fs) fs)
+  one_more c k f ps fs true same = ap suc same
+  one_more c k f ps fs false same = same
+
+  own_count : (c : ClassId) (fs : List FieldRecord) (k : ℕ) → length (listed c k fs) ≡ length (filter is_plain fs)
   own_count c [] k = refl
-  own_count c (f ∷ fs) k = one_more (not (has f.flags STATIC)) (own_count c fs (k + 1))
-    where
-      one_more : (b : Bool)
-          → length (map (as_field c) (filter is_instance_field (enumerate_from (k + 1) fs))) ≡ length (filter (λ (g : FieldRecord). not (has g.flags STATIC)) fs)
-          → length (map (as_field c) (cond b ((k, f) ∷ filter is_instance_field (enumerate_from (k + 1) fs)) (filter is_instance_field (enumerate_from (k + 1) fs))))
-          ≡ length (cond b (f ∷ filter (λ (g : FieldRecord). not (has g.flags STATIC)) fs) (filter (λ (g : FieldRecord). not (has g.flags STATIC)) fs))
-      one_more true same = ap suc same
-      one_more false same = same
+  own_count c (f ∷ fs) k =
+      one_more c k f (filter is_instance_field (enumerate_from (k + 1) fs)) (filter is_plain fs) (is_plain f) (own_count c fs (k + 1))
 
   own_counts : (c : ClassId) (o : Option ClassRecord)
       → length (option_map_or (λ (r : ClassRecord). map (as_field c) (filter is_instance_field (enumerate_from 0 r.fields))) o [])
-      ≡ length (option_map_or (λ (r : ClassRecord). filter (λ (f : FieldRecord). not (has f.flags STATIC)) r.fields) o [])
+      ≡ length (option_map_or (λ (r : ClassRecord). filter is_plain r.fields) o [])
   own_counts c None = refl
   own_counts c (Some r) = own_count c r.fields 0
 
@@ -144,7 +149,8 @@ module _ (classes : List ClassRecord) where
   as_many zero c = refl
   as_many (suc h) c =
       length-append (flat_map (fields_within h classes) (parents_of classes c)) (own_fields classes c)
-      ∙ ap (λ (n : ℕ). n + length (own_fields classes c)) (flat_counts (fields_within h classes) (field_records_within h classes) (parents_of classes c) (as_many h))
+      ∙ ap (λ (n : ℕ). n + length (own_fields classes c))
+      (flat_counts (fields_within h classes) (field_records_within h classes) (parents_of classes c) (as_many h))
       ∙ ap (λ (n : ℕ). length (flat_map (field_records_within h classes) (parents_of classes c)) + n) (own_counts c (record_of classes c))
       ∙ sym (length-append (flat_map (field_records_within h classes) (parents_of classes c)) (own_field_records classes c))
 

@@ -384,30 +384,26 @@ module _ (around : Surroundings) (x : Setting) (w : Working) (runs : RunsWell ar
   objects (suc (suc (suc (suc (suc (suc zero)))))) low op = test_found op
   objects (suc (suc (suc (suc (suc (suc (suc k))))))) low op = absurd (omega (arith, low))
 
+  by_row : (first last more : ℕ) → last ≡ first + more → (r : ℕ × ℕ) → Some (first, last) ≡ Some r → r.0 ≤ i.op → i.op ≤ r.1
+      → ((k : ℕ) → k ≤ more → Case (first + k)) → Found
+  by_row first last more range r at low high each =
+      let same : (first, last) ≡ r = same_Some (first, last) r at in
+      let least : first ≤ i.op = subst (λ (y : ℕ × ℕ). y.0 ≤ i.op) (sym same) low in
+      let most : i.op ≤ last = subst (λ (y : ℕ × ℕ). i.op ≤ y.1) (sym same) high in
+      in_range Case first more i.op least (omega (arith, most, range)) each refl
+
+  many_arrays : (k : ℕ) → k ≤ 0 → Case (0xc5 + k)
+  many_arrays zero low op = new_arrays op
+  many_arrays (suc k) low op = absurd (omega (arith, low))
+
   in_row : (n : ℕ) (r : ℕ × ℕ) → slice_get heap_opcodes n ≡ Some r → r.0 ≤ i.op → i.op ≤ r.1 → Found
-  in_row zero r at low high =
-      let same : (0x2e, 0x2f) ≡ r = same_Some (0x2e, 0x2f) r at in
-      in_range Case 0x2e 1 i.op (subst (λ (y : ℕ × ℕ). y.0 ≤ i.op) (sym same) low) (subst (λ (y : ℕ × ℕ). i.op ≤ y.1) (sym same) high) first_loads refl
-  in_row (suc zero) r at low high =
-      let same : (0x32, 0x35) ≡ r = same_Some (0x32, 0x35) r at in
-      in_range Case 0x32 3 i.op (subst (λ (y : ℕ × ℕ). y.0 ≤ i.op) (sym same) low) (subst (λ (y : ℕ × ℕ). i.op ≤ y.1) (sym same) high) other_loads refl
-  in_row (suc (suc zero)) r at low high =
-      let same : (0x4f, 0x50) ≡ r = same_Some (0x4f, 0x50) r at in
-      in_range Case 0x4f 1 i.op (subst (λ (y : ℕ × ℕ). y.0 ≤ i.op) (sym same) low) (subst (λ (y : ℕ × ℕ). i.op ≤ y.1) (sym same) high) first_stores refl
-  in_row (suc (suc (suc zero))) r at low high =
-      let same : (0x53, 0x56) ≡ r = same_Some (0x53, 0x56) r at in
-      in_range Case 0x53 3 i.op (subst (λ (y : ℕ × ℕ). y.0 ≤ i.op) (sym same) low) (subst (λ (y : ℕ × ℕ). i.op ≤ y.1) (sym same) high) other_stores refl
-  in_row (suc (suc (suc (suc zero)))) r at low high =
-      let same : (0xb2, 0xb5) ≡ r = same_Some (0xb2, 0xb5) r at in
-      in_range Case 0xb2 3 i.op (subst (λ (y : ℕ × ℕ). y.0 ≤ i.op) (sym same) low) (subst (λ (y : ℕ × ℕ). i.op ≤ y.1) (sym same) high) fields refl
-  in_row (suc (suc (suc (suc (suc zero))))) r at low high =
-      let same : (0xbb, 0xc1) ≡ r = same_Some (0xbb, 0xc1) r at in
-      in_range Case 0xbb 6 i.op (subst (λ (y : ℕ × ℕ). y.0 ≤ i.op) (sym same) low) (subst (λ (y : ℕ × ℕ). i.op ≤ y.1) (sym same) high) objects refl
-  in_row (suc (suc (suc (suc (suc (suc zero)))))) r at low high =
-      let same : (0xc5, 0xc5) ≡ r = same_Some (0xc5, 0xc5) r at in
-      let least : 0xc5 ≤ i.op = subst (λ (y : ℕ × ℕ). y.0 ≤ i.op) (sym same) low in
-      let most : i.op ≤ 0xc5 = subst (λ (y : ℕ × ℕ). i.op ≤ y.1) (sym same) high in
-      new_arrays (omega (arith, least, most))
+  in_row zero r at low high = by_row 0x2e 0x2f 1 refl r at low high first_loads
+  in_row (suc zero) r at low high = by_row 0x32 0x35 3 refl r at low high other_loads
+  in_row (suc (suc zero)) r at low high = by_row 0x4f 0x50 1 refl r at low high first_stores
+  in_row (suc (suc (suc zero))) r at low high = by_row 0x53 0x56 3 refl r at low high other_stores
+  in_row (suc (suc (suc (suc zero)))) r at low high = by_row 0xb2 0xb5 3 refl r at low high fields
+  in_row (suc (suc (suc (suc (suc zero))))) r at low high = by_row 0xbb 0xc1 6 refl r at low high objects
+  in_row (suc (suc (suc (suc (suc (suc zero)))))) r at low high = by_row 0xc5 0xc5 0 refl r at low high many_arrays
   in_row (suc (suc (suc (suc (suc (suc (suc n))))))) r at low high = absurd cc
 
   pub operands_found : IsOfHeaps s i → Found

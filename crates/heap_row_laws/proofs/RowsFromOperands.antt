@@ -39,7 +39,8 @@ use Rattle.typed_operands.proofs.InstancesDecided.{instance_decided}
 -- ---- Counts.
 
 -- the count of an array that is made by some counts
-first_count : (n : ℤ) (more : List ℤ) (sizes : List ℕ) → counts_of (n ∷ more) ≡ Some sizes → (m : ℕ) × (rest : List ℕ) × (sizes ≡ m ∷ rest)
+first_count : (n : ℤ) (more : List ℤ) (sizes : List ℕ) → counts_of (n ∷ more) ≡ Some sizes
+    → (m : ℕ) × (rest : List ℕ) × (sizes ≡ m ∷ rest)
 first_count n more [] is = absurd (not_empty n (counts_of more) is)
   where
     not_empty : (k : ℤ) (found : Option (List ℕ))

@@ -98,7 +98,8 @@ part_there (e ∷ ps) c p found = part_by e p ps c (e.class.0 == c.0) refl (part
 -- ---- A class that isn't of the system.
 
 module _ (around : Surroundings) (quota : ℕ) (inside : Inside) (sealed : IsSealedInside around quota inside) (m : MemberId) (field : FieldRecord) where
-  own_static : (r : ClassRecord) → record_of around.classes m.class ≡ Some r → slice_get r.fields m.index ≡ Some field → has field.flags STATIC ≡ true
+  own_static : (r : ClassRecord) → record_of around.classes m.class ≡ Some r → slice_get r.fields m.index ≡ Some field
+      → has field.flags STATIC ≡ true
       → IsNamed around.table m.class → r.home ≢ None → HasStatic inside.own m
   own_static r is at static named homed =
       let state = sealed.own.all m.class r (named, is, homed) in

@@ -87,7 +87,8 @@ module _ (s : CodeScope) (heap : List NamedObject) where
   pub array_met : (u : TypeRef) → 1 ≤ u.dims → (v : Value) → ValueMeets s heap (Fitting (Ref u)) v → IsArrayOrNull heap v
   array_met u some v (t, meets, fits) = array_fits u some v t meets fits
 
-  pub either_met : (u w : TypeRef) → 1 ≤ u.dims → 1 ≤ w.dims → (v : Value) → ValueMeets s heap (FittingEither (Ref u) (Ref w)) v → IsArrayOrNull heap v
+  pub either_met : (u w : TypeRef) → 1 ≤ u.dims → 1 ≤ w.dims → (v : Value) → ValueMeets s heap (FittingEither (Ref u) (Ref w)) v
+      → IsArrayOrNull heap v
   either_met u w some more v (t, inl meets, fits) = array_fits u some v t meets fits
   either_met u w some more v (t, inr meets, fits) = array_fits w more v t meets fits
 
