@@ -1,6 +1,7 @@
 -- Lemmas on rows of instructions on heaps.
 pub mod FieldsNamed
 pub mod FieldsOfObjects
+pub mod OpcodesOfHeaps
 pub mod OperandsFound
 pub mod RowsFromOperands
 pub mod StaticsNamed

@@ -1,6 +1,6 @@
 //! The laws. The functions have no bodies: each stands for its clauses.
 
-ghost use Rattle.heap_row_laws.specs.HeapRowLaws.{HeapOperandsAreFound, HeapRowsAreThere, OperandsGiveRows};
+ghost use Rattle.heap_row_laws.specs.HeapRowLaws.{HeapOperandsAreFound, HeapRowsAreOfHeaps, HeapRowsAreThere, OperandsGiveRows};
 ghost use Rattle.heap_row_laws.specs.NewTrees.{FittingTreesAreMade};
 ghost use Rattle.heap_row_laws.specs.ObjectFields.{ObjectsHaveTheirFields};
 
@@ -23,4 +23,5 @@ pub fn objects_have_their_fields()
 pub fn heap_rows_are_there()
     ensures operands { HeapOperandsAreFound }
     ensures rows { HeapRowsAreThere }
+    ensures no_others { HeapRowsAreOfHeaps }
 {}
