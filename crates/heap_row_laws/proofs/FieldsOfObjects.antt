@@ -88,10 +88,12 @@ module _ (classes : List ClassRecord) where
   own_has : (m : MemberId) (field : FieldRecord) → FieldIs classes m field → not (has field.flags STATIC) ≡ true
       → Contains (own_fields classes m.class) (at_member m.class m.index field)
   own_has m field (r, is, at) plain =
+      let number : 0 + m.index ≡ m.index = omega arith in
       subst
       (λ (o : Option ClassRecord). Contains (option_map_or (λ (x : ClassRecord). map (as_field m.class)
       (filter is_instance_field (enumerate_from 0 x.fields))) o []) (at_member m.class m.index field)) (sym is)
-      (own_from m.class r.fields 0 m.index field at plain)
+      (subst (λ (n : ℕ). Contains (map (as_field m.class) (filter is_instance_field (enumerate_from 0 r.fields))) (at_member m.class n field)) number
+      (own_from m.class r.fields 0 m.index field at plain))
 
   above_has : (h : ℕ) (c d : ClassId) (g : InstanceField) → Contains (superclasses_within h classes c) d → Contains (own_fields classes d) g
       → Contains (fields_within h classes c) g

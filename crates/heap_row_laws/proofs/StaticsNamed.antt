@@ -107,7 +107,9 @@ module _ (around : Surroundings) (quota : ℕ) (inside : Inside) (sealed : IsSea
       let of = sealed.own.each state.0 part.0 in
       let class : state.0.class ≡ m.class = same_class state.0.class m.class part.1 in
       let other : of.0 ≡ r = same_Some of.0 r (sym of.1.1 ∙ ap (λ (c : ClassId). record_of around.classes c) class ∙ is) in
-      let listed : Contains (places (first_statics r)) m.index = place_listed r.fields 0 m.index field at static in
+      let number : 0 + m.index ≡ m.index = omega arith in
+      let listed : Contains (places (first_statics r)) m.index =
+      subst (λ (n : ℕ). Contains (places (first_statics r)) n) number (place_listed r.fields 0 m.index field at static) in
       let there : Contains (places state.0.statics) m.index =
       subst (λ (ns : List ℕ). Contains ns m.index) (sym of.2)
       (subst (λ (x : ClassRecord). Contains (places (first_statics x)) m.index) (sym other) listed) in
