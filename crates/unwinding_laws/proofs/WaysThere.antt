@@ -30,7 +30,7 @@ use Rattle.decided_lookups.proofs.DecidedParts.{both_decided}
 use Rattle.decided_lookups.proofs.ListsSearched.{first_or_none}
 use Rattle.grown_heaps.proofs.SealedStill.{state_sealed}
 use Rattle.grown_heaps.proofs.StillFits.{throwable}
-use Rattle.sealed_rows.specs.RaisableObjects.{IsThrowable, KeepsStates, MayMeetRaise}
+use Rattle.sealed_rows.specs.RaisableObjects.{IsThrowable, KeepsStates, MayBeRaised, MayMeetRaise}
 use Rattle.sealed_rows.specs.RunningFrames.{IsKnownSetting}
 use Rattle.typed_operands.proofs.InstancesDecided.{instance_decided}
 use Rattle.typed_operands.proofs.StandsHere.{code_here, code_is_one}
@@ -163,7 +163,7 @@ module _ (around : Surroundings) (x : Setting) (known : IsKnownSetting around x)
     pub thrown : IsThrowable around.classes inside.heap met
     pub states : (c : ClassId) → HasState old.own c → HasState inside.own c
 
-  record IsCaught (old : Inside) (frames : List FrameState) (a : ℕ) : Type 0 where
+  pub record IsCaught (old : Inside) (frames : List FrameState) (a : ℕ) : Type 0 where
     lower : List FrameState
     catcher : FrameState
     upper : List FrameState
@@ -203,7 +203,8 @@ module _ (around : Surroundings) (x : Setting) (known : IsKnownSetting around x)
         }
         | inr other ↦
             let raised = raised_there around x broken (Raised.Fresh EXCEPTION_IN_INITIALIZER_ERROR) sealed_still in
-            let may = (omega arith, below_listed around.classes known.codes 9 EXCEPTION_IN_INITIALIZER_ERROR.0 9 refl) in
+            let may : MayBeRaised around.classes broken.heap (Raised.Fresh EXCEPTION_IN_INITIALIZER_ERROR) =
+            (omega arith, below_listed around.classes known.codes 9 EXCEPTION_IN_INITIALIZER_ERROR.0 9 refl) in
             let all = thrown around x known broken sealed_still raised.0 (Raised.Fresh EXCEPTION_IN_INITIALIZER_ERROR) raised.1 may raised.2 in
             record {
               inside = raised.0;
