@@ -1,5 +1,6 @@
 -- Lemmas on heaps that grow.
 pub mod AlikeObjects
+pub mod FreshNames
 pub mod GrownHeaps
 pub mod NewObjects
 pub mod ObjectsAfterChanges

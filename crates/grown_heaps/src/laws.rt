@@ -3,6 +3,7 @@
 ghost use Rattle.jk_model_sealing.specs.FittingFrames.{FitsAsTop, FitsAtCall};
 ghost use Rattle.sealed_rows.specs.RaisableObjects.{MayMeetRaise};
 ghost use Rattle.grown_heaps.specs.CostsOfHeaps.{AlikeObjectsCostTheSame, HeapsCostTogether, WritingCostsNothing};
+ghost use Rattle.grown_heaps.specs.FreshNames.{FittingObjectsAreMade, NamesAreFree};
 ghost use Rattle.grown_heaps.specs.Growth.{GrowthGoesOn, HeapsGrowByNothing, LikenessGoesOn, MakingGrows, ObjectsAreAlikeThemselves, WritingGrows};
 ghost use Rattle.grown_heaps.specs.NamedObjects.{MadeNamesDiffer, MadeObjectsAreThere, NothingElseIsThere, OldObjectsStay, OtherObjectsStay, WrittenNamesDiffer, WrittenObjectsAreThere};
 ghost use Rattle.grown_heaps.specs.SealedChanges.{LiteralsStaySealed, MadeInsidesStaySealed, NewObjectsAreSealed, StatesStaySealed, StaticsStaySealed, WrittenInsidesStaySealed};
@@ -28,6 +29,12 @@ pub fn objects_are_found()
     ensures others { OtherObjectsStay }
     ensures made_differ { MadeNamesDiffer }
     ensures written_differ { WrittenNamesDiffer }
+{}
+
+/// There are always names that a heap lacks, and so what fits can be made.
+pub fn names_are_free()
+    ensures free { NamesAreFree }
+    ensures made { FittingObjectsAreMade }
 {}
 
 /// Objects cost what they cost apart, and writing costs nothing.

@@ -1,5 +1,5 @@
 -- What an instruction on objects finds: what its operand leads to, and which values are on top of the stack.
-use Rattle.std.specs.Prelude.{◌≡◌, ◌⊎◌, IsTrue, ℤ, ℕ, pos, List, [], ◌∷◌, length, map, Some}
+use Rattle.std.specs.Prelude.{◌≡◌, ◌≤◌, ◌⊎◌, IsTrue, ℤ, ℕ, pos, List, [], ◌∷◌, length, map, Some}
 use Rattle.jk_model.specs.declared.identifiers.CapId.{CapId}
 use Rattle.jk_model.specs.declared.identifiers.ClassId.{ClassId}
 use Rattle.jk_model.specs.declared.identifiers.MemberId.{MemberId}
@@ -57,7 +57,7 @@ pub data HeapOperands (x : Setting) (s : CodeScope) (i : Instr) (w : Working) : 
   of_new : (c : ClassId) → i.op ≡ NEW → NamesClass s i c → HeapOperands x s i w
   of_new_array : (element : TypeRef) (count : ℤ) → MakesArrayOf s i element → IsOnTop w.frame (Held.Int count ∷ []) → HeapOperands x s i w
   of_new_arrays : (kind : TypeRef) (counts : List ℤ) → i.op ≡ MULTIANEWARRAY → LeadsToLink s i (To.Class kind) → i.b ≡ pos (length counts)
-      → IsOnTop w.frame (map Held.Int counts) → HeapOperands x s i w
+      → 1 ≤ length counts → IsOnTop w.frame (map Held.Int counts) → HeapOperands x s i w
   of_cast : (kind : TypeRef) (v : Value) → i.op ≡ CHECKCAST → LeadsToLink s i (To.Class kind) → IsOnTop w.frame (v ∷ [])
       → IsReferenceOrNull x w.inside.heap v → HeapOperands x s i w
   of_test : (kind : TypeRef) (v : Value) → i.op ≡ INSTANCEOF → LeadsToLink s i (To.Class kind) → IsOnTop w.frame (v ∷ [])

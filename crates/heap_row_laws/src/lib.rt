@@ -2,3 +2,5 @@
 //! an instruction is done, and what each keeps. There is no code here but that of laws: functions that do nothing, whose contracts are
 //! theorems on the definitions.
 #![tactic(auto)]
+
+pub mod laws;

@@ -2,3 +2,5 @@
 //! sealed, the frames fitting and the classes in progress. There is no code here but that of laws: functions that do nothing, whose
 //! contracts are theorems on the definitions.
 #![tactic(auto)]
+
+pub mod laws;

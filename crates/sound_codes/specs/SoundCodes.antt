@@ -72,6 +72,8 @@ pub record AreSoundCodes (classes : List ClassRecord) : Type 0 where
   -- that of an interface is java/lang/Object (C19)
   pub interface_parents : (c : ClassId) (r : ClassRecord) → record_of classes c ≡ Some r → IsTrue (has r.flags INTERFACE)
       → r.parent ≡ Some OBJECT
+  -- what a class lists as its interfaces are interfaces (C19)
+  pub listed_interfaces : (c i : ClassId) (r : ClassRecord) → record_of classes c ≡ Some r → Contains r.interfaces i → IsInterface classes i
   -- fields of interfaces are static, and their methods abstract, initialisers apart (C6)
   pub interface_fields : (m : MemberId) (field : FieldRecord) → IsInterface classes m.class → FieldIs classes m field
       → IsTrue (has field.flags STATIC)

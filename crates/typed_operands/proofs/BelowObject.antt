@@ -1,9 +1,8 @@
 -- Each class stands below java/lang/Object, and some system classes are interfaces.
-use Rattle.std.proofs.Common.{inl, inr, ◌≡◌, ◌≢◌, ℕ, zero, suc, ◌+◌, ◌<◌, ◌≤◌, Bool, true, List, [], ◌∷◌, length, take, drop, Contains, Option, Some, None, slice_get, refl, sym, ap, subst, ◌∙◌, arith}
+use Rattle.std.proofs.Common.{◌≡◌, ◌≢◌, ℕ, zero, suc, ◌+◌, ◌<◌, Bool, true, List, [], ◌∷◌, length, take, drop, Contains, Option, Some, None, slice_get, refl, sym, ap, subst, ◌∙◌, arith}
 use Rattle.std.specs.Prelude.{is_some, option_map}
 use Rattle.std.specs.Option.{option_map_or}
 use Rattle.std.proofs.lemmas.Bool.{false≢true}
-use Rattle.std.proofs.lemmas.Bool.Decides.{eqb_tells}
 use Rattle.std.proofs.lemmas.Option.{none-some, slice_get_within}
 use Rattle.list_lemmas.proofs.ItemsByPlace.{item_there, slice_get-from_take}
 use Rattle.list_lemmas.proofs.ItemsOfLists.{Contains-here, passed_at}
@@ -13,7 +12,7 @@ use Rattle.jk_model.specs.SystemTable.{SystemClass, parent_number, system_classe
 use Rattle.jk_model.specs.declared.identifiers.ClassId.{ClassId}
 use Rattle.jk_model.specs.declared.identifiers.DomainId.{DomainId}
 use Rattle.jk_model_classes.specs.declared.records.ClassRecord.{ClassRecord}
-use Rattle.jk_model_classes.specs.Classes.{HasClass, IsInterface, IsSubclass, OBJECT, is_interface_record, parents_of, record_of, superclasses}
+use Rattle.jk_model_classes.specs.Classes.{HasClass, IsSubclass, OBJECT, is_interface_record, parents_of, record_of}
 use Rattle.jk_model_classes.specs.SystemRecords.{IsSystemRecord}
 use Rattle.class_table.proofs.StandingAbove.{is-own_superclass, parent-lower, superclasses-of_parent}
 use Rattle.sound_codes.specs.SoundCodes.{AreSoundCodes}

@@ -1,10 +1,9 @@
 -- An array and an index are on top of the stack where typing says so, and each item of the array fits where it is put in their place.
-use Rattle.std.proofs.Common.{inl, inr, ◌≡◌, ◌⊎◌, ℕ, zero, suc, ◌+◌, ◌-◌, ◌<◌, ◌≤◌, ℤ, Bool, true, false, List, [], ◌∷◌, ◌++◌, length, Contains, Option, Some, None, refl, sym, ap, subst, ◌∙◌, arith}
+use Rattle.std.proofs.Common.{inl, inr, ◌≡◌, ◌⊎◌, ℕ, zero, suc, ◌+◌, ◌-◌, ◌<◌, ◌≤◌, ℤ, Bool, true, false, List, [], ◌∷◌, ◌++◌, Option, Some, None, refl, sym, ap, subst, ◌∙◌, arith}
 use Rattle.std.specs.Prelude.{if◌then◌else◌, IsTrue}
 use Rattle.std.specs.List.{AllByRecursion}
 use Rattle.std.specs.Option.{option_map_or}
 use Rattle.std.proofs.lemmas.Option.{same_Some}
-use Rattle.list_lemmas.proofs.ItemsOfLists.{Contains-here}
 use Rattle.jk_model.specs.Flags.{has, INTERFACE}
 use Rattle.jk_model.specs.declared.identifiers.ClassId.{ClassId}
 use Rattle.jk_model.specs.declared.instructions.Instr.{Instr}
@@ -14,7 +13,7 @@ use Rattle.jk_model_classes.specs.declared.records.BaseRef.{BaseRef}
 use Rattle.jk_model_classes.specs.declared.records.BaseRef.TheVariants as Base
 use Rattle.jk_model_classes.specs.declared.records.ClassRecord.{ClassRecord}
 use Rattle.jk_model_classes.specs.declared.records.TypeRef.{TypeRef}
-use Rattle.jk_model_classes.specs.Classes.{IsInterface, IsSubclass, OBJECT, is_interface_record, parents_of, record_of, superclasses}
+use Rattle.jk_model_classes.specs.Classes.{IsInterface, IsSubclass, OBJECT, is_interface_record, parents_of, record_of}
 use Rattle.jk_model_typing.specs.declared.frames.FrameType.{FrameType}
 use Rattle.jk_model_typing.specs.declared.frames.VType.{VType}
 use Rattle.jk_model_typing.specs.declared.frames.VType.TheVariants.{Unusable, Int, Long, Null, Ref, Fresh, FreshThis}
@@ -34,18 +33,17 @@ use Rattle.number_laws.proofs.EntriesExchanged.{exchange_kept}
 use Rattle.number_laws.proofs.ValuesFit.{end_fits, int_fits}
 use Rattle.sound_codes.specs.SoundCodes.{AreSoundCodes}
 use Rattle.type_frames.proofs.OrderOfTypes.{RefFits-trans}
-use Rattle.typed_operands.proofs.BelowObject.{below_object, system_there}
 use Rattle.typed_operands.proofs.OperandsOnTop.{does_shape}
 
 -- ---- Arrays by their types.
 
 -- what fits a type has no fewer dimensions
-dims_fit : (classes : List ClassRecord) (a b : TypeRef) → RefFits classes a b → b.dims ≤ a.dims
+pub dims_fit : (classes : List ClassRecord) (a b : TypeRef) → RefFits classes a b → b.dims ≤ a.dims
 dims_fit classes a b (inl same) = let dims : a.dims ≡ b.dims = ap (λ (t : TypeRef). t.dims) same in omega (arith, dims)
 dims_fit classes a b (inr (inl (dims, below))) = omega (arith, dims)
 dims_fit classes a b (inr (inr (lower, above))) = omega (arith, lower)
 
-some_dims : (t : TypeRef) → (1 < t.dims) ⊎ ((t.dims ≡ 1) × IsClass t.base) → 1 ≤ t.dims
+pub some_dims : (t : TypeRef) → (1 < t.dims) ⊎ ((t.dims ≡ 1) × IsClass t.base) → 1 ≤ t.dims
 some_dims t (inl more) = omega (arith, more)
 some_dims t (inr (one, class)) = omega (arith, one)
 
@@ -64,7 +62,7 @@ module _ (s : CodeScope) (heap : List NamedObject) where
   object_array a (Text units) t some is fits = absurd (omega (arith, some, dims_fit s.classes (type_of (Text units)) t fits))
   object_array a (Task n) t some is fits = absurd (omega (arith, some, dims_fit s.classes (type_of (Task n)) t fits))
 
-  ref_array : (v : Value) (t : TypeRef) → 1 ≤ t.dims → ValueFits s heap v (Ref t) → (v ≡ Held.Null) ⊎ IsHeapArray heap v
+  pub ref_array : (v : Value) (t : TypeRef) → 1 ≤ t.dims → ValueFits s heap v (Ref t) → (v ≡ Held.Null) ⊎ IsHeapArray heap v
   ref_array (Held.Int n) t some h = absurd h
   ref_array (Held.Long n) t some h = absurd h
   ref_array Held.Null t some h = inl refl
@@ -72,7 +70,7 @@ module _ (s : CodeScope) (heap : List NamedObject) where
   ref_array (Held.Cap k) t some h = absurd (omega (arith, some, dims_fit s.classes (class_type CAPABILITY) t h))
   ref_array Held.Unset t some h = absurd h
 
-  null_only : (v : Value) → ValueFits s heap v Null → v ≡ Held.Null
+  pub null_only : (v : Value) → ValueFits s heap v Null → v ≡ Held.Null
   null_only (Held.Int n) h = absurd h
   null_only (Held.Long n) h = absurd h
   null_only Held.Null h = refl
@@ -80,7 +78,7 @@ module _ (s : CodeScope) (heap : List NamedObject) where
   null_only (Held.Cap k) h = absurd h
   null_only Held.Unset h = absurd h
 
-  array_or_null : (v : Value) (t : VType) → IsReferenceArray t → ValueFits s heap v t → (v ≡ Held.Null) ⊎ IsHeapArray heap v
+  pub array_or_null : (v : Value) (t : VType) → IsReferenceArray t → ValueFits s heap v t → (v ≡ Held.Null) ⊎ IsHeapArray heap v
   array_or_null v Null k h = inl (null_only v h)
   array_or_null v (Ref t) k h = ref_array v t (some_dims t k) h
   array_or_null v Unusable k h = absurd k
@@ -125,7 +123,7 @@ module _ (classes : List ClassRecord) (sound : AreSoundCodes classes) where
   found_flag None e = absurd cc
   found_flag (Some r) e = (r, refl, e)
 
-  read_below : (c d : ClassId) (b : Bool) → is_interface_record (record_of classes c) ≡ b → (IsInterface classes d → ⊥)
+  pub read_below : (c d : ClassId) (b : Bool) → is_interface_record (record_of classes c) ≡ b → (IsInterface classes d → ⊥)
       → IsSubclass classes c d → IsSubclass classes (if b then OBJECT else c) d
   read_below c d true e none below = let r = found_flag (record_of classes c) e in above_interface c d r.0 r.1 r.2 none below
   read_below c d false e none below = below

@@ -2,5 +2,10 @@
 pub mod BelowObject
 pub mod ElementsOfArrays
 pub mod FreshObjects
+pub mod HeldValues
+pub mod InstancesDecided
 pub mod InstancesFitTypes
+pub mod NamesStayKnown
 pub mod OperandsOnTop
+pub mod StandsHere
+pub mod SystemParents

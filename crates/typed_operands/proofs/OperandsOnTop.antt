@@ -43,7 +43,7 @@ does_shape s heap place i f before after shape typed is = subst (λ (y : Shape).
 
 module _ (s : CodeScope) (heap : List NamedObject) (place : ℕ) (i : Instr) (f : FrameState) (before after : FrameType) (demands : List Demand)
     (gives : List VType) (typed : IsTyped s heap place i f before after) (takes : typed.row.shape ≡ Takes demands gives) where
-  does : Does s place (Takes demands gives) before after
+  abbrev does : Does s place (Takes demands gives) before after
   does = does_shape s heap place i f before after (Takes demands gives) typed takes
 
   pub taken_meet : (taken : List Value) × IsOnTop f taken × ValuesMeet s heap demands taken

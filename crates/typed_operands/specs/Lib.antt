@@ -2,3 +2,4 @@
 pub mod CallOperands
 pub mod FittingInstances
 pub mod Operands
+pub mod StandingFrames

@@ -1,7 +1,8 @@
 //! The laws. The functions have no bodies: each stands for its clauses.
 
-ghost use Rattle.typed_operands.specs.FittingInstances.{AllAreBelowObject, CapabilitiesFit, InstancesAreHeld, InstancesFit};
+ghost use Rattle.typed_operands.specs.FittingInstances.{AllAreBelowObject, CapabilitiesFit, InstancesAreDecided, InstancesAreHeld, InstancesFit};
 ghost use Rattle.typed_operands.specs.Operands.{ElementsAreFound, ElementsFit, NewObjectsFit, PushedFit, TakenMeet};
+ghost use Rattle.typed_operands.specs.StandingFrames.{CodeIsOne, RunningFramesAreTyped, RunningFramesHaveCode};
 
 /// Each class stands below java/lang/Object.
 pub fn classes_are_below_object()
@@ -14,6 +15,11 @@ pub fn instances_fit()
     ensures types { InstancesFit }
     ensures capabilities { CapabilitiesFit }
     ensures values { InstancesAreHeld }
+{}
+
+/// A value is an instance of a type, or it isn't.
+pub fn instances_are_decided()
+    ensures { InstancesAreDecided }
 {}
 
 /// What an instruction takes is on top of the stack and meets what it asks, and what fits the types that it gives may take its place.
@@ -31,4 +37,11 @@ pub fn elements_are_found()
 /// A new object fits its place on the stack.
 pub fn new_objects_fit()
     ensures { NewObjectsFit }
+{}
+
+/// A frame that runs stands at an instruction, whose typing tells what it holds before and after.
+pub fn running_frames_are_typed()
+    ensures code { RunningFramesHaveCode }
+    ensures one_code { CodeIsOne }
+    ensures typed { RunningFramesAreTyped }
 {}

@@ -1,5 +1,5 @@
 -- Calls stay answered where a segment is unwound to a frame that catches.
-use Rattle.std.proofs.Common.{inl, inr, ◌≡◌, ◌≢◌, ◌⊎◌, ℕ, List, [], ◌∷◌, ◌++◌, None, sym, subst}
+use Rattle.std.proofs.Common.{ℕ, List, [], ◌∷◌, ◌++◌, sym, subst}
 use Rattle.jk_model_classes.specs.declared.records.Caught.{Caught}
 use Rattle.jk_model_classes.specs.declared.records.ClassRecord.{ClassRecord}
 use Rattle.jk_model_frames.specs.Frames.{FrameState}

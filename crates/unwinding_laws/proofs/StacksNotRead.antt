@@ -1,7 +1,7 @@
 -- What is on the stack of a segment's top frame is nothing to its unwinding: a frame that is left goes with it, and one that catches loses
 -- it.
-use Rattle.std.proofs.Common.{inl, inr, ◌≡◌, ℕ, List, [], ◌∷◌, ◌++◌, refl, sym, ap, subst, ◌∙◌}
-use Rattle.std.proofs.lemmas.List.{append-nil, append_assoc}
+use Rattle.std.proofs.Common.{◌≡◌, ℕ, List, [], ◌∷◌, ◌++◌, refl, sym, ap, subst, ◌∙◌}
+use Rattle.std.proofs.lemmas.List.{append_assoc}
 use Rattle.jk_model.specs.declared.values.Value.{Value}
 use Rattle.jk_model_classes.specs.declared.records.Caught.{Caught}
 use Rattle.jk_model_classes.specs.declared.records.ClassRecord.{ClassRecord}
@@ -11,7 +11,7 @@ use Rattle.jk_model_heaps.specs.declared.shapes.Unwound.{Unwound}
 use Rattle.jk_model_heaps.specs.declared.shapes.Unwound.TheVariants as Ended
 use Rattle.jk_model_heaps.specs.RunningCode.{RunsCode}
 use Rattle.jk_model_heaps.specs.Workings.{Inside, Run, Setting}
-use Rattle.jk_model_unwinding.specs.Unwinding.{Catches, CatchesNot, IsCaughtIn, LeavesFrame, LeavesFrames, Unwinds, at_handler}
+use Rattle.jk_model_unwinding.specs.Unwinding.{Catches, IsCaughtIn, LeavesFrames, Unwinds, at_handler}
 use Rattle.list_lemmas.proofs.LastItems.{last_of, one_last}
 use Rattle.unwinding_laws.specs.UnwoundFrames.{with_stack}
 
@@ -21,7 +21,7 @@ abbrev stacked : FrameState → List Value → FrameState
 stacked f stack = record f { stack = stack }
 
 module _ (x : Setting) (f : FrameState) (stack : List Value) where
-  code_stays : (classes : List ClassRecord) → RunsCode classes f → RunsCode classes (stacked f stack)
+  abbrev code_stays : (classes : List ClassRecord) → RunsCode classes f → RunsCode classes (stacked f stack)
   code_stays classes c = record {
     method = c.method;
     is_method = c.is_method;
@@ -31,7 +31,7 @@ module _ (x : Setting) (f : FrameState) (stack : List Value) where
     stands = c.stands;
   }
 
-  code_was : (classes : List ClassRecord) → RunsCode classes (stacked f stack) → RunsCode classes f
+  abbrev code_was : (classes : List ClassRecord) → RunsCode classes (stacked f stack) → RunsCode classes f
   code_was classes c = record {
     method = c.method;
     is_method = c.is_method;

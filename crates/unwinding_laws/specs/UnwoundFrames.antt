@@ -1,5 +1,5 @@
 -- A throwable on its way through the frames of a segment: it is caught, or leaves them all, and what it leaves is kept.
-use Rattle.std.specs.Prelude.{◌≡◌, ◌⊎◌, ◌≤◌, ℕ, List, [], ◌∷◌, ◌++◌}
+use Rattle.std.specs.Prelude.{◌≡◌, ◌≤◌, ℕ, List, [], ◌∷◌, ◌++◌}
 use Rattle.jk_model.specs.declared.identifiers.ThreadNo.{ThreadNo}
 use Rattle.jk_model.specs.declared.values.Value.{Value}
 use Rattle.jk_model_classes.specs.declared.records.Caught.{Caught}
@@ -10,7 +10,7 @@ use Rattle.jk_model_heaps.specs.declared.shapes.Unwound.{Unwound}
 use Rattle.jk_model_heaps.specs.declared.shapes.Unwound.TheVariants as Ended
 use Rattle.jk_model_heaps.specs.Workings.{Run, Setting}
 use Rattle.jk_model_sealing.specs.AnsweringFrames.{FramesAnswer}
-use Rattle.jk_model_sealing.specs.FittingFrames.{FitsAsTop, FitsAtCall, HasTyping}
+use Rattle.jk_model_sealing.specs.FittingFrames.{FitsAsTop, HasTyping}
 use Rattle.jk_model_sealing.specs.SealedInsides.{Surroundings}
 use Rattle.jk_model_sealing.specs.SealedRuns.{AreSealedFrames, IsSealedRun}
 use Rattle.jk_model_unwinding.specs.Unwinding.{Catches, Unwinds}

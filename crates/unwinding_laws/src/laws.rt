@@ -1,6 +1,7 @@
 //! The laws. The functions have no bodies: each stands for its clauses.
 
-ghost use Rattle.unwinding_laws.specs.UnwoundFrames.{UnwindingKeepsAnswers, UnwindingReadsNoStack};
+ghost use Rattle.unwinding_laws.specs.RaisedObjects.{RaisedObjectsAreThere, RaisedObjectsAreThrowables};
+ghost use Rattle.unwinding_laws.specs.UnwoundFrames.{CatchersHaveRoom, UnwindingKeepsAnswers, UnwindingReadsNoStack, WaysAreThere};
 
 /// What is on the stack of a segment's top frame is nothing to its unwinding.
 pub fn stacks_are_not_read()
@@ -10,4 +11,16 @@ pub fn stacks_are_not_read()
 /// Calls stay answered by what stands above them, where a frame catches.
 pub fn calls_stay_answered()
     ensures { UnwindingKeepsAnswers }
+{}
+
+/// Where something is raised there is an object, which is a throwable of the domain, and the domain stays sealed.
+pub fn raised_objects_are_throwables()
+    ensures there { RaisedObjectsAreThere }
+    ensures throwables { RaisedObjectsAreThrowables }
+{}
+
+/// A throwable has a way through the frames of a segment, and each frame that catches it has room for it.
+pub fn ways_are_there()
+    ensures ways { WaysAreThere }
+    ensures room { CatchersHaveRoom }
 {}

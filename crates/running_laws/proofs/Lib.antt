@@ -1,0 +1,2 @@
+-- Lemmas on one step of a segment.
+pub mod NumberRowsKept

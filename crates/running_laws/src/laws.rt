@@ -1,0 +1,8 @@
+//! The laws. The functions have no bodies: each stands for its clauses.
+
+ghost use Rattle.running_laws.specs.NumberRowLaws.{NumberRowsKeep};
+
+/// An instruction on numbers keeps what is kept, and what it leaves fits.
+pub fn number_rows_keep()
+    ensures { NumberRowsKeep }
+{}
