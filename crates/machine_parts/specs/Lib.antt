@@ -1,2 +1,3 @@
+pub mod ChangedParts
 pub mod FittingParts
 pub mod MachineParts

@@ -1,0 +1,4 @@
+-- The derivations of the laws.
+pub mod DomainsChanged
+pub mod DomainsOfParts
+pub mod SegmentsChanged
