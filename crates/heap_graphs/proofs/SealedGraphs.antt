@@ -45,7 +45,7 @@ kept_is_field (f ∷ fields) (w ∷ values) v h = kept_step (is_left_empty f) f 
 
 -- ---- What an object of a sealed domain leads to is there.
 
-led_is_known : (around : Surroundings) (heap : List NamedObject) (object : Object) (b : ℕ) → IsSealedObject around heap object
+pub led_is_known : (around : Surroundings) (heap : List NamedObject) (object : Object) (b : ℕ) → IsSealedObject around heap object
     → Contains (followed around.classes object) (Held.Obj b) → (other : Object) × (object_named heap b ≡ Some other)
 led_is_known around heap (Plain c values) b sealed led =
     let f = kept_is_field (field_records around.classes c) values (Held.Obj b) led in
