@@ -1,6 +1,6 @@
 -- From each sealed machine each thread goes on: a call through a capability enters or is refused, what comes back arrives, what is raised is
 -- caught or leaves the thread, and so each thread number has a step. The rest of an event rests on it whose lines didn't go out.
-use Rattle.std.specs.Prelude.{◌≡◌, ℕ, ◌⊎◌, List, Option}
+use Rattle.std.specs.Prelude.{ℕ, ◌⊎◌, List, Option}
 use Rattle.jk_model.specs.declared.identifiers.ThreadNo.{ThreadNo}
 use Rattle.jk_model.specs.declared.output.Line.{Line}
 use Rattle.jk_model.specs.declared.steps.Raise.{Raise}
@@ -22,6 +22,7 @@ use Rattle.jk_model_runs.specs.Steps.{Deed, StepsBy}
 use Rattle.crossing_premises.specs.CallsAndAnswers.{IsTaken, IsThrown, MayBeAsked, MayBeRaised, StandsAtCall}
 use Rattle.crossing_premises.specs.SoundMachines.{HasSoundClasses, IsSealedAtCall}
 use Rattle.heap_graphs.specs.CopiedGraphs.{IsWhollyThere}
+use Rattle.sealed_crossings.specs.SealedCrossings.{StepsKeepWhole}
 
 -- ---- Values pass, or one of the two reasons keeps them, whatever the heap is into which they pass.
 
@@ -66,12 +67,10 @@ abbrev pub StepsAreThere : Type 0
 StepsAreThere =
     (m : Machine) (t : ThreadNo) → IsWhole m → HasSoundClasses m → (deed : Deed) × (lines : List Line) × (new : Machine) × StepsBy m t deed lines new
 
--- Each thread has a step from each machine that is whole, and each step leads to such a machine, and gives out no number of a thread.
+-- Each thread has a step from each machine that is whole, and each step leads to such a machine.
 pub record StepsGoOn : Type 0 where
   pub there : StepsAreThere
-  pub whole : (m new : Machine) (t : ThreadNo) (deed : Deed) (lines : List Line) → IsWhole m → HasSoundClasses m → StepsBy m t deed lines new
-      → IsWhole new × HasSoundClasses new
-  pub next : (m new : Machine) (t : ThreadNo) (deed : Deed) (lines : List Line) → StepsBy m t deed lines new → new.next_thread ≡ m.next_thread
+  pub whole : StepsKeepWhole
 
 -- Where steps go on, so do turns and rounds.
 pub record TurnsAreThere : Type 0 where
