@@ -2,3 +2,4 @@
 pub mod DomainsChanged
 pub mod DomainsOfParts
 pub mod SegmentsChanged
+pub mod SharedChanged

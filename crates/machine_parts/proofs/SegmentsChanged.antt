@@ -94,7 +94,7 @@ changes_by true n frames s is same = refl
 changes_by false n frames s is same = absurd (eqb-false s.shared.number.0 n.0 is same)
 
 -- none of these has the number
-none_changes : (n : SegmentNo) (frames : List FrameState) (segments : List Segment)
+pub none_changes : (n : SegmentNo) (frames : List FrameState) (segments : List Segment)
     → ((s : Segment) → Contains segments s → s.shared.number.0 ≡ n.0 → ⊥) → map (with_frames_in n frames) segments ≡ segments
 none_changes n frames segments apart =
     map_same (with_frames_in n frames) (λ (s : Segment). s) segments
@@ -114,7 +114,7 @@ top_changes n frames lower top apart same =
 
 module _ (m : Machine) (t : ThreadNo) (r : RunningSegment m t) (frames : List FrameState) (apart : AreSegmentsApart m) where
   -- where the thread stands
-  thread_at : (i : ℕ) × (slice_get m.threads i ≡ Some r.thread) × (r.thread.number.0 ≡ t.0)
+  pub thread_at : (i : ℕ) × (slice_get m.threads i ≡ Some r.thread) × (r.thread.number.0 ≡ t.0)
   thread_at = by (find has_number m.threads) r.is_thread (finds has_number m.threads)
     where
       has_number : Thread → Bool

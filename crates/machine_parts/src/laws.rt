@@ -1,6 +1,7 @@
 //! Laws of parts and machines. The functions have no bodies: each stands for its clause.
 
 ghost use Rattle.machine_parts.specs.ChangedParts.{FramesChangeMachines, HeapsChangeMachines, LiveDomainsAreOfParts, OwnStatesChangeMachines, PaymentsChangeMachines, RunningFramesChange};
+ghost use Rattle.machine_parts.specs.SharedInMachines.{CapsChangeMachines, FlagsChangeMachines, PopsChangeMachines, PushesChangeMachines, StartsChangeMachines};
 
 /// A live domain's heap is that of the store, its table that of the world, and its quotas those that are shared.
 pub fn live_domains_are_of_parts()
@@ -30,4 +31,29 @@ pub fn frames_change_machines()
 /// Where segments have different numbers, the running segment's frames are those of its number.
 pub fn running_frames_change()
     ensures { RunningFramesChange }
+{}
+
+/// Where the flags of a segment change in what is shared, they change in the machine.
+pub fn flags_change_machines()
+    ensures { FlagsChangeMachines }
+{}
+
+/// Where a domain's capabilities change in what is shared, they change in the machine.
+pub fn caps_change_machines()
+    ensures { CapsChangeMachines }
+{}
+
+/// A segment that is put on top of a thread is a segment of the machine with the frame that the store has for it.
+pub fn pushes_change_machines()
+    ensures { PushesChangeMachines }
+{}
+
+/// So is the segment of a thread that starts.
+pub fn starts_change_machines()
+    ensures { StartsChangeMachines }
+{}
+
+/// Where a thread's top segment goes, the machine is without it, and without the thread if it was the lowest. Then its frames may go too.
+pub fn pops_change_machines()
+    ensures { PopsChangeMachines }
 {}
