@@ -69,7 +69,7 @@ module _ (p : MachineParts) (d e : DomainId) (giver : LiveDomain (machine_of p) 
   same = same_passage p d e giver taker values fit
 
   may_pass : CopyAnswers p.heap p.world d e values Answered.Copied → MayPass own
-  may_pass h = (h.0, h.1.0, h.1.1, subst (λ (n : ℕ). h.1.0 ≤ n) (left_is p e taker fit) h.1.2)
+  may_pass h = (h.0, (h.1.0, h.1.1, subst (λ (n : ℕ). h.1.0 ≤ n) (left_is p e taker fit) h.1.2))
 
   pub answer_copied : CopyAnswers p.heap p.world d e values Answered.Copied → MayPass (passage giver taker values)
   answer_copied h = subst (λ (x : Passage). MayPass x) same (may_pass h)
@@ -79,7 +79,7 @@ module _ (p : MachineParts) (d e : DomainId) (giver : LiveDomain (machine_of p) 
 
   pub answer_too_large : (n : ℕ) → CopyAnswers p.heap p.world d e values (Answered.NoRoom n) → IsTooLarge (passage giver taker values)
   answer_too_large n h =
-      let large : IsTooLarge own = (h.0, n, h.1, subst (λ (k : ℕ). k < n) (left_is p e taker fit) h.2) in
+      let large : IsTooLarge own = (h.0, (n, h.1, subst (λ (k : ℕ). k < n) (left_is p e taker fit) h.2)) in
       subst (λ (x : Passage). IsTooLarge x) same large
 
   pub copy_passes : (new : HeapContent) (answers : List Value) → CopyAnswers p.heap p.world d e values Answered.Copied
