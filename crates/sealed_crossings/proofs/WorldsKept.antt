@@ -12,7 +12,7 @@ use Rattle.jk_model_classes.specs.Worlds.{NamedClass}
 use Rattle.jk_model_domains.specs.Objects.{NamedObject}
 use Rattle.jk_model_frames.specs.Frames.{FrameState}
 use Rattle.jk_model_heaps.specs.CalledFrames.{resumed}
-use Rattle.jk_model_heaps.specs.Workings.{Inside, Request, Run}
+use Rattle.jk_model_heaps.specs.Workings.{Inside, Request}
 use Rattle.jk_model_running.specs.Ways.{Went}
 use Rattle.jk_model_sharing.specs.BoundNames.{without_names_of}
 use Rattle.jk_model_sharing.specs.Segments.{SharedSegment, with_revoked, with_stop}

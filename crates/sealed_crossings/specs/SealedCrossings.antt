@@ -1,6 +1,6 @@
 -- What crossings, requests and ends of domains keep: the machine is sealed after them, its calls are answered, and what changed outside of the
 -- domain that acts is what the step's deed says. Each is stated of definitions alone.
-use Rattle.std.specs.Prelude.{◌≡◌, ℕ, List, Option}
+use Rattle.std.specs.Prelude.{ℕ, List, Option}
 use Rattle.jk_model.specs.declared.identifiers.ThreadNo.{ThreadNo}
 use Rattle.jk_model.specs.declared.output.Line.{Line}
 use Rattle.jk_model.specs.declared.steps.Raise.{Raise}
