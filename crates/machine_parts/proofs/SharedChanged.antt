@@ -154,7 +154,7 @@ last_goes [] top = refl
 last_goes (s ∷ []) top = refl
 last_goes (s ∷ above ∷ lower) top = ap (λ (xs : List Segment). s ∷ xs) (last_goes (above ∷ lower) top)
 
-has_any : List Segment → Bool
+abbrev has_any : List Segment → Bool
 has_any [] = false
 has_any (s ∷ more) = true
 
@@ -222,7 +222,7 @@ module _ (c : FrameContent) (t : ThreadNo) (lower : List Segment) where
 Contains-mapped : {X Y : Type 0} (f : X → Y) (xs : List X) (x : X) → Contains xs x → Contains (map f xs) (f x)
 Contains-mapped f [] x h = absurd (Contains-none x h)
 Contains-mapped {X = X} f (y ∷ ys) x h = elim (Contains-cases x y ys h) [
-  | inl same ↦ subst (λ (z : X). Contains (f y ∷ map f ys) (f z)) (sym same) (Contains-here (f y) (map f ys))
+  | inl same ↦ subst (λ (z : X). Contains (f y ∷ map f ys) (f z)) same (Contains-here (f y) (map f ys))
   | inr later ↦ Contains-there (f x) (f y) (map f ys) (Contains-mapped f ys x later)
 ]
 
