@@ -1,5 +1,5 @@
 -- A change of one domain's heap or own state, or of its steps left, changes that domain of the machine, and no other.
-use Rattle.std.proofs.Common.{◌≡◌, ◌≢◌, ℕ, zero, suc, ◌+◌, ◌-◌, ◌<◌, ◌==◌, Bool, true, false, cond, List, [], ◌∷◌, length, map, slice_get, slice_set, Contains, Option, Some, None, option_map, refl, sym, ap, subst, ◌∙◌, inl, inr, arith}
+use Rattle.std.proofs.Common.{◌≡◌, ◌≢◌, ℕ, zero, suc, ◌+◌, ◌-◌, ◌<◌, ◌==◌, Bool, true, false, cond, List, [], ◌∷◌, length, map, slice_get, slice_set, Contains, Option, Some, None, option_map, refl, sym, ap, subst, ◌∙◌, arith}
 use Rattle.std.proofs.lemmas.Bool.{eqb-false, eqb-true}
 use Rattle.std.proofs.lemmas.Option.{same_Some, slice_get_within}
 use Rattle.jk_model.specs.declared.identifiers.DomainId.{DomainId}
@@ -8,7 +8,7 @@ use Rattle.jk_model_domains.specs.Objects.{NamedObject}
 use Rattle.jk_model_domains.specs.OwnStates.{OwnState}
 use Rattle.jk_model_heaps.specs.Workings.{Inside, with_heap, with_own}
 use Rattle.jk_model_sharing.specs.SharedStates.{SharedDomain, spent}
-use Rattle.jk_model_machine_state.specs.Machines.{DomainState, Machine, paid, with_inside}
+use Rattle.jk_model_machine_state.specs.Machines.{DomainState, paid, with_inside}
 use Rattle.jk_model_machine_state.specs.Places.{LiveDomain}
 use Rattle.object_store.specs.HeapContents.{HeapBecomes, HeapContent}
 use Rattle.frame_store.specs.FrameContents.{FrameContent}

@@ -1,12 +1,12 @@
 -- A domain of the machine is what the world, the shared state, the own states and the stores have at its number.
-use Rattle.std.proofs.Common.{◌≡◌, ◌≢◌, ℕ, zero, suc, ◌<◌, Bool, true, false, List, [], ◌∷◌, length, slice_get, Option, Some, None, is_some, option_map, refl, sym, ap, subst, ◌∙◌, arith}
+use Rattle.std.proofs.Common.{◌≡◌, ℕ, zero, suc, List, [], ◌∷◌, slice_get, Option, Some, None, option_map, refl, sym, ap, ◌∙◌}
 use Rattle.std.proofs.lemmas.Option.{same_Some}
 use Rattle.jk_model.specs.declared.identifiers.DomainId.{DomainId}
 use Rattle.jk_model_classes.specs.Worlds.{DomainRecord}
 use Rattle.jk_model_domains.specs.OwnStates.{OwnState}
 use Rattle.jk_model_heaps.specs.Workings.{Inside}
 use Rattle.jk_model_sharing.specs.SharedStates.{SharedDomain}
-use Rattle.jk_model_machine_state.specs.Machines.{DomainState, Machine}
+use Rattle.jk_model_machine_state.specs.Machines.{DomainState}
 use Rattle.jk_model_machine_state.specs.Places.{LiveDomain}
 use Rattle.object_store.specs.HeapContents.{HeapContent}
 use Rattle.frame_store.specs.FrameContents.{FrameContent}

@@ -1,6 +1,5 @@
 -- A change of one segment's frames in the store changes that segment of the machine, and nothing else.
-use Rattle.std.proofs.Common.{◌≡◌, ◌≢◌, ℕ, zero, suc, ◌+◌, ◌<◌, ◌==◌, Bool, true, false, cond, find, List, [], ◌∷◌, ◌++◌, length, map, slice_get, Contains, Option, Some, None, option_map, refl, sym, ap, subst, ◌∙◌, inl, inr, arith}
-use Rattle.std.specs.Option.{option_map_or}
+use Rattle.std.proofs.Common.{◌≡◌, ◌≢◌, ℕ, ◌==◌, Bool, true, false, cond, find, List, [], ◌∷◌, ◌++◌, length, map, slice_get, Contains, Option, Some, None, option_map, refl, sym, ap, subst, ◌∙◌, arith}
 use Rattle.std.proofs.lemmas.Bool.{eqb-false, eqb-true}
 use Rattle.std.proofs.lemmas.List.{map-append}
 use Rattle.std.proofs.lemmas.Option.{same_Some}
@@ -12,13 +11,13 @@ use Rattle.jk_model_domains.specs.OwnStates.{OwnState}
 use Rattle.jk_model_frames.specs.Frames.{FrameState}
 use Rattle.jk_model_sharing.specs.Segments.{SharedSegment, SharedThread}
 use Rattle.jk_model_sharing.specs.SharedStates.{SharedDomain}
-use Rattle.jk_model_machine_state.specs.Machines.{DomainState, Machine, Segment, Thread, thread_numbered, with_segments}
+use Rattle.jk_model_machine_state.specs.Machines.{Machine, Segment, Thread, with_segments}
 use Rattle.jk_model_machine_state.specs.Places.{RunningSegment}
 use Rattle.object_store.specs.HeapContents.{HeapContent}
 use Rattle.frame_store.specs.FrameContents.{Changes, FrameContent, KeepsDomains, StoredSegment}
 use Rattle.list_lemmas.proofs.FoundItems.{Finds, finds}
 use Rattle.list_lemmas.proofs.ItemsByPlace.{slice_get-front, slice_get-last}
-use Rattle.list_lemmas.proofs.ItemsOfLists.{Contains-at, place_of, stands_at}
+use Rattle.list_lemmas.proofs.ItemsOfLists.{place_of, stands_at}
 use Rattle.machine_parts.specs.ChangedParts.{AreSegmentsApart, frames_stored, with_frames_in, with_frames_of}
 use Rattle.machine_parts.specs.MachineParts.{MachineParts, domain_state, domain_states, inside_of, machine_of, segment_with_frames, thread_with_frames}
 use Rattle.machine_parts.proofs.DomainsChanged.{map_same}

@@ -22,7 +22,6 @@ use Rattle.machine_parts.specs.ChangedParts.{AreSegmentsApart, with_frames_in, w
 use Rattle.machine_parts.specs.FittingParts.{HaveOneList}
 use Rattle.machine_parts.specs.MachineParts.{MachineParts, domain_state, domain_states, frames_in, machine_of, segment_with_frames, thread_with_frames}
 use Rattle.machine_parts.specs.SharedInMachines.{HaveAllSegments}
-use Rattle.machine_parts.proofs.DomainsChanged.{map_same}
 use Rattle.machine_parts.proofs.SegmentsChanged.{none_changes, thread_at}
 
 -- ---- Flags.
