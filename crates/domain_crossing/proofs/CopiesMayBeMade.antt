@@ -158,7 +158,8 @@ meaning_of_entry classes table name c own there = by (find of_name table) (finds
     by None h =
         let place = place_of table (record { name = name; class = c }) there in
         let never : bytes_eq name name ≡ false = h place.0 (record { name = name; class = c }) place.1 in
-        absurd ((bytes_eq-Decides name name).1 never refl)
+        let both : true ≡ false = sym ((bytes_eq-Decides name name).1 refl) ∙ never in
+        absurd cc
     by (Some n) h =
         let place = place_of table (record { name = name; class = c }) there in
         let same : n.name ≡ name = (bytes_eq-Decides n.name name).0 h.2 in
