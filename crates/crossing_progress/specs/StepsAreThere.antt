@@ -15,7 +15,6 @@ use Rattle.jk_model_crossings.specs.RemoteCalls.{Enters, Refuses, RemoteCall}
 use Rattle.jk_model_crossings.specs.Requests.{Granted, Grants}
 use Rattle.jk_model_crossings.specs.Throwing.{RaisesInThread, Throws}
 use Rattle.jk_model_domains.specs.Objects.{NamedObject}
-use Rattle.jk_model_graphs.specs.Copiable.{AllCopiable}
 use Rattle.jk_model_runs.specs.Events.{Goes, IsWhole, Rounds, Turns}
 use Rattle.jk_model_runs.specs.Sealed.{IsSealed}
 use Rattle.jk_model_runs.specs.Steps.{Deed, StepsBy}
