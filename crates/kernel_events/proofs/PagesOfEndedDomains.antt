@@ -5,7 +5,7 @@ use Rattle.std.proofs.lemmas.Option.{same_Some, slice_get-map}
 use Rattle.jk_model.specs.declared.identifiers.DomainId.{DomainId}
 use Rattle.jk_model.specs.declared.output.Line.{Line}
 use Rattle.jk_model_heaps.specs.Workings.{Inside}
-use Rattle.jk_model_machine_state.specs.Machines.{DomainState, Machine, is_live_domain, live_domain}
+use Rattle.jk_model_machine_state.specs.Machines.{DomainState, Machine, is_live_domain}
 use Rattle.jk_model_crossings.specs.DomainEnds.{Terminates, ended_domain}
 use Rattle.jk_model_openings.specs.PoolsOfMachines.{heap_pages_of, heap_pool, of_live, stack_pages_of, stack_pool}
 use Rattle.jk_model_runs.specs.Events.{Kills, kills, no_domain}
