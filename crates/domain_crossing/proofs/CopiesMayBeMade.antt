@@ -1,6 +1,6 @@
 -- Where a crossing may be made, what a copy asks is so of any two live domains: the heap that is read is sound, and what both name, both name by one
 -- name.
-use Rattle.std.proofs.Common.{◌≡◌, ◌≢◌, ℕ, zero, suc, pos, ◌+◌, ◌<◌, Bool, true, false, List, [], ◌∷◌, length, map, find, slice_get, Contains, Option, Some, None, option_map, bytes_eq, IsSome, refl, sym, ap, subst, subst₂, ◌∙◌, inl, inr, arith}
+use Rattle.std.proofs.Common.{◌≡◌, ℕ, zero, suc, pos, Bool, true, false, List, [], ◌∷◌, length, find, slice_get, Contains, Option, Some, None, option_map, bytes_eq, IsSome, refl, sym, ap, subst, subst₂, ◌∙◌, arith}
 use Rattle.std.specs.List.{AllByRecursion}
 use Rattle.std.proofs.lemmas.Option.{same_Some, slice_get_within}
 use Rattle.std.proofs.lemmas.Slice.Eq.{bytes_eq-Decides}
@@ -12,17 +12,15 @@ use Rattle.jk_model_classes.specs.declared.records.BaseRef.{BaseRef}
 use Rattle.jk_model_classes.specs.declared.records.BaseRef.TheVariants as Base
 use Rattle.jk_model_classes.specs.declared.records.ClassRecord.{ClassRecord}
 use Rattle.jk_model_classes.specs.declared.records.FieldRecord.{FieldRecord}
-use Rattle.jk_model_classes.specs.declared.records.TypeRef.{TypeRef}
-use Rattle.jk_model_classes.specs.Classes.{HasClass, record_of}
+use Rattle.jk_model_classes.specs.Classes.{HasClass}
 use Rattle.jk_model_classes.specs.Worlds.{IsNamed, NamedClass, class_named}
-use Rattle.jk_model_domains.specs.Objects.{NamedObject, Object, Array, Plain, Task, Text, object_named}
+use Rattle.jk_model_domains.specs.Objects.{NamedObject, Object, Array, Plain, Task, Text}
 use Rattle.jk_model_domains.specs.OwnStates.{zero_of}
 use Rattle.jk_model_domains.specs.ValueTypes.{HoldsDeclared}
-use Rattle.jk_model_graphs.specs.Copiable.{AreSharing}
 use Rattle.jk_model_heaps.specs.Capabilities.{CapRange}
 use Rattle.jk_model_heaps.specs.Heaps.{field_records, named, shape_of}
 use Rattle.jk_model_heaps.specs.Workings.{Inside}
-use Rattle.jk_model_machine_state.specs.Machines.{DomainState, Machine, caps_of}
+use Rattle.jk_model_machine_state.specs.Machines.{DomainState, caps_of}
 use Rattle.jk_model_machine_state.specs.Places.{LiveDomain}
 use Rattle.jk_model_sealing.specs.SealedInsides.{IsKnownValue, IsNamedBase, IsSealedInside, IsSealedObject, Surroundings}
 use Rattle.object_store.specs.HeapContents.{AreOfFields, AreOfKind, HasBase, HasShapeClasses, IsLaidOut}
@@ -32,7 +30,7 @@ use Rattle.list_lemmas.proofs.ItemsOfLists.{Contains-at, place_of}
 use Rattle.heap_graphs.proofs.MappedLists.{mapped}
 use Rattle.heap_graphs.proofs.ReachIsListed.{stands}
 use Rattle.heap_graphs.proofs.SealedGraphs.{led_is_known}
-use Rattle.graph_copy.specs.AskedOfCopies.{AgreeOnNames, HasDomain, IsNameIn, IsSoundHeap, MayBeGiven, MayCopy}
+use Rattle.graph_copy.specs.AskedOfCopies.{AgreeOnNames, HasDomain, IsSoundHeap, MayBeGiven, MayCopy}
 use Rattle.crossing_premises.specs.SoundMachines.{tables_of}
 use Rattle.machine_parts.specs.MachineParts.{MachineParts, machine_of}
 use Rattle.machine_parts.proofs.DomainsOfParts.{live_domain_is_of_parts}

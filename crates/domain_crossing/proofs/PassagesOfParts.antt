@@ -1,10 +1,9 @@
 -- What a copy over the stores is to the machine: its answers are the ways in which a passage may go, and what it makes is the passage.
-use Rattle.std.proofs.Common.{◌≡◌, ℕ, ◌-◌, ◌<◌, ◌≤◌, List, [], slice_get, Option, Some, None, refl, sym, ap, subst, ◌∙◌, arith}
+use Rattle.std.proofs.Common.{◌≡◌, ℕ, ◌-◌, ◌<◌, ◌≤◌, List, [], Option, sym, ap, subst, ◌∙◌}
 use Rattle.std.specs.Option.{option_map_or}
 use Rattle.jk_model.specs.declared.identifiers.DomainId.{DomainId}
 use Rattle.jk_model.specs.declared.values.Value.{Value}
-use Rattle.jk_model_classes.specs.Worlds.{DomainRecord, NamedClass, domain_of}
-use Rattle.jk_model_domains.specs.Objects.{NamedObject}
+use Rattle.jk_model_classes.specs.Worlds.{DomainRecord}
 use Rattle.jk_model_heaps.specs.Heaps.{free_words}
 use Rattle.jk_model_heaps.specs.Workings.{Inside}
 use Rattle.jk_model_crossings.specs.Passages.{IsTooLarge, IsUncopiable, MayPass, Passage, Passes, passage}
