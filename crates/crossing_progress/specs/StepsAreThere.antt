@@ -1,17 +1,19 @@
 -- From each sealed machine each thread goes on: a call through a capability enters or is refused, what comes back arrives, what is raised is
 -- caught or leaves the thread, and so each thread number has a step. The rest of an event rests on it whose lines didn't go out.
-use Rattle.std.specs.Prelude.{ℕ, ◌⊎◌, List, Option}
+use Rattle.std.specs.Prelude.{ℕ, ◌≤◌, ◌⊎◌, List, ◌∷◌, length, Option}
 use Rattle.jk_model.specs.declared.identifiers.ThreadNo.{ThreadNo}
 use Rattle.jk_model.specs.declared.output.Line.{Line}
 use Rattle.jk_model.specs.declared.steps.Raise.{Raise}
 use Rattle.jk_model.specs.declared.values.Value.{Value}
+use Rattle.jk_model.specs.declared.values.Value.TheVariants as Held
+use Rattle.jk_model_frames.specs.Frames.{locals_of}
 use Rattle.jk_model_heaps.specs.Workings.{Request}
 use Rattle.jk_model_machine_state.specs.Machines.{DomainState, IsLiveDomain, Machine}
 use Rattle.jk_model_machine_state.specs.Places.{RunningSegment}
 use Rattle.jk_model_crossings.specs.Answers.{Returns}
 use Rattle.jk_model_crossings.specs.DomainEnds.{Terminates}
 use Rattle.jk_model_crossings.specs.Passages.{IsTooLarge, IsUncopiable, Passage, Passes}
-use Rattle.jk_model_crossings.specs.RemoteCalls.{Enters, Refuses, RemoteCall}
+use Rattle.jk_model_crossings.specs.RemoteCalls.{Enters, HasTarget, IsLive, Refuses, RemoteCall, arguments}
 use Rattle.jk_model_crossings.specs.Requests.{Granted, Grants}
 use Rattle.jk_model_crossings.specs.Throwing.{RaisesInThread, Throws}
 use Rattle.jk_model_domains.specs.Objects.{NamedObject}
@@ -36,6 +38,16 @@ abbrev pub CallsAreDecided : Type 0
 CallsAreDecided =
     (m : Machine) (t : ThreadNo) (c : RemoteCall m t) → IsSealed m → HasSoundClasses m → StandsAtCall c
     → ((new : Machine) × Enters c new) ⊎ ((r : Raise) × Refuses c r)
+
+-- So far as that goes without types: where the arguments are wholly there, and what arrives fits the locals of the target.
+pub record MayArrive {m : Machine} {t : ThreadNo} (c : RemoteCall m t) : Type 0 where
+  pub whole : (live : IsLive c) → IsWhollyThere m.classes (arguments live).source
+  pub fits : (h : HasTarget c) (heap : List NamedObject) (values : List Value) → Passes (arguments h.is_shown.live) heap values
+      → length (locals_of (Held.Obj c.known.capability.target ∷ values)) ≤ h.code.max_locals
+
+abbrev pub CallsThatFitAreDecided : Type 0
+CallsThatFitAreDecided =
+    (m : Machine) (t : ThreadNo) (c : RemoteCall m t) → MayArrive c → ((new : Machine) × Enters c new) ⊎ ((r : Raise) × Refuses c r)
 
 abbrev pub RaisesAreThere : Type 0
 RaisesAreThere =

@@ -220,7 +220,7 @@ module _ (p new : MachineParts) (d : DomainId) (l : LiveDomain (machine_of p) d)
   keeps : KeepsInsides p.heap new.heap p.frames new.frames d
   keeps = record { objects = h.heap.others.heap; heap_at = h.heap.others.first_page; stack_at = h.frames.other_places }
 
-  cut : Machine
+  abbrev cut : Machine
   cut = without_segments_of d (with_domain d ended_domain (machine_of p))
 
   shared_numbers : (i : ℕ) (s : SharedDomain) → slice_get p.shared.domains i ≡ Some s → s.number.0 ≡ i
@@ -257,7 +257,7 @@ module _ (p new : MachineParts) (d : DomainId) (l : LiveDomain (machine_of p) d)
       by (inl gone) = absurd (other (ap (λ (x : DomainId). x.0) gone.0))
       by (inr left) = ap (λ (o : Option StoredSegment). option_map_or (λ (g : StoredSegment). g.frames) o []) left.1
 
-  stacks : List SharedThread
+  abbrev stacks : List SharedThread
   stacks = map (with_segments (segments_left shared_form d)) p.shared.threads
 
   stacks_are : map (thread_with_frames new.frames) stacks ≡ cut.threads
@@ -271,7 +271,7 @@ module _ (p new : MachineParts) (d : DomainId) (l : LiveDomain (machine_of p) d)
   leads = λ i. record {
     heap_pages = h.heap.pages i;
     stack_pages = h.frames.pages i;
-    classes = h.world i.classes;
+    classes = ap (λ (w : WorldRecord). w.classes) h.world i;
     domains = domains_are i;
     names = h.shared.names i;
     threads = threads_are i;
