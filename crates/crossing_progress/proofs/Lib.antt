@@ -2,3 +2,4 @@
 pub mod CallsDecided
 pub mod EventsGoOn
 pub mod PassagesDecided
+pub mod RequestsGranted

@@ -20,7 +20,7 @@ use Rattle.jk_model_domains.specs.Objects.{NamedObject}
 use Rattle.jk_model_runs.specs.Events.{Goes, IsWhole, Rounds, Turns}
 use Rattle.jk_model_runs.specs.Sealed.{IsSealed}
 use Rattle.jk_model_runs.specs.Steps.{Deed, StepsBy}
-use Rattle.crossing_premises.specs.CallsAndAnswers.{IsTaken, IsThrown, MayBeAsked, MayBeRaised, StandsAtCall}
+use Rattle.crossing_premises.specs.CallsAndAnswers.{IsTaken, IsThrown, MayBeRaised, StandsAtCall}
 use Rattle.crossing_premises.specs.SoundMachines.{HasSoundClasses, IsSealedAtCall}
 use Rattle.heap_graphs.specs.CopiedGraphs.{IsWhollyThere}
 use Rattle.sealed_crossings.specs.SealedCrossings.{StepsKeepWhole}
@@ -64,10 +64,10 @@ ReturnsAreThere =
     (m : Machine) (t : ThreadNo) (p : RunningSegment m t) (v : Option Value) → IsSealed m → HasSoundClasses m → IsTaken m t v
     → (n : ℕ) × (lines : List Line) × (new : Machine) × Returns m t v n lines new
 
+-- these two are so of every machine
 abbrev pub GrantsAreThere : Type 0
 GrantsAreThere =
-    (m : Machine) (t : ThreadNo) (p : RunningSegment m t) (request : Request) → IsSealedAtCall m t → MayBeAsked p request
-    → (granted : Granted) × (mid : Machine) × Grants p request granted mid
+    (m : Machine) (t : ThreadNo) (p : RunningSegment m t) (request : Request) → (granted : Granted) × (mid : Machine) × Grants p request granted mid
 
 abbrev pub EndsAreThere : Type 0
 EndsAreThere = (m : Machine) (d : DomainState) → IsLiveDomain d → (lines : List Line) × (new : Machine) × Terminates m d lines new
