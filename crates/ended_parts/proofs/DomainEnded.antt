@@ -233,13 +233,17 @@ module _ (p new : MachineParts) (d : DomainId) (l : LiveDomain (machine_of p) d)
   domains_are : (machine_of new).domains ≡ cut.domains
   domains_are =
       ap (λ (w : WorldRecord). domain_states new.heap new.frames w.domains new.shared.domains new.owns) h.world
-      ∙ ap (λ (ds : List SharedDomain). domain_states new.heap new.frames (slice_set p.world.domains d.0 (record h.names { live = false })) ds new.owns)
-      h.shared.domains
-      ∙ ap (λ (os : List (Option OwnState)). domain_states new.heap new.frames (slice_set p.world.domains d.0 (record h.names { live = false })) (map (λ (s : SharedDomain). cond (s.number.0 == d.0) (record s { live = false; caps = all_revoked s.caps }) s) p.shared.domains) os)
-      h.owns
+      ∙ ap (λ (ds : List SharedDomain). domain_states new.heap new.frames names ds new.owns) h.shared.domains
+      ∙ ap (λ (os : List (Option OwnState)). domain_states new.heap new.frames names shared os) h.owns
       ∙ ends_at p.heap new.heap p.frames new.frames d keeps 0 d.0 h.names p.world.domains p.shared.domains p.owns
       (λ i names at. omega (arith, fit.domains.numbered i names at)) (λ i s at. omega (arith, shared_numbers i s at)) (omega arith) h.is_named low
     where
+      names : List DomainRecord
+      names = slice_set p.world.domains d.0 (record h.names { live = false })
+
+      shared : List SharedDomain
+      shared = map (λ (s : SharedDomain). cond (s.number.0 == d.0) (record s { live = false; caps = all_revoked s.caps }) s) p.shared.domains
+
       low : d.0 < length p.owns
       low = omega (arith, slice_get_within p.world.domains d.0 h.names h.is_named, fit.domains.owns)
 

@@ -47,7 +47,8 @@ abbrev heap_in : DomainId → List NamedObject → DomainState → DomainState
 heap_in d heap e = cond (e.number.0 == d.0) (record e { inside = option_map (λ (x : Inside). with_heap x heap) e.inside }) e
 
 inside_changes : (old new : HeapContent) (frames : FrameContent) (d : DomainId) (heap : List NamedObject) (used : ℕ) → HeapBecomes old new d heap used
-    → (own : Option OwnState) → option_map (inside_of new frames d) own ≡ option_map (λ (x : Inside). with_heap x heap) (option_map (inside_of old frames d) own)
+    → (own : Option OwnState)
+    → option_map (inside_of new frames d) own ≡ option_map (λ (x : Inside). with_heap x heap) (option_map (inside_of old frames d) own)
 inside_changes old new frames d heap used h None = refl
 inside_changes old new frames d heap used h (Some own) =
     λ i. Some (record { own = own; heap = h.becomes i; heap_at = h.domains.first_page d i; stack_at = frames.first_page d })
@@ -66,7 +67,8 @@ state_changes : (t : Bool) (old new : HeapContent) (frames : FrameContent) (d : 
     }) (domain_state old frames names s own)
 state_changes true old new frames d heap used h names s own is =
     let same : names.id ≡ d = same_domain d names.id (eqb-true names.id.0 d.0 is) in
-    let inside : option_map (inside_of new frames names.id) own ≡ option_map (λ (x : Inside). with_heap x heap) (option_map (inside_of old frames names.id) own) =
+    let inside : option_map (inside_of new frames names.id) own
+    ≡ option_map (λ (x : Inside). with_heap x heap) (option_map (inside_of old frames names.id) own) =
     subst (λ (e : DomainId). option_map (inside_of new frames e) own ≡ option_map (λ (x : Inside). with_heap x heap) (option_map (inside_of old frames e) own))
     (sym same) (inside_changes old new frames d heap used h own) in
     λ i. record (domain_state old frames names s own) { inside = inside i }

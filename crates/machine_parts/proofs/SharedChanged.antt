@@ -193,13 +193,16 @@ module _ (c : FrameContent) (t : ThreadNo) (lower : List Segment) where
   higher_goes some [] h = refl
   higher_goes some (e ∷ threads) h =
       let here = h e (Contains-here e threads) in
-      ap (λ (b : Bool). map (thread_with_frames c) (cond b (popped_in t e ∷ filter has_segments (map (popped_in t) threads)) (filter has_segments (map (popped_in t) threads))))
+      let rest : List SharedThread = filter has_segments (map (popped_in t) threads) in
+      ap (λ (b : Bool). map (thread_with_frames c) (cond b (popped_in t e ∷ rest) rest))
       (stays_live some (e.number.0 == t.0) e refl here)
       ∙ (λ i. lower_step (e.number.0 == t.0) e refl here i ∷ higher_goes some threads (λ x later. h x (Contains-there x e threads later)) i)
 
   lowest_step : has_any lower ≡ false → (b : Bool) (e : SharedThread) (rest : List SharedThread) (more : List Thread) → e.number.0 == t.0 ≡ b
       → LeavesLower e → map (thread_with_frames c) rest ≡ more
-      → map (thread_with_frames c) (cond (has_segments (cond b (record e { segments = without_top e.segments }) e)) (cond b (record e { segments = without_top e.segments }) e ∷ rest) rest)
+      → map (thread_with_frames c)
+      (cond (has_segments (cond b (record e { segments = without_top e.segments }) e)) (cond b (record e { segments = without_top e.segments }) e ∷ rest)
+      rest)
       ≡ cond (not b) (thread_with_frames c e ∷ more) more
   lowest_step none true e rest more is h later =
       ap (λ (b : Bool). map (thread_with_frames c) (cond b (record e { segments = without_top e.segments } ∷ rest) rest))
@@ -233,7 +236,8 @@ module _ (p : MachineParts) (t : ThreadNo) (r : RunningSegment (machine_of p) t)
       with_number : e.number.0 ≡ t.0 → map (segment_with_frames p.frames) (without_top e.segments) ≡ r.lower
       with_number same =
           let at = thread_at (machine_of p) t r [] apart in
-          let place = place_of (machine_of p).threads (thread_with_frames p.frames e) (Contains-mapped (thread_with_frames p.frames) p.shared.threads e there) in
+          let here = Contains-mapped (thread_with_frames p.frames) p.shared.threads e there in
+          let place = place_of (machine_of p).threads (thread_with_frames p.frames e) here in
           let number : e.number ≡ r.thread.number = (λ i. record { 0 = (same ∙ sym at.2) i }) in
           let k : place.0 ≡ at.0 = apart.threads place.0 at.0 (thread_with_frames p.frames e) r.thread place.1 at.1 number in
           let one : thread_with_frames p.frames e ≡ r.thread =

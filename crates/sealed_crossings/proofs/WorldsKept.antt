@@ -186,7 +186,9 @@ terminates_keep m new d lines h = record {
 
     of_both : {X : Type 0} (part : Machine → X)
         → part new ≡ part (record cut { names = without_names_of d.number cut.names; threads = filter has_segments cut.threads })
-    of_both part = ap part h.leads ∙ ap (λ (x : Machine). part (record x { names = without_names_of d.number x.names; threads = filter has_segments x.threads })) h.is_cut
+    of_both part =
+        ap part h.leads
+        ∙ ap (λ (x : Machine). part (record x { names = without_names_of d.number x.names; threads = filter has_segments x.threads })) h.is_cut
 
 pub kills_keep : (m new : Machine) (name : List ℕ) (lines : List Line) → Kills m name lines new → KeepsWorld m new
 kills_keep m new name lines (Kills.no_domain none) = keeps_same m
