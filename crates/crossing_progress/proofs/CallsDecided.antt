@@ -1,5 +1,5 @@
 -- A call through a capability enters or is refused: each thing that it needs is so or not, and at most one method is the target.
-use Rattle.std.proofs.Common.{◌≡◌, ℕ, ◌<◌, ◌≤◌, ◌⊎◌, Bool, true, false, List, ◌∷◌, Contains, slice_get, Option, Some, None, refl, sym, ap, subst, ◌∙◌, inl, inr, IsTrue, codes, arith}
+use Rattle.std.proofs.Common.{◌≡◌, ℕ, ◌<◌, ◌≤◌, ◌⊎◌, Bool, true, false, List, ◌∷◌, slice_get, Option, Some, None, refl, sym, ap, subst, ◌∙◌, inl, inr, IsTrue, codes, arith}
 use Rattle.std.proofs.lemmas.Bool.{cases_lt}
 use Rattle.std.proofs.lemmas.Option.{same_Some}
 use Rattle.jk_model.specs.Flags.{has, PUBLIC}
@@ -21,7 +21,7 @@ use Rattle.jk_model_classes.specs.Classes.{Implements, superclasses}
 use Rattle.jk_model_classes.specs.Lookups.{FindsOn, IsFirstOn, IsUnlessAbstract, MethodIs, RunsFor, Selects}
 use Rattle.jk_model_classes.specs.Stubs.{ImplementsRemote}
 use Rattle.jk_model_domains.specs.Objects.{NamedObject}
-use Rattle.jk_model_frames.specs.Frames.{FrameState, called_frame, locals_of}
+use Rattle.jk_model_frames.specs.Frames.{FrameState, called_frame}
 use Rattle.jk_model_heaps.specs.CalledFrames.{call_head}
 use Rattle.jk_model_heaps.specs.SystemClasses.{ABSTRACT_METHOD_ERROR, ILLEGAL_ACCESS_ERROR, INCOMPATIBLE_CLASS_CHANGE_ERROR}
 use Rattle.jk_model_heaps.specs.Workings.{Inside}
