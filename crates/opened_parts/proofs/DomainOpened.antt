@@ -9,7 +9,7 @@ use Rattle.jk_model_heaps.specs.Capabilities.{CapRange}
 use Rattle.jk_model_sharing.specs.CapabilityCalls.{first_range}
 use Rattle.jk_model_sharing.specs.Segments.{SharedSegment, SharedThread}
 use Rattle.jk_model_sharing.specs.SharedStates.{SharedDomain, SharedState, first_domain, ranges_of}
-use Rattle.jk_model_machine_state.specs.Machines.{DomainState, Thread, caps_of}
+use Rattle.jk_model_machine_state.specs.Machines.{DomainState}
 use Rattle.jk_model_openings.specs.OpenedDomains.{Admission, new_domain, next_number, with_new_domain}
 use Rattle.object_store.specs.HeapContents.{HeapContent}
 use Rattle.frame_store.specs.FrameContents.{FrameContent, StoredSegment}
