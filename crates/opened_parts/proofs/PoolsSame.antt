@@ -47,6 +47,7 @@ module _ (p : MachineParts) (fit : AreFittingParts p) where
       (gone : (d : DomainId) → (LiveDomain (machine_of p) d → ⊥) → stored d ≡ None) where
     by_inside : (d : DomainId) (e : DomainState) → domain_at (machine_of p) d ≡ Some e → (o : Option Inside) → e.inside ≡ o
         → option_and_then (part e) o ≡ stored d
+    unfolding lives
     by_inside d e is None inside = sym (gone d (dead d e is inside))
     by_inside d e is (Some x) inside = alive d (lives d e is x inside)
 
