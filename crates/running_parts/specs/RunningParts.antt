@@ -1,5 +1,5 @@
 -- The running segment of a thread, by the parts: what domains share has it on top of the thread, and the store has its frames.
-use Rattle.std.specs.Prelude.{◌≡◌, List, map, Some}
+use Rattle.std.specs.Prelude.{◌≡◌, map, Some}
 use Rattle.jk_model.specs.declared.identifiers.ThreadNo.{ThreadNo}
 use Rattle.jk_model_sharing.specs.Segments.{SharedSegment, SharedThread, thread_numbered, top_segment}
 use Rattle.jk_model_sharing.specs.Segments.{without_top as without_shared_top}
