@@ -42,7 +42,7 @@ rises_both m mid new a b h k = record {
 }
 
 same_count : (m new : Machine) → KeepsWorld m new → length new.domains ≡ length m.domains
-same_count m new h = sym (length-map lasting new.domains) ∙ ap length h.domains ∙ length-map lasting m.domains
+same_count m new h = sym (length-map new.domains lasting) ∙ ap length h.domains ∙ length-map m.domains lasting
 
 -- ---- A step, and so many.
 
