@@ -7,6 +7,7 @@ use Rattle.jk_model_machine_state.specs.Machines.{Machine}
 use Rattle.jk_model_runs.specs.Events.{Goes, IsWhole, Rounds, Turns, on, over}
 use Rattle.jk_model_runs.specs.Steps.{Steps}
 use Rattle.crossing_premises.specs.SoundMachines.{HasSoundClasses}
+use Rattle.sealed_crossings.proofs.WorldsKept.{sound_classes_stay, steps_keep}
 use Rattle.crossing_progress.specs.StepsAreThere.{StepsGoOn}
 
 -- What a machine leads to.
@@ -23,14 +24,14 @@ module _ (go : StepsGoOn) where
   step_on : (t : ThreadNo) (m : Machine) → IsWhole m → HasSoundClasses m → LeadsOn (λ m lines new. Steps m t lines new) m
   step_on t m whole sound =
       let s = go.there m t whole sound in
-      let still = go.whole m s.2 t s.0 s.1 whole sound s.3 in
+      let keeps = steps_keep m s.2 t s.0 s.1 s.3 in
       record {
         lines = s.1;
         new = s.2;
         way = (s.0, s.3);
-        whole = still.0;
-        sound = still.1;
-        next = go.next m s.2 t s.0 s.1 s.3;
+        whole = go.whole m s.2 t s.0 s.1 whole sound s.3;
+        sound = sound_classes_stay m s.2 keeps sound;
+        next = keeps.next_thread;
       }
 
   pub turns_on : (n : ℕ) (t : ThreadNo) (m : Machine) → IsWhole m → HasSoundClasses m → LeadsOn (Turns n t) m

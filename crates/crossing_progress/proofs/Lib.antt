@@ -1,3 +1,5 @@
 -- The derivations of the laws.
+pub mod CallsDecided
 pub mod EventsGoOn
 pub mod PassagesDecided
+pub mod RequestsGranted

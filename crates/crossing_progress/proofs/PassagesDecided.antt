@@ -1,6 +1,6 @@
 -- Whether values pass from one domain to another is decided: what they reach can be listed, whether an object of it may be copied is decided by the
 -- two name tables, its costs have a sum, and a copy is there.
-use Rattle.std.proofs.Common.{◌≡◌, ℕ, ◌+◌, ◌<◌, ◌≤◌, ◌⊎◌, Bool, List, [], ◌∷◌, find, sum_by, Contains, Option, Some, None, option_map, bytes_eq, refl, sym, ap, subst, ◌∙◌, inl, inr, arith}
+use Rattle.std.proofs.Common.{◌≡◌, ℕ, ◌⊎◌, Bool, List, [], ◌∷◌, find, sum_by, Contains, Option, Some, None, option_map, bytes_eq, refl, sym, ap, subst, ◌∙◌, inl, inr}
 use Rattle.std.proofs.lemmas.Bool.{cases_lt}
 use Rattle.std.proofs.lemmas.Option.{same_Some}
 use Rattle.std.proofs.lemmas.Slice.Eq.{bytes_eq-Decides}
@@ -11,11 +11,11 @@ use Rattle.jk_model_classes.specs.declared.records.BaseRef.TheVariants as Base
 use Rattle.jk_model_classes.specs.declared.records.ClassRecord.{ClassRecord}
 use Rattle.jk_model_classes.specs.Worlds.{NamedClass, class_named}
 use Rattle.jk_model_domains.specs.Objects.{NamedObject, Object, Array, Plain, Task, Text, object_named}
-use Rattle.jk_model_graphs.specs.Copiable.{AllCopiable, AreSharing, AreSharingBase, IsCopiable, MeetsUncopiable, is_marked_copiable}
-use Rattle.jk_model_graphs.specs.Reach.{Graph, IsReach, Reach, words_named}
+use Rattle.jk_model_graphs.specs.Copiable.{AllCopiable, AreSharing, AreSharingBase, IsCopiable, is_marked_copiable}
+use Rattle.jk_model_graphs.specs.Reach.{IsReach, words_named}
 use Rattle.jk_model_heaps.specs.Heaps.{free_words}
 use Rattle.jk_model_heaps.specs.SystemClasses.{SERIALIZABLE}
-use Rattle.jk_model_crossings.specs.Passages.{IsTooLarge, IsUncopiable, MayPass, Passage, Passes}
+use Rattle.jk_model_crossings.specs.Passages.{IsTooLarge, IsUncopiable, Passage, Passes}
 use Rattle.decided_lookups.specs.Decisions.{IsDecided}
 use Rattle.decided_lookups.proofs.DecidedParts.{both_decided, class_decided, either_decided, option_decided, same_decided, true_decided}
 use Rattle.decided_lookups.proofs.DecidedRecords.{implements_decided}

@@ -1,27 +1,29 @@
 -- From each sealed machine each thread goes on: a call through a capability enters or is refused, what comes back arrives, what is raised is
 -- caught or leaves the thread, and so each thread number has a step. The rest of an event rests on it whose lines didn't go out.
-use Rattle.std.specs.Prelude.{◌≡◌, ℕ, ◌⊎◌, List, Option}
+use Rattle.std.specs.Prelude.{ℕ, ◌≤◌, ◌⊎◌, List, ◌∷◌, length, Option}
 use Rattle.jk_model.specs.declared.identifiers.ThreadNo.{ThreadNo}
 use Rattle.jk_model.specs.declared.output.Line.{Line}
 use Rattle.jk_model.specs.declared.steps.Raise.{Raise}
 use Rattle.jk_model.specs.declared.values.Value.{Value}
+use Rattle.jk_model.specs.declared.values.Value.TheVariants as Held
+use Rattle.jk_model_frames.specs.Frames.{locals_of}
 use Rattle.jk_model_heaps.specs.Workings.{Request}
 use Rattle.jk_model_machine_state.specs.Machines.{DomainState, IsLiveDomain, Machine}
 use Rattle.jk_model_machine_state.specs.Places.{RunningSegment}
 use Rattle.jk_model_crossings.specs.Answers.{Returns}
 use Rattle.jk_model_crossings.specs.DomainEnds.{Terminates}
 use Rattle.jk_model_crossings.specs.Passages.{IsTooLarge, IsUncopiable, Passage, Passes}
-use Rattle.jk_model_crossings.specs.RemoteCalls.{Enters, Refuses, RemoteCall}
+use Rattle.jk_model_crossings.specs.RemoteCalls.{Enters, HasTarget, IsLive, Refuses, RemoteCall, arguments}
 use Rattle.jk_model_crossings.specs.Requests.{Granted, Grants}
 use Rattle.jk_model_crossings.specs.Throwing.{RaisesInThread, Throws}
 use Rattle.jk_model_domains.specs.Objects.{NamedObject}
-use Rattle.jk_model_graphs.specs.Copiable.{AllCopiable}
 use Rattle.jk_model_runs.specs.Events.{Goes, IsWhole, Rounds, Turns}
 use Rattle.jk_model_runs.specs.Sealed.{IsSealed}
 use Rattle.jk_model_runs.specs.Steps.{Deed, StepsBy}
-use Rattle.crossing_premises.specs.CallsAndAnswers.{IsTaken, IsThrown, MayBeAsked, MayBeRaised, StandsAtCall}
+use Rattle.crossing_premises.specs.CallsAndAnswers.{IsTaken, IsThrown, MayBeRaised, StandsAtCall}
 use Rattle.crossing_premises.specs.SoundMachines.{HasSoundClasses, IsSealedAtCall}
 use Rattle.heap_graphs.specs.CopiedGraphs.{IsWhollyThere}
+use Rattle.sealed_crossings.specs.SealedCrossings.{StepsKeepWhole}
 
 -- ---- Values pass, or one of the two reasons keeps them, whatever the heap is into which they pass.
 
@@ -36,6 +38,16 @@ abbrev pub CallsAreDecided : Type 0
 CallsAreDecided =
     (m : Machine) (t : ThreadNo) (c : RemoteCall m t) → IsSealed m → HasSoundClasses m → StandsAtCall c
     → ((new : Machine) × Enters c new) ⊎ ((r : Raise) × Refuses c r)
+
+-- So far as that goes without types: where the arguments are wholly there, and what arrives fits the locals of the target.
+pub record MayArrive {m : Machine} {t : ThreadNo} (c : RemoteCall m t) : Type 0 where
+  pub whole : (live : IsLive c) → IsWhollyThere m.classes (arguments live).source
+  pub fits : (h : HasTarget c) (heap : List NamedObject) (values : List Value) → Passes (arguments h.is_shown.live) heap values
+      → length (locals_of (Held.Obj c.known.capability.target ∷ values)) ≤ h.code.max_locals
+
+abbrev pub CallsThatFitAreDecided : Type 0
+CallsThatFitAreDecided =
+    (m : Machine) (t : ThreadNo) (c : RemoteCall m t) → MayArrive c → ((new : Machine) × Enters c new) ⊎ ((r : Raise) × Refuses c r)
 
 abbrev pub RaisesAreThere : Type 0
 RaisesAreThere =
@@ -52,10 +64,10 @@ ReturnsAreThere =
     (m : Machine) (t : ThreadNo) (p : RunningSegment m t) (v : Option Value) → IsSealed m → HasSoundClasses m → IsTaken m t v
     → (n : ℕ) × (lines : List Line) × (new : Machine) × Returns m t v n lines new
 
+-- these two are so of every machine
 abbrev pub GrantsAreThere : Type 0
 GrantsAreThere =
-    (m : Machine) (t : ThreadNo) (p : RunningSegment m t) (request : Request) → IsSealedAtCall m t → MayBeAsked p request
-    → (granted : Granted) × (mid : Machine) × Grants p request granted mid
+    (m : Machine) (t : ThreadNo) (p : RunningSegment m t) (request : Request) → (granted : Granted) × (mid : Machine) × Grants p request granted mid
 
 abbrev pub EndsAreThere : Type 0
 EndsAreThere = (m : Machine) (d : DomainState) → IsLiveDomain d → (lines : List Line) × (new : Machine) × Terminates m d lines new
@@ -66,12 +78,10 @@ abbrev pub StepsAreThere : Type 0
 StepsAreThere =
     (m : Machine) (t : ThreadNo) → IsWhole m → HasSoundClasses m → (deed : Deed) × (lines : List Line) × (new : Machine) × StepsBy m t deed lines new
 
--- Each thread has a step from each machine that is whole, and each step leads to such a machine, and gives out no number of a thread.
+-- Each thread has a step from each machine that is whole, and each step leads to such a machine.
 pub record StepsGoOn : Type 0 where
   pub there : StepsAreThere
-  pub whole : (m new : Machine) (t : ThreadNo) (deed : Deed) (lines : List Line) → IsWhole m → HasSoundClasses m → StepsBy m t deed lines new
-      → IsWhole new × HasSoundClasses new
-  pub next : (m new : Machine) (t : ThreadNo) (deed : Deed) (lines : List Line) → StepsBy m t deed lines new → new.next_thread ≡ m.next_thread
+  pub whole : StepsKeepWhole
 
 -- Where steps go on, so do turns and rounds.
 pub record TurnsAreThere : Type 0 where

@@ -1,2 +1,4 @@
 -- The derivations of the laws.
+pub mod CopiesMayBeMade
 pub mod HalvesTogether
+pub mod PassagesOfParts

@@ -33,7 +33,6 @@ use Rattle.jk_model.specs.declared.steps.Raise.{Raise}
 use Rattle.jk_model.specs.declared.steps.Raise.TheVariants as Raised
 use Rattle.jk_model.specs.declared.steps.Standing.TheVariants as Stands
 use Rattle.jk_model.specs.declared.values.Value.{Value}
-use Rattle.jk_model.specs.declared.values.Value.TheVariants as Held
 use Rattle.jk_model_domains.specs.Objects.{NamedObject}
 use Rattle.jk_model_machine_state.specs.Machines.{Machine, without_thread}
 use Rattle.jk_model_machine_state.specs.Places.{RunningSegment, without_top}

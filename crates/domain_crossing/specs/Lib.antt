@@ -1,3 +1,4 @@
 pub mod AskedOfCrossings
+pub mod CopiesAndPassages
 pub mod Crossings
 pub mod PrintedOfThreads

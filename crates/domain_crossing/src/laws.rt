@@ -1,5 +1,6 @@
-//! Laws of the halves of a crossing. The functions have no bodies: each stands for its clause.
+//! Laws of the halves of a crossing, and of copies in it. The functions have no bodies: each stands for its clause.
 
+ghost use Rattle.domain_crossing.specs.CopiesAndPassages.{AnswersArePassages, CopiesArePassages, CrossingsMayCopy};
 ghost use Rattle.domain_crossing.specs.Crossings.{HalvesMakeReturns, HalvesMakeThrows};
 
 /// A segment that is left by a return, and what is raised below after it, are together a case of `Returns`.
@@ -10,4 +11,19 @@ pub fn halves_make_returns()
 /// A segment that a throwable leaves, and what is raised below after it, are together a case of `Throws`.
 pub fn halves_make_throws()
     ensures { HalvesMakeThrows }
+{}
+
+/// Where a crossing may be made, known values of a live domain may be copied to another, or to itself.
+pub fn crossings_may_copy()
+    ensures { CrossingsMayCopy }
+{}
+
+/// The answers of a copy are the three ways in which a passage may go.
+pub fn answers_are_passages()
+    ensures { AnswersArePassages }
+{}
+
+/// What a copy makes is the passage.
+pub fn copies_are_passages()
+    ensures { CopiesArePassages }
 {}

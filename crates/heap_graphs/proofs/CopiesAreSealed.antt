@@ -1,15 +1,13 @@
 -- A domain that takes a copy is sealed with it: what it had stays, and each copied object has a class that the domain knows, as many fields, and
 -- values that fit.
-use Rattle.std.proofs.Common.{◌≡◌, ◌≢◌, ℕ, zero, suc, ◌+◌, ◌<◌, ◌≤◌, ◌==◌, ◌⊎◌, Bool, true, false, IsTrue, List, [], ◌∷◌, ◌++◌, length, slice_get, Contains, MatchBool, Option, Some, None, refl, sym, ap, subst, ◌∙◌, inl, inr, arith}
-use Rattle.std.specs.List.{AllByRecursion, AllZip}
+use Rattle.std.proofs.Common.{◌≡◌, ℕ, zero, suc, ◌+◌, ◌<◌, ◌==◌, ◌⊎◌, Bool, true, false, IsTrue, List, [], ◌∷◌, ◌++◌, length, slice_get, Contains, MatchBool, Option, Some, None, refl, sym, ap, subst, ◌∙◌, inl, inr, arith}
+use Rattle.std.specs.List.{AllByRecursion}
 use Rattle.std.specs.Option.{option_map_or}
 use Rattle.std.proofs.lemmas.Bool.{eqb-false, eqb-true}
 use Rattle.std.proofs.lemmas.List.Elements.{Contains-append_cases}
 use Rattle.std.proofs.lemmas.Option.{same_Some, slice_get_within}
 use Rattle.jk_model.specs.SystemTable.{SystemClass, system_classes}
 use Rattle.jk_model.specs.declared.identifiers.ClassId.{ClassId}
-use Rattle.jk_model.specs.declared.identifiers.MemberId.{MemberId}
-use Rattle.jk_model.specs.declared.steps.Standing.{Standing}
 use Rattle.jk_model.specs.declared.values.Value.{Value}
 use Rattle.jk_model.specs.declared.values.Value.TheVariants as Held
 use Rattle.jk_model_classes.specs.declared.records.BaseRef.{BaseRef}
@@ -17,22 +15,22 @@ use Rattle.jk_model_classes.specs.declared.records.BaseRef.TheVariants as Base
 use Rattle.jk_model_classes.specs.declared.records.ClassRecord.{ClassRecord}
 use Rattle.jk_model_classes.specs.declared.records.FieldRecord.{FieldRecord}
 use Rattle.jk_model_classes.specs.declared.records.TypeRef.{TypeRef}
-use Rattle.jk_model_classes.specs.Worlds.{IsNamed, NamedClass, class_named}
+use Rattle.jk_model_classes.specs.Worlds.{IsNamed, NamedClass}
 use Rattle.jk_model_typing.specs.declared.frames.VType.{VType}
 use Rattle.jk_model_typing.specs.declared.frames.VType.TheVariants as Typed
 use Rattle.jk_model_typing.specs.FrameTypes.{RefFits, STRING, value_of}
-use Rattle.jk_model_domains.specs.Objects.{NamedObject, Object, Array, Plain, Task, Text, CAPABILITY, TASK, class_type, object_named, type_of}
+use Rattle.jk_model_domains.specs.Objects.{NamedObject, Object, Array, Plain, Task, Text, CAPABILITY, class_type, object_named, type_of}
 use Rattle.jk_model_domains.specs.OwnStates.{zero_of}
 use Rattle.jk_model_domains.specs.ValueTypes.{HoldsDeclared}
-use Rattle.jk_model_graphs.specs.Copiable.{AreSharing, AreSharingBase, IsCopiable, is_marked_copiable}
-use Rattle.jk_model_graphs.specs.Copies.{ArePaired, Corresponds, EachCorresponds, FieldsCorrespond, IsCopied, IsCopy}
+use Rattle.jk_model_graphs.specs.Copiable.{AreSharingBase, IsCopiable}
+use Rattle.jk_model_graphs.specs.Copies.{Corresponds, EachCorresponds, FieldsCorrespond, IsCopied, IsCopy}
 use Rattle.jk_model_graphs.specs.Followed.{is_left_empty}
 use Rattle.jk_model_graphs.specs.Reach.{Graph, Reach}
 use Rattle.jk_model_heaps.specs.Capabilities.{CapRange}
 use Rattle.jk_model_heaps.specs.Heaps.{IsAlike, IsGrown, field_records, named}
-use Rattle.jk_model_heaps.specs.Workings.{Inside, with_heap}
+use Rattle.jk_model_heaps.specs.Workings.{with_heap}
 use Rattle.jk_model_heaps.proofs.NamesInHeaps.{by_first, in_front}
-use Rattle.jk_model_sealing.specs.SealedInsides.{HasFields, IsKnownValue, IsNamedBase, IsOfClass, IsSealedInside, IsSealedObject, Surroundings}
+use Rattle.jk_model_sealing.specs.SealedInsides.{IsKnownValue, IsNamedBase, IsSealedInside, IsSealedObject, Surroundings}
 use Rattle.class_lemmas.proofs.NamesOfTables.{means_named}
 use Rattle.list_lemmas.proofs.ItemsOfLists.{Contains-at, Contains-cases, Contains-none, place_of}
 use Rattle.heap_graphs.specs.CopiedGraphs.{CopyBetween}

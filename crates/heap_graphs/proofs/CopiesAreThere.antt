@@ -1,20 +1,19 @@
 -- Into any heap there is a copy of what is reached: each object has its copy under its own name and a number more, which is above all names of
 -- that heap.
-use Rattle.std.proofs.Common.{◌≡◌, ◌≢◌, ℕ, zero, suc, ◌+◌, ◌<◌, ◌≤◌, ◌==◌, ◌⊎◌, Bool, true, false, cond, List, [], ◌∷◌, ◌++◌, length, map, sum_by, slice_get, Contains, MatchBool, Option, Some, None, nat_eq, refl, sym, ap, subst, ◌∙◌, inl, inr, arith}
-use Rattle.std.specs.List.{AllZip, IsDistinct}
-use Rattle.std.specs.Option.{option_map, unwrap_or}
+use Rattle.std.proofs.Common.{◌≡◌, ℕ, suc, ◌+◌, ◌<◌, ◌≤◌, ◌==◌, Bool, true, false, cond, List, [], ◌∷◌, ◌++◌, length, map, sum_by, slice_get, Contains, MatchBool, Option, Some, None, nat_eq, refl, sym, ap, subst, ◌∙◌, inl, inr, arith}
+use Rattle.std.specs.List.{IsDistinct}
+use Rattle.std.specs.Option.{unwrap_or}
 use Rattle.std.proofs.lemmas.Bool.{eqb-false, eqb-true}
 use Rattle.std.proofs.lemmas.List.Sums.{sum_by-cons}
-use Rattle.std.proofs.lemmas.Option.{same_Some}
 use Rattle.jk_model.specs.declared.values.Value.{Value}
 use Rattle.jk_model.specs.declared.values.Value.TheVariants as Held
 use Rattle.jk_model_classes.specs.declared.records.ClassRecord.{ClassRecord}
 use Rattle.jk_model_classes.specs.declared.records.FieldRecord.{FieldRecord}
 use Rattle.jk_model_domains.specs.Objects.{NamedObject, Object, Array, Plain, Task, Text, object_named}
 use Rattle.jk_model_domains.specs.OwnStates.{zero_of}
-use Rattle.jk_model_graphs.specs.Copies.{ArePaired, Corresponds, EachCorresponds, FieldsCorrespond, IsCopied, IsCopy, IsOneToOne}
+use Rattle.jk_model_graphs.specs.Copies.{ArePaired, Corresponds, EachCorresponds, FieldsCorrespond, IsCopied, IsCopy}
 use Rattle.jk_model_graphs.specs.Followed.{followed, is_left_empty, kept_values}
-use Rattle.jk_model_graphs.specs.Reach.{Graph, IsReach, Reach, from_object, from_value}
+use Rattle.jk_model_graphs.specs.Reach.{Graph, IsReach, from_object, from_value}
 use Rattle.jk_model_heaps.specs.Heaps.{field_records, named}
 use Rattle.jk_model_heaps.proofs.NamesInHeaps.{by_first}
 use Rattle.list_lemmas.proofs.ItemsByPlace.{comes_from}

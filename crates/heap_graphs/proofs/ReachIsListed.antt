@@ -187,4 +187,5 @@ grow (suc left) classes g done s enough = elim (all_or_new (next_names classes g
 
 pub reach_is_there : (classes : List ClassRecord) (g : Graph) → (names : List ℕ) × IsReach classes g names
 unfolding IsDistinct
-reach_is_there classes g = grow (length (all_names classes g)) classes g [] (record { distinct = tt; reached = λ a h. absurd (Contains-none a h) }) (omega arith)
+reach_is_there classes g =
+    grow (length (all_names classes g)) classes g [] (record { distinct = tt; reached = λ a h. absurd (Contains-none a h) }) (omega arith)

@@ -1,15 +1,12 @@
 -- In a domain that is sealed each name that known values reach has its object, with a value for each field.
-use Rattle.std.proofs.Common.{◌≡◌, ℕ, zero, suc, ◌+◌, Bool, true, false, cond, List, [], ◌∷◌, length, slice_get, Contains, Option, Some, None, refl, subst, inl, inr, arith}
+use Rattle.std.proofs.Common.{◌≡◌, ℕ, suc, Bool, true, false, cond, List, [], ◌∷◌, slice_get, Contains, Some, refl, subst, inl, inr}
 use Rattle.std.specs.List.{AllByRecursion}
-use Rattle.jk_model.specs.declared.identifiers.ClassId.{ClassId}
 use Rattle.jk_model.specs.declared.values.Value.{Value}
 use Rattle.jk_model.specs.declared.values.Value.TheVariants as Held
-use Rattle.jk_model_classes.specs.declared.records.ClassRecord.{ClassRecord}
 use Rattle.jk_model_classes.specs.declared.records.FieldRecord.{FieldRecord}
 use Rattle.jk_model_domains.specs.Objects.{NamedObject, Object, Array, Plain, Task, Text, object_named}
 use Rattle.jk_model_graphs.specs.Followed.{followed, is_left_empty, kept_values}
-use Rattle.jk_model_graphs.specs.Reach.{Graph, LeadsTo, Reach, from_object, from_value}
-use Rattle.jk_model_heaps.specs.Capabilities.{CapRange}
+use Rattle.jk_model_graphs.specs.Reach.{Graph, Reach, from_object, from_value}
 use Rattle.jk_model_heaps.specs.Heaps.{field_records, named}
 use Rattle.jk_model_heaps.specs.Workings.{Inside}
 use Rattle.jk_model_sealing.specs.SealedInsides.{IsKnownValue, IsSealedInside, IsSealedObject, Surroundings}
@@ -45,7 +42,7 @@ kept_is_field (f ∷ fields) (w ∷ values) v h = kept_step (is_left_empty f) f 
 
 -- ---- What an object of a sealed domain leads to is there.
 
-led_is_known : (around : Surroundings) (heap : List NamedObject) (object : Object) (b : ℕ) → IsSealedObject around heap object
+pub led_is_known : (around : Surroundings) (heap : List NamedObject) (object : Object) (b : ℕ) → IsSealedObject around heap object
     → Contains (followed around.classes object) (Held.Obj b) → (other : Object) × (object_named heap b ≡ Some other)
 led_is_known around heap (Plain c values) b sealed led =
     let f = kept_is_field (field_records around.classes c) values (Held.Obj b) led in

@@ -1,6 +1,6 @@
 -- What a copy of a graph is to the domain that takes it: it is there, its values fit, it costs what its source costs, and the domain is as it
 -- must be after it.
-use Rattle.std.specs.Prelude.{◌≡◌, ℕ, ◌+◌, ◌<◌, ◌≤◌, ⊤, List, length, Contains, Some}
+use Rattle.std.specs.Prelude.{◌≡◌, ℕ, ◌+◌, ◌<◌, ◌≤◌, ⊤, List, length, Some}
 use Rattle.std.specs.List.{AllByRecursion}
 use Rattle.jk_model.specs.SystemTable.{system_classes}
 use Rattle.jk_model.specs.declared.identifiers.ClassId.{ClassId}
@@ -8,7 +8,7 @@ use Rattle.jk_model.specs.declared.values.Value.{Value}
 use Rattle.jk_model_classes.specs.declared.records.ClassRecord.{ClassRecord}
 use Rattle.jk_model_classes.specs.declared.records.TypeRef.{TypeRef}
 use Rattle.jk_model_classes.specs.Worlds.{IsNamed, NamedClass}
-use Rattle.jk_model_domains.specs.Objects.{NamedObject, Object, Array, Plain, Task, Text, object_named}
+use Rattle.jk_model_domains.specs.Objects.{NamedObject, Object, Plain, object_named}
 use Rattle.jk_model_domains.specs.ValueTypes.{HoldsDeclared}
 use Rattle.jk_model_graphs.specs.Copiable.{AllCopiable}
 use Rattle.jk_model_graphs.specs.Copies.{Corresponds, IsCopy}

@@ -1,10 +1,9 @@
 -- What the names that values reach are: a closed list has them all, they are there for any heap and values, and their costs have one sum.
-use Rattle.std.specs.Prelude.{◌≡◌, ◌≢◌, ℕ, ◌≤◌, List, map, sum_by, Contains, Some, nat_eq}
+use Rattle.std.specs.Prelude.{◌≡◌, ℕ, ◌≤◌, List, sum_by, Contains, nat_eq}
 use Rattle.std.specs.List.{IsDistinct}
 use Rattle.jk_model.specs.declared.values.Value.TheVariants as Held
 use Rattle.jk_model_classes.specs.declared.records.ClassRecord.{ClassRecord}
-use Rattle.jk_model_domains.specs.Objects.{NamedObject}
-use Rattle.jk_model_graphs.specs.Reach.{Graph, IsReach, LeadsTo, Reach, ReachCosts, words_named}
+use Rattle.jk_model_graphs.specs.Reach.{Graph, IsReach, LeadsTo, Reach, ReachCosts}
 use Rattle.jk_model_heaps.specs.Heaps.{heap_words}
 
 -- ---- Lists of different numbers.

@@ -1,2 +1,3 @@
 -- The derivations of the laws.
+pub mod NumbersOfEvents
 pub mod PagesOfEndedDomains

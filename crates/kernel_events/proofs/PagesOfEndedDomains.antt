@@ -5,7 +5,7 @@ use Rattle.std.proofs.lemmas.Option.{same_Some, slice_get-map}
 use Rattle.jk_model.specs.declared.identifiers.DomainId.{DomainId}
 use Rattle.jk_model.specs.declared.output.Line.{Line}
 use Rattle.jk_model_heaps.specs.Workings.{Inside}
-use Rattle.jk_model_machine_state.specs.Machines.{DomainState, Machine, is_live_domain, live_domain}
+use Rattle.jk_model_machine_state.specs.Machines.{DomainState, Machine, is_live_domain}
 use Rattle.jk_model_crossings.specs.DomainEnds.{Terminates, ended_domain}
 use Rattle.jk_model_openings.specs.PoolsOfMachines.{heap_pages_of, heap_pool, of_live, stack_pages_of, stack_pool}
 use Rattle.jk_model_runs.specs.Events.{Kills, kills, no_domain}
@@ -103,11 +103,12 @@ frees m new d lines numbered at ends = (
         ∙ kept_at part m.domains d.number e numbered (same_domain d.number e differ)
 
 pub kills_free_pages : (m new : Machine) (name : List ℕ) (lines : List Line) → IsSealed m → Kills m name lines new → FreesPages m name new
-kills_free_pages m new name lines sealed killed d is = by killed
+kills_free_pages m new name lines sealed killed d is = by lines new killed
   where
-    by : Kills m name lines new → GivesBack d.number (heap_pool m) (heap_pool new) × GivesBack d.number (stack_pool m) (stack_pool new)
-    by (no_domain none) = let never : None ≡ Some d = sym none ∙ is in absurd cc
-    by (kills e said end found ends) =
+    by : (said : List Line) (end : Machine) → Kills m name said end
+        → GivesBack d.number (heap_pool m) (heap_pool end) × GivesBack d.number (stack_pool m) (stack_pool end)
+    by said end (no_domain none) = let never : None ≡ Some d = sym none ∙ is in absurd cc
+    by said end (kills e more after found ends) =
         let one : e ≡ d = same_Some e d (sym found ∙ is) in
-        frees m new d lines sealed.domains.numbered (stands_at_number m.domains name d sealed.domains.numbered is)
-        (subst (λ (x : DomainState). Terminates m x lines new) one ends)
+        frees m after d more sealed.domains.numbered (stands_at_number m.domains name d sealed.domains.numbered is)
+        (subst (λ (x : DomainState). Terminates m x more after) one ends)

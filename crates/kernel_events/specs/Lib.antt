@@ -1,4 +1,5 @@
 pub mod FreedPages
 pub mod KernelCalls
 pub mod PrintedLines
+pub mod RisingNumbers
 pub mod StepsInTurn

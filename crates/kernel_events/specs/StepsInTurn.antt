@@ -5,7 +5,7 @@ use Rattle.jk_model.specs.declared.output.Line.{Line}
 use Rattle.jk_model_machine_state.specs.Machines.{Machine}
 use Rattle.jk_model_machine_state.specs.Places.{RunningSegment}
 use Rattle.jk_model_runs.specs.Confined.{Confined}
-use Rattle.jk_model_runs.specs.Events.{Goes, IsWhole, Move, Nothing, Rounds, Then, Turns}
+use Rattle.jk_model_runs.specs.Events.{Goes, IsWhole, Move, Nothing, Then, Turns}
 use Rattle.jk_model_runs.specs.Steps.{Deed, StepsBy}
 
 -- ---- One step, and what it may change: of a thread that isn't live nothing, and else what its deed says, outside of the domain in which its

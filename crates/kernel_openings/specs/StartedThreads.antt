@@ -6,7 +6,7 @@
 --   requires numbers     { (k.old.next_thread < 2 ^ 31) × (k.old.next_segment < 2 ^ 64 - 1) }
 --   ensures event        { Starts k.old (record { domain = name.now; class = class.now; words = words.now }) (told_of name.now result ∷ []) k.new }
 -- It has no answer for want of memory, and each rule S1 to S6 has its cause in `Starts`.
-use Rattle.std.specs.Prelude.{ℕ, ◌≤◌, ◌<◌, List, length}
+use Rattle.std.specs.Prelude.{ℕ, ◌≤◌, List, length}
 use Rattle.std.specs.List.{AllByRecursion}
 use Rattle.jk_model.specs.declared.output.Line.{Line}
 use Rattle.jk_model.specs.declared.output.Line.TheVariants as Says

@@ -14,7 +14,7 @@ use Rattle.jk_model_heaps.specs.Capabilities.{Capability}
 use Rattle.jk_model_heaps.specs.Heaps.{heap_words}
 use Rattle.jk_model_sharing.specs.Segments.{SharedSegment, SharedThread}
 use Rattle.jk_model_sharing.specs.SharedStates.{SharedDomain, SharedState, stub_for}
-use Rattle.jk_model_machine_state.specs.Machines.{Machine, chunks_used}
+use Rattle.jk_model_machine_state.specs.Machines.{chunks_used}
 use Rattle.jk_model_machine_state.specs.Places.{LiveDomain}
 use Rattle.frame_store.specs.FrameContents.{StoredSegment}
 use Rattle.machine_parts.specs.MachineParts.{MachineParts, frames_in, machine_of}

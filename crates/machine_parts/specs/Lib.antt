@@ -1,2 +1,4 @@
+pub mod ChangedParts
 pub mod FittingParts
 pub mod MachineParts
+pub mod SharedInMachines

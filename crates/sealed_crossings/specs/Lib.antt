@@ -1,1 +1,2 @@
+pub mod KeptWorlds
 pub mod SealedCrossings

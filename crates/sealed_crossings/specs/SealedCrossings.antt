@@ -1,6 +1,6 @@
 -- What crossings, requests and ends of domains keep: the machine is sealed after them, its calls are answered, and what changed outside of the
 -- domain that acts is what the step's deed says. Each is stated of definitions alone.
-use Rattle.std.specs.Prelude.{◌≡◌, ℕ, List, Option}
+use Rattle.std.specs.Prelude.{ℕ, List, Option}
 use Rattle.jk_model.specs.declared.identifiers.ThreadNo.{ThreadNo}
 use Rattle.jk_model.specs.declared.output.Line.{Line}
 use Rattle.jk_model.specs.declared.steps.Raise.{Raise}
@@ -19,7 +19,7 @@ use Rattle.jk_model_runs.specs.Events.{IsWhole, Kills}
 use Rattle.jk_model_runs.specs.Sealed.{IsSealed}
 use Rattle.jk_model_runs.specs.Steps.{Deed, StepsBy}
 use Rattle.crossing_premises.specs.CallsAndAnswers.{Awaits, IsTaken, IsThrown, MayBeAsked, MayBeRaised, StandsAtCall}
-use Rattle.crossing_premises.specs.SoundMachines.{AreOthersAnswered, HasSoundClasses, IsSealedAtCall, tables_of}
+use Rattle.crossing_premises.specs.SoundMachines.{AreOthersAnswered, HasSoundClasses, IsSealedAtCall}
 
 -- ---- Calls.
 
@@ -67,12 +67,9 @@ pub record EndsStaySealed : Type 0 where
 
 -- ---- A whole step.
 
-pub record StepsKeepWhole : Type 0 where
-  pub whole : (m new : Machine) (t : ThreadNo) (deed : Deed) (lines : List Line) → IsWhole m → HasSoundClasses m → StepsBy m t deed lines new
-      → IsWhole new
-  -- classes and names stay as they are, and so stay sound
-  pub classes : (m new : Machine) (t : ThreadNo) (deed : Deed) (lines : List Line) → StepsBy m t deed lines new
-      → (new.classes ≡ m.classes) × (tables_of new ≡ tables_of m)
+abbrev pub StepsKeepWhole : Type 0
+StepsKeepWhole =
+    (m new : Machine) (t : ThreadNo) (deed : Deed) (lines : List Line) → IsWhole m → HasSoundClasses m → StepsBy m t deed lines new → IsWhole new
 
 abbrev pub StepsAreConfined : Type 0
 StepsAreConfined =

@@ -1,0 +1,2 @@
+-- The derivations of the laws.
+pub mod DomainEnded

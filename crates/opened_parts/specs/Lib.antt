@@ -1,0 +1,2 @@
+pub mod OpenedParts
+pub mod PoolsOfParts

@@ -1,0 +1,2 @@
+pub mod RunningParts
+pub mod RunsChanged

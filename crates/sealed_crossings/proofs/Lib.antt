@@ -1,0 +1,3 @@
+-- The derivations of the laws.
+pub mod NumbersDrawn
+pub mod WorldsKept
