@@ -42,10 +42,12 @@ started_more d threads t =
     elim (cases_Bool (t.domain.0 == d.0)) [
       | inl hit ↦
           let last : length (filter of_it (t ∷ [])) ≡ 1 = rw hit refl in
-          rw hit (ap length (filter-append of_it threads (t ∷ [])) ∙ length-append (filter of_it threads) (filter of_it (t ∷ [])) ∙ ap (λ n. length (filter of_it threads) + n) last)
+          rw hit (ap length (filter-append of_it threads (t ∷ [])) ∙ length-append (filter of_it threads) (filter of_it (t ∷ [])) ∙ ap (λ n. length
+          (filter of_it threads) + n) last)
       | inr miss ↦
           let last : length (filter of_it (t ∷ [])) ≡ 0 = rw miss refl in
-          rw miss (ap length (filter-append of_it threads (t ∷ [])) ∙ length-append (filter of_it threads) (filter of_it (t ∷ [])) ∙ ap (λ n. length (filter of_it threads) + n) last)
+          rw miss (ap length (filter-append of_it threads (t ∷ [])) ∙ length-append (filter of_it threads) (filter of_it (t ∷ [])) ∙ ap (λ n. length
+          (filter of_it threads) + n) last)
     ]
 
 pub started_with_stacks : (change : List SharedSegment → List SharedSegment) (d : DomainId) (threads : List SharedThread)
@@ -89,7 +91,8 @@ spare_le (x ∷ es) zero e at =
     omega (arith, same, sum_by-cons spare x es)
 spare_le (x ∷ es) (suc i) e at = omega (arith, spare_le es i e at, sum_by-cons spare x es)
 
-spare_set : (es : List DomainEntry) (i : ℕ) (e new : DomainEntry) → slice_get es i ≡ Some e → sum_by spare (set es i new) + spare e ≡ sum_by spare es + spare new
+spare_set : (es : List DomainEntry) (i : ℕ) (e new : DomainEntry) → slice_get es i ≡ Some e
+    → sum_by spare (set es i new) + spare e ≡ sum_by spare es + spare new
 spare_set es i e new at =
     let low = slice_get_within es i e at in
     let here : spare (get_or es i e) ≡ spare e = ap spare (get_or_from_slice_get es i e e at) in

@@ -18,7 +18,8 @@ found n i k (x ∷ es) [] e r at_e at_r is = absurd cc
 found n zero k (x ∷ es) (y ∷ rs) e r at_e at_r is =
     let same : n ≡ k = omega (arith, is) in
     let hit : n == k ≡ true = eq-eqb n k same in
-    rw hit (ap (λ m. Some (domain_with m x y)) same ∙ ap (λ z. Some (domain_with k z y)) (same_Some x e at_e) ∙ ap (λ z. Some (domain_with k e z)) (same_Some y r at_r))
+    rw hit (ap (λ m. Some (domain_with m x y)) same ∙ ap (λ z. Some (domain_with k z y)) (same_Some x e at_e) ∙ ap (λ z. Some (domain_with k e z))
+    (same_Some y r at_r))
 found n (suc i) k (x ∷ es) (y ∷ rs) e r at_e at_r is =
     let miss : n == k ≡ false = ne_eqb n k (λ same. omega (arith, is, same)) in
     rw miss (found (suc n) i k es rs e r at_e at_r (omega (arith, is)))
@@ -87,7 +88,8 @@ module _ (change : SharedDomain → SharedDomain) (k : ℕ) where
       let same : n ≡ k = omega (arith, is) in
       let hit : n == k ≡ true = eq-eqb n k same in
       let here : change (domain_with n x y) ≡ domain_with n new y =
-      ap (λ m. change (domain_with m x y)) same ∙ ap (λ z. change (domain_with k z y)) (same_Some x e at) ∙ becomes y ∙ ap (λ m. domain_with m new y) (sym same) in
+      ap (λ m. change (domain_with m x y)) same ∙ ap (λ z. change (domain_with k z y)) (same_Some x e at) ∙ becomes y ∙ ap (λ m. domain_with m new y)
+      (sym same) in
       rw (hit, here, ← past_changed (suc n) es rs (omega (arith, same))) refl
   changed_at n (suc i) (x ∷ es) (y ∷ rs) e new at is becomes =
       let miss : n == k ≡ false = ne_eqb n k (λ same. omega (arith, is, same)) in

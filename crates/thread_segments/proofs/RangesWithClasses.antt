@@ -114,7 +114,8 @@ pub record HasClass (classes : List ClassId) (caps : List CapRange) (k : CapId) 
   pub high : k.0 ≤ length classes
   pub is : option_map (λ (c : OwnedCapability). c.capability.class) (capability_numbered caps k) ≡ Some (class_at classes k.0)
 
-within_of : (n k : ℕ) (ranges : List Range) (r : Range) → AllByRecursion (IsWithinClasses n) ranges → find (low.has_number k) ranges ≡ Some r → IsWithinClasses n r
+within_of : (n k : ℕ) (ranges : List Range) (r : Range) → AllByRecursion (IsWithinClasses n) ranges → find (low.has_number k) ranges ≡ Some r
+    → IsWithinClasses n r
 within_of n k [] r h e = absurd cc
 within_of n k (x ∷ ranges) r h e =
     elim (cases_Bool (low.has_number k x)) [

@@ -83,7 +83,8 @@ module _ {S : Type 0} (lists : List (List Stub)) (stubs : List Stub) where
       let xs = stubs_in lists ++ take n stubs in
       let next : m ≡ suc n = omega (arith, more) in
       let longer : stubs_in lists ++ take m stubs ≡ xs ++ s ∷ [] =
-      ap (λ k. stubs_in lists ++ take k stubs) next ∙ ap (λ ys. stubs_in lists ++ ys) (take_next stubs n s at) ∙ sym (append_assoc (stubs_in lists) (take n stubs) (s ∷ [])) in
+      ap (λ k. stubs_in lists ++ take k stubs) next ∙ ap (λ ys. stubs_in lists ++ ys) (take_next stubs n s at) ∙ sym (append_assoc (stubs_in lists)
+      (take n stubs) (s ∷ [])) in
       rw longer
       (elim (cases_eq c s.class.0) [
         | inl same ↦

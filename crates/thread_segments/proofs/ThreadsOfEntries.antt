@@ -217,7 +217,8 @@ module _ (n : SegmentNo) where
 -- ---- What an entry that was read tells.
 
 -- the entry that was read at the place stands there
-pub stands_read : (test : ThreadEntry → Bool) (es : List ThreadEntry) (i : ℕ) (e : ThreadEntry) → IsOnlyAt test es i → e ≡ get_or es i e → slice_get es i ≡ Some e
+pub stands_read : (test : ThreadEntry → Bool) (es : List ThreadEntry) (i : ℕ) (e : ThreadEntry) → IsOnlyAt test es i → e ≡ get_or es i e
+    → slice_get es i ≡ Some e
 stands_read test es i e h read = item_read es i e (only_within test es i h) read
 
 -- the entry is that of a live thread
@@ -319,7 +320,8 @@ threads_of-push (e ∷ es) new live =
 
 -- ---- Marks are dropped.
 
-live_first : (e : ThreadEntry) (es : List ThreadEntry) (b : Bool) → e.live ≡ b → threads_of (e ∷ es) ≡ (if b then thread_of e ∷ threads_of es else threads_of es)
+live_first : (e : ThreadEntry) (es : List ThreadEntry) (b : Bool) → e.live ≡ b
+    → threads_of (e ∷ es) ≡ (if b then thread_of e ∷ threads_of es else threads_of es)
 live_first e es b is = ap (λ x. if x then thread_of e ∷ threads_of es else threads_of es) is
 
 pub threads_of-filter : (es : List ThreadEntry) → threads_of (filter is_live es) ≡ threads_of es

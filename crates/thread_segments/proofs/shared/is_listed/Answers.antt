@@ -11,5 +11,7 @@ pub returns : goal.returns
 returns c =
     let xs = c.args.interfaces.now in
     let found = c.binary_search_by.ensures.position (λ (x : ClassId). nat_cmp x.0 c.args.interface.0) (always_returns_same _ _ _ (λ a r f h. search rules)) in
-    let place = says_place class_key xs c.args.interface.0 c.binary_search_by.result (λ i j x y p q lt. c.requires i j x y lt p q) c.binary_search_by.ensures.bound found in
+    let place =
+    says_place class_key xs c.args.interface.0 c.binary_search_by.result (λ i j x y p q lt. c.requires i j x y lt p q)
+    c.binary_search_by.ensures.bound found in
     rw c.is_ok.ensures.value (says_listed xs c.args.interface c.binary_search_by.result place)

@@ -15,18 +15,21 @@ overflow_mul-live c =
 pub returns-then-len-live-clause-threads : goal.returns-then-len-live-clause-threads
 returns-then-len-live-clause-threads c =
     let es = c.args.entries.now.items in
-    let kept : c.retain.new.self.items ≡ filter is_live es = filter_same _ is_live _ (λ x b g h. search rules) es c.retain.new.self.items c.retain.ensures.filtered in
+    let kept : c.retain.new.self.items ≡ filter is_live es =
+    filter_same _ is_live _ (λ x b g h. search rules) es c.retain.new.self.items c.retain.ensures.filtered in
     rw kept (threads_of-filter es)
 
 pub returns-then-len-live-clause-order : goal.returns-then-len-live-clause-order
 returns-then-len-live-clause-order c =
     let es = c.args.entries.now.items in
-    let kept : c.retain.new.self.items ≡ filter is_live es = filter_same _ is_live _ (λ x b g h. search rules) es c.retain.new.self.items c.retain.ensures.filtered in
+    let kept : c.retain.new.self.items ≡ filter is_live es =
+    filter_same _ is_live _ (λ x b g h. search rules) es c.retain.new.self.items c.retain.ensures.filtered in
     let P : List ThreadEntry → Type 0 = λ xs. KeepsOrder es xs in
     subst P (sym kept) (order_filter es)
 
 pub returns-then-len-live-clause-marks : goal.returns-then-len-live-clause-marks
 returns-then-len-live-clause-marks c =
     let es = c.args.entries.now.items in
-    let kept : c.retain.new.self.items ≡ filter is_live es = filter_same _ is_live _ (λ x b g h. search rules) es c.retain.new.self.items c.retain.ensures.filtered in
+    let kept : c.retain.new.self.items ≡ filter is_live es =
+    filter_same _ is_live _ (λ x b g h. search rules) es c.retain.new.self.items c.retain.ensures.filtered in
     omega (arith, ap length kept, length-filter_live es, c.requires)

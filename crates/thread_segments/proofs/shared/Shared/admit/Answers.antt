@@ -14,7 +14,12 @@ returns-then-q-numbers_left-clause-numbers c =
     let s = c.self.inside in
     let P : SharedState → Type 0 = λ x. LacksNumbers (caps_of x) c.args.q.now.caps in
     subst P c.self.view_is
-    (lacks_here s.domains.items s.caps s.stubs.stubs s.threads c.self.invariant c.args.q.now.caps (omega (arith, c.numbers_left.ensures.left, c.numbers_left.ensures.few, c.if-q-numbers_left.true)))
+    (lacks_here s.domains.items s.caps s.stubs.stubs s.threads c.self.invariant c.args.q.now.caps (omega (
+      arith,
+      c.numbers_left.ensures.left,
+      c.numbers_left.ensures.few,
+      c.if-q-numbers_left.true,
+    )))
 
 pub returns-in_err-reserve-clause-only_numbers : goal.returns-in_err-reserve-clause-only_numbers
 returns-in_err-reserve-clause-only_numbers c =
@@ -60,7 +65,10 @@ pub admit-requires : goal.admit-requires
 admit-requires c =
     let s = c.self.inside in
     let P : SharedState → Type 0 = λ x. IsNext x c.args.d in
-    record { new = no_range s.domains.items s.caps s.stubs.stubs s.threads c.self.invariant c.args.d (next_is s.domains.items s.caps s.stubs.stubs s.threads c.self.invariant c.args.d (subst P (sym c.self.view_is) c.requires.next)) }
+    record {
+      new = no_range s.domains.items s.caps s.stubs.stubs s.threads c.self.invariant c.args.d (next_is s.domains.items s.caps s.stubs.stubs
+          s.threads c.self.invariant c.args.d (subst P (sym c.self.view_is) c.requires.next));
+    }
 
 pub invariant_of-self-2 : goal.invariant_of-self-2
 invariant_of-self-2 c =

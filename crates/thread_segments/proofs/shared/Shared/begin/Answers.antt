@@ -19,7 +19,9 @@ begin-t-requires-clause-room c =
     let P : SharedState → Type 0 = λ x. IsLiveDomain x c.args.d in
     let a = live_at s.domains.items s.caps s.stubs.stubs s.threads c.self.invariant c.args.d (subst P (sym c.self.view_is) c.requires.live) in
     let Q : SharedState → Type 0 = λ x. MayBegin x c.args.d in
-    let few = started_few s.domains.items s.caps s.stubs.stubs s.threads c.self.invariant c.args.d a (subst Q (sym c.self.view_is) (c.may_begin.ensures.0 (search rules))) in
+    let few =
+    started_few s.domains.items s.caps s.stubs.stubs s.threads c.self.invariant c.args.d a (subst Q (sym c.self.view_is) (c.may_begin.ensures.0
+    (search rules))) in
     room_for_one s.domains.items s.caps s.threads c.args.d.0 a.entry c.self.invariant a.there few
 
 pub index_mut-entry-requires : goal.index_mut-entry-requires
@@ -35,7 +37,9 @@ overflow_add-entry c =
     let P : SharedState → Type 0 = λ x. IsLiveDomain x c.args.d in
     let a = live_at s.domains.items s.caps s.stubs.stubs s.threads c.self.invariant c.args.d (subst P (sym c.self.view_is) c.requires.live) in
     let Q : SharedState → Type 0 = λ x. MayBegin x c.args.d in
-    let few = started_few s.domains.items s.caps s.stubs.stubs s.threads c.self.invariant c.args.d a (subst Q (sym c.self.view_is) (c.may_begin.ensures.0 (search rules))) in
+    let few =
+    started_few s.domains.items s.caps s.stubs.stubs s.threads c.self.invariant c.args.d a (subst Q (sym c.self.view_is) (c.may_begin.ensures.0
+    (search rules))) in
     let read = c.index_mut-entry.ensures.value ∙ get_or_from_slice_get s.domains.items c.args.d.0 a.entry c.index_mut-entry.result.now a.there in
     let small = few_started s.domains.items s.caps s.threads c.args.d.0 a.entry c.self.invariant a.there few in
     let same = ap (λ (e : DomainEntry). e.threads) read in
@@ -48,7 +52,9 @@ invariant_of-self c =
     let P : SharedState → Type 0 = λ x. IsLiveDomain x c.args.d in
     let a = live_at s.domains.items s.caps s.stubs.stubs s.threads c.self.invariant c.args.d (subst P (sym c.self.view_is) c.requires.live) in
     let Q : SharedState → Type 0 = λ x. MayBegin x c.args.d in
-    let few = started_few s.domains.items s.caps s.stubs.stubs s.threads c.self.invariant c.args.d a (subst Q (sym c.self.view_is) (c.may_begin.ensures.0 (search rules))) in
+    let few =
+    started_few s.domains.items s.caps s.stubs.stubs s.threads c.self.invariant c.args.d a (subst Q (sym c.self.view_is) (c.may_begin.ensures.0
+    (search rules))) in
     let read = c.index_mut-entry.ensures.value ∙ get_or_from_slice_get s.domains.items c.args.d.0 a.entry c.index_mut-entry.result.now a.there in
     recounted s.domains.items s.caps s.threads c.begin-t.new.self c.args.d.0 a.entry _ c.self.invariant
     (recounts_begun s.domains.items s.caps s.threads c.begin-t.new.self c.args.d.0 a.entry _ _ c.self.invariant a.there few

@@ -25,7 +25,8 @@ overflow_sub-entry c =
     let low : c.pop-started.result.0 < length s.domains.items =
     omega (arith, home_of _ s.threads.threads c.args.t live.0 c.self.invariant.homes live.1, ap (λ d. d.0) home) in
     let at = item_read s.domains.items c.pop-started.result.0 c.index_mut-entry.result.now low c.index_mut-entry.ensures.value in
-    some_started s.domains.items s.caps s.threads c.pop-started.new.self c.pop-started.result.0 c.index_mut-entry.result.now c.self.invariant at c.pop-started.ensures.counted
+    some_started s.domains.items s.caps s.threads c.pop-started.new.self c.pop-started.result.0 c.index_mut-entry.result.now c.self.invariant at
+    c.pop-started.ensures.counted
 
 pub invariant_of-self : goal.invariant_of-self
 invariant_of-self c =
@@ -37,7 +38,8 @@ invariant_of-self c =
     omega (arith, home_of _ s.threads.threads c.args.t live.0 c.self.invariant.homes live.1, ap (λ d. d.0) home) in
     let e = c.index_mut-entry.result.now in
     let at = item_read s.domains.items c.pop-started.result.0 e low c.index_mut-entry.ensures.value in
-    let some = some_started s.domains.items s.caps s.threads c.pop-started.new.self c.pop-started.result.0 e c.self.invariant at c.pop-started.ensures.counted in
+    let some =
+    some_started s.domains.items s.caps s.threads c.pop-started.new.self c.pop-started.result.0 e c.self.invariant at c.pop-started.ensures.counted in
     let threads = ap (λ (t : ThreadList). t.threads) c.pop-started.ensures.popped in
     recounted s.domains.items s.caps s.threads c.pop-started.new.self c.pop-started.result.0 e _ c.self.invariant
     (recounts_ended s.domains.items s.caps s.threads c.pop-started.new.self c.pop-started.result.0 e _ c.self.invariant at some refl

@@ -12,7 +12,8 @@ invariant_of-self c =
     let room = subst P (sym c.self.view_is) c.requires.room in
     rw c.push_reserved.ensures.items (
       order_push t.entries.items _ t.next_thread t.next_segment _ _ c.self.invariant.0 refl (ap (λ s. s.number.0) c.new_entry-segment.ensures) refl refl,
-      room_push t.entries.items _ t.live _ t.most _ _ c.self.invariant.1 (omega (arith, c.self.invariant.1.counted, room)) refl refl c.push_reserved.ensures.capacity,
+      room_push t.entries.items _ t.live _ t.most _ _ c.self.invariant.1 (omega (arith, c.self.invariant.1.counted, room)) refl refl
+          c.push_reserved.ensures.capacity,
     )
 
 pub returns-clause-begun : goal.returns-clause-begun
