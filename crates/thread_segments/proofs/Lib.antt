@@ -1,0 +1,11 @@
+-- Lemmas on what domains share.
+pub mod CountsAreKept
+pub mod DomainsByNumber
+pub mod InterfacesShown
+pub mod ItemsByKey
+pub mod NextLive
+pub mod OrderIsKept
+pub mod RangesWithClasses
+pub mod StatesByPart
+pub mod StubsByClass
+pub mod ThreadsOfEntries

@@ -1,0 +1,172 @@
+-- The shared state as its parts have it, and what the calls make of it.
+use Rattle.std.proofs.Common.{◌≡◌, ◌≢◌, ℕ, suc, ◌-◌, ◌<◌, IsTrue, List, [], ◌∷◌, ◌++◌, length, nat_lt, set, find, Option, Some, None, slice_get, refl, sym, ap, subst, ◌∙◌, arith}
+use Rattle.std.specs.Prelude.{◌==◌, option_and_then, option_map}
+use Rattle.std.proofs.lemmas.Bool.{lt-ltb, ltb-true}
+use Rattle.std.proofs.lemmas.Option.{same_Some, slice_get_within}
+use Rattle.jk_model.specs.Capabilities.{last_number}
+use Rattle.jk_model.specs.declared.identifiers.CapId.{CapId}
+use Rattle.jk_model.specs.declared.identifiers.ClassId.{ClassId}
+use Rattle.jk_model.specs.declared.identifiers.DomainId.{DomainId}
+use Rattle.jk_model.specs.declared.identifiers.ThreadNo.{ThreadNo}
+use Rattle.jk_model.specs.declared.script.Quotas.{Quotas}
+use Rattle.jk_model_classes.specs.declared.sharing.Stub.{Stub}
+use Rattle.jk_model_heaps.specs.Capabilities.{CapRange, OwnedCapability, capability_numbered}
+use Rattle.jk_model_sharing.specs.CapabilityCalls.{LacksNumbers, count_numbers, first_range, status_of}
+use Rattle.jk_model_sharing.specs.Segments.{live_threads, new_segment, with_stack, without_top}
+use Rattle.jk_model_sharing.specs.SharedStates.{MayBegin, SharedDomain, SharedState, admitted, begun, caps_of, domain_numbered, popped, spent, stub_for, stub_of}
+use Rattle.thread_segments.specs.Asked.{IsAdmitted, IsLiveDomain, IsNext, MaySpend}
+use Rattle.thread_segments.specs.Answers.{count_numbers_left, known_status, quotas_of, steps_left_of}
+use Rattle.thread_segments.specs.declared.domains.DomainEntry.{DomainEntry}
+use Rattle.thread_segments.specs.DomainEntries.{AreCounted, domain_with, domains_with}
+use Rattle.thread_segments.specs.ThreadEntries.{ThreadList}
+use Rattle.thread_segments.proofs.ItemsByKey.{found_none}
+use Rattle.thread_segments.proofs.DomainsByNumber.{changed_at, domains_with-push, length-domains_with, ranges_of-domains_with, same_domains, stands_at}
+
+abbrev pub state_of : List DomainEntry → List CapRange → List Stub → ThreadList → SharedState
+state_of es rs stubs t = record {
+  domains = domains_with 0 es rs;
+  names = [];
+  threads = t.threads;
+  next_thread = t.next_thread;
+  next_segment = t.next_segment;
+  stubs = stubs;
+}
+
+module _ (es : List DomainEntry) (rs : List CapRange) (stubs : List Stub) (t : ThreadList) (h : AreCounted es rs t) where
+  abbrev here : SharedState
+  here = state_of es rs stubs t
+
+  pub caps_are : caps_of here ≡ rs
+  caps_are = ranges_of-domains_with 0 es rs h.as_many
+
+  pub next_is : (d : DomainId) → IsNext here d → d.0 ≡ length es
+  next_is d next = next ∙ length-domains_with 0 es rs h.as_many
+
+  -- the entry of a domain, and its range
+  pub record Admitted (d : DomainId) : Type 0 where
+    pub entry : DomainEntry
+    pub range : CapRange
+    pub there : slice_get es d.0 ≡ Some entry
+    pub is : domain_numbered here d ≡ Some (domain_with d.0 entry range)
+
+  pub admitted_at : (d : DomainId) → IsAdmitted here d → Admitted d
+  admitted_at d (e, at) =
+      let s = stands_at 0 d.0 es rs e at in
+      let P : ℕ → Type 0 = λ k. slice_get es k ≡ Some s.entry in
+      record {
+        entry = s.entry;
+        range = s.range;
+        there = subst P (omega (arith, s.is_place)) s.has_entry;
+        is = at ∙ ap Some s.is;
+      }
+
+  pub live_at : (d : DomainId) → IsLiveDomain here d → Admitted d
+  live_at d (e, at, live) = admitted_at d (e, at)
+
+  pub low_of : (d : DomainId) (a : Admitted d) → d.0 < length es
+  low_of d a = slice_get_within es d.0 a.entry a.there
+
+  pub quotas_are : (d : DomainId) (a : Admitted d) → Some a.entry.quotas ≡ quotas_of here d
+  quotas_are d a = rw a.is refl
+
+  pub steps_are : (d : DomainId) (a : Admitted d) → a.entry.steps_left ≡ steps_left_of here d
+  steps_are d a = rw a.is refl
+
+  pub may_spend : (d : DomainId) (a : Admitted d) → MaySpend here d → a.entry.steps_left ≢ Some 0
+  may_spend d a may = may (domain_with d.0 a.entry a.range) a.is
+
+  -- ---- Threads that may begin.
+
+  pub may_begin : (d : DomainId) (a : Admitted d) → a.entry.threads < a.entry.quotas.threads → MayBegin here d
+  may_begin d a few = (domain_with d.0 a.entry a.range, a.is, rw (← h.started d.0 a.entry a.there) few)
+
+  pub started_few : (d : DomainId) (a : Admitted d) → MayBegin here d → a.entry.threads < a.entry.quotas.threads
+  started_few d a (e, is, few) =
+      let same : domain_with d.0 a.entry a.range ≡ e = same_Some (domain_with d.0 a.entry a.range) e (sym a.is ∙ is) in
+      let quota : a.entry.quotas.threads ≡ e.quotas.threads = ap (λ (x : SharedDomain). x.quotas.threads) same in
+      omega (arith, h.started d.0 a.entry a.there, few, quota)
+
+  pub may_begin_told : (d : DomainId) (a : Admitted d) (e : DomainEntry) → e ≡ a.entry
+      → (IsTrue (nat_lt e.threads e.quotas.threads) → MayBegin here d) × (MayBegin here d → IsTrue (nat_lt e.threads e.quotas.threads))
+  may_begin_told d a e is =
+      let threads : e.threads ≡ a.entry.threads = ap (λ (x : DomainEntry). x.threads) is in
+      let quota : e.quotas.threads ≡ a.entry.quotas.threads = ap (λ (x : DomainEntry). x.quotas.threads) is in (
+        λ hit. may_begin d a (let low : e.threads < e.quotas.threads = ltb-true e.threads e.quotas.threads hit in omega (arith, low, threads, quota)),
+        λ may. lt-ltb e.threads e.quotas.threads (let low = started_few d a may in omega (arith, low, threads, quota)),
+      )
+
+  -- ---- What the calls make of the state.
+
+  pub begun_is : (d : DomainId) (a : Admitted d) (more : DomainEntry) (new : ThreadList) → more.quotas ≡ a.entry.quotas → more.steps_left ≡ a.entry.steps_left
+      → new ≡ record t {
+        threads = t.threads ++ record {
+          number = record { 0 = t.next_thread };
+          domain = d;
+          segments = new_segment (record { 0 = t.next_segment }) d ∷ [];
+        } ∷ [];
+        next_thread = suc t.next_thread;
+        next_segment = suc t.next_segment;
+      }
+      → state_of (set es d.0 more) rs stubs new ≡ begun d here
+  begun_is d a more new quotas steps is = rw (is, same_domains 0 d.0 es rs a.entry more a.there quotas steps) refl
+
+  pub popped_is : (thread : ThreadNo) (i : ℕ) (e less : DomainEntry) (new : ThreadList) → slice_get es i ≡ Some e → less.quotas ≡ e.quotas
+      → less.steps_left ≡ e.steps_left → new ≡ record t { threads = live_threads (with_stack thread without_top t.threads) }
+      → state_of (set es i less) rs stubs new ≡ popped thread here
+  popped_is thread i e less new at quotas steps is = rw (is, same_domains 0 i es rs e less at quotas steps) refl
+
+  pub admitted_is : (d : DomainId) (q : Quotas) (more : List Stub) (e : DomainEntry) → d.0 ≡ length es → e.quotas ≡ q → e.steps_left ≡ q.steps
+      → admitted d q more here
+      ≡ record here { domains = domains_with 0 (es ++ e ∷ []) (rs ++ first_range rs d q.caps ∷ []); stubs = stubs ++ more }
+  admitted_is d q more e next quotas steps =
+      let push = domains_with-push 0 d.0 es rs e (first_range rs d q.caps) h.as_many (omega (arith, next)) in
+      rw (push, caps_are, quotas, steps) refl
+
+  pub spent_is : (d : DomainId) (a : Admitted d) (new : DomainEntry) → new.quotas ≡ a.entry.quotas
+      → new.steps_left ≡ option_map (λ (n : ℕ). n - 1) a.entry.steps_left
+      → record here { domains = domains_with 0 (set es d.0 new) rs } ≡ spent d here
+  spent_is d a new quotas steps =
+      let change : SharedDomain → SharedDomain = λ e. record e { steps_left = option_map (λ (n : ℕ). n - 1) e.steps_left } in
+      ap (λ (ds : List SharedDomain). record here { domains = ds })
+      (changed_at change d.0 0 d.0 es rs a.entry new a.there (omega arith) (λ r. rw (quotas, steps) refl))
+
+  pub domains_stay : (d : DomainId) (a : Admitted d) (new : DomainEntry) → new.quotas ≡ a.entry.quotas → new.steps_left ≡ a.entry.steps_left
+      → domains_with 0 (set es d.0 new) rs ≡ domains_with 0 es rs
+  domains_stay d a new quotas steps = same_domains 0 d.0 es rs a.entry new a.there quotas steps
+
+  -- ---- Capabilities.
+
+  -- the next domain has no range yet
+  pub no_range : (d : DomainId) → d.0 ≡ length es → find (λ (r : CapRange). r.owner.0 == d.0) rs ≡ None
+  no_range d next =
+      found_none (λ (r : CapRange). r.owner.0) rs d.0
+      (λ j r at same. omega (arith, h.owners j r at, same, slice_get_within rs j r at, h.as_many, next))
+
+  pub lacks_here : (count : ℕ) → LacksNumbers rs count → LacksNumbers (caps_of here) count
+  lacks_here count lacks = rw caps_are lacks
+
+  pub here_lacks : (count : ℕ) → LacksNumbers (caps_of here) count → LacksNumbers rs count
+  here_lacks count lacks = subst (λ (xs : List CapRange). LacksNumbers xs count) caps_are lacks
+
+  stub_from : (class : ClassId) (o : Option OwnedCapability) → Some class ≡ option_map (λ (c : OwnedCapability). c.capability.class) o
+      → stub_for here class ≡ option_and_then (λ (c : OwnedCapability). stub_for here c.capability.class) o
+  stub_from class None e = absurd cc
+  stub_from class (Some c) e = ap (stub_for here) (same_Some class c.capability.class e)
+
+  pub stub_some : (k : CapId) (class : ClassId) → Some class ≡ option_map (λ (c : OwnedCapability). c.capability.class) (capability_numbered rs k)
+      → stub_for here class ≡ stub_of here k
+  stub_some k class e = rw caps_are (stub_from class (capability_numbered rs k) e)
+
+  no_stub_from : (o : Option OwnedCapability) → None ≡ option_map (λ (c : OwnedCapability). c.capability.class) o
+      → None ≡ option_and_then (λ (c : OwnedCapability). stub_for here c.capability.class) o
+  no_stub_from None e = refl
+  no_stub_from (Some c) e = absurd cc
+
+  pub stub_none : (k : CapId) → None ≡ option_map (λ (c : OwnedCapability). c.capability.class) (capability_numbered rs k) → None ≡ stub_of here k
+  stub_none k e = rw caps_are (no_stub_from (capability_numbered rs k) e)
+
+  pub status_here : (k : CapId) → option_map status_of (capability_numbered rs k) ≡ known_status here k
+  status_here k = rw caps_are refl
+
+  pub numbers_here : last_number - count_numbers rs ≡ count_numbers_left here
+  numbers_here = rw caps_are refl

@@ -1,0 +1,14 @@
+-- The search goes by the numbers of the segments, which rise.
+use Rattle.std.proofs.Common.{rules}
+use Rattle.std.specs.Ordering.{nat_cmp}
+use Rattle.std.proofs.lemmas.Fn.{always_returns_same}
+use Rattle.thread_segments.specs.declared.threads.ThreadEntry.{ThreadEntry}
+use Rattle.thread_segments.specs.ThreadEntries.{segment_key}
+use Rattle.thread_segments.proofs.ItemsByKey.{says_place}
+use Rattle.thread_segments.proofs.threads.place_of_segment.Goals as goal
+
+pub returns : goal.returns
+returns c =
+    let found =
+    c.binary_search_by.ensures.position (λ (e : ThreadEntry). nat_cmp e.segment.number c.args.s.0) (always_returns_same _ _ _ (λ a r f h. search rules)) in
+    rw c.ok.ensures.value (says_place segment_key c.args.entries.now c.args.s.0 c.binary_search_by.result c.requires c.binary_search_by.ensures.bound found)

@@ -1,0 +1,121 @@
+-- What the calls answer, and the state that those which may be refused leave.
+use Rattle.std.specs.Prelude.{◌≡◌, ℕ, ◌-◌, ◌<◌, ◌≤◌, List, [], Contains, Option, Some, None, option_and_then, option_map, Result, Err}
+use Rattle.jk_model.specs.Capabilities.{last_number}
+use Rattle.jk_model.specs.declared.capabilities.CapStatus.{CapStatus}
+use Rattle.jk_model.specs.declared.identifiers.CapId.{CapId}
+use Rattle.jk_model.specs.declared.identifiers.ClassId.{ClassId}
+use Rattle.jk_model.specs.declared.identifiers.DomainId.{DomainId}
+use Rattle.jk_model.specs.declared.identifiers.SegmentNo.{SegmentNo}
+use Rattle.jk_model.specs.declared.identifiers.ThreadNo.{ThreadNo}
+use Rattle.jk_model.specs.declared.script.Quotas.{Quotas}
+use Rattle.jk_model.specs.declared.steps.Raise.{Raise}
+use Rattle.jk_model.specs.declared.steps.Raise.TheVariants.{Fresh}
+use Rattle.jk_model_classes.specs.declared.sharing.Stub.{Stub}
+use Rattle.jk_model_heaps.specs.Capabilities.{CapRange, capability_numbered}
+use Rattle.jk_model_heaps.specs.SystemClasses.{ILLEGAL_ARGUMENT_EXCEPTION}
+use Rattle.jk_model_sharing.specs.BoundNames.{Binds, BoundName, Unbinds}
+use Rattle.jk_model_sharing.specs.CapabilityCalls.{Creates, Revokes, count_numbers, status_of}
+use Rattle.jk_model_sharing.specs.Segments.{PlacedSegment, SharedSegment, SharedThread, segment_below, segment_numbered, segments_left, shared_form, top_segment}
+use Rattle.jk_model_sharing.specs.SharedStates.{MayBegin, SharedDomain, SharedState, begun, caps_of, domain_numbered, stub_for, with_caps}
+use Rattle.thread_segments.specs.declared.segments.SegmentInfo.{SegmentInfo}
+
+-- ---- Domains.
+
+abbrev pub quotas_of : SharedState → DomainId → Option Quotas
+quotas_of s d = option_map (λ (e : SharedDomain). e.quotas) (domain_numbered s d)
+
+-- none where the domain has no budget
+abbrev pub steps_left_of : SharedState → DomainId → Option ℕ
+steps_left_of s d = option_and_then (λ (e : SharedDomain). e.steps_left) (domain_numbered s d)
+
+-- how many numbers of capabilities are in no range yet
+abbrev pub count_numbers_left : SharedState → ℕ
+count_numbers_left s = last_number - count_numbers (caps_of s)
+
+-- ---- Segments.
+
+abbrev pub number_of : SharedSegment → SegmentNo
+number_of s = s.number
+
+-- the number of a thread's top segment; none of a thread that isn't live
+abbrev pub top_number : SharedState → ThreadNo → Option SegmentNo
+top_number s t = option_map number_of (top_segment s.threads t)
+
+-- the number of the segment directly below one; none below a lowest one
+abbrev pub number_below : SharedState → SegmentNo → Option SegmentNo
+number_below s n = option_map number_of (segment_below s.threads n)
+
+abbrev pub info_of : PlacedSegment → SegmentInfo
+info_of p = record {
+  thread = p.thread.number;
+  domain = p.segment.domain;
+  suspended = p.segment.suspended;
+  stop = p.segment.stop;
+  revoked = p.segment.revoked;
+  orphan = p.segment.orphan;
+}
+
+-- what is known of a segment; nothing where it isn't there
+abbrev pub segment_info : SharedState → SegmentNo → Option SegmentInfo
+segment_info s n = option_map info_of (segment_numbered s.threads n)
+
+-- ---- Threads.
+
+-- A thread begins, unless as many live ones were started in the domain as its quota allows: then all is as before.
+pub data Begins (s : SharedState) (d : DomainId) : Option ThreadNo → SharedState → Type 0 where
+  refused : (MayBegin s d → ⊥) → Begins s d None s
+  begins : MayBegin s d → Begins s d (Some (record { 0 = s.next_thread })) (begun d s)
+
+-- the least number above for which this holds; none where there is no such number
+abbrev pub IsLeastAbove : (ℕ → Type 0) → ℕ → Option ℕ → Type 0
+IsLeastAbove P above None = (t : ℕ) → P t → t ≤ above
+IsLeastAbove P above (Some t) = P t × (above < t) × ((other : ℕ) → P other → above < other → t ≤ other)
+
+-- a live thread has this number
+abbrev pub IsLiveNumber : List SharedThread → ℕ → Type 0
+IsLiveNumber threads t = (e : SharedThread) × Contains threads e × (e.number.0 ≡ t)
+
+-- a live thread has this number, and the end of the domain leaves nothing of it
+abbrev pub EndsWith : List SharedThread → DomainId → ℕ → Type 0
+EndsWith threads d t =
+    (e : SharedThread) × Contains threads e × (e.number.0 ≡ t) × (segments_left shared_form d e.segments ≡ [])
+
+abbrev pub thread_number : ThreadNo → ℕ
+thread_number t = t.0
+
+-- ---- Capabilities.
+
+-- what is known of a capability; nothing where it wasn't given out
+abbrev pub known_status : SharedState → CapId → Option CapStatus
+known_status s k = option_map status_of (capability_numbered (caps_of s) k)
+
+-- A domain creates a capability at an object of a class, which must have a stub.
+pub data CreatesFor (s : SharedState) (d : DomainId) (class : ClassId) (target : ℕ) : Result CapId Raise → SharedState → Type 0 where
+  no_stub : stub_for s class ≡ None → CreatesFor s d class target (Err (Fresh ILLEGAL_ARGUMENT_EXCEPTION)) s
+  has_stub : (stub : Stub) (e : SharedDomain) (answer : Result CapId Raise) (range : CapRange) → stub_for s class ≡ Some stub
+      → domain_numbered s d ≡ Some e → Creates e.caps class target answer range
+      → CreatesFor s d class target answer (with_caps d range s)
+
+-- A domain revokes a capability.
+pub record RevokesFor (s : SharedState) (d : DomainId) (k : CapId) (answer : Result (Unit {0}) Raise) (new : SharedState) : Type 0 where
+  pub domain : SharedDomain
+  pub is_domain : domain_numbered s d ≡ Some domain
+  pub range : CapRange
+  pub revokes : Revokes domain.caps k answer range
+  pub becomes : new ≡ with_caps d range s
+
+-- ---- Names.
+
+-- A domain binds a name as asked.
+pub record BindsFor (s : SharedState) (asked : BoundName) (answer : Result (Unit {0}) Raise) (new : SharedState) : Type 0 where
+  pub domain : SharedDomain
+  pub is_domain : domain_numbered s asked.binder ≡ Some domain
+  pub names : List BoundName
+  pub binds : Binds s.names domain.quotas.names asked answer names
+  pub becomes : new ≡ record s { names = names }
+
+-- A domain removes a name.
+pub record UnbindsFor (s : SharedState) (d : DomainId) (text : List ℕ) (answer : Result (Unit {0}) Raise) (new : SharedState) : Type 0 where
+  pub names : List BoundName
+  pub unbinds : Unbinds s.names d text answer names
+  pub becomes : new ≡ record s { names = names }

@@ -1,0 +1,37 @@
+-- Capabilities as a table and a list keep them: the table has all but the classes of the targets, and these stand in a list by the numbers.
+use Rattle.std.specs.Prelude.{◌≡◌, ℕ, suc, ◌+◌, ◌-◌, ◌≤◌, List, [], ◌∷◌, length, map, slice_index_or}
+use Rattle.std.specs.List.{AllByRecursion}
+use Rattle.jk_model.specs.Capabilities.{Creation, Range, last_number, numbers}
+use Rattle.jk_model.specs.declared.identifiers.ClassId.{ClassId}
+use Rattle.jk_model_heaps.specs.Capabilities.{CapRange, Capability}
+
+-- what stands where no capability has the number
+abbrev pub no_class : ClassId
+no_class = record { 0 = 0 }
+
+-- the class of the target of the capability of a number
+abbrev pub class_at : List ClassId → ℕ → ClassId
+class_at classes n = slice_index_or classes (n - 1) no_class
+
+-- the capabilities from this number on
+abbrev pub made_with : List ClassId → ℕ → List Creation → List Capability
+made_with classes n [] = []
+made_with classes n (c ∷ made) = record { target = c.target; class = class_at classes n; revoked = c.revoked } ∷ made_with classes (suc n) made
+
+abbrev pub range_with : List ClassId → Range → CapRange
+range_with classes r = record { owner = r.owner; first = r.first; count = r.count; made = made_with classes r.first r.made }
+
+abbrev pub ranges_with : List ClassId → List Range → List CapRange
+ranges_with classes ranges = map (range_with classes) ranges
+
+-- the numbers of a range have places in a list of so many classes, and no more are given out than it has
+pub record IsWithinClasses (count : ℕ) (r : Range) : Type 0 where
+  pub low : 1 ≤ r.first
+  pub high : r.first + r.count ≤ 1 + count
+  pub made : length r.made ≤ r.count
+
+-- there is a class for each number
+pub record AreClassed (classes : List ClassId) (ranges : List Range) : Type 0 where
+  pub as_many : length classes ≡ numbers ranges
+  pub few : length classes ≤ last_number
+  pub each : AllByRecursion (IsWithinClasses (length classes)) ranges

@@ -1,0 +1,31 @@
+-- Domains as a list of entries and the list of their ranges of capabilities keep them. None has ended so far.
+use Rattle.std.specs.Prelude.{◌≡◌, ℕ, suc, ◌+◌, ◌-◌, ◌<◌, ◌≤◌, true, List, [], ◌∷◌, length, sum_by, Some, slice_get}
+use Rattle.std.specs.List.{AllByRecursion}
+use Rattle.jk_model_heaps.specs.Capabilities.{CapRange}
+use Rattle.jk_model_sharing.specs.Segments.{SharedThread, count_started_in}
+use Rattle.jk_model_sharing.specs.SharedStates.{SharedDomain}
+use Rattle.thread_segments.specs.declared.domains.DomainEntry.{DomainEntry}
+use Rattle.thread_segments.specs.ThreadEntries.{ThreadList}
+
+abbrev pub domain_with : ℕ → DomainEntry → CapRange → SharedDomain
+domain_with n e r = record { number = record { 0 = n }; live = true; quotas = e.quotas; steps_left = e.steps_left; caps = r }
+
+-- the domains from this number on
+abbrev pub domains_with : ℕ → List DomainEntry → List CapRange → List SharedDomain
+domains_with n [] ranges = []
+domains_with n (e ∷ entries) [] = []
+domains_with n (e ∷ entries) (r ∷ ranges) = domain_with n e r ∷ domains_with (suc n) entries ranges
+
+-- how many more threads may be started
+abbrev pub spare : DomainEntry → ℕ
+spare e = e.quotas.threads - e.threads
+
+pub record AreCounted (entries : List DomainEntry) (ranges : List CapRange) (t : ThreadList) : Type 0 where
+  pub as_many : length ranges ≡ length entries
+  pub owners : (i : ℕ) (r : CapRange) → slice_get ranges i ≡ Some r → r.owner.0 ≡ i
+  pub started : (i : ℕ) (e : DomainEntry) → slice_get entries i ≡ Some e → e.threads ≡ count_started_in t.threads (record { 0 = i })
+  pub within : (i : ℕ) (e : DomainEntry) → slice_get entries i ≡ Some e → e.threads ≤ e.quotas.threads
+  pub small : (i : ℕ) (e : DomainEntry) → slice_get entries i ≡ Some e → e.quotas.threads ≤ 4096
+  pub homes : AllByRecursion (λ (thread : SharedThread). thread.domain.0 < length entries) t.threads
+  -- there is room for all threads that may be started
+  pub room : length t.threads + sum_by spare entries ≤ t.most

@@ -1,0 +1,11 @@
+-- What the contracts and the invariants of thread_segments say.
+pub mod Answers
+pub mod Asked
+pub mod ClassedRanges
+pub mod DomainEntries
+pub mod KnownStubs
+pub mod Places
+pub mod SoundStates
+pub mod StateParts
+pub mod StubPlaces
+pub mod ThreadEntries

@@ -1,0 +1,108 @@
+//! The capabilities, each with the class that its target had when it was created.
+
+ghost use Rattle.std.specs.Prelude.{◌≡◌, ℕ, ◌+◌, ◌-◌, ◌<◌, ◌≤◌, ◌==◌, ◌++◌, ◌∷◌, [], None, Err, OnOk, OnErr, find, length, option_map, replicate, vec_len, vec_capacity};
+ghost use Rattle.jk_model.specs.Capabilities.{last_number};
+ghost use Rattle.jk_model_heaps.specs.Capabilities.{CapRange, OwnedCapability, capability_numbered};
+ghost use Rattle.jk_model_sharing.specs.CapabilityCalls.{LacksNumbers, count_numbers, first_range, status_of};
+ghost use Rattle.thread_segments.specs.ClassedRanges.{no_class};
+
+use capability_table::{CapabilityTable, CapsError};
+use jk_model::{CapId, CapStatus, ClassId, DomainId, OutOfMemory};
+use std::alloc::Global;
+use std::marker::Model;
+
+/// All ranges of numbers together have at most so many.
+const MOST_NUMBERS: u32 = 16_777_215;
+
+/// The class that stands for a capability that isn't made yet.
+const NO_CLASS: ClassId = ClassId(0);
+
+/// The capabilities of all domains, in ranges of numbers.
+#[derive(Drop)]
+pub(crate) struct Capabilities {
+    table: CapabilityTable,
+    /// The class of each capability's target by its number, the first being 1.
+    classes: Vec<ClassId>,
+}
+
+impl Model for Capabilities {
+    ghost use Rattle.std.specs.Prelude.{List};
+    ghost use Rattle.jk_model_heaps.specs.Capabilities.{CapRange};
+    ghost use Rattle.thread_segments.specs.ClassedRanges.{AreClassed, ranges_with};
+
+    ghost Value = { List CapRange };
+
+    ghost view = { λ c. ranges_with c.classes.items c.table };
+
+    ghost invariant = { λ c. AreClassed c.classes.items c.table };
+}
+
+impl Capabilities {
+    /// No ranges.
+    pub(crate) fn new(alloc: Global) -> Capabilities
+        ensures { result ≡ [] }
+    {
+        Capabilities {
+            table: CapabilityTable::new(alloc),
+            classes: Vec::new(alloc),
+        }
+    }
+
+    /// How many numbers are in no range yet.
+    pub(crate) fn numbers_left(&self) -> u32
+        ensures left { result ≡ last_number - count_numbers self.now }
+        ensures few { count_numbers self.now ≤ last_number }
+    {
+        MOST_NUMBERS - self.classes.len() as u32
+    }
+
+    /// Gives a domain that has none a range of so many numbers, directly behind the others. It takes all memory for them. After an
+    /// error all is as before.
+    pub(crate) fn admit(&mut self, owner: DomainId, count: u32) -> Result<(), CapsError>
+        requires new { find (λ (r : CapRange). r.owner.0 == owner.0) self.old ≡ None }
+        ensures ok { OnOk result (self.new ≡ self.old ++ first_range self.old owner count ∷ []) }
+        ensures err { OnErr result (self.new ≡ self.old) }
+        ensures numbers { result ≡ Err CapsError.Numbers → LacksNumbers self.old count }
+    {
+        reserve(&mut self.classes, count)?;
+        self.table.admit(owner, count)?;
+        fill(&mut self.classes, count);
+        Ok(())
+    }
+
+    /// What is known of a capability. None exactly where it wasn't given out.
+    pub(crate) fn status(&self, k: CapId) -> Option<CapStatus>
+        ensures { result ≡ option_map status_of (capability_numbered self.now k) }
+    {
+        self.table.status(k)
+    }
+
+    /// The class that a capability's target had. None exactly where it wasn't given out.
+    pub(crate) fn class_of(&self, k: CapId) -> Option<ClassId>
+        ensures { result ≡ option_map (λ (c : OwnedCapability). c.capability.class) (capability_numbered self.now k) }
+    {
+        match self.table.status(k) {
+            Some(_) => Some(self.classes[k.0 as usize - 1]),
+            None => None,
+        }
+    }
+}
+
+/// Makes room for so many more classes.
+fn reserve(classes: &mut Vec<ClassId>, count: u32) -> Result<(), OutOfMemory>
+    ensures same { classes.new.items ≡ classes.old.items }
+    ensures room { OnOk result (vec_len classes.new + count ≤ vec_capacity classes.new) }
+{
+    classes.reserve(count as usize)?;
+    Ok(())
+}
+
+/// Puts so many places for classes behind the others.
+fn fill(classes: &mut Vec<ClassId>, count: u32)
+    requires { vec_len classes.old + count ≤ vec_capacity classes.old }
+    ensures { classes.new.items ≡ classes.old.items ++ replicate count no_class }
+{
+    for _ in 0..count {
+        classes.push_reserved(NO_CLASS);
+    }
+}

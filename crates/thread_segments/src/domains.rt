@@ -1,0 +1,13 @@
+//! What is counted of each domain.
+
+use jk_model::Quotas;
+
+/// A domain that was admitted.
+#[derive(Drop)]
+pub(crate) struct DomainEntry {
+    pub(crate) quotas: Quotas,
+    /// How many steps it may still take; none where it has no budget.
+    pub(crate) steps_left: Option<u32>,
+    /// How many live threads were started in it.
+    pub(crate) threads: u32,
+}

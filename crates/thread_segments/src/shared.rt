@@ -1,0 +1,341 @@
+//! What domains share, and how a domain gets its part of it.
+
+ghost use Rattle.std.specs.Prelude.{◌≡◌, ◌≢◌, ◌⊎◌, ◌-◌, ◌↔◌, ◌<◌, Contains, MatchOption, false, None, IsTrue, IsSome, Err, OnOk, OnErr, IfOk, Some, option_copied, option_map, vec_capacity, vec_len};
+ghost use Rattle.jk_model.specs.declared.identifiers.ClassId.{ClassId as Class};
+ghost use Rattle.jk_model_classes.specs.declared.records.BaseRef.TheVariants as Base;
+ghost use Rattle.jk_model_classes.specs.declared.sharing.Stub.{Stub as AStub};
+ghost use Rattle.jk_model_heaps.specs.Capabilities.{CapabilityIsA, IsGivenOut};
+ghost use Rattle.jk_model_sharing.specs.CapabilityCalls.{LacksNumbers};
+ghost use Rattle.jk_model_sharing.specs.Segments.{with_revoked, with_stop};
+ghost use Rattle.jk_model_sharing.specs.SharedStates.{MayBegin, Resumes, Stops, Suspends, admitted, caps_of, first_state, popped, spent, stub_of, with_flags};
+ghost use Rattle.thread_segments.specs.Answers.{Begins, IsLeastAbove, IsLiveNumber, count_numbers_left, known_status, number_below, quotas_of, segment_info, steps_left_of, top_number};
+ghost use Rattle.thread_segments.specs.Asked.{AreWithin, HasRoomForSegment, IsAdmitted, IsLiveDomain, IsLiveThread, IsNext, IsThere, MayDrawSegment, MayDrawThread, MaySpend};
+ghost use Rattle.thread_segments.specs.KnownStubs.{AreRising, AreStubs, known_capabilities};
+
+use crate::capabilities::Capabilities;
+use crate::domains::DomainEntry;
+use crate::segments::SegmentInfo;
+use crate::stub_index::StubIndex;
+use crate::threads::Threads;
+use capability_table::CapsError;
+use domain_resolver::World;
+use jk_model::{
+    CapId, CapStatus, ClassId, DomainId, List, OutOfMemory, Quotas, SegmentNo, ThreadNo,
+};
+use jk_model_classes::{BaseRef, Stub, TypeRef};
+use std::alloc::Global;
+use std::marker::Model;
+
+/// java/lang/Object.
+const OBJECT: ClassId = ClassId(0);
+
+/// jk/Remote.
+const REMOTE: ClassId = ClassId(10);
+
+/// jk/Capability.
+const CAPABILITY: ClassId = ClassId(11);
+
+/// The threads and their segments, the capabilities with their stubs, the repository, and what is counted of each domain. The
+/// memory for all that a domain may have is taken when it is admitted, and no other call takes any.
+#[derive(Drop)]
+pub struct Shared {
+    domains: Vec<DomainEntry>,
+    caps: Capabilities,
+    stubs: StubIndex,
+    threads: Threads,
+}
+
+impl Model for Shared {
+    ghost use Rattle.std.specs.Prelude.{[]};
+    ghost use Rattle.jk_model_sharing.specs.SharedStates.{SharedState};
+    ghost use Rattle.thread_segments.specs.DomainEntries.{AreCounted, domains_with};
+
+    ghost Value = { SharedState };
+
+    ghost view = { λ s. record {
+      domains = domains_with 0 s.domains.items s.caps;
+      names = [];
+      threads = s.threads.threads;
+      next_thread = s.threads.next_thread;
+      next_segment = s.threads.next_segment;
+      stubs = s.stubs.stubs;
+    } };
+
+    ghost invariant = { λ s. AreCounted s.domains.items s.caps s.threads };
+}
+
+impl Shared {
+    /// No domains, threads, capabilities and names. The first thread and the first segment will have the number 1.
+    pub fn new(alloc: Global) -> Result<Shared, OutOfMemory>
+        ensures { IfOk result (λ s. s ≡ first_state) }
+    {
+        let domains = Vec::new(alloc);
+        let caps = Capabilities::new(alloc);
+        let stubs = StubIndex::new(alloc);
+        let threads = Threads::new(alloc);
+        Ok(Shared {
+            domains,
+            caps,
+            stubs,
+            threads,
+        })
+    }
+
+    /// Admits the next domain, with the stubs of its folder's classes. `Numbers` comes exactly where the ranges of capability
+    /// numbers would together pass 16,777,215. It takes the memory for all that the domain may have, in time in proportion to its
+    /// capabilities and stubs, and on average to its other quotas. After an error all is as before.
+    pub fn admit(&mut self, d: DomainId, q: &Quotas, stubs: List<Stub>) -> Result<(), CapsError>
+        requires next { IsNext self.old d }
+        requires quotas { AreWithin q.now }
+        ensures ok { OnOk result (self.new ≡ admitted d q.now stubs self.old) }
+        ensures as_before { OnErr result (self.new ≡ self.old) }
+        ensures numbers { result ≡ Err CapsError.Numbers → LacksNumbers (caps_of self.old) q.now.caps }
+        ensures only_numbers { LacksNumbers (caps_of self.old) q.now.caps → result ≡ Err CapsError.Numbers }
+    {
+        if q.caps > self.caps.numbers_left() {
+            return Err(CapsError::Numbers);
+        }
+        reserve(&mut self.domains)?;
+        self.stubs.reserve(stubs.len())?;
+        self.threads.reserve(q.threads)?;
+        self.caps.admit(d, q.caps)?;
+        self.stubs.add(stubs);
+        self.domains.push_reserved(DomainEntry {
+            quotas: *q,
+            steps_left: q.steps,
+            threads: 0,
+        });
+        Ok(())
+    }
+
+    /// How many numbers of capabilities are in no range yet.
+    pub fn numbers_left(&self) -> u32
+        ensures { result ≡ count_numbers_left self.now }
+    {
+        self.caps.numbers_left()
+    }
+
+    /// The quotas of a domain that was admitted.
+    pub fn quotas(&self, d: DomainId) -> &Quotas
+        requires { IsAdmitted self.now d }
+        ensures { Some result.now ≡ quotas_of self.now d }
+    {
+        let entry = &self.domains[d.0 as usize];
+        &entry.quotas
+    }
+
+    /// How many steps a live domain may still take. None exactly where it has no budget.
+    pub fn steps_left(&self, d: DomainId) -> Option<u32>
+        requires { IsLiveDomain self.now d }
+        ensures { result ≡ steps_left_of self.now d }
+    {
+        let entry = &self.domains[d.0 as usize];
+        entry.steps_left
+    }
+
+    /// Counts a step of a live domain. Where it has a budget, that isn't 0; where it has none, nothing changes.
+    pub fn spend_step(&mut self, d: DomainId)
+        requires live { IsLiveDomain self.old d }
+        requires budget { MaySpend self.old d }
+        ensures { self.new ≡ spent d self.old }
+    {
+        let entry = &mut self.domains[d.0 as usize];
+        entry.steps_left = one_less(entry.steps_left);
+    }
+
+    /// Whether a live domain may begin a thread: fewer live ones were started in it than its quota allows.
+    pub fn may_begin(&self, d: DomainId) -> bool
+        requires { IsLiveDomain self.now d }
+        ensures { IsTrue result ↔ MayBegin self.now d }
+    {
+        let entry = &self.domains[d.0 as usize];
+        entry.threads < entry.quotas.threads
+    }
+
+    /// Begins a thread in a live domain that has fewer segments than chunks, with one segment. None, with all as before, exactly
+    /// where it may not begin one. Threads and segments take the next numbers, which rise by one.
+    pub fn begin(&mut self, d: DomainId) -> Option<ThreadNo>
+        requires live { IsLiveDomain self.old d }
+        requires room { HasRoomForSegment self.old d }
+        requires thread { MayDrawThread self.old }
+        requires segment { MayDrawSegment self.old }
+        ensures { Begins self.old d result self.new }
+    {
+        if !self.may_begin(d) {
+            return None;
+        }
+        let t = self.threads.begin(d);
+        let entry = &mut self.domains[d.0 as usize];
+        entry.threads += 1;
+        Some(t)
+    }
+
+    /// Takes the top segment off a live thread. A thread that has none left has ended.
+    pub fn pop(&mut self, t: ThreadNo)
+        requires { IsLiveThread self.old t }
+        ensures { self.new ≡ popped t self.old }
+    {
+        let started = self.threads.pop(t);
+        let entry = &mut self.domains[started.0 as usize];
+        entry.threads -= 1;
+    }
+
+    /// The top segment of a thread. None exactly where the thread isn't live.
+    pub fn top(&self, t: ThreadNo) -> Option<SegmentNo>
+        ensures { result ≡ top_number self.now t }
+    {
+        self.threads.top(t)
+    }
+
+    /// The segment directly below another. None exactly below a lowest one.
+    pub fn below(&self, s: SegmentNo) -> Option<SegmentNo>
+        requires { IsThere self.now s }
+        ensures { result ≡ number_below self.now s }
+    {
+        self.threads.below(s)
+    }
+
+    /// The least number of a live thread above. None exactly where there is none.
+    pub fn next_live(&self, above: u32) -> Option<u32>
+        ensures { IsLeastAbove (IsLiveNumber self.now.threads) above result }
+    {
+        self.threads.next_live(above)
+    }
+
+    /// What is known of a segment. None exactly where it isn't there.
+    pub fn segment(&self, s: SegmentNo) -> Option<SegmentInfo>
+        ensures { result ≡ segment_info self.now s }
+    {
+        self.threads.segment(s)
+    }
+
+    /// Sets or clears that RevokedException is pending in a segment that is there.
+    pub fn set_revoked(&mut self, s: SegmentNo, on: bool)
+        requires { IsThere self.old s }
+        ensures { self.new ≡ with_flags s (with_revoked on) self.old }
+    {
+        self.threads.set_revoked(s, on);
+    }
+
+    /// Clears that ThreadDeath is pending in a segment that is there.
+    pub fn clear_stop(&mut self, s: SegmentNo)
+        requires { IsThere self.old s }
+        ensures { self.new ≡ with_flags s (with_stop false) self.old }
+    {
+        self.threads.set_stop(s, false);
+    }
+
+    /// Lets a segment rest while it is on top. Nothing changes where it isn't there.
+    pub fn suspend(&mut self, s: SegmentNo)
+        ensures { Suspends self.old s self.new }
+    {
+        self.threads.set_suspended(s, true);
+    }
+
+    /// Lets a segment rest no longer. Nothing changes where it isn't there.
+    pub fn resume(&mut self, s: SegmentNo)
+        ensures { Resumes self.old s self.new }
+    {
+        self.threads.set_suspended(s, false);
+    }
+
+    /// Lets ThreadDeath be pending in a segment. Nothing changes where it isn't there.
+    pub fn stop(&mut self, s: SegmentNo)
+        ensures { Stops self.old s self.new }
+    {
+        self.threads.set_stop(s, true);
+    }
+
+    /// What is known of a capability. None exactly where it wasn't given out.
+    pub fn status(&self, k: CapId) -> Option<CapStatus>
+        ensures { result ≡ known_status self.now k }
+    {
+        self.caps.status(k)
+    }
+
+    /// The stub with which a capability was made. None exactly where it wasn't given out.
+    pub fn stub(&self, k: CapId) -> Option<&Stub>
+        ensures { option_copied result ≡ stub_of self.now k }
+    {
+        match self.caps.class_of(k) {
+            Some(class) => self.stubs.find(class),
+            None => None,
+        }
+    }
+
+    /// Whether a capability that was given out is an instance of a type: of java/lang/Object, jk/Capability, jk/Remote or one of
+    /// its stub's interfaces. An interface of the stub has those above it in the stub too, so no class is asked.
+    pub fn is_instance(&self, w: &World, k: CapId, t: &TypeRef) -> bool
+        requires given { IsGivenOut (caps_of self.now) k }
+        requires stub { IsSome (stub_of self.now k) }
+        requires stubs { AreStubs w.now.classes self.now.stubs }
+        ensures { IsTrue result ↔ CapabilityIsA w.now.classes (known_capabilities self.now) k t.now }
+    {
+        match class_of(t) {
+            Some(c) => is_any_capability(c) || self.shows(k, c),
+            None => false,
+        }
+    }
+
+    /// Whether an interface is one of those of a capability's stub.
+    fn shows(&self, k: CapId, interface: ClassId) -> bool
+        requires { (stub : AStub) → stub_of self.now k ≡ Some stub → AreRising stub.interfaces }
+        ensures { (stub : AStub) → stub_of self.now k ≡ Some stub → (IsTrue result ↔ Contains stub.interfaces (record { 0 = interface.0 })) }
+    {
+        match self.stub(k) {
+            Some(stub) => is_listed(stub.interfaces.as_slice(), interface),
+            None => false,
+        }
+    }
+}
+
+/// One fewer, where there is a number.
+fn one_less(left: Option<u32>) -> Option<u32>
+    requires { left ≢ Some 0 }
+    ensures { result ≡ option_map (λ n. n - 1) left }
+{
+    match left {
+        Some(n) => Some(n - 1),
+        None => None,
+    }
+}
+
+/// The class that a type is; none where it is an array, or a kind of numbers.
+fn class_of(t: &TypeRef) -> Option<ClassId>
+    ensures { MatchOption result ((c : Class) → t.now ≡ record { dims = 0; base = Base.Class c } → ⊥)
+        (λ c. t.now ≡ record { dims = 0; base = Base.Class c }) }
+{
+    if t.dims != 0 {
+        return None;
+    }
+    match t.base {
+        BaseRef::Class(c) => Some(c),
+        _ => None,
+    }
+}
+
+/// Whether each capability is an instance of a class.
+fn is_any_capability(c: ClassId) -> bool
+    ensures { IsTrue result ↔ ((c ≡ OBJECT) ⊎ (c ≡ CAPABILITY) ⊎ (c ≡ REMOTE)) }
+{
+    c == OBJECT || c == CAPABILITY || c == REMOTE
+}
+
+/// Makes room for one more domain.
+fn reserve(domains: &mut Vec<DomainEntry>) -> Result<(), OutOfMemory>
+    ensures same { domains.new.items ≡ domains.old.items }
+    ensures room { OnOk result (vec_len domains.new < vec_capacity domains.new) }
+{
+    domains.reserve(1)?;
+    Ok(())
+}
+
+/// Whether an interface is one of these, which rise by number.
+fn is_listed(interfaces: &[ClassId], interface: ClassId) -> bool
+    requires { AreRising interfaces.now }
+    ensures { IsTrue result ↔ Contains interfaces.now interface }
+{
+    interfaces
+        .binary_search_by(|c| c.0.cmp(&interface.0))
+        .is_ok()
+}
