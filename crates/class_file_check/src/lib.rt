@@ -1,25 +1,13 @@
-//! Tests of the crates that read, write and judge class files by themselves: bytes and tables of cases by hand, with what the Java
-//! Virtual Machine Specification and the rules of `docs/RULES.md` say of each. The crate has tests alone, so that none of those
-//! crates is proved a second time for its tests.
+//! Tests of the crates that read, write and judge class files by themselves: tables of questions with what the Java Virtual Machine
+//! Specification and the rules of `docs/` say of each. The tables are texts, which cost no proof. Which rule of a class a file
+//! breaks first is asked by the stored run of `class_check`.
 #![tactic(auto)]
 
 #[cfg(test)]
-mod asm_reader_tests;
+mod answers;
 #[cfg(test)]
-mod byte_fields_tests;
+mod byte_rows;
 #[cfg(test)]
-mod class_reader_tests;
+mod tables;
 #[cfg(test)]
-mod class_rules_tests;
-#[cfg(test)]
-mod class_writer_tests;
-#[cfg(test)]
-mod const_pool_tests;
-#[cfg(test)]
-mod descriptors_tests;
-#[cfg(test)]
-mod jk_opcodes_tests;
-#[cfg(test)]
-mod jkasm_tests;
-#[cfg(test)]
-mod unit_text_tests;
+mod text_rows;

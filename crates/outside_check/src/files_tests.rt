@@ -62,71 +62,6 @@ fn tells_a_tree(rt: HostRuntime) -> Result<(), Fail> {
     Ok(())
 }
 
-#[test]
-fn tells_folders_of_folders(rt: HostRuntime) -> Result<(), Fail> {
-    let mut files = MemoryFiles::new(rt.alloc());
-    add(&rt, &mut files, "a/b/c/d", b"");
-    add(&rt, &mut files, "a/b/e", b"");
-    add(&rt, &mut files, "a/.f/g", b"");
-    let top = list(&mut files, "a", 2)?;
-    assert_eq!(rt; top.len(), 2);
-    expect_entry(&rt, &top, 0, b"b", true);
-    expect_entry(&rt, &top, 1, b".f", true);
-    let middle = list(&mut files, "a/b", 2)?;
-    assert_eq!(rt; middle.len(), 2);
-    expect_entry(&rt, &middle, 0, b"c", true);
-    expect_entry(&rt, &middle, 1, b"e", false);
-    expect_entry(&rt, &list(&mut files, "a/b/c", 1)?, 0, b"d", false);
-    assert!(rt; matches!(list(&mut files, "a/b/e", 1), Err(FilesError::Absent)));
-    assert!(rt; matches!(list(&mut files, "", 1), Err(FilesError::Absent)));
-    Ok(())
-}
-
-#[test]
-fn refuses_paths(rt: HostRuntime) -> Result<(), Fail> {
-    let mut files = MemoryFiles::new(rt.alloc());
-    add(&rt, &mut files, "root/one", b"");
-    for path in [
-        "",
-        "/a",
-        "a/",
-        "a//b",
-        "root",
-        "root/one/x",
-        ".",
-        "..",
-        "a/.",
-        "a/..",
-        "./a",
-        "../a",
-        "a/./b",
-        "a/../b",
-    ] {
-        assert!(rt; !files.is_addable(path), "a file may stand at {path}");
-    }
-    for path in [".a", "a.", "..a", "...", "a/.b", "..../.a/b.."] {
-        assert!(rt; files.is_addable(path), "no file may stand at {path}");
-    }
-    Ok(())
-}
-
-#[test]
-fn fails_at_each_number(rt: HostRuntime) -> Result<(), Fail> {
-    for number in 1..=4 {
-        let mut files = MemoryFiles::new(rt.alloc());
-        add(&rt, &mut files, "a/b", b"1");
-        files.fail_at(number)?;
-        for call in 1..=2 {
-            let listed = list(&mut files, "a", 1);
-            assert!(rt; listed.is_err() == (number == 2 * call - 1));
-            let bytes = read(&mut files, "a/b", 1);
-            assert!(rt; bytes.is_err() == (number == 2 * call));
-        }
-        assert_eq!(rt; files.faults(), 1);
-    }
-    Ok(())
-}
-
 /// A folder of the system's, which a test may fill.
 fn new_folder(rt: &HostRuntime, name: &str) -> io::Result<String> {
     let id = process::id(rt.process());
@@ -187,36 +122,6 @@ fn counts_faults_of_a_disk(rt: HostRuntime) -> Result<(), Fail> {
     unix::fs::symlink(&rt, "nowhere", link.as_str())?;
     assert!(rt; matches!(list(&mut files, root.as_str(), 5), Err(FilesError::Failed)));
     assert_eq!(rt; files.faults(), 4);
-    fs::remove_dir_all(&rt, root.as_str())?;
-    Ok(())
-}
-
-#[test]
-fn reads_large_and_hidden_files(rt: HostRuntime) -> Result<(), Fail> {
-    let root = new_folder(&rt, "large")?;
-    let file = format!(in rt.alloc(); "{root}/.hidden")?;
-    let link = format!(in rt.alloc(); "{root}/link")?;
-    let mut bytes = Vec::new(rt.alloc());
-    for i in 0..70000u32 {
-        bytes.push((i % 251) as u8)?;
-    }
-    fs::write(&rt, file.as_str(), bytes.as_slice())?;
-    let mut files = DiskFiles::new(rt.alloc(), Disk::new(rt.alloc(), rt.clone()?));
-    expect_entry(
-        &rt,
-        &list(&mut files, root.as_str(), 1)?,
-        0,
-        b".hidden",
-        false,
-    );
-    unix::fs::symlink(&rt, ".hidden", link.as_str())?;
-    assert!(rt; read(&mut files, link.as_str(), 70000)?.as_slice() == bytes.as_slice());
-    assert!(rt;
-        matches!(
-            read(&mut files, file.as_str(), 69999),
-            Err(FilesError::TooLong)
-        )
-    );
     fs::remove_dir_all(&rt, root.as_str())?;
     Ok(())
 }
@@ -376,19 +281,6 @@ fn fails_at_the_first_try_alone(rt: HostRuntime) -> Result<(), Fail> {
         );
         assert_eq!(rt; files.faults(), 1);
     }
-    Ok(())
-}
-
-#[test]
-fn goes_on_after_an_interrupt(rt: HostRuntime) -> Result<(), Fail> {
-    let mut files = DiskFiles::new(rt.alloc(), Fake::new(rt.alloc(), 0, false));
-    for limit in 6..=7 {
-        assert!(rt;
-            read(&mut files, "a/b", limit)?.as_slice() == b"\x02\x02\x02\x01\x01\x01".as_slice()
-        );
-    }
-    assert!(rt; matches!(read(&mut files, "a/b", 5), Err(FilesError::TooLong)));
-    assert_eq!(rt; files.taken(), 18);
     Ok(())
 }
 

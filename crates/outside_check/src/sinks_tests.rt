@@ -44,49 +44,6 @@ fn writes_lines(rt: HostRuntime) -> Result<(), Fail> {
 }
 
 #[test]
-fn writes_in_pieces(rt: HostRuntime) -> Result<(), Fail> {
-    // A line of 300 bytes is two writes, of 256 and of 44.
-    let mut sink = MemorySink::with_room(rt.alloc(), 1000, &[2])?;
-    let long = [b'x'; 299];
-    let failed = write_line(&mut sink, &[Part::Bytes(&long)]);
-    assert!(rt; failed.is_err());
-    assert!(rt; sink.bytes() == &long[..256]);
-    assert_eq!(rt; sink.faults(), 1);
-    write_line(&mut sink, &[Part::Bytes(b"more")])?;
-    assert_eq!(rt; sink.bytes().len(), 261);
-    Ok(())
-}
-
-/// Writes a piece, and asserts what comes of it: whether it fails, and how many bytes and faults the
-/// sink has then.
-fn expect_write(
-    rt: &impl Abort,
-    sink: &mut MemorySink,
-    piece: &[u8],
-    fails: bool,
-    len: usize,
-    faults: u64,
-)
-    requires { 0 < length piece.now }
-{
-    let failed = write(sink, piece).is_err();
-    assert!(rt; failed == fails);
-    assert_eq!(rt; sink.bytes().len(), len);
-    assert_eq!(rt; sink.faults(), faults);
-}
-
-#[test]
-fn sink_fails_as_told(rt: HostRuntime) -> Result<(), Fail> {
-    let mut sink = MemorySink::with_room(rt.alloc(), 5, &[2])?;
-    expect_write(&rt, &mut sink, b"ab", false, 2, 0);
-    expect_write(&rt, &mut sink, b"cd", true, 2, 1);
-    expect_write(&rt, &mut sink, b"cdef", true, 5, 2);
-    expect_write(&rt, &mut sink, b"g", true, 5, 3);
-    assert!(rt; sink.bytes() == b"abcde".as_slice());
-    Ok(())
-}
-
-#[test]
 fn writes_a_stream(rt: HostRuntime) -> Result<(), Fail> {
     let mut sink = StreamSink::new(Vec::new(rt.alloc()));
     put_all(&mut sink)?;

@@ -44,19 +44,6 @@ fn ranges_follow_one_another(rt: HostRuntime) {
 }
 
 #[test]
-fn numbers_not_given_out(rt: HostRuntime) {
-    let mut table = CapabilityTable::new(rt.alloc());
-    assert!(rt; table.status(CapId(0)) == None);
-    assert!(rt; table.status(CapId(1)) == None);
-    assert!(rt; table.admit(A, 2) == Ok(()));
-    assert!(rt; table.create(A, 4_294_967_295) == Some(CapId(1)));
-    assert!(rt; leads_to(&table, 1, A, 4_294_967_295));
-    for number in [0, 2, 3, 4_294_967_295] {
-        assert!(rt; table.status(CapId(number)) == None);
-    }
-}
-
-#[test]
 fn revoked_stays_revoked(rt: HostRuntime) {
     let mut table = CapabilityTable::new(rt.alloc());
     assert!(rt; table.admit(A, 2) == Ok(()));
@@ -88,17 +75,6 @@ fn all_of_one_owner_revoked(rt: HostRuntime) {
 }
 
 #[test]
-fn range_of_no_numbers(rt: HostRuntime) {
-    let mut table = CapabilityTable::new(rt.alloc());
-    assert!(rt; table.admit(A, 0) == Ok(()));
-    assert!(rt; table.create(A, 40) == None);
-    table.revoke_all(A);
-    assert!(rt; table.admit(B, 1) == Ok(()));
-    assert!(rt; table.create(B, 41) == Some(CapId(1)));
-    assert!(rt; leads_to(&table, 1, B, 41));
-}
-
-#[test]
 fn all_numbers(rt: HostRuntime) {
     let mut table = CapabilityTable::new(rt.alloc());
     assert!(rt; table.admit(A, 16_777_216) == Err(CapsError::Numbers));
@@ -110,14 +86,4 @@ fn all_numbers(rt: HostRuntime) {
     assert!(rt; leads_to(&table, 16_777_215, B, 40));
     assert!(rt; table.admit(DomainId(8), 1) == Err(CapsError::Numbers));
     assert!(rt; table.admit(DomainId(8), 0) == Ok(()));
-}
-
-#[test]
-fn sixteen_millions(rt: HostRuntime) {
-    let mut table = CapabilityTable::new(rt.alloc());
-    for owner in 0..16 {
-        assert!(rt; table.admit(DomainId(owner), 1_000_000) == Ok(()));
-    }
-    let next = table.admit(DomainId(16), 1_000_000);
-    assert!(rt; next == Err(CapsError::Numbers));
 }

@@ -1,4 +1,4 @@
-//! Known places, joins, and many calls compared with a plain list of pages.
+//! Known places and joins.
 
 ghost use Rattle.std.specs.Prelude.{◌<◌, ◌≤◌, IfOk};
 ghost use Rattle.extent_map.specs.MapState.{AreSame};
@@ -49,6 +49,7 @@ fn pool(alloc: Global, pages: u32, extents: u32) -> Result<(ExtentMap, Vec<Exten
 #[test]
 fn first_fit(rt: HostRuntime) -> Result<(), OutOfMemory> {
     let (mut map, mut out) = pool(rt.alloc(), 10, 4)?;
+    assert!(rt; map.pages() == 10 && map.extents() == 4);
     assert!(rt; takes(&mut map, &mut out, 11, None));
     assert!(rt; takes(&mut map, &mut out, 3, Some(0)));
     assert!(rt; takes(&mut map, &mut out, 8, None));
@@ -59,15 +60,6 @@ fn first_fit(rt: HostRuntime) -> Result<(), OutOfMemory> {
     assert!(rt; map.spare() == 3);
     assert!(rt; takes(&mut map, &mut out, 4, None));
     assert!(rt; takes(&mut map, &mut out, 3, Some(0)));
-    Ok(())
-}
-
-#[test]
-fn no_pages(rt: HostRuntime) -> Result<(), OutOfMemory> {
-    let (mut map, mut out) = pool(rt.alloc(), 0, 1)?;
-    assert!(rt; map.pages() == 0);
-    assert!(rt; map.extents() == 1);
-    assert!(rt; takes(&mut map, &mut out, 1, None));
     Ok(())
 }
 
@@ -89,103 +81,11 @@ fn three_out(
 }
 
 #[test]
-fn joined_below(rt: HostRuntime) -> Result<(), OutOfMemory> {
-    // Pages 0 and 1 are given back, then 2 and 3, which begin where those end.
-    let (mut map, mut out) = three_out(rt.alloc(), 0, 0)?;
-    assert!(rt; takes(&mut map, &mut out, 4, Some(0)));
-    assert!(rt; takes(&mut map, &mut out, 1, None));
-    Ok(())
-}
-
-#[test]
-fn joined_above(rt: HostRuntime) -> Result<(), OutOfMemory> {
-    // Pages 4 and 5 are given back, then 2 and 3, which end where those begin.
-    let (mut map, mut out) = three_out(rt.alloc(), 2, 1)?;
-    assert!(rt; takes(&mut map, &mut out, 4, Some(2)));
-    assert!(rt; takes(&mut map, &mut out, 1, None));
-    Ok(())
-}
-
-#[test]
 fn joined_on_both_sides(rt: HostRuntime) -> Result<(), OutOfMemory> {
     // Pages 0 and 1, and 4 and 5 are given back: they are apart until 2 and 3 come back too.
     let (mut map, mut out) = three_out(rt.alloc(), 0, 1)?;
     assert!(rt; takes(&mut map, &mut out, 3, None));
     assert!(rt; gives(&mut map, &mut out, 0));
     assert!(rt; takes(&mut map, &mut out, 6, Some(0)));
-    Ok(())
-}
-
-/// The first place where so many pages are held by none.
-fn by_looking(held: &[bool], pages: u32) -> Option<u32>
-    requires { 1 ≤ pages }
-{
-    let place = held
-        .windows(pages as usize)
-        .position(|run| run.iter().all(|page| !*page))?;
-    u32::try_from(place).ok()
-}
-
-/// Notes that these pages are held, or that they are not.
-fn note(held: &mut [bool], first: u32, pages: u32, now: bool) {
-    let from = first as usize;
-    for (i, page) in held.iter_mut().enumerate() {
-        if i >= from && i - from < pages as usize {
-            *page = now;
-        }
-    }
-}
-
-/// Takes so many pages, and says whether they are found where looking finds them.
-fn takes_by_looking(
-    map: &mut ExtentMap,
-    out: &mut Vec<Extent>,
-    held: &mut [bool],
-    pages: u32,
-) -> bool
-    requires some { 1 ≤ pages }
-    requires out { AreSame map.old.out out.old.items }
-    ensures { AreSame map.new.out out.new.items }
-{
-    let wanted = by_looking(held, pages);
-    if let Some(first) = wanted {
-        note(held, first, pages, true);
-    }
-    takes(map, out, pages, wanted)
-}
-
-/// Gives back the extent at this place among those that are out, if there is one.
-fn gives_by_looking(map: &mut ExtentMap, out: &mut Vec<Extent>, held: &mut [bool], place: usize)
-    requires { AreSame map.old.out out.old.items }
-    ensures { AreSame map.new.out out.new.items }
-{
-    if place < out.len() {
-        let e = out[place];
-        note(held, e.first, e.pages, false);
-        let _ = gives(map, out, place);
-    }
-}
-
-/// Takes or gives back an extent at this step, and says whether a take finds what looking finds.
-fn goes_by_looking(map: &mut ExtentMap, out: &mut Vec<Extent>, held: &mut [bool], step: u32) -> bool
-    requires out { AreSame map.old.out out.old.items }
-    requires step { step < 400 }
-    ensures { AreSame map.new.out out.new.items }
-{
-    if step % 5 < 2 || map.spare() == 0 {
-        gives_by_looking(map, out, held, (step * 7 % 11) as usize);
-        return true;
-    }
-    takes_by_looking(map, out, held, step * 5 % 9 + 1)
-}
-
-#[test]
-fn as_by_looking(rt: HostRuntime) -> Result<(), OutOfMemory> {
-    let alloc = rt.alloc();
-    let (mut map, mut out) = pool(alloc, 60, 12)?;
-    let mut held = vec![in alloc; false; 60]?;
-    for step in 0..400u32 {
-        assert!(rt; goes_by_looking(&mut map, &mut out, &mut held, step));
-    }
     Ok(())
 }

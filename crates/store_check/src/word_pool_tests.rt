@@ -8,30 +8,6 @@ use std::test::Fail;
 use word_pool::*;
 
 #[test]
-fn cleared_words_are_zero(rt: HostRuntime) -> Result<(), OutOfMemory> {
-    let mut pool = WordPool::make(rt.alloc(), 8)?;
-    pool.clear(2, 4);
-    assert!(rt; pool.load(2) == 0);
-    assert!(rt; pool.load(3) == 0);
-    assert!(rt; pool.load(5) == 0);
-    Ok(())
-}
-
-#[test]
-fn a_stored_word_is_loaded(rt: HostRuntime) -> Result<(), OutOfMemory> {
-    let mut pool = WordPool::make(rt.alloc(), 8)?;
-    pool.clear(0, 8);
-    pool.store(3, 0xffff_ffff);
-    pool.store(7, 0x0102_0304);
-    assert!(rt; pool.load(3) == 0xffff_ffff);
-    assert!(rt; pool.load(7) == 0x0102_0304);
-    assert!(rt; pool.load(2) == 0);
-    assert!(rt; pool.load(4) == 0);
-    assert!(rt; pool.load(0) == 0);
-    Ok(())
-}
-
-#[test]
 fn words_are_cleared_again(rt: HostRuntime) -> Result<(), OutOfMemory> {
     let mut pool = WordPool::make(rt.alloc(), 4)?;
     pool.clear(0, 4);
