@@ -14,12 +14,13 @@ use Rattle.jk_model_typing.specs.FrameTypes.{THROWABLE}
 use Rattle.jk_model_frames.specs.Frames.{FrameState}
 use Rattle.jk_model_domains.specs.Objects.{NamedObject}
 use Rattle.jk_model_domains.specs.ValueTypes.{HoldsDeclared}
-use Rattle.jk_model_heaps.specs.Capabilities.{IsGivenOut}
+use Rattle.jk_model_heaps.specs.Capabilities.{CapRange, IsGivenOut}
 use Rattle.jk_model_heaps.specs.RunningCode.{NamesMethod, RunsCode}
 use Rattle.jk_model_heaps.specs.Workings.{Request}
 use Rattle.jk_model_heaps.specs.Workings.{Binds as AsksToBind, Creates as AsksToCreate, Revokes as AsksToRevoke}
 use Rattle.jk_model_sealing.specs.AnsweringFrames.{AwaitsResult}
-use Rattle.jk_model_sealing.specs.SealedInsides.{IsOfClass}
+use Rattle.jk_model_sealing.specs.FittingFrames.{FitsHere}
+use Rattle.jk_model_sealing.specs.SealedInsides.{IsKnownValue, IsOfClass}
 use Rattle.jk_model_machine_state.specs.Machines.{Machine, caps_of}
 use Rattle.jk_model_machine_state.specs.Places.{RunningSegment}
 use Rattle.jk_model_crossings.specs.RemoteCalls.{RemoteCall}
@@ -34,6 +35,8 @@ pub record StandsAtCall {m : Machine} {t : ThreadNo} (c : RemoteCall m t) : Type
   pub interface : code.instr.op ≡ INVOKEINTERFACE
   pub names : NamesMethod code.scope code.instr c.method c.named
   pub not_object : c.method.class ≢ OBJECT
+  -- the capability and the arguments are on the stack still: the frame fits as before the call
+  pub fits : FitsHere m.classes c.place.home.inside.heap c.frame
 
 -- ---- An answer: unless the segment that gives it is the lowest or an orphan, it is one of the type that the call below it returns.
 
@@ -52,9 +55,15 @@ pub record Awaits (classes : List ClassRecord) (heap : List NamedObject) (frames
   pub awaits : AwaitsResult classes caller result
   pub answer : IsAnswerOf classes heap result v
 
+-- an object of the heap, or a capability that was given out, where it is a reference
+abbrev pub IsKnownAnswer : List CapRange → List NamedObject → Option Value → Type 0
+IsKnownAnswer caps heap None = ⊤
+IsKnownAnswer caps heap (Some v) = IsKnownValue caps heap v
+
 abbrev pub IsTaken : Machine → ThreadNo → Option Value → Type 0
 IsTaken m t v =
-    (s : TopTwo m t) → s.left.segment.shared.orphan ≡ false → Awaits m.classes s.left.home.inside.heap s.below.segment.frames v
+    (s : TopTwo m t) → s.left.segment.shared.orphan ≡ false
+    → Awaits m.classes s.left.home.inside.heap s.below.segment.frames v × IsKnownAnswer (caps_of m) s.left.home.inside.heap v
 
 -- ---- A throwable: an object of java/lang/Throwable or below it, in the heap of the top segment's domain.
 

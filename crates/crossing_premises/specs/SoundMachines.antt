@@ -1,5 +1,5 @@
 -- Machines whose classes and names are those of accepted folders, and machines that are sealed but for the top frame of one thread.
-use Rattle.std.specs.Prelude.{true, List, map}
+use Rattle.std.specs.Prelude.{true, List, Contains, map}
 use Rattle.jk_model.specs.declared.identifiers.ThreadNo.{ThreadNo}
 use Rattle.jk_model_classes.specs.Worlds.{NamedClass}
 use Rattle.jk_model_sharing.specs.Segments.{with_revoked}
@@ -9,6 +9,8 @@ use Rattle.jk_model_machine_state.specs.Places.{RunningSegment, with_flags, with
 use Rattle.jk_model_runs.specs.AnsweredCalls.{AreCallsAnswered}
 use Rattle.jk_model_runs.specs.Sealed.{IsSealed}
 use Rattle.sound_folders.specs.LinkedWorlds.{AreLinked}
+use Rattle.sound_codes.specs.SoundCodes.{AreSoundCodes}
+use Rattle.sound_codes.specs.SoundTables.{IsSoundTable}
 
 -- what names mean in each domain
 abbrev pub tables_of : Machine → List (List NamedClass)
@@ -17,6 +19,9 @@ tables_of m = map (λ (d : DomainState). d.table) m.domains
 pub record HasSoundClasses (m : Machine) : Type 0 where
   pub sound : AreSoundClasses m.classes (tables_of m)
   pub linked : AreLinked m.classes (tables_of m)
+  -- what each instruction of a step rests on
+  pub codes : AreSoundCodes m.classes
+  pub tables : (d : DomainState) → Contains m.domains d → IsSoundTable m.classes d.table
 
 -- Sealed but for this thread, whose top frame may stand at a call that has left it: so may the top frame of a segment that has a
 -- RevokedException pending.

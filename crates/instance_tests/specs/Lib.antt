@@ -1,2 +1,1 @@
--- What is an instance of what, in a store of objects.
-pub mod InstancesInStores
+pub mod Tested

@@ -4,6 +4,7 @@
 --   requires named       { is_name name.now ≡ true }
 --   requires words       { (44 ≤ quotas.heap) × (quotas.heap ≤ 16777216) }
 --   requires chunks      { (1 ≤ quotas.chunks) × (quotas.chunks ≤ 262144) }
+--   requires counts      { (quotas.threads ≤ 4096) × (quotas.names ≤ 4096) }
 --   ensures number       { IfOk result (λ d. d.0 ≡ length self.old.domains) }
 --   ensures ok           { OnOk result (Opens (R.tree files.old) root.now self.old name.now quotas (Says.Loaded name.now ∷ []) self.new) }
 --   // Each error has its cause, and none but the first two leaves the folder unjudged.

@@ -1,2 +1,1 @@
-pub mod DecodedCodes
 pub mod SoundKernels

@@ -10,7 +10,10 @@ use Rattle.std.specs.Prelude.{◌≡◌, ℕ, ◌+◌, ◌*◌, ◌≤◌, List,
 use Rattle.jk_model.specs.declared.descriptors.MethodType.{MethodType}
 use Rattle.jk_model.specs.Descriptors.{IsMethodText}
 use Rattle.jk_model.specs.SystemTable.{system_classes}
+use Rattle.jk_model_classes.specs.declared.records.ClassRecord.{ClassRecord}
+use Rattle.jk_model_classes.specs.declared.sharing.Stub.{Stub}
 use Rattle.jk_model_classes.specs.Classes.{HasClass}
+use Rattle.jk_model_classes.specs.Stubs.{IsStub}
 use Rattle.jk_model_classes.specs.Worlds.{DomainRecord, IsWorld, WorldRecord}
 use Rattle.jk_model_heaps.specs.Capabilities.{Capability}
 use Rattle.jk_model_sharing.specs.SharedStates.{SharedState}
@@ -19,20 +22,15 @@ use Rattle.jk_model_runs.specs.Events.{IsWhole}
 use Rattle.class_init.specs.KeptStates.{HasRooms, KeptState}
 use Rattle.object_store.specs.HeapContents.{HeapContent}
 use Rattle.frame_store.specs.FrameContents.{FrameContent}
-use Rattle.sealed_openings.specs.FieldConstants.{HaveSuitingConstants}
 use Rattle.crossing_premises.specs.SoundMachines.{HasSoundClasses}
 use Rattle.machine_parts.specs.FittingParts.{AreFittingParts}
 use Rattle.machine_parts.specs.MachineParts.{MachineParts, machine_of}
-use Rattle.kernel_parts.specs.DecodedCodes.{AreDecoded}
 
--- ---- Of the machine: it is sealed and its calls are answered, its classes and names are sound and linked, and code is as decoding gives it.
+-- ---- Of the machine: it is sealed and its calls are answered, and its classes and names are sound and linked.
 
 pub record IsSoundMachine (m : Machine) : Type 0 where
   pub whole : IsWhole m
   pub sound : HasSoundClasses m
-  pub decoded : AreDecoded m.classes
-  -- each constant of a field is of the field's type
-  pub constants : HaveSuitingConstants m.classes
   -- a run has no capability of a class that isn't there
   pub capabilities : (d : DomainState) (c : Capability) → Contains m.domains d → Contains d.caps.made c → HasClass m.classes c.class
 
@@ -60,9 +58,17 @@ parts_of k = record {
 abbrev pub kernel_machine : KernelContent → Machine
 kernel_machine k = machine_of (parts_of k)
 
+-- each stub is that of its class, which is there, and no class has two
+pub record AreOfTheirClasses (classes : List ClassRecord) (stubs : List Stub) : Type 0 where
+  pub each : (s : Stub) → Contains stubs s → IsStub classes s.class s
+  pub there : (s : Stub) → Contains stubs s → HasClass classes s.class
+  pub apart : (s u : Stub) → Contains stubs s → Contains stubs u → s.class ≡ u.class → s ≡ u
+
 pub record IsSoundKernel (k : KernelContent) : Type 0 where
   pub fitting : AreFittingParts (parts_of k)
   pub machine : IsSoundMachine (kernel_machine k)
+  -- a run has no stub that stands in for another domain's
+  pub stubs : AreOfTheirClasses k.world.classes k.shared.stubs
   -- what loading a folder asks
   pub world : IsWorld k.world (length k.world.domains)
   pub few_domains : length k.world.domains ≤ 65535

@@ -7,12 +7,7 @@ use Rattle.jk_model_classes.specs.declared.records.Link.TheVariants as To
 use Rattle.jk_model_classes.specs.Classes.{record_of}
 use Rattle.jk_model_machine_state.specs.Machines.{DomainState, Machine, Segment, Thread}
 use Rattle.jk_model_runs.specs.Events.{IsWhole}
-use Rattle.sound_codes.specs.SoundCodes.{AreSoundCodes}
-use Rattle.sound_codes.specs.SoundTables.{IsSoundTable}
-
-pub record HasSoundClasses (m : Machine) : Type 0 where
-  pub codes : AreSoundCodes m.classes
-  pub tables : (d : DomainState) → Contains m.domains d → IsSoundTable m.classes d.table
+use Rattle.crossing_premises.specs.SoundMachines.{HasSoundClasses}
 
 -- it is sealed, its calls are answered, and its classes and names are sound
 abbrev pub IsKnownMachine : Machine → Type 0

@@ -19,7 +19,8 @@ use Rattle.jk_model_sealing.specs.SealedRuns.{AreSealedFrames}
 use Rattle.class_growth.specs.ClosedClasses.{IsClosed}
 use Rattle.sound_codes.specs.SoundCodes.{AreSoundCodes}
 use Rattle.sound_codes.specs.SoundTables.{IsSoundTable}
-use Rattle.machine_laws.specs.KnownMachines.{HasSoundClasses, IsKnownMachine}
+use Rattle.crossing_premises.specs.SoundMachines.{HasSoundClasses}
+use Rattle.machine_laws.specs.KnownMachines.{IsKnownMachine}
 
 -- ---- A new domain.
 

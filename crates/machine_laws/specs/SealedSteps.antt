@@ -1,5 +1,5 @@
 -- Machines stay sealed, from the first one on, with each start, step and kill. Of the crate `sealed_steps`.
-use Rattle.std.specs.Prelude.{◌≡◌, ℕ, false, List, Option}
+use Rattle.std.specs.Prelude.{◌≡◌, ℕ, false, List, [], Option}
 use Rattle.jk_model.specs.declared.identifiers.ThreadNo.{ThreadNo}
 use Rattle.jk_model.specs.declared.output.Line.{Line}
 use Rattle.jk_model_heaps.specs.Workings.{Run}
@@ -7,11 +7,12 @@ use Rattle.jk_model_machine_state.specs.Machines.{IsFirstMachine, Machine}
 use Rattle.jk_model_machine_state.specs.Places.{RunningSegment, run_of, setting_of, with_run}
 use Rattle.jk_model_running.specs.Ways.{Went}
 use Rattle.jk_model_runs.specs.Events.{IsWhole, Kills}
-use Rattle.jk_model_runs.specs.Sealed.{surroundings}
+use Rattle.jk_model_runs.specs.Sealed.{IsSealed, surroundings}
 use Rattle.jk_model_runs.specs.Starts.{Starts, StartWords}
 use Rattle.jk_model_runs.specs.Steps.{Steps}
+use Rattle.crossing_premises.specs.SoundMachines.{IsSealedAtCall}
 use Rattle.machine_laws.specs.KnownMachines.{IsKnownMachine, RunsNoPackageJk}
-use Rattle.running_laws.specs.KeptRuns.{ActsWell, KeepsRun, RunOn}
+use Rattle.running_laws.specs.KeptRuns.{ActsWell, AwaitOn, KeepsRun, RunOn}
 
 abbrev pub FirstMachinesAreKnown : Type 0
 FirstMachinesAreKnown = (heap_pages stack_pages : Option ℕ) (m : Machine) → IsFirstMachine heap_pages stack_pages m → IsKnownMachine m
@@ -30,6 +31,19 @@ KeptRunsStayWhole =
     (m : Machine) (t : ThreadNo) (p : RunningSegment m t) (run : Run) (went : Went) → IsKnownMachine m
     → KeepsRun (surroundings m p.home.domain) (setting_of p) t (run_of p) run went → RunOn (surroundings m p.home.domain) run
     → IsWhole (with_run p run)
+
+-- where no frame of it is left, the machine is sealed
+abbrev pub LeftRunsStaySealed : Type 0
+LeftRunsStaySealed =
+    (m : Machine) (t : ThreadNo) (p : RunningSegment m t) (run : Run) (went : Went) → IsKnownMachine m
+    → KeepsRun (surroundings m p.home.domain) (setting_of p) t (run_of p) run went → run.frames ≡ [] → IsSealed (with_run p run)
+
+-- where its top frame waits for an answer, the machine is sealed but for that
+abbrev pub WaitingRunsStaySealed : Type 0
+WaitingRunsStaySealed =
+    (m : Machine) (t : ThreadNo) (p : RunningSegment m t) (run : Run) (went : Went) → IsKnownMachine m
+    → KeepsRun (surroundings m p.home.domain) (setting_of p) t (run_of p) run went → AwaitOn (surroundings m p.home.domain) run
+    → IsSealedAtCall (with_run p run) t
 
 -- ---- Steps, starts and kills.
 

@@ -8,7 +8,6 @@ use Rattle.jk_model.specs.declared.output.Line.{Line}
 use Rattle.jk_model.specs.declared.output.Line.TheVariants.{Said}
 use Rattle.jk_model.specs.declared.steps.Raise.{Raise}
 use Rattle.jk_model.specs.declared.values.Value.{Value}
-use Rattle.jk_model_frames.specs.Frames.{FrameState}
 use Rattle.jk_model_heaps.specs.declared.shapes.Unwound.{Unwound}
 use Rattle.jk_model_heaps.specs.CalledFrames.{resumed}
 use Rattle.jk_model_heaps.specs.Workings.{Request, Run, Setting}
@@ -35,11 +34,13 @@ use Rattle.segment_steps.specs.RaisingHere.{went_of}
 --   ensures ok { IfOk result (λ went. ActsSo (contents_of (H.content heap.old) (F.content frames.old) own.old)
 --       (here_at w.now shared.old r.domain r.segment) r.thread
 --       (left_behind (contents_of (H.content heap.new) (F.content frames.new) own.new) shared.new) went
---       (λ lines. Appends (S.bytes out.old) (S.bytes out.new) (text_of lines))) }
+--       (λ lines. PrintsLines (S.bytes out.old) (S.bytes out.new) (S.pieces out.old) (S.pieces out.new) (S.faults out.old) (S.faults out.new)
+--       (printed result) lines)) }
 --   ensures err { OnErr result (ActsSo (contents_of (H.content heap.old) (F.content frames.old) own.old)
 --       (here_at w.now shared.old r.domain r.segment) r.thread
 --       (left_behind (contents_of (H.content heap.new) (F.content frames.new) own.new) shared.new) Goes.GoesOn
---       (λ lines. AppendsPart (S.bytes out.old) (S.bytes out.new) (text_of lines))) }
+--       (λ lines. PrintsLines (S.bytes out.old) (S.bytes out.new) (S.pieces out.old) (S.pieces out.new) (S.faults out.old) (S.faults out.new)
+--       (printed result) lines)) }
 --   ensures cause { OnErr result (HasRisen (S.faults out.old) (S.faults out.new)) }
 --   ensures calm { OnOk result (S.faults out.new ≡ S.faults out.old) }
 --   ensures faults { NeverFalls (S.faults out.old) (S.faults out.new) }
@@ -61,10 +62,9 @@ pub data Acted {old : Contents} {here : Here} (x : Setting) (t : ThreadNo) (may 
       → Acted x t may left Goes.GoesOn []
   says : (run : Run) (text : List ℕ) → LocalStep x t may.run run (Says text) → Becomes old left.contents here may.run run
       → left.shared ≡ here.shared → Acted x t may left Goes.GoesOn (Said x.name text ∷ [])
-  -- the lowest frame still stands in the store, without the value
-  ended : (run : Run) (v : Option Value) (lowest : FrameState) → LocalStep x t may.run run (Ended v)
-      → Becomes old left.contents here may.run (record run { frames = lowest ∷ [] }) → left.shared ≡ here.shared
-      → Acted x t may left (Goes.Returned v) []
+  -- the lowest frame returned, and no frame is left
+  ended : (run : Run) (v : Option Value) → LocalStep x t may.run run (Ended v) → Becomes old left.contents here may.run run
+      → left.shared ≡ here.shared → Acted x t may left (Goes.Returned v) []
   -- no frame is left
   leaves : (run : Run) (a : ℕ) → LocalStep x t may.run run (Left a) → Becomes old left.contents here may.run run
       → left.shared ≡ here.shared → Acted x t may left (Goes.Left a) []

@@ -7,7 +7,7 @@ use jk_model::{CapId, MemberId, Value};
 pub enum Went {
     /// The segment goes on, with its top frame.
     GoesOn,
-    /// The lowest frame, which still stands, returns this value or none.
+    /// No frame is left: the lowest one returned this value, or none.
     Returned(Option<Value>),
     /// No frame is left: this object, by its name in the domain's heap, left the lowest one.
     Left(u32),

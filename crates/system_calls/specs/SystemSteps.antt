@@ -1,6 +1,6 @@
 -- What a call of a method of the system makes of the stores and of what domains share, what the step function answers, and which line goes
 -- out.
-use Rattle.std.specs.Prelude.{◌≡◌, ℕ, ◌+◌, List, [], ◌∷◌, ◌++◌, Option, Ok, Err}
+use Rattle.std.specs.Prelude.{◌≡◌, ℕ, ◌+◌, List, [], ◌∷◌, ◌++◌, Option, Result, Ok, Err}
 use Rattle.jk_model.specs.declared.identifiers.MemberId.{MemberId}
 use Rattle.jk_model.specs.declared.output.Line.{Line}
 use Rattle.jk_model.specs.declared.output.Line.TheVariants.{Said}
@@ -25,16 +25,23 @@ use Rattle.system_calls.specs.SharedAnswers.{Answers}
 --   ensures ok { IfOk result (λ after. (own : KeptState)
 --       → SystemDone (contents_of (H.content heap.old) (F.content frames.old) own) (call_site (here_at w.now shared.old d s) (place_of at.now) m)
 --       (left_behind (contents_of (H.content heap.new) (F.content frames.new) own) shared.new) after
---       (λ lines. Appends (S.bytes out.old) (S.bytes out.new) (text_of lines))) }
+--       (λ lines. PrintsLines (S.bytes out.old) (S.bytes out.new) (S.pieces out.old) (S.pieces out.new) (S.faults out.old) (S.faults out.new)
+--       (printed result) lines)) }
 --   ensures err { OnErr result ((own : KeptState)
 --       → SystemDone (contents_of (H.content heap.old) (F.content frames.old) own) (call_site (here_at w.now shared.old d s) (place_of at.now) m)
 --       (left_behind (contents_of (H.content heap.new) (F.content frames.new) own) shared.new) (Next.Goto (at.now.head.at + 1))
---       (λ lines. AppendsPart (S.bytes out.old) (S.bytes out.new) (text_of lines))) }
+--       (λ lines. PrintsLines (S.bytes out.old) (S.bytes out.new) (S.pieces out.old) (S.pieces out.new) (S.faults out.old) (S.faults out.new)
+--       (printed result) lines)) }
 --   ensures cause { OnErr result (HasRisen (S.faults out.old) (S.faults out.new)) }
 --   ensures calm { OnOk result (S.faults out.new ≡ S.faults out.old) }
 --   ensures faults { NeverFalls (S.faults out.old) (S.faults out.new) }
 -- Where the sink fails, all else is done, as after `Goto` of the next place, and the text went out in part. It takes no memory. The own state
--- isn't asked for and doesn't change.
+-- isn't asked for and doesn't change. `PrintsLines` is that of `jk_outside`: which pieces the sink was handed is said, too.
+
+-- whether the sink failed, of an answer that says more
+abbrev pub printed : {X E : Type 0} → Result X E → Result (Unit {0}) E
+printed (Ok answer) = Ok tt
+printed (Err e) = Err e
 
 -- where a method is called, and which one
 pub record CallSite : Type 0 where
