@@ -1,0 +1,2 @@
+-- Where calls begin.
+mod CallsByShape
