@@ -1,1 +1,4 @@
+pub mod ItemChanges
+pub mod KnownItems
+pub mod ObjectsMade
 pub mod TextChanges

@@ -1,14 +1,25 @@
 //! Units of texts.
 
-ghost use Rattle.std.specs.Prelude.{◌≢◌, ◌+◌, ◌^◌, ◌<◌, ◌≤◌, length, IfOk, OnErr, OnOk};
+ghost use Rattle.std.specs.Prelude.{◌≡◌, ◌≢◌, ℕ, ◌+◌, ◌^◌, ◌<◌, ◌≤◌, List, length, IfOk, OnErr, OnOk};
 ghost use Rattle.jk_model_domains.specs.Objects.{Text};
-ghost use Rattle.object_store.specs.HeapContents.{IsAdmitted, IsSame, MakesObject, words_left};
+ghost use Rattle.object_store.specs.HeapContents.{IsAdmitted, IsLive, IsSame, MakesObject, words_left};
 ghost use Rattle.heap_loops.specs.TextChanges.{CopiesUnits, HasUnits, WritesUnits};
 
 use class_table::ClassTable;
 use jk_model::{DomainId, NoRoom, Value};
 use jk_model_heaps::Shape;
 use object_store::ObjectStore;
+
+/// How many units a text has.
+pub fn text_len<H: ObjectStore>(heap: &H, d: DomainId, a: u32) -> u32
+    requires { HasUnits (H.content heap.now) d a 0 }
+    ensures { (text : List ℕ) → IsLive (H.content heap.now) d a (Text text) → result ≡ length text }
+{
+    match heap.shape(d, a) {
+        Shape::Text(len) => len,
+        _ => unreachable!(),
+    }
+}
 
 /// Sets the units of a text from a place on. They end within the text.
 pub fn write_units<H: ObjectStore>(
