@@ -3,4 +3,5 @@ pub mod Executions
 pub mod Initialising
 pub mod LocalSteps
 pub mod Raising
+pub mod StepCases
 pub mod Ways
