@@ -38,6 +38,6 @@ room_to_catch x heap f a h t c =
     let goes = typing.each f.head.at c.code.instr t.type stands t.stands in
     let to = goes.caught h (Contains-at typing.scope.code.handlers c.place h listed) c.covers in
     let sized = typing.sized h.handler to.0 to.1 in
-    let many = as_many_fit typing.scope.classes _ to.0.stack to.2.stack in
+    let many = as_many_fit typing.scope.classes (caught_value typing.scope h ∷ []) to.0.stack to.2.stack in
     let room : f.head.max_stack ≡ typing.scope.code.max_stack = t.room.1 ∙ ap (λ (s : CodeScope). s.code.max_stack) own in
     omega (arith, many, long_slots to.0.stack, sized.stack, room)
