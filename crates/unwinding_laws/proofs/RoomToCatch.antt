@@ -8,6 +8,7 @@ use Rattle.jk_model_classes.specs.declared.records.ClassRecord.{ClassRecord}
 use Rattle.jk_model_typing.specs.declared.frames.VType.{VType}
 use Rattle.jk_model_typing.specs.FrameTypes.{EachFits}
 use Rattle.jk_model_typing.specs.Scopes.{CodeScope, IsScopeOf}
+use Rattle.jk_model_typing.specs.Typing.{caught_value}
 use Rattle.typing_lemmas.proofs.OneScope.{one-scope}
 use Rattle.jk_model_frames.specs.Frames.{FrameState}
 use Rattle.jk_model_domains.specs.Objects.{NamedObject}
