@@ -18,27 +18,27 @@ listed : (place low high op k : ℕ) → op ≡ k → slice_get heap_opcodes pla
     → IsListed op
 listed place low high op k is at least most = subst IsListed (sym is) (place, (low, high), at, (least, most))
 
--- one of two opcodes, or of more
-either : (op k : ℕ) (rest : Bool) → IsTrue (op == k || rest) → (op ≡ k → IsListed op) → (IsTrue rest → IsListed op) → IsListed op
-either op k rest h first later = elim (or_cases (op == k) rest h) [ inl here ↦ first (eqb-true op k here) | inr there ↦ later there ]
+-- one of some opcodes, or the one after them
+either : (op k : ℕ) (rest : Bool) → IsTrue (rest || op == k) → (op ≡ k → IsListed op) → (IsTrue rest → IsListed op) → IsListed op
+either op k rest h here before = elim (or_cases rest (op == k) h) [ inl others ↦ before others | inr last ↦ here (eqb-true op k last) ]
 
 load_listed : (op : ℕ) → IsTrue (is_element_load op) → IsListed op
 load_listed op h =
-    either op 0x2e _ h (λ e. listed 0 0x2e 0x2f op 0x2e e refl (omega arith) (omega arith)) (λ h1.
-    either op 0x2f _ h1 (λ e. listed 0 0x2e 0x2f op 0x2f e refl (omega arith) (omega arith)) (λ h2.
-    either op 0x32 _ h2 (λ e. listed 1 0x32 0x35 op 0x32 e refl (omega arith) (omega arith)) (λ h3.
-    either op 0x33 _ h3 (λ e. listed 1 0x32 0x35 op 0x33 e refl (omega arith) (omega arith)) (λ h4.
-    either op 0x34 _ h4 (λ e. listed 1 0x32 0x35 op 0x34 e refl (omega arith) (omega arith)) (λ h5.
-    listed 1 0x32 0x35 op 0x35 (eqb-true op 0x35 h5) refl (omega arith) (omega arith))))))
+    either op 0x35 _ h (λ e. listed 1 0x32 0x35 op 0x35 e refl (omega arith) (omega arith)) (λ h1.
+    either op 0x34 _ h1 (λ e. listed 1 0x32 0x35 op 0x34 e refl (omega arith) (omega arith)) (λ h2.
+    either op 0x33 _ h2 (λ e. listed 1 0x32 0x35 op 0x33 e refl (omega arith) (omega arith)) (λ h3.
+    either op 0x32 _ h3 (λ e. listed 1 0x32 0x35 op 0x32 e refl (omega arith) (omega arith)) (λ h4.
+    either op 0x2f _ h4 (λ e. listed 0 0x2e 0x2f op 0x2f e refl (omega arith) (omega arith)) (λ h5.
+    listed 0 0x2e 0x2f op 0x2e (eqb-true op 0x2e h5) refl (omega arith) (omega arith))))))
 
 store_listed : (op : ℕ) → IsTrue (is_element_store op) → IsListed op
 store_listed op h =
-    either op 0x4f _ h (λ e. listed 2 0x4f 0x50 op 0x4f e refl (omega arith) (omega arith)) (λ h1.
-    either op 0x50 _ h1 (λ e. listed 2 0x4f 0x50 op 0x50 e refl (omega arith) (omega arith)) (λ h2.
-    either op 0x53 _ h2 (λ e. listed 3 0x53 0x56 op 0x53 e refl (omega arith) (omega arith)) (λ h3.
-    either op 0x54 _ h3 (λ e. listed 3 0x53 0x56 op 0x54 e refl (omega arith) (omega arith)) (λ h4.
-    either op 0x55 _ h4 (λ e. listed 3 0x53 0x56 op 0x55 e refl (omega arith) (omega arith)) (λ h5.
-    listed 3 0x53 0x56 op 0x56 (eqb-true op 0x56 h5) refl (omega arith) (omega arith))))))
+    either op 0x56 _ h (λ e. listed 3 0x53 0x56 op 0x56 e refl (omega arith) (omega arith)) (λ h1.
+    either op 0x55 _ h1 (λ e. listed 3 0x53 0x56 op 0x55 e refl (omega arith) (omega arith)) (λ h2.
+    either op 0x54 _ h2 (λ e. listed 3 0x53 0x56 op 0x54 e refl (omega arith) (omega arith)) (λ h3.
+    either op 0x53 _ h3 (λ e. listed 3 0x53 0x56 op 0x53 e refl (omega arith) (omega arith)) (λ h4.
+    either op 0x50 _ h4 (λ e. listed 2 0x4f 0x50 op 0x50 e refl (omega arith) (omega arith)) (λ h5.
+    listed 2 0x4f 0x50 op 0x4f (eqb-true op 0x4f h5) refl (omega arith) (omega arith))))))
 
 array_listed : (s : CodeScope) (i : Instr) (element : TypeRef) → MakesArrayOf s i element → IsListed i.op
 array_listed s i element (inl (op, rest)) = listed 5 0xbb 0xc1 i.op 0xbc op refl (omega arith) (omega arith)

@@ -66,9 +66,9 @@ in_range P first more n low high each =
     subst P number (each k (omega (arith, low, high)))
 
 -- the last of a list of known values
-last_known : {P : Value → Type 0} → (below taken : List Value) → AllByRecursion P (below ++ taken) → AllByRecursion P taken
-last_known [] taken h = h
-last_known (v ∷ below) taken h = last_known below taken h.1
+last_known : (P : Value → Type 0) (below taken : List Value) → AllByRecursion P (below ++ taken) → AllByRecursion P taken
+last_known P [] taken h = h
+last_known P (v ∷ below) taken h = last_known P below taken h.1
 
 module _ (around : Surroundings) (x : Setting) (w : Working) (runs : RunsWell around x w) (code : RunsCode around.classes w.frame) where
   abbrev s : CodeScope
@@ -103,7 +103,7 @@ module _ (around : Surroundings) (x : Setting) (w : Working) (runs : RunsWell ar
   taken demands gives takes = taken_meet s heap w.frame.head.at i w.frame typed.before typed.after demands gives typed.typed takes
 
   known_top : (vs : List Value) → IsOnTop w.frame vs → AllByRecursion (IsKnownValue around.caps heap) vs
-  known_top vs (below, is) = last_known {P = IsKnownValue around.caps heap} below vs (subst (AllByRecursion (IsKnownValue around.caps heap)) is runs.known.1)
+  known_top vs (below, is) = last_known (IsKnownValue around.caps heap) below vs (subst (AllByRecursion (IsKnownValue around.caps heap)) is runs.known.1)
 
   with_index : (d : Demand) (gives : List VType) → typed.typed.row.shape ≡ Takes (d ∷ Fitting Int ∷ []) gives
       → (v : Value) × (n : ℤ) × IsOnTop w.frame (v ∷ Held.Int n ∷ []) × ValueMeets s heap d v

@@ -3,6 +3,7 @@ use Rattle.std.proofs.Common.{inl, inr, ◌≡◌, ◌⊎◌, ℕ, zero, suc, �
 use Rattle.jk_model.specs.declared.identifiers.CapId.{CapId}
 use Rattle.jk_model.specs.declared.values.Value.{Value}
 use Rattle.jk_model.specs.declared.values.Value.TheVariants as Held
+use Rattle.jk_model_classes.specs.declared.records.BaseRef.{BaseRef}
 use Rattle.jk_model_classes.specs.declared.records.BaseRef.TheVariants as Base
 use Rattle.jk_model_classes.specs.declared.records.TypeRef.{TypeRef}
 use Rattle.jk_model_typing.specs.declared.frames.Demand.{Demand}
@@ -25,6 +26,11 @@ use Rattle.typed_operands.specs.Operands.{ValueMeets, ValuesMeet}
 use Rattle.typed_operands.proofs.ElementsOfArrays.{array_or_null, dims_fit, null_only, ref_array}
 use Rattle.typed_operands.proofs.SystemParents.{no_capability}
 use Rattle.heap_row_laws.specs.HeapOperands.{IsArrayOrNull, IsObjectOrNull}
+
+-- the number of a class
+abbrev number_of : BaseRef → ℕ
+number_of (Base.Class c) = c.0
+number_of base = 0
 
 -- ---- So many values.
 
@@ -117,7 +123,7 @@ module _ (s : CodeScope) (heap : List NamedObject) where
   ref_object sound (Held.Cap k) a below h = absurd (no_cap (RefFits-trans s.classes sound.ordered (class_type CAPABILITY) a (class_type THROWABLE) h below))
     where
       no_cap : RefFits s.classes (class_type CAPABILITY) (class_type THROWABLE) → ⊥
-      no_cap (inl same) = let base : Base.Class CAPABILITY ≡ Base.Class THROWABLE = ap (λ (t : TypeRef). t.base) same in absurd cc
+      no_cap (inl same) = let number : 11 ≡ 9 = ap (λ (t : TypeRef). number_of t.base) same in omega (arith, number)
       no_cap (inr (inl (dims, up))) = no_capability s.classes sound CAPABILITY up refl
       no_cap (inr (inr (lower, object))) = omega (arith, lower)
   ref_object sound Held.Unset a below h = absurd h

@@ -82,12 +82,12 @@ module _ (classes : List ClassRecord) (sound : AreSoundCodes classes) where
 
   pub no_text : (c : ClassId) → IsSubclass classes c THROWABLE → c ≢ STRING
   no_text c below is =
-      no_throwable 3 (λ e. absurd cc) (parents_listed classes sound 3 0 refl) (subst (λ (d : ClassId). IsSubclass classes d THROWABLE) is below)
+      no_throwable 3 (λ e. absurd cc) (parents_listed 3 0 refl) (subst (λ (d : ClassId). IsSubclass classes d THROWABLE) is below)
 
   pub no_task : (c : ClassId) → IsSubclass classes c THROWABLE → c ≢ TASK
   no_task c below is =
-      no_throwable 14 (λ e. absurd cc) (parents_listed classes sound 14 0 refl) (subst (λ (d : ClassId). IsSubclass classes d THROWABLE) is below)
+      no_throwable 14 (λ e. absurd cc) (parents_listed 14 0 refl) (subst (λ (d : ClassId). IsSubclass classes d THROWABLE) is below)
 
   pub no_capability : (c : ClassId) → IsSubclass classes c THROWABLE → c ≢ CAPABILITY
   no_capability c below is =
-      no_throwable 11 (λ e. absurd cc) (parents_listed classes sound 11 0 refl) (subst (λ (d : ClassId). IsSubclass classes d THROWABLE) is below)
+      no_throwable 11 (λ e. absurd cc) (parents_listed 11 0 refl) (subst (λ (d : ClassId). IsSubclass classes d THROWABLE) is below)

@@ -46,8 +46,8 @@ module _ (classes : List ClassRecord) (sound : AreSoundCodes classes) where
 
 pub raised_there : (around : Surroundings) (x : Setting) (old : Inside) (r : Raise) → IsSealedInside around x.quota old
     → (new : Inside) × (a : ℕ) × IsRaised x old r new a
-raised_there around x old (Raised.Object a) sealed = (old, a, refl, refl)
-raised_there around x old (Raised.Standing s) sealed = let there = sealed.standing s in (old, there.0, refl, there.1)
+raised_there around x old (Raised.Object a) sealed = (old, a, (refl, refl))
+raised_there around x old (Raised.Standing s) sealed = let there = sealed.standing s in (old, there.0, (refl, there.1))
 raised_there around x old (Raised.Fresh c) sealed =
     let object : Object = fresh_throwable x.classes c in
     elim (cases_lt x.quota (heap_words x.classes old.heap + object_words x.classes object)) [

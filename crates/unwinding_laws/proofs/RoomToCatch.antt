@@ -8,6 +8,7 @@ use Rattle.jk_model_classes.specs.declared.records.ClassRecord.{ClassRecord}
 use Rattle.jk_model_typing.specs.declared.frames.VType.{VType}
 use Rattle.jk_model_typing.specs.FrameTypes.{EachFits}
 use Rattle.jk_model_typing.specs.Scopes.{CodeScope, IsScopeOf}
+use Rattle.jk_model_typing.specs.Typing.{caught_value}
 use Rattle.typing_lemmas.proofs.OneScope.{one-scope}
 use Rattle.jk_model_frames.specs.Frames.{FrameState}
 use Rattle.jk_model_domains.specs.Objects.{NamedObject}
@@ -38,6 +39,6 @@ room_to_catch x heap f a h t c =
     let goes = typing.each f.head.at c.code.instr t.type stands t.stands in
     let to = goes.caught h (Contains-at typing.scope.code.handlers c.place h listed) c.covers in
     let sized = typing.sized h.handler to.0 to.1 in
-    let many = as_many_fit typing.scope.classes _ to.0.stack to.2.stack in
+    let many = as_many_fit typing.scope.classes (caught_value typing.scope h ∷ []) to.0.stack to.2.stack in
     let room : f.head.max_stack ≡ typing.scope.code.max_stack = t.room.1 ∙ ap (λ (s : CodeScope). s.code.max_stack) own in
     omega (arith, many, long_slots to.0.stack, sized.stack, room)
