@@ -2,3 +2,4 @@
 pub mod CopiesMayBeMade
 pub mod HalvesTogether
 pub mod PassagesOfParts
+pub mod PartsEntered

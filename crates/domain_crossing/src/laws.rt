@@ -2,6 +2,7 @@
 
 ghost use Rattle.domain_crossing.specs.CopiesAndPassages.{AnswersArePassages, CopiesArePassages, CrossingsMayCopy};
 ghost use Rattle.domain_crossing.specs.Crossings.{HalvesMakeReturns, HalvesMakeThrows};
+ghost use Rattle.domain_crossing.specs.EnteredParts.{EntersChangeMachines, SealedAreApart};
 
 /// A segment that is left by a return, and what is raised below after it, are together a case of `Returns`.
 pub fn halves_make_returns()
@@ -26,4 +27,14 @@ pub fn answers_are_passages()
 /// What a copy makes is the passage.
 pub fn copies_are_passages()
     ensures { CopiesArePassages }
+{}
+
+/// Segments of a sealed machine have different numbers, and so have its threads.
+pub fn sealed_are_apart()
+    ensures { SealedAreApart }
+{}
+
+/// Where the parts change as they do at a call that enters, the call has entered in the machine.
+pub fn enters_change_machines()
+    ensures { EntersChangeMachines }
 {}

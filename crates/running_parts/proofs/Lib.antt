@@ -1,3 +1,4 @@
 -- The derivations of the laws.
 pub mod RunningChanged
 pub mod TopsOfThreads
+pub mod TopsGone

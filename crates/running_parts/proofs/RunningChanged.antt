@@ -83,7 +83,7 @@ module _ (n : SegmentNo) (change : Segment → Segment) where
       map-append changed_at lower (top ∷ []) ∙ ap (λ (xs : List Segment). xs ++ changed_at top ∷ []) (none_changes lower apart)
       ∙ ap (λ (s : Segment). lower ++ s ∷ []) (changes_by (top.shared.number.0 == n.0) top refl same)
 
-module _ (m : Machine) (t : ThreadNo) (r : RunningSegment m t) (change : Segment → Segment) (apart : AreSegmentsApart m) where
+module _ (m : Machine) (t : ThreadNo) (r : RunningSegment m t) (apart : AreSegmentsApart m) where
   -- the top segment stands behind the lower ones
   top_at : slice_get r.thread.segments (length r.lower) ≡ Some r.segment
   top_at = ap (λ (xs : List Segment). slice_get xs (length r.lower)) r.are_segments ∙ slice_get-last r.lower r.segment
@@ -91,7 +91,8 @@ module _ (m : Machine) (t : ThreadNo) (r : RunningSegment m t) (change : Segment
   same_number : (s : Segment) → s.shared.number.0 ≡ r.segment.shared.number.0 → s.shared.number ≡ r.segment.shared.number
   same_number s same = λ i. record { 0 = same i }
 
-  lower_apart : (s : Segment) → Contains r.lower s → s.shared.number.0 ≡ r.segment.shared.number.0 → ⊥
+  -- no lower segment has its number, and none of another thread
+  pub lower_apart : (s : Segment) → Contains r.lower s → s.shared.number.0 ≡ r.segment.shared.number.0 → ⊥
   lower_apart s there same =
       let found = thread_at m t r [] apart in
       let place = stands_at r.lower s there in
@@ -100,29 +101,39 @@ module _ (m : Machine) (t : ThreadNo) (r : RunningSegment m t) (change : Segment
       let e = apart.segments found.0 found.0 place.0 (length r.lower) r.thread r.thread s r.segment found.1 found.1 at top_at (same_number s same) in
       omega (arith, e.1, place.1)
 
+  pub others_apart : (e : Thread) → Contains m.threads e → (e.number.0 ≡ t.0 → ⊥) → (s : Segment) → Contains e.segments s
+      → s.shared.number.0 ≡ r.segment.shared.number.0 → ⊥
+  others_apart e there other s in_it same =
+      let found = thread_at m t r [] apart in
+      let place = place_of m.threads e there in
+      let at = place_of e.segments s in_it in
+      let both = apart.segments place.0 found.0 at.0 (length r.lower) e r.thread s r.segment place.1 found.1 at.1 top_at (same_number s same) in
+      let one : e ≡ r.thread = same_Some e r.thread (sym place.1 ∙ ap (slice_get m.threads) both.0 ∙ found.1) in
+      other (ap (λ (x : Thread). x.number.0) one ∙ found.2)
+
+  -- a thread of its number is its thread
+  thread_is : (e : Thread) → Contains m.threads e → e.number.0 ≡ t.0 → e ≡ r.thread
+  thread_is e there number =
+      let found = thread_at m t r [] apart in
+      let place = place_of m.threads e there in
+      let same : e.number ≡ r.thread.number = (λ i. record { 0 = (number ∙ sym found.2) i }) in
+      let k : place.0 ≡ found.0 = apart.threads place.0 found.0 e r.thread place.1 found.1 same in
+      same_Some e r.thread (sym place.1 ∙ ap (slice_get m.threads) k ∙ found.1)
+
+module _ (m : Machine) (t : ThreadNo) (r : RunningSegment m t) (change : Segment → Segment) (apart : AreSegmentsApart m) where
   thread_step : (b : Bool) (e : Thread) → Contains m.threads e → e.number.0 == t.0 ≡ b
       → record e { segments = map (changed_at r.segment.shared.number change) e.segments }
       ≡ cond b (record e { segments = r.lower ++ change r.segment ∷ [] }) e
   thread_step true e there is =
-      let found = thread_at m t r [] apart in
-      let place = place_of m.threads e there in
-      let same : e.number ≡ r.thread.number = (λ i. record { 0 = (eqb-true e.number.0 t.0 is ∙ sym found.2) i }) in
-      let k : place.0 ≡ found.0 = apart.threads place.0 found.0 e r.thread place.1 found.1 same in
-      let one : e ≡ r.thread = same_Some e r.thread (sym place.1 ∙ ap (slice_get m.threads) k ∙ found.1) in
+      let one : e ≡ r.thread = thread_is m t r apart e there (eqb-true e.number.0 t.0 is) in
       let segments : e.segments ≡ r.lower ++ r.segment ∷ [] = ap (λ (x : Thread). x.segments) one ∙ r.are_segments in
       ap (λ (xs : List Segment). record e { segments = xs })
       (ap (map (changed_at r.segment.shared.number change)) segments
-      ∙ top_changes r.segment.shared.number change r.lower r.segment lower_apart refl)
+      ∙ top_changes r.segment.shared.number change r.lower r.segment (lower_apart m t r apart) refl)
   thread_step false e there is =
-      let found = thread_at m t r [] apart in
-      let place = place_of m.threads e there in
-      let none : map (changed_at r.segment.shared.number change) e.segments ≡ e.segments =
-      none_changes r.segment.shared.number change e.segments (λ s in_it same.
-      let at = place_of e.segments s in_it in
-      let both = apart.segments place.0 found.0 at.0 (length r.lower) e r.thread s r.segment place.1 found.1 at.1 top_at (same_number s same) in
-      let one : e ≡ r.thread = same_Some e r.thread (sym place.1 ∙ ap (slice_get m.threads) both.0 ∙ found.1) in
-      eqb-false e.number.0 t.0 is (ap (λ (x : Thread). x.number.0) one ∙ found.2)) in
-      ap (λ (xs : List Segment). record e { segments = xs }) none
+      ap (λ (xs : List Segment). record e { segments = xs })
+      (none_changes r.segment.shared.number change e.segments
+      (others_apart m t r apart e there (λ same. eqb-false e.number.0 t.0 is same)))
 
   running_changes : with_stacks (map (changed_at r.segment.shared.number change)) m ≡ with_segments t (r.lower ++ change r.segment ∷ []) m
   running_changes =

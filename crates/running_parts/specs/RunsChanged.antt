@@ -1,17 +1,19 @@
 -- What a change of the running segment in a part is to the machine. The segments of a machine have different numbers, so that the segment of the
 -- running one's number is the running one; and a domain that is set to what it has is as it was.
-use Rattle.std.specs.Prelude.{◌≡◌, ℕ, List, [], ◌∷◌, ◌++◌, Some, slice_get}
+use Rattle.std.specs.Prelude.{◌≡◌, ℕ, List, [], ◌∷◌, ◌++◌, Some, None, slice_get}
 use Rattle.jk_model.specs.declared.identifiers.DomainId.{DomainId}
 use Rattle.jk_model.specs.declared.identifiers.ThreadNo.{ThreadNo}
 use Rattle.jk_model_frames.specs.Frames.{FrameState}
 use Rattle.jk_model_sharing.specs.Segments.{SharedSegment, changed, with_segment}
+use Rattle.jk_model_sharing.specs.SharedStates.{popped}
 use Rattle.jk_model_sharing.specs.SharedStates.{with_flags as with_shared_flags}
-use Rattle.jk_model_machine_state.specs.Machines.{DomainState, Machine, segment_form, with_inside, with_segments, with_stacks}
-use Rattle.jk_model_machine_state.specs.Places.{LiveDomain, RunningSegment, with_flags, with_running}
+use Rattle.jk_model_machine_state.specs.Machines.{DomainState, Machine, Segment, segment_form, with_inside, with_segments, with_stacks, without_thread}
+use Rattle.jk_model_machine_state.specs.Places.{LiveDomain, RunningSegment, with_flags, with_running, without_top}
 use Rattle.frame_store.specs.FrameContents.{Changes, FrameContent}
 use Rattle.machine_parts.specs.ChangedParts.{AreSegmentsApart}
 use Rattle.machine_parts.specs.FittingParts.{HaveOneList}
 use Rattle.machine_parts.specs.MachineParts.{MachineParts, machine_of}
+use Rattle.machine_parts.specs.SharedInMachines.{HaveAllSegments}
 
 pub record RunsChangeMachines : Type 0 where
   -- a live domain is set to what it has
@@ -29,3 +31,13 @@ pub record RunsChangeMachines : Type 0 where
   pub flags : (p : MachineParts) (t : ThreadNo) (r : RunningSegment (machine_of p) t) (change : SharedSegment → SharedSegment)
       → ((s : SharedSegment) → (change s).number ≡ s.number) → HaveOneList p → AreSegmentsApart (machine_of p)
       → machine_of (record p { shared = with_shared_flags r.segment.shared.number change p.shared }) ≡ with_flags r (change r.segment.shared)
+
+-- The top segment goes from what domains share, and its frames from the store; with the lowest one the thread goes.
+pub record TopsGoFromMachines : Type 0 where
+  pub higher : (p : MachineParts) (mid : FrameContent) (t : ThreadNo) (r : RunningSegment (machine_of p) t) (d : DomainId) (used : ℕ)
+      (lower : List Segment) (below : Segment) → HaveAllSegments p → AreSegmentsApart (machine_of p) → r.lower ≡ lower ++ below ∷ []
+      → Changes p.frames mid r.segment.shared.number d None used
+      → machine_of (record p { shared = popped t p.shared; frames = mid }) ≡ without_top r
+  pub lowest : (p : MachineParts) (mid : FrameContent) (t : ThreadNo) (r : RunningSegment (machine_of p) t) (d : DomainId) (used : ℕ)
+      → HaveAllSegments p → AreSegmentsApart (machine_of p) → r.lower ≡ [] → Changes p.frames mid r.segment.shared.number d None used
+      → machine_of (record p { shared = popped t p.shared; frames = mid }) ≡ without_thread t (machine_of p)
