@@ -112,7 +112,7 @@ module _ (m : Machine) (t : ThreadNo) (r : RunningSegment m t) (apart : AreSegme
       other (ap (λ (x : Thread). x.number.0) one ∙ found.2)
 
   -- a thread of its number is its thread
-  thread_is : (e : Thread) → Contains m.threads e → e.number.0 ≡ t.0 → e ≡ r.thread
+  pub thread_is : (e : Thread) → Contains m.threads e → e.number.0 ≡ t.0 → e ≡ r.thread
   thread_is e there number =
       let found = thread_at m t r [] apart in
       let place = place_of m.threads e there in
