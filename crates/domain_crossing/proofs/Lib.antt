@@ -3,3 +3,4 @@ pub mod CopiesMayBeMade
 pub mod HalvesTogether
 pub mod PassagesOfParts
 pub mod PartsEntered
+pub mod PartsLeft

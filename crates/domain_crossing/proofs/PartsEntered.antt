@@ -49,7 +49,7 @@ sealed_apart m sealed = record { threads = threads; segments = sealed.threads.se
 -- ---- One change after another.
 
 module _ (p new : MachineParts) (t : ThreadNo) (c : RemoteCall (machine_of p) t) (owner : LiveDomain (machine_of p) c.known.owner)
-    (heap : List NamedObject) (frame : FrameState) (one : HaveOneList p) (sealed : IsSealed (machine_of p)) (h : EntersInParts c heap frame new) where
+    (heap : List NamedObject) (frame : FrameState) (one : HaveOneList p) (sealed : IsSealed (machine_of p)) (h : EntersInParts p t c heap frame new) where
   -- the arguments are off the caller's stack
   abbrev taken : MachineParts
   taken = record p { frames = h.mid }

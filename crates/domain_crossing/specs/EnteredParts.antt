@@ -16,7 +16,7 @@ use Rattle.machine_parts.specs.FittingParts.{HaveOneList}
 use Rattle.machine_parts.specs.MachineParts.{MachineParts, machine_of}
 
 -- The owner's heap becomes this one, and the segment begins with this frame.
-pub record EntersInParts {p : MachineParts} {t : ThreadNo} (c : RemoteCall (machine_of p) t) (heap : List NamedObject) (frame : FrameState)
+pub record EntersInParts (p : MachineParts) (t : ThreadNo) (c : RemoteCall (machine_of p) t) (heap : List NamedObject) (frame : FrameState)
     (new : MachineParts) : Type 0 where
   pub words : ℕ
   pub copied : HeapBecomes p.heap new.heap c.known.owner heap words
@@ -35,7 +35,7 @@ pub record EntersInParts {p : MachineParts} {t : ThreadNo} (c : RemoteCall (mach
 abbrev pub EntersChangeMachines : Type 0
 EntersChangeMachines =
     (p new : MachineParts) (t : ThreadNo) (c : RemoteCall (machine_of p) t) (owner : LiveDomain (machine_of p) c.known.owner)
-    (heap : List NamedObject) (frame : FrameState) → HaveOneList p → IsSealed (machine_of p) → EntersInParts c heap frame new
+    (heap : List NamedObject) (frame : FrameState) → HaveOneList p → IsSealed (machine_of p) → EntersInParts p t c heap frame new
     → machine_of new ≡ arrived owner t heap frame (departed c)
 
 -- segments of a sealed machine have different numbers, and so have its threads

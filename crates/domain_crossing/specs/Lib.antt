@@ -1,5 +1,6 @@
 pub mod AskedOfCrossings
 pub mod CopiesAndPassages
 pub mod Crossings
-pub mod PrintedOfThreads
 pub mod EnteredParts
+pub mod LeftParts
+pub mod PrintedOfThreads

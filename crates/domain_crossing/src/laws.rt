@@ -3,6 +3,7 @@
 ghost use Rattle.domain_crossing.specs.CopiesAndPassages.{AnswersArePassages, CopiesArePassages, CrossingsMayCopy};
 ghost use Rattle.domain_crossing.specs.Crossings.{HalvesMakeReturns, HalvesMakeThrows};
 ghost use Rattle.domain_crossing.specs.EnteredParts.{EntersChangeMachines, SealedAreApart};
+ghost use Rattle.domain_crossing.specs.LeftParts.{LeavesChangeMachines};
 
 /// A segment that is left by a return, and what is raised below after it, are together a case of `Returns`.
 pub fn halves_make_returns()
@@ -37,4 +38,9 @@ pub fn sealed_are_apart()
 /// Where the parts change as they do at a call that enters, the call has entered in the machine.
 pub fn enters_change_machines()
     ensures { EntersChangeMachines }
+{}
+
+/// Where the parts change as they do when a segment is left and its caller goes on, the machine does so.
+pub fn leaves_change_machines()
+    ensures { LeavesChangeMachines }
 {}

@@ -1,5 +1,5 @@
 -- The segment of the running one's number is the running one, and a domain that is set to what it has is as it was.
-use Rattle.std.proofs.Common.{◌≡◌, ℕ, ◌<◌, ◌==◌, Bool, true, false, cond, List, [], ◌∷◌, ◌++◌, length, map, slice_get, Contains, Some, refl, sym, ap, ◌∙◌, arith}
+use Rattle.std.proofs.Common.{◌≡◌, ℕ, ◌==◌, Bool, true, false, cond, List, [], ◌∷◌, ◌++◌, length, map, slice_get, Contains, Some, refl, sym, ap, ◌∙◌, arith}
 use Rattle.std.proofs.lemmas.Bool.{eqb-false, eqb-true}
 use Rattle.std.proofs.lemmas.List.{map-append}
 use Rattle.std.proofs.lemmas.Option.{same_Some}
@@ -112,7 +112,7 @@ module _ (m : Machine) (t : ThreadNo) (r : RunningSegment m t) (apart : AreSegme
       other (ap (λ (x : Thread). x.number.0) one ∙ found.2)
 
   -- a thread of its number is its thread
-  thread_is : (e : Thread) → Contains m.threads e → e.number.0 ≡ t.0 → e ≡ r.thread
+  pub thread_is : (e : Thread) → Contains m.threads e → e.number.0 ≡ t.0 → e ≡ r.thread
   thread_is e there number =
       let found = thread_at m t r [] apart in
       let place = place_of m.threads e there in

@@ -1,5 +1,5 @@
 -- The top segment goes from what domains share, and its frames from the store: the machine is without it.
-use Rattle.std.proofs.Common.{◌≡◌, ◌==◌, Bool, true, false, not, cond, filter, List, [], ◌∷◌, ◌++◌, map, Contains, None, refl, sym, ap, subst, ◌∙◌, inl, inr, arith}
+use Rattle.std.proofs.Common.{◌≡◌, ◌==◌, Bool, true, false, not, cond, filter, List, [], ◌∷◌, ◌++◌, map, Contains, None, refl, sym, ap, subst, ◌∙◌, inl, inr}
 use Rattle.std.specs.Prelude.{ℕ}
 use Rattle.std.proofs.lemmas.Bool.{eqb-false}
 use Rattle.jk_model.specs.declared.identifiers.DomainId.{DomainId}
