@@ -37,13 +37,13 @@ abbrev pub EXCEPTION : ClassId
 EXCEPTION = record { 0 = 15 }
 
 abbrev pub BOOM : ClassId
-BOOM = record { 0 = 46 }
+BOOM = record { 0 = 49 }
 
 abbrev pub ECHO : ClassId
-ECHO = record { 0 = 47 }
+ECHO = record { 0 = 50 }
 
 abbrev pub SERVER : ClassId
-SERVER = record { 0 = 48 }
+SERVER = record { 0 = 51 }
 
 abbrev pub class_below : ClassId → List ℕ → ℕ → List ClassId → List MethodRecord → ClassRecord
 class_below parent name flags interfaces methods = record {

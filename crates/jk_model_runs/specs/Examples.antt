@@ -38,10 +38,10 @@ abbrev pub stopped_callee : ℕ → Machine
 stopped_callee n = machine_with (with_steps n (ann_with []) ∷ with_steps 1 (bob_with []) ∷ [])
     (thread_with (with_frames (segment 1 ann) (calling [] ∷ []) ∷ with_frames (with_stop true (segment 2 bob)) (needing ∷ []) ∷ []) ∷ [])
 
--- ---- Starts of the class Go, with the number 49, which ann knows. Its `main` has one local and no code that an example would run.
+-- ---- Starts of the class Go, with the number 52, which ann knows. Its `main` has one local and no code that an example would run.
 
 abbrev pub GO : ClassId
-GO = record { 0 = 49 }
+GO = record { 0 = 52 }
 
 abbrev pub main_code : LinkedCode
 main_code = record { max_stack = 0; max_locals = 1; instrs = []; handlers = [] }

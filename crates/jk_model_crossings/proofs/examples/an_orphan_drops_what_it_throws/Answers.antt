@@ -78,7 +78,7 @@ THROWABLE = record { 0 = 9 }
 
 no_death : IsDeath the_boom → ⊥
 no_death h = each-of (λ (d : ClassId). d ≢ THREAD_DEATH) (BOOM ∷ EXCEPTION ∷ THROWABLE ∷ OBJECT ∷ []) THREAD_DEATH
-    (other 46 (omega arith), (other 15 (omega arith), (other 9 (omega arith), (other 0 (omega arith), tt)))) h refl
+    (other 49 (omega arith), (other 15 (omega arith), (other 9 (omega arith), (other 0 (omega arith), tt)))) h refl
   where
     other : (n : ℕ) → n ≢ 34 → (record { 0 = n }) ≢ THREAD_DEATH
     other n ne e = ne (ap (λ (d : ClassId). d.0) e)
@@ -87,7 +87,7 @@ bob_lacks : (name : List ℕ) → class_named (meaning (codes "Main") MAIN ∷ [
 bob_lacks name is = by_test (bytes_eq (codes "Main") name) is
   where
     by_test : (b : Bool) → option_map (λ (e : NamedClass). e.class) (cond b (Some (meaning (codes "Main") MAIN)) None) ≡ Some BOOM → ⊥
-    by_test true e = let same : 45 ≡ 46 = ap (λ (d : ClassId). d.0) (same_Some MAIN BOOM e) in absurd (omega (arith, same))
+    by_test true e = let same : 45 ≡ 49 = ap (λ (d : ClassId). d.0) (same_Some MAIN BOOM e) in absurd (omega (arith, same))
     by_test false e = absurd cc
 
 not_copiable : IsCopiable classes (cid_with []).table (bob_with []).table (Plain BOOM (Held.Null ∷ [])) → ⊥
