@@ -73,17 +73,17 @@ code_is_one classes f a b =
 -- ---- The frame's typing in the scope of its code.
 
 module _ (classes : List ClassRecord) (sound : AreSoundCodes classes) (f : FrameState) (code : RunsCode classes f) (t : HasTyping classes f) where
-  abbrev same_method : t.method ≡ code.method
+  abbrev pub same_method : t.method ≡ code.method
   same_method = same_Some t.method code.method (sym t.is_method ∙ code.is_method)
 
-  same_scope : t.scope ≡ code.scope
+  abbrev pub same_scope : t.scope ≡ code.scope
   same_scope =
       one-scope classes code.method t.scope code.scope (subst (λ (m : MemberId). IsScopeOf classes m t.scope) same_method t.is_scope) code.is_scope
 
-  abbrev least : IsLeastTyping classes code.method t.frames
+  abbrev pub least : IsLeastTyping classes code.method t.frames
   least = subst (λ (m : MemberId). IsLeastTyping classes m t.frames) same_method t.is_least
 
-  abbrev typed : least.typing.scope ≡ code.scope
+  abbrev pub typed : least.typing.scope ≡ code.scope
   typed = one-scope classes code.method least.typing.scope code.scope least.typing.scope_is code.is_scope
 
   abbrev pub goes : GoesWell code.scope t.frames f.head.at code.instr t.type
@@ -96,7 +96,7 @@ module _ (classes : List ClassRecord) (sound : AreSoundCodes classes) (f : Frame
   sized : IsFrameOf code.scope.code t.type
   sized = subst (λ (s : CodeScope). IsFrameOf s.code t.type) typed (least.typing.sized f.head.at t.type t.stands)
 
-  room : (f.head.max_locals ≡ code.scope.code.max_locals) × (f.head.max_stack ≡ code.scope.code.max_stack)
+  abbrev pub room : (f.head.max_locals ≡ code.scope.code.max_locals) × (f.head.max_stack ≡ code.scope.code.max_stack)
   room = subst (λ (s : CodeScope). (f.head.max_locals ≡ s.code.max_locals) × (f.head.max_stack ≡ s.code.max_stack)) same_scope t.room
 
   ordered : AreOrdered code.scope.classes
