@@ -1,5 +1,7 @@
 -- Lemmas on typed operands.
 pub mod BelowObject
+pub mod CallersFit
+pub mod CallersResume
 pub mod ElementsOfArrays
 pub mod FreshObjects
 pub mod HeldValues

@@ -73,20 +73,20 @@ code_is_one classes f a b =
 -- ---- The frame's typing in the scope of its code.
 
 module _ (classes : List ClassRecord) (sound : AreSoundCodes classes) (f : FrameState) (code : RunsCode classes f) (t : HasTyping classes f) where
-  abbrev same_method : t.method ≡ code.method
+  abbrev pub same_method : t.method ≡ code.method
   same_method = same_Some t.method code.method (sym t.is_method ∙ code.is_method)
 
-  same_scope : t.scope ≡ code.scope
+  abbrev pub same_scope : t.scope ≡ code.scope
   same_scope =
       one-scope classes code.method t.scope code.scope (subst (λ (m : MemberId). IsScopeOf classes m t.scope) same_method t.is_scope) code.is_scope
 
-  abbrev least : IsLeastTyping classes code.method t.frames
+  abbrev pub least : IsLeastTyping classes code.method t.frames
   least = subst (λ (m : MemberId). IsLeastTyping classes m t.frames) same_method t.is_least
 
-  abbrev typed : least.typing.scope ≡ code.scope
+  abbrev pub typed : least.typing.scope ≡ code.scope
   typed = one-scope classes code.method least.typing.scope code.scope least.typing.scope_is code.is_scope
 
-  abbrev goes : GoesWell code.scope t.frames f.head.at code.instr t.type
+  abbrev pub goes : GoesWell code.scope t.frames f.head.at code.instr t.type
   goes =
       let instr : slice_get least.typing.scope.code.instrs f.head.at ≡ Some code.instr =
       subst (λ (s : CodeScope). slice_get s.code.instrs f.head.at ≡ Some code.instr) (sym typed) code.stands in
@@ -96,7 +96,7 @@ module _ (classes : List ClassRecord) (sound : AreSoundCodes classes) (f : Frame
   sized : IsFrameOf code.scope.code t.type
   sized = subst (λ (s : CodeScope). IsFrameOf s.code t.type) typed (least.typing.sized f.head.at t.type t.stands)
 
-  room : (f.head.max_locals ≡ code.scope.code.max_locals) × (f.head.max_stack ≡ code.scope.code.max_stack)
+  abbrev pub room : (f.head.max_locals ≡ code.scope.code.max_locals) × (f.head.max_stack ≡ code.scope.code.max_stack)
   room = subst (λ (s : CodeScope). (f.head.max_locals ≡ s.code.max_locals) × (f.head.max_stack ≡ s.code.max_stack)) same_scope t.room
 
   ordered : AreOrdered code.scope.classes
@@ -125,22 +125,24 @@ module _ (classes : List ClassRecord) (sound : AreSoundCodes classes) (f : Frame
       } in
       (typing, holds_above code.scope heap ordered g after fits.0 holds fits.2)
 
-  stays : (heap : List NamedObject) (g : FrameState) → g.head ≡ f.head → FrameHolds code.scope heap g t.type → FitsHere classes heap g
-  stays heap g head holds =
-      let typing : HasTyping classes g = record {
-        method = code.method;
-        is_method = ap (λ (h : FrameHead). h.method) head ∙ code.is_method;
-        scope = code.scope;
-        is_scope = code.is_scope;
-        room = (ap (λ (h : FrameHead). h.max_locals) head ∙ room.0, ap (λ (h : FrameHead). h.max_stack) head ∙ room.1);
-        frames = t.frames;
-        is_least = least;
-        type = t.type;
-        stands = ap (λ (h : FrameHead). slice_get t.frames h.at) head ∙ t.stands;
-      } in
-      (typing, holds)
+  -- the same typing of a frame with the same head
+  abbrev pub typing_of : (g : FrameState) → g.head ≡ f.head → HasTyping classes g
+  typing_of g head = record {
+    method = code.method;
+    is_method = ap (λ (h : FrameHead). h.method) head ∙ code.is_method;
+    scope = code.scope;
+    is_scope = code.is_scope;
+    room = (ap (λ (h : FrameHead). h.max_locals) head ∙ room.0, ap (λ (h : FrameHead). h.max_stack) head ∙ room.1);
+    frames = t.frames;
+    is_least = least;
+    type = t.type;
+    stands = ap (λ (h : FrameHead). slice_get t.frames h.at) head ∙ t.stands;
+  }
 
-  goes_on : (heap : List NamedObject) (g : FrameState) (n : ℕ) → g.head ≡ f.head → FrameHolds code.scope heap g goes.after
+  stays : (heap : List NamedObject) (g : FrameState) → g.head ≡ f.head → FrameHolds code.scope heap g t.type → FitsHere classes heap g
+  stays heap g head holds = (typing_of g head, holds)
+
+  pub goes_on : (heap : List NamedObject) (g : FrameState) (n : ℕ) → g.head ≡ f.head → FrameHolds code.scope heap g goes.after
       → GoesOnAt f.head.at code.instr (pos n) → FitsHere classes heap (at_place g n)
   goes_on heap g n head holds next =
       let to = goes.goes_on (pos n) next in
@@ -148,6 +150,9 @@ module _ (classes : List ClassRecord) (sound : AreSoundCodes classes) (f : Frame
       let fits : FitsAt code.scope t.frames n goes.after = subst (λ (k : ℕ). FitsAt code.scope t.frames k goes.after) same to.2 in
       fits_on heap (at_place g n) goes.after (ap (λ (h : FrameHead). h.method) head) (ap (λ (h : FrameHead). h.max_locals) head)
       (ap (λ (h : FrameHead). h.max_stack) head) fits (record { locals = holds.locals; stack = holds.stack })
+
+  pub holds_here : (heap : List NamedObject) → FrameHolds t.scope heap f t.type → FrameHolds code.scope heap f t.type
+  holds_here heap holds = subst (λ (s : CodeScope). FrameHolds s heap f t.type) same_scope holds
 
   pub stands_typed : (heap : List NamedObject) → FrameHolds t.scope heap f t.type → StandsTyped classes heap f code
   stands_typed heap holds = record {

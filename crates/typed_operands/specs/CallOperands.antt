@@ -1,5 +1,5 @@
 -- What a call finds on the stack of a frame that fits, what fits when it has left the frame, and when its answer has come.
-use Rattle.std.specs.Prelude.{◌≡◌, ◌≢◌, ◌≤◌, IsFalse, IsTrue, List, [], ◌∷◌, length, Option}
+use Rattle.std.specs.Prelude.{◌≡◌, ◌≢◌, ◌≤◌, ◌⊎◌, IsFalse, IsTrue, List, [], ◌∷◌, length, Option}
 use Rattle.jk_model.specs.Flags.{has, STATIC}
 use Rattle.jk_model.specs.declared.identifiers.ClassId.{ClassId}
 use Rattle.jk_model.specs.declared.identifiers.MemberId.{MemberId}
@@ -68,7 +68,8 @@ abbrev pub ArgumentsHaveRoom : Type 0
 ArgumentsHaveRoom =
     (around : Surroundings) (x : Setting) (heap : List NamedObject) (m : MemberId) (method : MethodRecord) (code : LinkedCode)
     (given : List Value) → IsKnownSetting around x → MethodIs around.classes m method → method.body ≡ Does.Linked code
-    → BeginMethod around heap m method given → length (locals_of given) ≤ code.max_locals
+    → (IsTrue (has method.flags STATIC) × AreOfTypes around heap method.params given) ⊎ BeginMethod around heap m method given
+    → length (locals_of given) ≤ code.max_locals
 
 -- ---- The frame that calls.
 

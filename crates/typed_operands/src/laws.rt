@@ -1,5 +1,6 @@
 //! The laws. The functions have no bodies: each stands for its clauses.
 
+ghost use Rattle.typed_operands.specs.CallOperands.{CallersFit, ResumedFramesFit};
 ghost use Rattle.typed_operands.specs.FittingInstances.{AllAreBelowObject, CapabilitiesFit, InstancesAreDecided, InstancesAreHeld, InstancesFit};
 ghost use Rattle.typed_operands.specs.Operands.{ElementsAreFound, ElementsFit, NewObjectsFit, PushedFit, TakenMeet};
 ghost use Rattle.typed_operands.specs.StandingFrames.{CodeIsOne, RunningFramesAreTyped, RunningFramesHaveCode};
@@ -44,4 +45,10 @@ pub fn running_frames_are_typed()
     ensures code { RunningFramesHaveCode }
     ensures one_code { CodeIsOne }
     ensures typed { RunningFramesAreTyped }
+{}
+
+/// A frame that a call has left stands at its call, and goes on after it with the answer.
+pub fn callers_fit()
+    ensures left { CallersFit }
+    ensures resumed { ResumedFramesFit }
 {}
