@@ -1,15 +1,12 @@
 -- Where the parts change as they do at a call that enters, the call has entered in the machine.
-use Rattle.std.proofs.Common.{◌≡◌, ℕ, ◌<◌, List, [], ◌∷◌, ◌++◌, Contains, Some, slice_get, refl, sym, ap, subst, ◌∙◌, inl, inr, arith}
+use Rattle.std.proofs.Common.{◌≡◌, ℕ, List, [], ◌∷◌, ◌++◌, Contains, Some, slice_get, sym, ap, subst, ◌∙◌, inl, inr, arith}
 use Rattle.std.specs.Option.{option_map_or}
 use Rattle.std.specs.Prelude.{Option}
 use Rattle.std.proofs.lemmas.Bool.{cases_lt}
-use Rattle.jk_model.specs.declared.identifiers.DomainId.{DomainId}
-use Rattle.jk_model.specs.declared.identifiers.SegmentNo.{SegmentNo}
 use Rattle.jk_model.specs.declared.identifiers.ThreadNo.{ThreadNo}
 use Rattle.jk_model_domains.specs.Objects.{NamedObject}
 use Rattle.jk_model_frames.specs.Frames.{FrameState}
 use Rattle.jk_model_heaps.specs.Workings.{with_heap}
-use Rattle.jk_model_sharing.specs.Segments.{SharedSegment, SharedThread}
 use Rattle.jk_model_sharing.specs.SharedStates.{SharedState, pushed}
 use Rattle.jk_model_classes.specs.Worlds.{WorldRecord}
 use Rattle.jk_model_domains.specs.OwnStates.{OwnState}

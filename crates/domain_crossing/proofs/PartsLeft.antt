@@ -1,5 +1,5 @@
 -- Where the parts change as they do when a segment is left and its caller goes on, the machine does so too.
-use Rattle.std.proofs.Common.{◌≡◌, ℕ, ◌==◌, Bool, true, false, cond, find, List, [], ◌∷◌, ◌++◌, length, map, slice_get, Contains, Option, Some, None, option_map, refl, sym, ap, subst, ◌∙◌}
+use Rattle.std.proofs.Common.{◌≡◌, ℕ, ◌==◌, Bool, true, false, cond, find, List, [], ◌∷◌, ◌++◌, map, slice_get, Contains, Option, Some, None, option_map, refl, sym, ap, ◌∙◌}
 use Rattle.std.proofs.lemmas.Bool.{eqb-true}
 use Rattle.std.proofs.lemmas.Option.{same_Some, slice_get-map, slice_get_within}
 use Rattle.jk_model.specs.declared.identifiers.ThreadNo.{ThreadNo}
@@ -9,7 +9,7 @@ use Rattle.jk_model_domains.specs.OwnStates.{OwnState}
 use Rattle.jk_model_frames.specs.Frames.{FrameState}
 use Rattle.jk_model_heaps.specs.Workings.{with_heap}
 use Rattle.jk_model_sharing.specs.SharedStates.{SharedState, popped}
-use Rattle.jk_model_machine_state.specs.Machines.{DomainState, Machine, Segment, Thread, thread_numbered, with_inside, with_segments}
+use Rattle.jk_model_machine_state.specs.Machines.{DomainState, Machine, Segment, Thread, with_inside, with_segments}
 use Rattle.jk_model_machine_state.specs.Places.{LiveDomain, RunningSegment, with_running, without_top}
 use Rattle.jk_model_crossings.specs.Throwing.{TopTwo}
 use Rattle.jk_model_runs.specs.Sealed.{IsSealed}

@@ -6,7 +6,6 @@ use Rattle.jk_model_domains.specs.Objects.{NamedObject}
 use Rattle.jk_model_frames.specs.Frames.{FrameState}
 use Rattle.jk_model_heaps.specs.Workings.{with_heap}
 use Rattle.jk_model_sharing.specs.SharedStates.{popped}
-use Rattle.jk_model_machine_state.specs.Machines.{Machine}
 use Rattle.jk_model_machine_state.specs.Places.{with_running}
 use Rattle.jk_model_crossings.specs.Throwing.{TopTwo}
 use Rattle.jk_model_runs.specs.Sealed.{IsSealed}
