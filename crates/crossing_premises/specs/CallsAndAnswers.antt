@@ -65,6 +65,11 @@ IsTaken m t v =
     (s : TopTwo m t) → s.left.segment.shared.orphan ≡ false
     → Awaits m.classes s.left.home.inside.heap s.below.segment.frames v × IsKnownAnswer (caps_of m) s.left.home.inside.heap v
 
+-- ---- What comes back comes from a segment of which no frame is left.
+
+abbrev pub IsLeft : {m : Machine} {t : ThreadNo} → RunningSegment m t → Type 0
+IsLeft p = p.segment.frames ≡ []
+
 -- ---- A throwable: an object of java/lang/Throwable or below it, in the heap of the top segment's domain.
 
 pub record IsThrown {m : Machine} {t : ThreadNo} (p : RunningSegment m t) (a : ℕ) : Type 0 where

@@ -8,12 +8,12 @@ use Rattle.jk_model.specs.declared.values.Value.{Value}
 use Rattle.jk_model_machine_state.specs.Places.{RunningSegment}
 use Rattle.jk_model_crossings.specs.RemoteCalls.{RemoteCall}
 use Rattle.jk_model_runs.specs.Sealed.{IsSealed}
-use Rattle.crossing_premises.specs.CallsAndAnswers.{IsTaken, IsThrown, StandsAtCall}
+use Rattle.crossing_premises.specs.CallsAndAnswers.{IsLeft, IsTaken, IsThrown, StandsAtCall}
 use Rattle.crossing_premises.specs.SoundMachines.{HasSoundClasses}
 use Rattle.machine_parts.specs.FittingParts.{AreFittingParts}
 use Rattle.machine_parts.specs.MachineParts.{MachineParts, machine_of}
 
--- Of every crossing: the parts fit, and stand for a sealed machine, whose classes and names are sound. A segment may be without frames.
+-- Of every crossing: the parts fit, and stand for a sealed machine, whose classes and names are sound.
 pub record MayCross (p : MachineParts) : Type 0 where
   pub fitting : AreFittingParts p
   pub sealed : IsSealed (machine_of p)
@@ -29,14 +29,16 @@ pub record MayEnter (p : MachineParts) (t : ThreadNo) (k : CapId) (method : Memb
   -- the next number of a segment may be drawn
   pub number : p.shared.next_segment < 2 ^ 64 - 1
 
--- of an answer: the segment below takes it, where it isn't dropped
+-- of an answer: no frame of the segment that gives it is left, and the segment below takes it, where it isn't dropped
 pub record MayLeave (p : MachineParts) (t : ThreadNo) (v : Option Value) : Type 0 where
   pub cross : MayCross p
   pub runs : RunningSegment (machine_of p) t
+  pub left : IsLeft runs
   pub taken : IsTaken (machine_of p) t v
 
--- of a throwable: it is one of the running domain's
+-- of a throwable: it is one of the running domain's, and has left all frames of the segment
 pub record MayRaise (p : MachineParts) (t : ThreadNo) (a : ℕ) : Type 0 where
   pub cross : MayCross p
   pub runs : RunningSegment (machine_of p) t
+  pub left : IsLeft runs
   pub thrown : IsThrown runs a

@@ -1,11 +1,13 @@
 -- A segment that acts has a step, and each step keeps what is kept.
 use Rattle.std.specs.Prelude.{◌≡◌, ◌⊎◌, List, Option, Some}
 use Rattle.jk_model.specs.declared.identifiers.ClassId.{ClassId}
+use Rattle.jk_model.specs.declared.identifiers.CapId.{CapId}
 use Rattle.jk_model.specs.declared.identifiers.ThreadNo.{ThreadNo}
 use Rattle.jk_model.specs.declared.values.Value.{Value}
 use Rattle.jk_model_classes.specs.declared.records.ClassRecord.{ClassRecord}
 use Rattle.jk_model_classes.specs.Classes.{record_of}
 use Rattle.jk_model_domains.specs.OwnStates.{HasState}
+use Rattle.jk_model_heaps.specs.Capabilities.{IsGivenOut}
 use Rattle.jk_model_heaps.specs.CalledFrames.{resumed}
 use Rattle.jk_model_heaps.specs.Workings.{Inside, Request, Run, Setting}
 use Rattle.jk_model_running.specs.Constants.{LacksConstants, SetsConstants}
@@ -49,10 +51,17 @@ LocalStepsKeep =
     (around : Surroundings) (x : Setting) (t : ThreadNo) (old new : Run) (went : Went) → ActsWell around x t old
     → LocalStep x t old new went → KeepsRun around x t old new went
 
--- ---- What waits for an answer from outside of the domain goes on with it, where nothing else changed.
+-- ---- What waits for an answer from outside of the domain goes on with it, where nothing else changed but that a capability may have been
+-- given out.
+
+-- the same, with more capabilities
+pub record HasMoreCapabilities (around wide : Surroundings) : Type 0 where
+  pub classes : wide.classes ≡ around.classes
+  pub table : wide.table ≡ around.table
+  pub given_out : (k : CapId) → IsGivenOut around.caps k → IsGivenOut wide.caps k
 
 abbrev pub AnsweredFramesRunOn : Type 0
 AnsweredFramesRunOn =
-    (around : Surroundings) (x : Setting) (t : ThreadNo) (old run : Run) (request : Request) (v : Option Value) (top : TopFrame run)
-    → ActsWell around x t old → LocalStep x t old run (Asks request) → IsResult around run.inside.heap (answer_type request) v
-    → RunOn around (with_top top.callers (resumed v top.frame) run.inside)
+    (around wide : Surroundings) (x : Setting) (t : ThreadNo) (old run : Run) (request : Request) (v : Option Value) (top : TopFrame run)
+    → HasMoreCapabilities around wide → ActsWell around x t old → LocalStep x t old run (Asks request)
+    → IsResult wide run.inside.heap (answer_type request) v → RunOn wide (with_top top.callers (resumed v top.frame) run.inside)

@@ -6,7 +6,8 @@ use Rattle.jk_model.specs.declared.output.Line.{Line}
 use Rattle.jk_model.specs.declared.steps.Raise.{Raise}
 use Rattle.jk_model.specs.declared.values.Value.{Value}
 use Rattle.jk_model_heaps.specs.Workings.{Request}
-use Rattle.jk_model_machine_state.specs.Machines.{DomainState, Machine}
+use Rattle.jk_model_sealing.specs.FittingFrames.{FitsAtCall}
+use Rattle.jk_model_machine_state.specs.Machines.{DomainState, Machine, caps_of}
 use Rattle.jk_model_machine_state.specs.Places.{RunningSegment}
 use Rattle.jk_model_crossings.specs.Answers.{Receives, Returns}
 use Rattle.jk_model_crossings.specs.DomainEnds.{Terminates}
@@ -18,7 +19,7 @@ use Rattle.jk_model_runs.specs.Confined.{Confined}
 use Rattle.jk_model_runs.specs.Events.{IsWhole, Kills}
 use Rattle.jk_model_runs.specs.Sealed.{IsSealed}
 use Rattle.jk_model_runs.specs.Steps.{Deed, StepsBy}
-use Rattle.crossing_premises.specs.CallsAndAnswers.{Awaits, IsTaken, IsThrown, MayBeAsked, MayBeRaised, StandsAtCall}
+use Rattle.crossing_premises.specs.CallsAndAnswers.{Awaits, IsKnownAnswer, IsLeft, IsTaken, IsThrown, MayBeAsked, MayBeRaised, StandsAtCall}
 use Rattle.crossing_premises.specs.SoundMachines.{AreOthersAnswered, HasSoundClasses, IsSealedAtCall}
 
 -- ---- Calls.
@@ -28,17 +29,17 @@ pub record CallsStaySealed : Type 0 where
   pub answered : (m new : Machine) (t : ThreadNo) (c : RemoteCall m t) → IsWhole m → HasSoundClasses m → StandsAtCall c → Enters c new
       → AreCallsAnswered new
 
--- ---- What comes back. The segment that is left may be without frames.
+-- ---- What comes back, from a segment of which no frame is left.
 
 pub record AnswersStaySealed : Type 0 where
-  pub sealed : (m new : Machine) (t : ThreadNo) (v : Option Value) (n : ℕ) (lines : List Line) → IsSealed m → HasSoundClasses m → IsTaken m t v
-      → Returns m t v n lines new → IsSealed new
+  pub sealed : (m new : Machine) (t : ThreadNo) (p : RunningSegment m t) (v : Option Value) (n : ℕ) (lines : List Line) → IsSealed m
+      → HasSoundClasses m → IsLeft p → IsTaken m t v → Returns m t v n lines new → IsSealed new
   pub answered : (m new : Machine) (t : ThreadNo) (v : Option Value) (n : ℕ) (lines : List Line) → AreOthersAnswered m t
       → Returns m t v n lines new → AreCallsAnswered new
 
 pub record ThrowablesStaySealed : Type 0 where
   pub sealed : (m new : Machine) (t : ThreadNo) (p : RunningSegment m t) (a n : ℕ) (lines : List Line) → IsSealed m → HasSoundClasses m
-      → IsThrown p a → Throws t n m a lines new → IsSealed new
+      → IsLeft p → IsThrown p a → Throws t n m a lines new → IsSealed new
   pub answered : (m new : Machine) (t : ThreadNo) (a n : ℕ) (lines : List Line) → AreOthersAnswered m t → Throws t n m a lines new
       → AreCallsAnswered new
 
@@ -52,11 +53,18 @@ pub record RaisesStaySealed : Type 0 where
 
 -- ---- Requests of package jk.
 
+-- The top frame of the segment has made its call, which has left it, and takes this answer.
+pub record Answered {m : Machine} {t : ThreadNo} (p : RunningSegment m t) : Type 0 where
+  pub answer : Option Value
+  pub awaits : Awaits m.classes p.home.inside.heap p.segment.frames answer
+  pub stands : FitsAtCall m.classes p.home.inside.heap awaits.caller
+  pub known : IsKnownAnswer (caps_of m) p.home.inside.heap answer
+
 pub record RequestsStaySealed : Type 0 where
   pub grants : (m mid : Machine) (t : ThreadNo) (p : RunningSegment m t) (request : Request) (granted : Granted) → IsSealedAtCall m t
       → HasSoundClasses m → MayBeAsked p request → Grants p request granted mid → IsSealedAtCall mid t
-  pub receives : (m new : Machine) (t : ThreadNo) (p : RunningSegment m t) (v : Option Value) → IsSealedAtCall m t → HasSoundClasses m
-      → Awaits m.classes p.home.inside.heap p.segment.frames v → Receives p p.home.inside.heap v new → IsSealed new
+  pub receives : (m new : Machine) (t : ThreadNo) (p : RunningSegment m t) (a : Answered p) → IsSealedAtCall m t → HasSoundClasses m
+      → Receives p p.home.inside.heap a.answer new → IsSealed new
 
 -- ---- Ends of domains, by a program and by the script.
 
