@@ -31,13 +31,14 @@ pub record IsForeignStub (classes : List ClassRecord) (s : Stub) : Type 0 where
   pub interfaces : (i : ClassId) → Contains s.interfaces i → IsInterface classes i
   pub rising : (j k : ℕ) (a b : ClassId) → j < k → slice_get s.interfaces j ≡ Some a → slice_get s.interfaces k ≡ Some b → a.0 < b.0
 
--- The domain is live; each stub is that of its class; there is one for each class of a folder that implements jk/Remote, and for each
+-- The domain is live; each stub is that of its class, which has no other; there is one for each class of a folder that implements jk/Remote, and for each
 -- capability; and numbers of capabilities fit 24 bits.
 pub record SharesWell (classes : List ClassRecord) (shared : SharedState) (d : DomainId) : Type 0 where
   pub domain : SharedDomain
   pub is_domain : domain_numbered shared d ≡ Some domain
   pub live : domain.live ≡ true
   pub stubs : (s : Stub) → Contains shared.stubs s → IsStub classes s.class s ⊎ IsForeignStub classes s
+  pub apart : (s r : Stub) → Contains shared.stubs s → Contains shared.stubs r → s.class ≡ r.class → s ≡ r
   pub remote : (c : ClassId) (r : ClassRecord) → record_of classes c ≡ Some r → r.home ≢ None → ImplementsRemote classes c
       → (s : Stub) × (stub_for shared c ≡ Some s)
   pub capabilities : (k : CapId) → IsGivenOut (caps_of shared) k → ((s : Stub) × (stub_of shared k ≡ Some s)) × (k.0 < 2 ^ 24)
