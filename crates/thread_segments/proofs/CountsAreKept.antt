@@ -1,5 +1,5 @@
 -- What is counted of domains stays right: after a domain is admitted, a thread begins or ends, a flag is set, or a step is paid.
-use Rattle.std.proofs.Common.{◌≡◌, ◌≢◌, ℕ, zero, suc, ◌+◌, ◌-◌, ◌<◌, ◌≤◌, ◌⊎◌, inl, inr, Bool, true, false, List, [], ◌∷◌, ◌++◌, length, set, filter, sum_by, get_or, Some, slice_get, refl, sym, ap, subst, ◌∙◌, arith, length-append}
+use Rattle.std.proofs.Common.{◌≡◌, ◌≢◌, ℕ, zero, suc, ◌+◌, ◌-◌, ◌<◌, ◌≤◌, ◌⊎◌, inl, inr, Bool, true, false, List, [], ◌∷◌, ◌++◌, length, set, filter, sum_by, get_or, Some, slice_get, refl, sym, ap, subst, ◌∙◌, arith, length-append, map, Result}
 use Rattle.std.specs.Prelude.{◌==◌}
 use Rattle.std.specs.List.{AllByRecursion}
 use Rattle.std.proofs.lemmas.Bool.{cases_Bool, cases_eq, eq-eqb, ne_eqb}
@@ -7,16 +7,22 @@ use Rattle.std.proofs.lemmas.List.{length-map, length-set}
 use Rattle.std.proofs.lemmas.List.Elements.{filter-append}
 use Rattle.std.proofs.lemmas.List.Sums.{sum_by-append, sum_by-cons, sum_by-set}
 use Rattle.std.proofs.lemmas.Option.{same_Some, slice_get_within, get_or_from_slice_get}
+use Rattle.jk_model.specs.declared.identifiers.CapId.{CapId}
+use Rattle.jk_model.specs.declared.identifiers.ClassId.{ClassId}
 use Rattle.jk_model.specs.declared.identifiers.DomainId.{DomainId}
 use Rattle.jk_model.specs.declared.identifiers.ThreadNo.{ThreadNo}
 use Rattle.jk_model.specs.declared.script.Quotas.{Quotas}
+use Rattle.jk_model.specs.declared.steps.Raise.{Raise}
+use Rattle.jk_model_sharing.specs.CapabilityCalls.{with_created}
 use Rattle.jk_model_heaps.specs.Capabilities.{CapRange}
 use Rattle.jk_model_sharing.specs.Segments.{SharedSegment, SharedThread, count_started_in, live_threads, has_segments, thread_numbered, with_segments, with_stack, with_stacks}
-use Rattle.list_lemmas.proofs.ItemsByPlace.{old_or_last, slice_get-set_other, slice_get-set_same}
+use Rattle.list_lemmas.proofs.ItemsByPlace.{comes_from, old_or_last, slice_get-set_other, slice_get-set_same}
 use Rattle.list_lemmas.proofs.LastItems.{each-append}
 use Rattle.thread_segments.specs.declared.domains.DomainEntry.{DomainEntry}
+use Rattle.thread_segments.specs.ClassedRanges.{CreatesIn, has_room_in, used_up_in}
 use Rattle.thread_segments.specs.DomainEntries.{AreCounted, spare}
 use Rattle.thread_segments.specs.ThreadEntries.{ThreadList}
+use Rattle.thread_segments.proofs.CapsOfDomains.{one_range}
 use Rattle.thread_segments.proofs.ThreadsOfEntries.{one_if}
 
 -- ---- Threads.
@@ -315,3 +321,28 @@ home_of n (x ∷ threads) t e h at = elim (cases_Bool (x.number.0 == t.0)) [
       omega (arith, h.0, same)
   | inr miss ↦ home_of n threads t e h.1 (rw miss at at)
 ]
+
+-- ---- Ranges of capabilities.
+
+pub counts_caps : (es : List DomainEntry) (rs : List CapRange) (t : ThreadList) (class : ClassId) (target k : ℕ) → AreCounted es rs t
+    → AreCounted es (map (one_range (with_created class target) k) rs) t
+counts_caps es rs t class target k h = record {
+  as_many = length-map rs (one_range (with_created class target) k) ∙ h.as_many;
+  owners =
+      λ i r at.
+      let from = comes_from (one_range (with_created class target) k) rs i r at in
+      ap (λ (x : CapRange). x.owner.0) (sym from.gives) ∙ same_owner from.from ∙ h.owners i from.from from.there;
+  started = h.started;
+  within = h.within;
+  small = h.small;
+  homes = h.homes;
+  room = h.room;
+}
+  where
+    same_owner : (r : CapRange) → (one_range (with_created class target) k r).owner.0 ≡ r.owner.0
+    same_owner r = elim (cases_Bool (r.owner.0 == k)) [ inl hit ↦ rw hit refl | inr miss ↦ rw miss refl ]
+
+pub counts_created : (es : List DomainEntry) (rs : List CapRange) (t : ThreadList) (class : ClassId) (target : ℕ) (r : CapRange)
+    (answer : Result CapId Raise) (new : List CapRange) → AreCounted es rs t → CreatesIn rs class target r answer new → AreCounted es new t
+counts_created es rs t class target r answer new h (used_up_in full) = h
+counts_created es rs t class target r answer new h (has_room_in room) = counts_caps es rs t class target r.owner.0 h

@@ -1,5 +1,7 @@
 -- Lemmas on what domains share.
+pub mod CapsOfDomains
 pub mod CountsAreKept
+pub mod CreatedInRange
 pub mod DomainsByNumber
 pub mod InterfacesShown
 pub mod ItemsByKey

@@ -16,6 +16,7 @@ use Rattle.jk_model.specs.declared.identifiers.DomainId.{DomainId}
 use Rattle.jk_model_heaps.specs.Capabilities.{CapRange, Capability, OwnedCapability, capability_numbered, has_number}
 use Rattle.jk_model_sharing.specs.CapabilityCalls.{count_numbers, first_range, status_of}
 use Rattle.list_lemmas.proofs.LastItems.{each-append}
+use Rattle.thread_segments.proofs.CreatedInRange.{apart_push, chained_push}
 use Rattle.thread_segments.specs.ClassedRanges.{AreClassed, IsWithinClasses, class_at, made_with, no_class, range_with, ranges_with}
 
 -- ---- Ranges by number and by owner.
@@ -194,8 +195,8 @@ more_within n m (r ∷ ranges) le h =
     let w = h.0 in (record { low = w.low; high = omega (arith, w.high); made = w.made }, more_within n m ranges le h.1)
 
 pub classed_admitted : (classes : List ClassId) (ranges : List Range) (owner : DomainId) (count : ℕ) → AreClassed classes ranges
-    → numbers ranges + count ≤ last_number → AreClassed (classes ++ replicate count no_class) (admitted ranges owner count)
-classed_admitted classes ranges owner count h few =
+    → numbers ranges + count ≤ last_number → range_of ranges owner ≡ None → AreClassed (classes ++ replicate count no_class) (admitted ranges owner count)
+classed_admitted classes ranges owner count h few none =
     let new : Range = record { owner = owner; first = 1 + numbers ranges; count = count; made = [] } in
     let size : length (classes ++ replicate count no_class) ≡ length classes + count =
     length-append classes (replicate count no_class) ∙ ap (λ n. length classes + n) (length-replicate count no_class) in
@@ -209,4 +210,6 @@ classed_admitted classes ranges owner count h few =
           each-append (IsWithinClasses (length (classes ++ replicate count no_class))) ranges (new ∷ [])
           (more_within (length classes) (length (classes ++ replicate count no_class)) ranges (omega (arith, size)) h.each)
           (record { low = omega arith; high = omega (arith, size, h.as_many); made = omega arith }, tt);
+      chained = chained_push 1 ranges new h.chained refl;
+      apart = apart_push ranges new h.apart none;
     }

@@ -1,5 +1,5 @@
 -- The shared state as its parts have it, and what the calls make of it.
-use Rattle.std.proofs.Common.{◌≡◌, ◌≢◌, ℕ, suc, ◌-◌, ◌<◌, IsTrue, List, [], ◌∷◌, ◌++◌, length, nat_lt, set, find, Option, Some, None, slice_get, refl, sym, ap, subst, ◌∙◌, arith}
+use Rattle.std.proofs.Common.{◌≡◌, ◌≢◌, ℕ, suc, ◌-◌, ◌<◌, IsTrue, List, [], ◌∷◌, ◌++◌, length, nat_lt, set, find, Option, Some, None, slice_get, refl, sym, ap, subst, ◌∙◌, arith, map, Result, Ok, Err}
 use Rattle.std.specs.Prelude.{◌==◌, option_and_then, option_map}
 use Rattle.std.proofs.lemmas.Bool.{lt-ltb, ltb-true}
 use Rattle.std.proofs.lemmas.Option.{same_Some, slice_get_within}
@@ -9,17 +9,22 @@ use Rattle.jk_model.specs.declared.identifiers.ClassId.{ClassId}
 use Rattle.jk_model.specs.declared.identifiers.DomainId.{DomainId}
 use Rattle.jk_model.specs.declared.identifiers.ThreadNo.{ThreadNo}
 use Rattle.jk_model.specs.declared.script.Quotas.{Quotas}
+use Rattle.jk_model.specs.declared.steps.Raise.{Raise}
+use Rattle.jk_model.specs.declared.steps.Raise.TheVariants.{Standing}
+use Rattle.jk_model.specs.declared.steps.Standing.TheVariants as Stands
 use Rattle.jk_model_classes.specs.declared.sharing.Stub.{Stub}
 use Rattle.jk_model_heaps.specs.Capabilities.{CapRange, OwnedCapability, capability_numbered}
-use Rattle.jk_model_sharing.specs.CapabilityCalls.{LacksNumbers, count_numbers, first_range, status_of}
+use Rattle.jk_model_sharing.specs.CapabilityCalls.{LacksNumbers, count_numbers, first_range, has_room, next_number, status_of, used_up, with_created}
 use Rattle.jk_model_sharing.specs.Segments.{live_threads, new_segment, with_stack, without_top}
-use Rattle.jk_model_sharing.specs.SharedStates.{MayBegin, SharedDomain, SharedState, admitted, begun, caps_of, domain_numbered, popped, spent, stub_for, stub_of}
+use Rattle.jk_model_sharing.specs.SharedStates.{MayBegin, SharedDomain, SharedState, admitted, begun, caps_of, domain_numbered, popped, spent, stub_for, stub_of, with_caps}
+use Rattle.thread_segments.specs.ClassedRanges.{CreatesIn, has_room_in, used_up_in}
 use Rattle.thread_segments.specs.Asked.{IsAdmitted, IsLiveDomain, IsNext, MaySpend}
-use Rattle.thread_segments.specs.Answers.{count_numbers_left, known_status, quotas_of, steps_left_of}
+use Rattle.thread_segments.specs.Answers.{CreatesFor, count_numbers_left, has_stub, known_status, quotas_of, steps_left_of}
 use Rattle.thread_segments.specs.declared.domains.DomainEntry.{DomainEntry}
 use Rattle.thread_segments.specs.DomainEntries.{AreCounted, domain_with, domains_with}
 use Rattle.thread_segments.specs.ThreadEntries.{ThreadList}
 use Rattle.thread_segments.proofs.ItemsByKey.{found_none}
+use Rattle.thread_segments.proofs.CapsOfDomains.{AreOwnedFrom, caps_changed, one_range, owner_found, range_stays}
 use Rattle.thread_segments.proofs.DomainsByNumber.{changed_at, domains_with-push, length-domains_with, ranges_of-domains_with, same_domains, stands_at}
 
 abbrev pub state_of : List DomainEntry → List CapRange → List Stub → ThreadList → SharedState
@@ -47,16 +52,19 @@ module _ (es : List DomainEntry) (rs : List CapRange) (stubs : List Stub) (t : T
     pub entry : DomainEntry
     pub range : CapRange
     pub there : slice_get es d.0 ≡ Some entry
+    pub has_range : slice_get rs d.0 ≡ Some range
     pub is : domain_numbered here d ≡ Some (domain_with d.0 entry range)
 
   pub admitted_at : (d : DomainId) → IsAdmitted here d → Admitted d
   admitted_at d (e, at) =
       let s = stands_at 0 d.0 es rs e at in
       let P : ℕ → Type 0 = λ k. slice_get es k ≡ Some s.entry in
+      let R : ℕ → Type 0 = λ k. slice_get rs k ≡ Some s.range in
       record {
         entry = s.entry;
         range = s.range;
         there = subst P (omega (arith, s.is_place)) s.has_entry;
+        has_range = subst R (omega (arith, s.is_place)) s.has_range;
         is = at ∙ ap Some s.is;
       }
 
@@ -170,3 +178,37 @@ module _ (es : List DomainEntry) (rs : List CapRange) (stubs : List Stub) (t : T
 
   pub numbers_here : last_number - count_numbers rs ≡ count_numbers_left here
   numbers_here = rw caps_are refl
+
+  -- ---- A capability is created.
+
+  owners_from : AreOwnedFrom 0 rs
+  owners_from i r at = let e = h.owners i r at in omega (arith, e)
+
+  pub range_found : (d : DomainId) (a : Admitted d) → find (λ (x : CapRange). x.owner.0 == d.0) rs ≡ Some a.range
+  range_found d a = owner_found 0 d.0 d.0 rs a.range owners_from a.has_range (omega arith)
+
+  with_range : (d : DomainId) (a : Admitted d) (g : CapRange → CapRange) (k : ℕ) (range : CapRange) → k ≡ d.0 → g a.range ≡ range
+      → with_caps d range here ≡ state_of es (map (one_range g k) rs) stubs t
+  with_range d a g k range is becomes =
+      let same = caps_changed g d.0 range 0 d.0 es rs a.range owners_from a.has_range (omega arith) becomes in
+      let domains = sym same ∙ ap (λ n. domains_with 0 es (map (one_range g n) rs)) (sym is) in
+      ap (λ (ds : List SharedDomain). record here { domains = ds }) domains
+
+  owner_is : (d : DomainId) (a : Admitted d) → a.range.owner.0 ≡ d.0
+  owner_is d a = h.owners d.0 a.range a.has_range
+
+  pub create_is : (d : DomainId) (a : Admitted d) (class : ClassId) (target : ℕ) (answer : Result CapId Raise) (new : List CapRange)
+      → CreatesIn rs class target a.range answer new → (stub : Stub) → stub_for here class ≡ Some stub
+      → CreatesFor here d class target answer (state_of es new stubs t)
+  create_is d a class target answer new (used_up_in full) stub is =
+      let e = domain_with d.0 a.entry a.range in
+      let whole : with_caps d a.range here ≡ here =
+      with_range d a (λ (r : CapRange). r) d.0 a.range refl refl ∙ ap (λ (xs : List CapRange). state_of es xs stubs t) (range_stays d.0 rs) in
+      let P : SharedState → Type 0 = λ x. CreatesFor here d class target (Err (Standing Stands.Quota)) x in
+      subst P whole (has_stub stub e (Err (Standing Stands.Quota)) a.range is a.is (used_up full))
+  create_is d a class target answer new (has_room_in room) stub is =
+      let e = domain_with d.0 a.entry a.range in
+      let range = with_created class target a.range in
+      let whole = with_range d a (with_created class target) a.range.owner.0 range (owner_is d a) refl in
+      let P : SharedState → Type 0 = λ x. CreatesFor here d class target (Ok (next_number a.range)) x in
+      subst P whole (has_stub stub e (Ok (next_number a.range)) range is a.is (has_room room))

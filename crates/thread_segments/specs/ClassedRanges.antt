@@ -1,9 +1,14 @@
 -- Capabilities as a table and a list keep them: the table has all but the classes of the targets, and these stand in a list by the numbers.
-use Rattle.std.specs.Prelude.{◌≡◌, ℕ, suc, ◌+◌, ◌-◌, ◌≤◌, List, [], ◌∷◌, length, map, slice_index_or}
+use Rattle.std.specs.Prelude.{◌≡◌, ℕ, suc, ◌+◌, ◌-◌, ◌<◌, ◌≤◌, ◌==◌, List, [], ◌∷◌, length, map, None, Result, Ok, Err, if◌then◌else◌, slice_index_or}
 use Rattle.std.specs.List.{AllByRecursion}
-use Rattle.jk_model.specs.Capabilities.{Creation, Range, last_number, numbers}
+use Rattle.jk_model.specs.Capabilities.{Creation, Range, last_number, numbers, range_of}
+use Rattle.jk_model.specs.declared.identifiers.CapId.{CapId}
 use Rattle.jk_model.specs.declared.identifiers.ClassId.{ClassId}
+use Rattle.jk_model.specs.declared.steps.Raise.{Raise}
+use Rattle.jk_model.specs.declared.steps.Raise.TheVariants.{Standing}
+use Rattle.jk_model.specs.declared.steps.Standing.TheVariants as Stands
 use Rattle.jk_model_heaps.specs.Capabilities.{CapRange, Capability}
+use Rattle.jk_model_sharing.specs.CapabilityCalls.{next_number, with_created}
 
 -- what stands where no capability has the number
 abbrev pub no_class : ClassId
@@ -30,8 +35,27 @@ pub record IsWithinClasses (count : ℕ) (r : Range) : Type 0 where
   pub high : r.first + r.count ≤ 1 + count
   pub made : length r.made ≤ r.count
 
+-- each range begins directly behind the one before it, and the first at this number
+abbrev pub AreChained : ℕ → List Range → Type 0
+AreChained n [] = Unit {0}
+AreChained n (r ∷ ranges) = (r.first ≡ n) × AreChained (n + r.count) ranges
+
+-- no two have one owner
+abbrev pub AreApart : List Range → Type 0
+AreApart [] = Unit {0}
+AreApart (r ∷ ranges) = (range_of ranges r.owner ≡ None) × AreApart ranges
+
 -- there is a class for each number
 pub record AreClassed (classes : List ClassId) (ranges : List Range) : Type 0 where
   pub as_many : length classes ≡ numbers ranges
   pub few : length classes ≤ last_number
   pub each : AllByRecursion (IsWithinClasses (length classes)) ranges
+  pub chained : AreChained 1 ranges
+  pub apart : AreApart ranges
+
+-- What a domain that asks for one more capability is answered, and the ranges after it: its own, which is this one, alone is changed.
+pub data CreatesIn (caps : List CapRange) (class : ClassId) (target : ℕ) (r : CapRange) : Result CapId Raise → List CapRange → Type 0 where
+  used_up_in : r.count ≤ length r.made → CreatesIn caps class target r (Err (Standing Stands.Quota)) caps
+  has_room_in : length r.made < r.count
+      → CreatesIn caps class target r (Ok (next_number r))
+      (map (λ (x : CapRange). if x.owner.0 == r.owner.0 then with_created class target x else x) caps)

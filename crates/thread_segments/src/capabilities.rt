@@ -1,13 +1,13 @@
 //! The capabilities, each with the class that its target had when it was created.
 
-ghost use Rattle.std.specs.Prelude.{◌≡◌, ℕ, ◌+◌, ◌-◌, ◌<◌, ◌≤◌, ◌==◌, ◌++◌, ◌∷◌, [], None, Err, OnOk, OnErr, find, length, option_map, replicate, vec_len, vec_capacity};
+ghost use Rattle.std.specs.Prelude.{◌≡◌, ℕ, ◌+◌, ◌-◌, ◌<◌, ◌≤◌, ◌==◌, ◌++◌, ◌∷◌, [], None, Some, IsSome, Err, OnOk, OnErr, find, length, option_map, replicate, vec_len, vec_capacity};
 ghost use Rattle.jk_model.specs.Capabilities.{last_number};
 ghost use Rattle.jk_model_heaps.specs.Capabilities.{CapRange, OwnedCapability, capability_numbered};
 ghost use Rattle.jk_model_sharing.specs.CapabilityCalls.{LacksNumbers, count_numbers, first_range, status_of};
-ghost use Rattle.thread_segments.specs.ClassedRanges.{no_class};
+ghost use Rattle.thread_segments.specs.ClassedRanges.{CreatesIn, no_class};
 
 use capability_table::{CapabilityTable, CapsError};
-use jk_model::{CapId, CapStatus, ClassId, DomainId, OutOfMemory};
+use jk_model::{CapId, CapStatus, ClassId, DomainId, OutOfMemory, Raise, Standing};
 use std::alloc::Global;
 use std::marker::Model;
 
@@ -68,6 +68,27 @@ impl Capabilities {
         self.table.admit(owner, count)?;
         fill(&mut self.classes, count);
         Ok(())
+    }
+
+    /// Creates a capability of a domain that has a range, at an object of this class. QuotaException is raised exactly where the range
+    /// is used up, and then all is as before.
+    pub(crate) fn create(
+        &mut self,
+        owner: DomainId,
+        class: ClassId,
+        target: u32,
+    ) -> Result<CapId, Raise>
+        requires { IsSome (find (λ (r : CapRange). r.owner.0 == owner.0) self.old) }
+        ensures { (r : CapRange) → find (λ (x : CapRange). x.owner.0 == owner.0) self.old ≡ Some r
+            → CreatesIn self.old class target r result self.new }
+    {
+        match self.table.create(owner, target) {
+            Some(k) => {
+                self.classes[k.0 as usize - 1] = class;
+                Ok(k)
+            }
+            None => Err(Raise::Standing(Standing::Quota)),
+        }
     }
 
     /// What is known of a capability. None exactly where it wasn't given out.

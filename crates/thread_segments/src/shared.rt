@@ -8,7 +8,7 @@ ghost use Rattle.jk_model_heaps.specs.Capabilities.{CapabilityIsA, IsGivenOut};
 ghost use Rattle.jk_model_sharing.specs.CapabilityCalls.{LacksNumbers};
 ghost use Rattle.jk_model_sharing.specs.Segments.{with_revoked, with_stop};
 ghost use Rattle.jk_model_sharing.specs.SharedStates.{MayBegin, Resumes, Stops, Suspends, admitted, caps_of, first_state, popped, spent, stub_of, with_flags};
-ghost use Rattle.thread_segments.specs.Answers.{Begins, IsLeastAbove, IsLiveNumber, count_numbers_left, known_status, number_below, quotas_of, segment_info, steps_left_of, top_number};
+ghost use Rattle.thread_segments.specs.Answers.{Begins, CreatesFor, IsLeastAbove, IsLiveNumber, count_numbers_left, known_status, number_below, quotas_of, segment_info, steps_left_of, top_number};
 ghost use Rattle.thread_segments.specs.Asked.{AreWithin, HasRoomForSegment, IsAdmitted, IsLiveDomain, IsLiveThread, IsNext, IsThere, MayDrawSegment, MayDrawThread, MaySpend};
 ghost use Rattle.thread_segments.specs.KnownStubs.{AreRising, AreStubs, known_capabilities};
 
@@ -20,7 +20,7 @@ use crate::threads::Threads;
 use capability_table::CapsError;
 use domain_resolver::World;
 use jk_model::{
-    CapId, CapStatus, ClassId, DomainId, List, OutOfMemory, Quotas, SegmentNo, ThreadNo,
+    CapId, CapStatus, ClassId, DomainId, List, OutOfMemory, Quotas, Raise, SegmentNo, ThreadNo,
 };
 use jk_model_classes::{BaseRef, Stub, TypeRef};
 use std::alloc::Global;
@@ -34,6 +34,9 @@ const REMOTE: ClassId = ClassId(10);
 
 /// jk/Capability.
 const CAPABILITY: ClassId = ClassId(11);
+
+/// java/lang/IllegalArgumentException.
+const ILLEGAL_ARGUMENT_EXCEPTION: ClassId = ClassId(22);
 
 /// The threads and their segments, the capabilities with their stubs, the repository, and what is counted of each domain. The
 /// memory for all that a domain may have is taken when it is admitted, and no other call takes any.
@@ -244,6 +247,19 @@ impl Shared {
         ensures { Stops self.old s self.new }
     {
         self.threads.set_stop(s, true);
+    }
+
+    /// Creates a capability of a live domain at an object of its heap, of this class. IllegalArgumentException is raised exactly
+    /// where the class has no stub, and else QuotaException exactly where the domain's range of numbers is used up; then all is as
+    /// before. It takes constant time.
+    pub fn create(&mut self, d: DomainId, class: ClassId, target: u32) -> Result<CapId, Raise>
+        requires { IsLiveDomain self.old d }
+        ensures { CreatesFor self.old d class target result self.new }
+    {
+        match self.stubs.find(class) {
+            Some(_) => self.caps.create(d, class, target),
+            None => Err(Raise::Fresh(ILLEGAL_ARGUMENT_EXCEPTION)),
+        }
     }
 
     /// What is known of a capability. None exactly where it wasn't given out.
