@@ -1,10 +1,10 @@
 -- An object is put behind all others of its heap: the parts fit each other again, and the objects are those before and the new one.
-use Rattle.std.proofs.Common.{inl, inr, ◌⊎◌, ◌≡◌, ◌≢◌, ℕ, zero, suc, ◌+◌, ◌-◌, ◌*◌, ◌<◌, ◌≤◌, Bool, true, false, cond, List, [], ◌∷◌, ◌++◌, length, Option, Some, None, slice_get, refl, sym, ap, subst, ◌∙◌, arith}
+use Rattle.std.proofs.Common.{inl, inr, ◌⊎◌, ◌≡◌, ℕ, zero, suc, ◌+◌, ◌-◌, ◌<◌, ◌≤◌, Bool, true, false, cond, List, [], ◌∷◌, ◌++◌, length, Option, Some, None, slice_get, refl, sym, ap, subst, ◌∙◌, arith}
 use Rattle.std.specs.Option.{option_map, option_map_or}
 use Rattle.std.proofs.lemmas.Bool.{cases_lt}
 use Rattle.std.proofs.lemmas.List.{length-append, length_push}
 use Rattle.std.proofs.lemmas.Option.{slice_get_past, slice_get_within}
-use Rattle.list_lemmas.proofs.ItemsByPlace.{old_or_new, slice_get-back, slice_get-front, slice_get-last}
+use Rattle.list_lemmas.proofs.ItemsByPlace.{old_or_new, slice_get-back, slice_get-front}
 use Rattle.jk_model.specs.declared.values.Value.{Value}
 use Rattle.jk_model_classes.specs.declared.records.ClassRecord.{ClassRecord}
 use Rattle.jk_model_domains.specs.Objects.{NamedObject, Object, object_words}
@@ -13,7 +13,7 @@ use Rattle.jk_model_heaps.specs.declared.shapes.Shape.TheVariants as Of
 use Rattle.jk_model_heaps.specs.Heaps.{named}
 use Rattle.plain_store.specs.declared.domain_heap.DomainHeap.{DomainHeap}
 use Rattle.plain_store.specs.declared.domain_heap.Header.{Header}
-use Rattle.plain_store.specs.Headers.{IsDomainHeap, IsNarrow, IsPlaced, is_text, kind_of, object_of, object_with, said_kind, said_len, units_in, values_in}
+use Rattle.plain_store.specs.Headers.{IsDomainHeap, IsPlaced, is_text, kind_of, object_of, object_with, said_kind, said_len, units_in, values_in}
 use Rattle.plain_store.specs.HeapMoves.{MakesIn, mark_of, objects_of}
 use Rattle.plain_store.specs.NumberedObjects.{heap-push, heap-same, heap_of, named-heap}
 use Rattle.plain_store.specs.Pieces.{piece, piece-append, piece-behind}

@@ -1,11 +1,9 @@
 -- The mark of one object is set: nothing else changes.
-use Rattle.std.proofs.Common.{inl, inr, ◌≡◌, ◌≢◌, ℕ, ◌+◌, ◌<◌, ◌≤◌, Bool, List, length, set, Option, Some, slice_get, refl, sym, ap, subst, ◌∙◌, arith}
+use Rattle.std.proofs.Common.{inl, inr, ◌≡◌, ◌≢◌, ℕ, List, set, Option, Some, slice_get, refl, sym, ap, subst, ◌∙◌, arith}
 use Rattle.std.specs.Option.{option_map_or}
 use Rattle.std.proofs.lemmas.List.{length-set}
 use Rattle.std.proofs.lemmas.Option.{same_Some, slice_get_within}
 use Rattle.list_lemmas.proofs.ItemsByPlace.{slice_get-set_cases, slice_get-set_other, slice_get-set_same}
-use Rattle.jk_model.specs.declared.values.Value.{Value}
-use Rattle.jk_model_domains.specs.Objects.{Object}
 use Rattle.plain_store.specs.declared.domain_heap.DomainHeap.{DomainHeap}
 use Rattle.plain_store.specs.declared.domain_heap.Header.{Header}
 use Rattle.plain_store.specs.Headers.{IsDomainHeap, IsPlaced, is_text, object_of}

@@ -1,5 +1,5 @@
 -- An item of one object is written: the parts fit each other again, and no other object changes.
-use Rattle.std.proofs.Common.{inl, inr, ◌⊎◌, ◌≡◌, ◌≢◌, ℕ, ◌+◌, ◌-◌, ◌<◌, ◌≤◌, Bool, true, false, List, length, set, Some, slice_get, refl, sym, ap, subst, ◌∙◌, arith}
+use Rattle.std.proofs.Common.{inl, inr, ◌⊎◌, ◌≡◌, ◌≢◌, ℕ, ◌+◌, ◌<◌, ◌≤◌, Bool, true, false, List, length, set, Some, slice_get, refl, sym, ap, subst, ◌∙◌, arith}
 use Rattle.std.proofs.lemmas.Bool.{cases_eq, cases_lt}
 use Rattle.std.proofs.lemmas.List.{length-set}
 use Rattle.std.proofs.lemmas.Option.{same_Some}
@@ -9,7 +9,7 @@ use Rattle.jk_model_domains.specs.Objects.{Object}
 use Rattle.jk_model_heaps.specs.Heaps.{with_object}
 use Rattle.plain_store.specs.declared.domain_heap.DomainHeap.{DomainHeap}
 use Rattle.plain_store.specs.declared.domain_heap.Header.{Header}
-use Rattle.plain_store.specs.Headers.{IsDomainHeap, IsNarrow, IsPlaced, is_text, kind_of, object_of, object_with, said_kind}
+use Rattle.plain_store.specs.Headers.{IsDomainHeap, IsNarrow, is_text, kind_of, object_of, object_with, said_kind}
 use Rattle.plain_store.specs.NumberedObjects.{heap-written, heap_of}
 use Rattle.plain_store.specs.Pieces.{piece, piece-set, piece-set_before, piece-set_behind}
 use Rattle.plain_store.proofs.HeapGrows.{text_kind, with-same}

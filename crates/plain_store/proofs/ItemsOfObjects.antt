@@ -1,5 +1,5 @@
 -- The value at a place of an object, by the header of the object.
-use Rattle.std.proofs.Common.{◌≡◌, ℕ, pos, negsuc, ◌+◌, ◌^◌, ◌<◌, ◌≤◌, Bool, true, false, List, length, set, Option, Some, None, slice_get, refl, sym, ap, subst, ◌∙◌, arith}
+use Rattle.std.proofs.Common.{◌≡◌, ℕ, pos, ◌+◌, ◌<◌, ◌≤◌, Bool, true, false, List, length, set, Option, Some, None, slice_get, refl, sym, ap, subst, ◌∙◌, arith}
 use Rattle.std.specs.Option.{option_map}
 use Rattle.std.proofs.lemmas.Option.{same_Some, slice_get_within}
 use Rattle.jk_model.specs.declared.values.Value.{Value}
@@ -11,7 +11,7 @@ use Rattle.jk_model_heaps.specs.declared.shapes.Shape.TheVariants as Of
 use Rattle.object_store.specs.HeapContents.{AreOfKind, IsPut, IsReference, IsSmall, IsWritten, item_of}
 use Rattle.plain_store.specs.declared.domain_heap.DomainHeap.{DomainHeap}
 use Rattle.plain_store.specs.declared.domain_heap.Header.{Header}
-use Rattle.plain_store.specs.Headers.{IsNarrow, IsPlaced, IsUnit, is_text, kind_of, object_of, object_with, said_kind, said_len}
+use Rattle.plain_store.specs.Headers.{IsNarrow, IsUnit, is_text, kind_of, object_of, object_with, said_kind, said_len}
 use Rattle.plain_store.specs.HeapMoves.{HasItemAt, IsObject, TakesItemAt}
 use Rattle.plain_store.specs.Pieces.{get-piece, length-piece, piece, piece_short}
 use Rattle.plain_store.specs.StoredObjects.{header_of}

@@ -1,10 +1,9 @@
 -- What a new object has beside its header: its values are zeros and nulls, and its units are 0.
-use Rattle.std.proofs.Common.{◌≡◌, ℕ, zero, suc, ◌+◌, ◌^◌, ◌<◌, ◌≤◌, true, false, List, [], ◌∷◌, length, map, replicate, Some, slice_get, refl, sym, subst, arith}
+use Rattle.std.proofs.Common.{◌≡◌, ℕ, zero, suc, ◌+◌, ◌<◌, true, false, List, [], length, replicate, Some, slice_get, refl, subst, arith}
 use Rattle.std.proofs.lemmas.List.{length-replicate}
 use Rattle.std.proofs.lemmas.Option.{same_Some}
 use Rattle.list_lemmas.proofs.ItemsByPlace.{comes_from}
 use Rattle.jk_model.specs.declared.values.Value.{Value}
-use Rattle.jk_model.specs.declared.values.Value.TheVariants as Held
 use Rattle.jk_model_classes.specs.declared.records.BaseRef.{BaseRef}
 use Rattle.jk_model_classes.specs.declared.records.BaseRef.TheVariants as Base
 use Rattle.jk_model_classes.specs.declared.records.ClassRecord.{ClassRecord}
@@ -14,7 +13,7 @@ use Rattle.jk_model_domains.specs.Objects.{Object}
 use Rattle.jk_model_domains.specs.OwnStates.{zero_of}
 use Rattle.jk_model_heaps.specs.declared.shapes.Shape.{Shape}
 use Rattle.jk_model_heaps.specs.declared.shapes.Shape.TheVariants as Of
-use Rattle.jk_model_heaps.specs.Heaps.{field_records, zero_fields, zero_object}
+use Rattle.jk_model_heaps.specs.Heaps.{field_records, zero_object}
 use Rattle.object_store.specs.HeapContents.{size_of}
 use Rattle.plain_store.specs.Headers.{IsNarrow, is_text, kind_of, object_with, said_kind, said_len, units_in, values_in}
 

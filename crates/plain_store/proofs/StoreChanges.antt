@@ -1,5 +1,5 @@
 -- What a change of one heap makes of the content of the store.
-use Rattle.std.proofs.Common.{inl, inr, ◌≡◌, ◌≢◌, ℕ, ◌+◌, ◌-◌, ◌<◌, ◌≤◌, List, [], ◌∷◌, ◌++◌, length, Option, Some, None, IsSome, is_some, Result, Ok, Err, OnErr, nat_eq, slice_get, refl, sym, ap, subst, ◌∙◌, arith}
+use Rattle.std.proofs.Common.{inl, inr, ◌≡◌, ◌≢◌, ℕ, ◌+◌, ◌-◌, ◌≤◌, List, [], ◌∷◌, ◌++◌, Option, Some, None, IsSome, Result, Ok, Err, OnErr, nat_eq, slice_get, refl, sym, ap, subst, ◌∙◌, arith}
 use Rattle.std.specs.Option.{option_map, option_map_or}
 use Rattle.std.proofs.lemmas.Bool.{cases_eq}
 use Rattle.indexmap.specs.IndexMap.{IndexMap, get}
@@ -9,7 +9,7 @@ use Rattle.jk_model.specs.declared.values.Value.{Value}
 use Rattle.jk_model_classes.specs.declared.records.ClassRecord.{ClassRecord}
 use Rattle.jk_model_domains.specs.Objects.{NamedObject, Object, object_named, object_words}
 use Rattle.jk_model_heaps.specs.Heaps.{named, with_object}
-use Rattle.object_store.specs.HeapContents.{Admits, Closes, HasItem, HasNoObject, HeapBecomes, IsAbove, IsLive, IsName, IsNextName, IsSame, KeepsDomains, KeepsOthers, MakesObject, Marks, TakesItem, WritesObject, words_left}
+use Rattle.object_store.specs.HeapContents.{Admits, Closes, HasItem, HeapBecomes, IsAbove, IsLive, IsName, IsNextName, IsSame, KeepsDomains, KeepsOthers, MakesObject, Marks, TakesItem, WritesObject, words_left}
 use Rattle.plain_store.specs.declared.domain_heap.DomainHeap.{DomainHeap}
 use Rattle.plain_store.specs.declared.domain_heap.Header.{Header}
 use Rattle.plain_store.specs.Headers.{object_of}

@@ -1,11 +1,9 @@
 -- What holds of each content holds of a store's.
-use Rattle.std.proofs.Common.{inl, ◌≡◌, ℕ, ◌^◌, ◌<◌, ◌≤◌, ◌+◌, List, [], Option, Some, None, IsSome, nat_eq, slice_get, refl, sym, ap, ◌∙◌, arith}
+use Rattle.std.proofs.Common.{inl, ◌≡◌, ℕ, ◌^◌, ◌<◌, ◌≤◌, ◌+◌, [], Option, Some, None, nat_eq, slice_get, refl, sym, ◌∙◌, arith}
 use Rattle.std.specs.Option.{option_map, option_map_or}
 use Rattle.indexmap.specs.IndexMap.{IndexMap, get}
-use Rattle.list_lemmas.proofs.ItemsByPlace.{slice_get-nil}
-use Rattle.jk_model.specs.declared.identifiers.DomainId.{DomainId}
 use Rattle.jk_model_domains.specs.Objects.{NamedObject, Object, object_named}
-use Rattle.object_store.specs.HeapContents.{HasNoObject, IsHeapContent, IsStored, size_of}
+use Rattle.object_store.specs.HeapContents.{IsHeapContent, IsStored, size_of}
 use Rattle.plain_store.specs.declared.domain_heap.DomainHeap.{DomainHeap}
 use Rattle.plain_store.specs.HeapMoves.{mark_of, objects_of}
 use Rattle.plain_store.specs.StoreContents.{content_of}

@@ -1,9 +1,8 @@
 -- What holds of the objects of one heap: each has a small name and is small, and its values are of their kinds.
-use Rattle.std.proofs.Common.{inl, inr, ◌≡◌, ◌≢◌, ℕ, zero, suc, ◌+◌, ◌*◌, ◌^◌, ◌<◌, ◌≤◌, Bool, true, false, List, [], ◌∷◌, length, Option, Some, None, slice_get, refl, sym, ap, subst, ◌∙◌, arith}
-use Rattle.std.specs.List.{AllByRecursion}
+use Rattle.std.proofs.Common.{◌≡◌, ℕ, zero, suc, ◌+◌, ◌^◌, ◌<◌, ◌≤◌, Bool, true, false, List, length, Option, Some, None, slice_get, refl, sym, ap, subst, ◌∙◌, arith}
 use Rattle.std.specs.Option.{option_map, option_map_or}
 use Rattle.std.proofs.lemmas.Option.{slice_get_within}
-use Rattle.list_lemmas.proofs.ItemsByPlace.{comes_from, mapped_at, item_there}
+use Rattle.list_lemmas.proofs.ItemsByPlace.{comes_from}
 use Rattle.std.proofs.lemmas.Option.{slice_get-map}
 use Rattle.jk_model.specs.declared.values.Value.{Value}
 use Rattle.jk_model.specs.declared.values.Value.TheVariants as Held
@@ -14,12 +13,12 @@ use Rattle.jk_model_domains.specs.Objects.{NamedObject, Object, object_named}
 use Rattle.jk_model_domains.specs.OwnStates.{zero_of}
 use Rattle.jk_model_heaps.specs.declared.shapes.Shape.{Shape}
 use Rattle.jk_model_heaps.specs.declared.shapes.Shape.TheVariants as Of
-use Rattle.object_store.specs.HeapContents.{AreOfKind, IsReference, IsSmall, IsStored, size_of}
+use Rattle.object_store.specs.HeapContents.{AreOfKind, IsSmall, IsStored, size_of}
 use Rattle.plain_store.specs.declared.domain_heap.DomainHeap.{DomainHeap}
 use Rattle.plain_store.specs.declared.domain_heap.Header.{Header}
-use Rattle.plain_store.specs.Headers.{IsNarrow, IsPlaced, is_text, kind_of, object_of, object_with, said_kind}
+use Rattle.plain_store.specs.Headers.{IsNarrow, is_text, kind_of, object_of, object_with, said_kind}
 use Rattle.plain_store.specs.HeapMoves.{IsObject, mark_of, objects_of}
-use Rattle.plain_store.specs.NumberedObjects.{get-heap, heap_of, named-heap}
+use Rattle.plain_store.specs.NumberedObjects.{get-heap, named-heap}
 use Rattle.plain_store.specs.Pieces.{each_by_place, in_piece, piece, piece_short}
 
 -- ---- Values.

@@ -1,9 +1,8 @@
 -- One field more has its zero.
-use Rattle.std.proofs.Common.{◌≡◌, ◌<◌, ◌++◌, ℕ, List, length, take, option_map, slice_get, ap, ◌∙◌, arith}
+use Rattle.std.proofs.Common.{◌≡◌, ◌++◌, List, length, take, option_map, slice_get, ap, ◌∙◌, arith}
 use Rattle.std.proofs.lemmas.List.{length-append, take_all}
 use Rattle.list_lemmas.proofs.FoundItems.{no_entry}
 use Rattle.list_lemmas.proofs.ItemsByPlace.{length_take}
-use Rattle.jk_model.specs.declared.identifiers.MemberId.{MemberId}
 use Rattle.jk_model.specs.declared.values.Value.{Value}
 use Rattle.jk_model_classes.specs.Layouts.{InstanceField, Layout, instance_fields}
 use Rattle.jk_model_heaps.specs.Heaps.{zero_fields}
@@ -51,8 +50,8 @@ loop-i-preserved c =
     record {
       so_far =
           c.push_reserved.ensures.items
-          ∙ one_more_zero c.loop-i.values.items c.args.values.now.items (zero_fields t c.args.c) c.loop-i.i c.field_zero.result _ c.loop-i.invariant.so_far at.zero
-          (c.field_zero.ensures at.field at.is);
+          ∙ one_more_zero c.loop-i.values.items c.args.values.now.items (zero_fields t c.args.c) c.loop-i.i c.field_zero.result _
+          c.loop-i.invariant.so_far at.zero (c.field_zero.ensures at.field at.is);
       capacity = c.push_reserved.ensures.capacity ∙ c.loop-i.invariant.capacity;
     }
 

@@ -1,10 +1,9 @@
 -- The object is put behind all others.
 use Rattle.std.proofs.Common.{◌≡◌, ◌+◌, ◌≤◌, ℕ, length, refl, ap, arith}
 use Rattle.jk_model_heaps.specs.Heaps.{zero_object}
-use Rattle.object_store.specs.HeapContents.{shape_words, size_of}
+use Rattle.object_store.specs.HeapContents.{shape_words}
 use Rattle.object_store.proofs.PlainCosts.{new_is_sized}
 use Rattle.plain_store.specs.declared.domain_heap.Header.{Header}
-use Rattle.plain_store.specs.Headers.{units_in, values_in}
 use Rattle.plain_store.proofs.HeapGrows.{made_heap, made_in}
 use Rattle.plain_store.proofs.NewPayloads.{new_payload, payload_size}
 use Rattle.plain_store.proofs.domain_heap.DomainHeap.make.Goals as goal

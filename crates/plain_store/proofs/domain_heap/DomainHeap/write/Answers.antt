@@ -1,11 +1,10 @@
 -- The value is set at its place of the object's payload.
-use Rattle.std.proofs.Common.{◌≡◌, ◌<◌, ◌+◌, ℕ, pos, set, refl, sym, ap, subst, ◌∙◌, arith}
+use Rattle.std.proofs.Common.{◌<◌, ℕ, set, refl, ap, subst, ◌∙◌, arith}
 use Rattle.list_lemmas.proofs.ItemsByPlace.{item_read}
-use Rattle.jk_model.specs.declared.values.Value.TheVariants as Held
 use Rattle.plain_store.specs.Headers.{is_text, object_with}
 use Rattle.plain_store.specs.Pieces.{piece}
 use Rattle.plain_store.proofs.HeapIsWritten.{unit_heap, unit_objects, written_heap, written_objects}
-use Rattle.plain_store.proofs.ItemsOfObjects.{in_units, in_values, kind_kept, name_within, no_text, place_low, same_unit, takes_unit, takes_value, unit_taken, write_within, writes_unit, writes_value, written_here}
+use Rattle.plain_store.proofs.ItemsOfObjects.{in_units, in_values, kind_kept, name_within, no_text, place_low, same_unit, takes_value, unit_taken, write_within, writes_unit, writes_value, written_here}
 use Rattle.plain_store.proofs.domain_heap.DomainHeap.write.Goals as goal
 
 pub index-header-requires : goal.index-header-requires

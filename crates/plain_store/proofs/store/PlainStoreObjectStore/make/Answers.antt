@@ -1,5 +1,5 @@
 -- The object is made in its domain's heap.
-use Rattle.std.proofs.Common.{◌≡◌, ◌<◌, ◌≤◌, ℕ, OnErr, OnOk, sym, subst}
+use Rattle.std.proofs.Common.{◌<◌, ◌≤◌, ℕ, OnErr, OnOk, sym, subst}
 use Rattle.indexmap.specs.IndexMap.{with_value_at}
 use Rattle.list_lemmas.proofs.AnswersTold.{ok_map}
 use Rattle.jk_model_heaps.specs.Heaps.{zero_object}
@@ -23,7 +23,9 @@ returns-clause-ok c =
     let y = c.make.new.self in
     let is = read_pair m c.args.d.0 i at c.pair_mut-heap.result.0.now x c.pair_mut-heap.ensures.value in
     let enters = written_at m c.args.d.0 i at y c.pair_mut-heap.ensures.unique in
-    ok_map _ _ c.make.result (λ a. makes m (with_value_at m i y) c.args.d x y is enters c.args.t.now a (zero_object c.args.t.now c.args.shape)) c.make.ensures.ok
+    ok_map _ _ c.make.result
+    (λ a. makes m (with_value_at m i y) c.args.d x y is enters c.args.t.now a (zero_object c.args.t.now c.args.shape))
+    c.make.ensures.ok
 
 pub returns-clause-err : goal.returns-clause-err
 returns-clause-err c =
