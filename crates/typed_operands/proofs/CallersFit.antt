@@ -246,7 +246,8 @@ caller_fits classes sound heap f g t holds code none call m method names given m
     let head : g.head ≡ f.head = ap (λ (x : FrameState). x.head) replaces.after in
     let row = (goes classes sound f code t).row in
     let sound_here : AreSoundCodes s.classes = subst AreSoundCodes (sym code.is_scope.all) sound in
-    let left = departs s heap sound_here f.head.at code.instr f t.type (goes classes sound f code t).after (holds_here classes sound f code t heap holds) m method
+    let left = departs s heap sound_here f.head.at code.instr f t.type (goes classes sound f code t).after
+    (holds_here classes sound f code t heap holds) m method
     names.2 replaces.below given replaces.before row.shape (call_shape s code.instr m method names row.shape call row.shape_is) row.does many in
     let stack : g.stack ≡ replaces.below = ap (λ (x : FrameState). x.stack) replaces.after ∙ append-nil replaces.below in
     let locals : g.locals ≡ f.locals = ap (λ (x : FrameState). x.locals) replaces.after in (
