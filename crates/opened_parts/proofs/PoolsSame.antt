@@ -68,7 +68,8 @@ module _ (p : MachineParts) (fit : AreFittingParts p) where
   pub heap_pools : IsHeapContent p.heap → heap_pool (machine_of p) ≡ pool_of_heaps p.heap
   heap_pools heaps = λ i. record {
     pages = p.heap.pages;
-    quota = λ (d : DomainId). same_parts (λ (e : DomainState) (x : Inside). Some (heap_pages_of e.quotas)) (λ (n : DomainId). option_map pages_for (p.heap.quota n))
+    quota = λ (d : DomainId). same_parts (λ (e : DomainState) (x : Inside). Some (heap_pages_of e.quotas))
+        (λ (n : DomainId). option_map pages_for (p.heap.quota n))
         (λ n l. ap (option_map pages_for) (sym (fit.live.words n l)))
         (λ n never. ap (option_map pages_for) (fit.live.no_others n never).0) d i;
     first_page = λ (d : DomainId). same_parts (λ (e : DomainState) (x : Inside). x.heap_at) p.heap.first_page heap_at
