@@ -1,5 +1,6 @@
 -- No step changes the world: what it changes of a domain are its steps left, its capabilities and its inside.
-use Rattle.std.proofs.Common.{◌≡◌, ℕ, ◌-◌, ◌==◌, Bool, true, false, cond, List, [], ◌∷◌, ◌++◌, filter, map, Option, Some, None, option_map, Ok, Err, refl, sym, ap, subst, ◌∙◌}
+use Rattle.std.proofs.Common.{◌≡◌, ℕ, ◌-◌, ◌==◌, Bool, true, false, cond, List, [], ◌∷◌, ◌++◌, filter, map, Option, Some, None, option_map, Ok, Err, Contains, inl, inr, refl, sym, ap, subst, ◌∙◌}
+use Rattle.std.specs.List.{AllByRecursion}
 use Rattle.jk_model.specs.declared.identifiers.DomainId.{DomainId}
 use Rattle.jk_model.specs.declared.identifiers.ThreadNo.{ThreadNo}
 use Rattle.jk_model.specs.declared.output.Line.{Line}
@@ -26,6 +27,9 @@ use Rattle.jk_model_crossings.specs.Requests.{Granted, Grants}
 use Rattle.jk_model_crossings.specs.Throwing.{Brings, RaisesInThread, Throws, TopTwo}
 use Rattle.jk_model_runs.specs.Events.{Kills}
 use Rattle.jk_model_runs.specs.Steps.{Acts, Deed, Ensues, StepsBy}
+use Rattle.list_lemmas.proofs.ItemsOfLists.{Contains-cases, Contains-here, Contains-none, Contains-there}
+use Rattle.sound_codes.specs.SoundCodes.{AreSoundCodes}
+use Rattle.sound_codes.specs.SoundTables.{IsSoundTable}
 use Rattle.sound_folders.specs.LinkedWorlds.{AreLinked}
 use Rattle.crossing_premises.specs.SoundMachines.{HasSoundClasses, tables_of}
 use Rattle.sealed_crossings.specs.KeptWorlds.{KeepsWorld, LastingDomain, lasting}
@@ -239,12 +243,30 @@ tables_last : (domains : List DomainState)
 tables_last [] = refl
 tables_last (d ∷ domains) = λ i. d.table ∷ tables_last domains i
 
+each_table : (P : List NamedClass → Type 0) (domains : List DomainState) → ((d : DomainState) → Contains domains d → P d.table)
+    → AllByRecursion P (map (λ (d : DomainState). d.table) domains)
+each_table P [] h = tt
+each_table P (d ∷ domains) h = (h d (Contains-here d domains), each_table P domains (λ e later. h e (Contains-there e d domains later)))
+
+of_table : (P : List NamedClass → Type 0) (domains : List DomainState) (d : DomainState)
+    → AllByRecursion P (map (λ (e : DomainState). e.table) domains) → Contains domains d → P d.table
+of_table P [] d all there = absurd (Contains-none d there)
+of_table P (e ∷ domains) d all there = elim (Contains-cases d e domains there) [
+  | inl same ↦ subst (λ (x : DomainState). P x.table) same all.0
+  | inr later ↦ of_table P domains d all.1 later
+]
+
 pub sound_classes_stay : (m new : Machine) → KeepsWorld m new → HasSoundClasses m → HasSoundClasses new
 sound_classes_stay m new h sound = record {
   sound = subst (λ (x : List (List NamedClass)). AreSoundClasses new.classes x) tables
       (subst (λ (x : List ClassRecord). AreSoundClasses x (tables_of m)) (sym h.classes) sound.sound);
   linked = subst (λ (x : List (List NamedClass)). AreLinked new.classes x) tables
       (subst (λ (x : List ClassRecord). AreLinked x (tables_of m)) (sym h.classes) sound.linked);
+  codes = subst AreSoundCodes (sym h.classes) sound.codes;
+  tables = λ d there. of_table (IsSoundTable new.classes) new.domains d
+      (subst (λ (x : List (List NamedClass)). AllByRecursion (IsSoundTable new.classes) x) tables
+      (subst (λ (x : List ClassRecord). AllByRecursion (IsSoundTable x) (tables_of m)) (sym h.classes)
+      (each_table (IsSoundTable m.classes) m.domains sound.tables))) there;
 }
   where
     tables : tables_of m ≡ tables_of new
