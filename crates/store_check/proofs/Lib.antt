@@ -1,0 +1,2 @@
+-- What the tests' calls ask.
+mod TextWritten
