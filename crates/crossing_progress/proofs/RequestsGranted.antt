@@ -19,7 +19,8 @@ use Rattle.jk_model_sharing.specs.CapabilityCalls.{Creates, Revokes, next_number
 use Rattle.jk_model_machine_state.specs.Machines.{DomainState, IsLiveDomain, Machine, Thread, with_domain}
 use Rattle.jk_model_machine_state.specs.Places.{RunningSegment}
 use Rattle.jk_model_crossings.specs.DomainEnds.{Terminates, ended_domain, has_segments, without_segments_of}
-use Rattle.jk_model_crossings.specs.Requests.{Granted, Grants, as_capability, as_nothing}
+use Rattle.jk_model_sharing.specs.Answers.{Granted, as_capability, as_nothing}
+use Rattle.jk_model_crossings.specs.Requests.{Grants}
 use Rattle.decided_lookups.proofs.DecidedParts.{domain_decided}
 
 -- ---- Capabilities and names.

@@ -14,7 +14,8 @@ use Rattle.jk_model_crossings.specs.Answers.{Returns}
 use Rattle.jk_model_crossings.specs.DomainEnds.{Terminates}
 use Rattle.jk_model_crossings.specs.Passages.{IsTooLarge, IsUncopiable, Passage, Passes}
 use Rattle.jk_model_crossings.specs.RemoteCalls.{Enters, HasTarget, IsLive, Refuses, RemoteCall, arguments}
-use Rattle.jk_model_crossings.specs.Requests.{Granted, Grants}
+use Rattle.jk_model_sharing.specs.Answers.{Granted}
+use Rattle.jk_model_crossings.specs.Requests.{Grants}
 use Rattle.jk_model_crossings.specs.Throwing.{RaisesInThread, Throws}
 use Rattle.jk_model_domains.specs.Objects.{NamedObject}
 use Rattle.jk_model_runs.specs.Events.{Goes, IsWhole, Rounds, Turns}

@@ -5,7 +5,7 @@ use Rattle.jk_model_classes.specs.declared.records.ClassRecord.{ClassRecord}
 use Rattle.jk_model_classes.specs.Classes.{record_of}
 use Rattle.jk_model_domains.specs.OwnStates.{HasState}
 use Rattle.jk_model_heaps.specs.Workings.{Inside, Setting}
-use Rattle.jk_model_running.specs.Constants.{LacksConstants, SetsConstants}
+use Rattle.jk_model_heap_rows.specs.Constants.{LacksConstants, SetsConstants}
 use Rattle.step_contents.specs.Conditions.{MayChange}
 use Rattle.step_contents.specs.Contents.{Contents, Here, InsideBecomes, inside_in}
 use Rattle.step_contents.specs.Settings.{IsSetting}

@@ -2,7 +2,7 @@
 use Rattle.jk_model.specs.declared.steps.After.{After}
 use Rattle.jk_model_heaps.specs.Workings.{Outcome, Setting, Working}
 use Rattle.jk_model_heap_rows.specs.HeapRows.{HeapRow}
-use Rattle.step_contents.specs.Answers.{Answers}
+use Rattle.step_contents.specs.AnsweredSteps.{IsAnswered}
 use Rattle.step_contents.specs.Conditions.{MayDo, working}
 use Rattle.step_contents.specs.Contents.{Becomes, Contents, Here, with_frame}
 use Rattle.step_contents.specs.PlacesInCode.{PlaceInCode}
@@ -21,5 +21,5 @@ use Rattle.step_contents.specs.Settings.{IsSetting}
 abbrev pub HeapDone : Contents → Contents → Here → PlaceInCode → After → Type 0
 HeapDone old new here at after =
     (x : Setting) (may : MayDo old here at) → IsSetting old here x
-    → (w : Working) × (outcome : Outcome) × HeapRow x at.scope at.instr (working may) w outcome × Answers after outcome
+    → (w : Working) × (outcome : Outcome) × HeapRow x at.scope at.instr (working may) w outcome × IsAnswered after outcome
     × Becomes old new here may.run (with_frame may.callers w.frame w.inside)

@@ -8,14 +8,9 @@ ghost use Rattle.instance_tests.specs.Tested.{HasFewDims};
 
 use crate::types::{class_type, is_a, is_array_a};
 use class_table::ClassTable;
-use jk_model::ClassId;
 use jk_model_classes::TypeRef;
 use jk_model_heaps::Shape;
-
-// System classes, by their places in the system table.
-pub(crate) const STRING: ClassId = ClassId(3);
-
-pub(crate) const TASK: ClassId = ClassId(14);
+use jk_model_heaps::system_classes::{STRING, TASK};
 
 /// What an object is of: its class, or an array type, which has one dimension more than its elements. Those have at most 254.
 pub fn type_of(shape: &Shape) -> TypeRef

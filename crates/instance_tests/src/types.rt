@@ -8,13 +8,7 @@ ghost use Rattle.jk_model_heaps.specs.Instances.{IsA, IsAboveArrays, IsClassA};
 use class_table::ClassTable;
 use jk_model::ClassId;
 use jk_model_classes::{BaseRef, TypeRef};
-
-// System classes, by their places in the system table.
-pub(crate) const OBJECT: ClassId = ClassId(0);
-
-const SERIALIZABLE: ClassId = ClassId(1);
-
-const CLONEABLE: ClassId = ClassId(2);
+use jk_model_heaps::system_classes::{CLONEABLE, OBJECT, SERIALIZABLE};
 
 /// The type of a class that is no array.
 pub fn class_type(c: ClassId) -> TypeRef

@@ -9,16 +9,13 @@ ghost use Rattle.jk_model_sealing.specs.SealedInsides.{IsKnownValue};
 ghost use Rattle.object_store.specs.HeapContents.{IsReference};
 ghost use Rattle.instance_tests.specs.Tested.{Refers};
 
-use crate::objects::{STRING, TASK, is_object_a};
-use crate::types::OBJECT;
+use crate::objects::is_object_a;
 use class_table::ClassTable;
 use jk_model::{CapId, ClassId, DomainId, Value};
 use jk_model_classes::TypeRef;
 use jk_model_heaps::Shape;
+use jk_model_heaps::system_classes::{CAPABILITY, OBJECT, STRING, TASK};
 use object_store::ObjectStore;
-
-// A system class, by its place in the system table.
-const CAPABILITY: ClassId = ClassId(11);
 
 /// What keeps capabilities, as far as the test of one goes.
 pub trait CapabilityTests {

@@ -1,40 +1,21 @@
 -- What a program asks of package jk that touches more than its own domain's inside: capabilities, bound names, and flags of segments. What
 -- is asked for is done, and the answer is a value or none, or something to raise.
-use Rattle.std.specs.Prelude.{◌≡◌, ℕ, List, Option, Some, None, Result, Ok, Err}
+use Rattle.std.specs.Prelude.{◌≡◌, ℕ, List, Option, Some, None, Result, Ok}
 use Rattle.jk_model.specs.declared.identifiers.CapId.{CapId}
 use Rattle.jk_model.specs.declared.identifiers.ClassId.{ClassId}
 use Rattle.jk_model.specs.declared.identifiers.DomainId.{DomainId}
 use Rattle.jk_model.specs.declared.identifiers.SegmentNo.{SegmentNo}
 use Rattle.jk_model.specs.declared.identifiers.ThreadNo.{ThreadNo}
 use Rattle.jk_model.specs.declared.steps.Raise.{Raise}
-use Rattle.jk_model.specs.declared.values.Value.{Value}
-use Rattle.jk_model.specs.declared.values.Value.TheVariants as Held
 use Rattle.jk_model_heaps.specs.Capabilities.{CapRange}
 use Rattle.jk_model_heaps.specs.Workings.{Request}
 use Rattle.jk_model_heaps.specs.Workings.{Binds as AsksToBind, Creates as AsksToCreate, LooksUp as AsksToLookUp, Resumes as AsksToResume, Revokes as AsksToRevoke, Stops as AsksToStop, Suspends as AsksToSuspend, Unbinds as AsksToUnbind}
+use Rattle.jk_model_sharing.specs.Answers.{Granted, as_capability, as_nothing, as_reference}
 use Rattle.jk_model_sharing.specs.BoundNames.{Binds, BoundName, LooksUp, Unbinds}
 use Rattle.jk_model_sharing.specs.CapabilityCalls.{Creates, Revokes}
 use Rattle.jk_model_sharing.specs.Segments.{resumed_in, stopped_in, suspended_in}
 use Rattle.jk_model_machine_state.specs.Machines.{DomainState, Machine, segment_form, with_domain, with_stacks}
 use Rattle.jk_model_machine_state.specs.Places.{RunningSegment}
-
--- ---- Answers as values.
-
-abbrev pub Granted : Type 0
-Granted = Result (Option Value) Raise
-
-abbrev pub as_capability : Result CapId Raise → Granted
-as_capability (Ok k) = Ok (Some (Held.Cap k))
-as_capability (Err r) = Err r
-
-abbrev pub as_nothing : Result (Unit {0}) Raise → Granted
-as_nothing (Ok u) = Ok None
-as_nothing (Err r) = Err r
-
--- a capability, or null
-abbrev pub as_reference : Option CapId → Value
-as_reference (Some k) = Held.Cap k
-as_reference None = Held.Null
 
 -- ---- What is changed of the machine.
 

@@ -1,4 +1,5 @@
 pub mod ArrayTrees
+pub mod Constants
 pub mod ElementRows
 pub mod Examples
 pub mod FieldRows

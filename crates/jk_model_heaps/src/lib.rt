@@ -6,5 +6,6 @@
 pub mod examples;
 pub mod laws;
 mod shapes;
+pub mod system_classes;
 
 pub use shapes::{Shape, Unwound};

@@ -26,7 +26,7 @@ use Rattle.jk_model_domains.specs.OwnStates.{Literal}
 use Rattle.jk_model_heaps.specs.Heaps.{heap_words}
 use Rattle.jk_model_heaps.specs.RunningCode.{InstrNeeds, IsClinit, IsClinitOf, RunsCode}
 use Rattle.jk_model_heaps.specs.Workings.{Run}
-use Rattle.jk_model_running.specs.Constants.{text_object}
+use Rattle.jk_model_heap_rows.specs.Constants.{text_object}
 use Rattle.jk_model_running.specs.Initialising.{FrameNeeds, IsInitialiserHead}
 use Rattle.jk_model_running.specs.LocalSteps.{TopFrame}
 

@@ -12,7 +12,7 @@ use Rattle.jk_model_domains.specs.OwnStates.{state_of}
 use Rattle.jk_model_frames.specs.Frames.{FrameState, head_chunks}
 use Rattle.jk_model_heaps.specs.Heaps.{heap_words}
 use Rattle.jk_model_heaps.specs.Workings.{Inside, Run, Setting}
-use Rattle.jk_model_running.specs.Constants.{LacksConstants, SetsConstants, new_texts, text_object}
+use Rattle.jk_model_heap_rows.specs.Constants.{LacksConstants, SetsConstants, new_texts, text_object}
 use Rattle.jk_model_running.specs.Initialising.{FrameNeeds, IsInitialiserHead, IsReady}
 use Rattle.jk_model_running.specs.LocalSteps.{DoesInstr, HasReadyNeed, Initialises, LocalStep, MeetsBroken, TopFrame, Touches, touches, overflows, meets_broken, need_falls, sets_constants, lacks_constants, does}
 use Rattle.jk_model_running.specs.StepCases.{case_of}

@@ -1,4 +1,3 @@
-pub mod Constants
 pub mod Executions
 pub mod Initialising
 pub mod LocalSteps

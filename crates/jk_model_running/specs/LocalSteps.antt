@@ -22,7 +22,7 @@ use Rattle.jk_model_heaps.specs.RunningCode.{InstrNeeds, RunsCode}
 use Rattle.jk_model_heaps.specs.SystemClasses.{NO_CLASS_DEF_FOUND_ERROR}
 use Rattle.jk_model_heaps.specs.Workings.{Inside, Outcome, Request, Run, Setting, Working, with_own}
 use Rattle.jk_model_heaps.specs.Workings.{Asks as AsksFor, Calls, Crosses as CrossesTo, GoesOn as GoesOnAt, Raises, Returns, Says as SaysAt, Terminates as EndsDomain}
-use Rattle.jk_model_running.specs.Constants.{LacksConstants, SetsConstants}
+use Rattle.jk_model_heap_rows.specs.Constants.{LacksConstants, SetsConstants}
 use Rattle.jk_model_running.specs.Executions.{Executes}
 use Rattle.jk_model_running.specs.Initialising.{FrameNeeds, IsInitialiserHead, IsReady}
 use Rattle.jk_model_running.specs.Raising.{RaisesIn, after_raising}

@@ -10,14 +10,13 @@ use Rattle.jk_model.specs.declared.identifiers.ThreadNo.{ThreadNo}
 use Rattle.jk_model_classes.specs.declared.records.ClassRecord.{ClassRecord}
 use Rattle.jk_model_classes.specs.Classes.{record_of}
 use Rattle.jk_model_classes.specs.Stubs.{ImplementsRemote}
-use Rattle.jk_model_domains.specs.declared.states.ClassState.{ClassState}
 use Rattle.jk_model_domains.specs.declared.states.ClassState.TheVariants as State
 use Rattle.jk_model_domains.specs.Objects.{Task}
-use Rattle.jk_model_domains.specs.OwnStates.{OwnState, state_of}
-use Rattle.jk_model_frames.specs.Frames.{FrameState}
+use Rattle.jk_model_domains.specs.OwnStates.{state_of}
 use Rattle.jk_model_frames.specs.Pools.{IsPlaced, Pool}
 use Rattle.jk_model_heaps.specs.Capabilities.{Capability, IsGivenOut}
 use Rattle.jk_model_heaps.specs.Workings.{Inside}
+use Rattle.jk_model_sealing.specs.ClassesInProgress.{initialises, progress_by}
 use Rattle.jk_model_sealing.specs.FittingFrames.{FitsAsTop, FitsAtCall}
 use Rattle.jk_model_sealing.specs.SealedInsides.{IsOfClass, IsSealedInside, Surroundings}
 use Rattle.jk_model_sealing.specs.SealedRuns.{AreSealedFrames}
@@ -138,9 +137,6 @@ pub record AreSealedTasks (m : Machine) : Type 0 where
 
 -- ---- Classes in progress.
 
-abbrev pub initialises : ClassId → FrameState → Bool
-initialises c f = elim f.head.initialises as (λ _. Bool) [ Some d ↦ d.0 == c.0 | None ↦ false ]
-
 abbrev pub segment_initialisers : DomainId → ClassId → Segment → ℕ
 segment_initialisers d c s = if s.shared.domain.0 == d.0 then count_by (initialises c) s.frames else 0
 
@@ -148,18 +144,10 @@ segment_initialisers d c s = if s.shared.domain.0 == d.0 then count_by (initiali
 abbrev pub initialisers_of : DomainId → ClassId → Thread → ℕ
 initialisers_of d c thread = sum_by (segment_initialisers d c) thread.segments
 
-abbrev by_thread : ThreadNo → ClassState → ℕ
-by_thread t (State.InProgress by) = if by.0 == t.0 then 1 else 0
-by_thread t state = 0
-
--- 1 where the class is in progress by the thread, and else 0
-abbrev pub in_progress_by : ThreadNo → OwnState → ClassId → ℕ
-in_progress_by t own c = by_thread t (state_of own c)
-
 pub record AreSealedInitialisers (m : Machine) : Type 0 where
   -- a class in progress has one initialiser frame in the domain, on the thread that is named with it, and no other class has one
   pub one : (thread : Thread) (d : DomainState) (inside : Inside) (c : ClassId) → Contains m.threads thread
-      → Contains m.domains d → d.inside ≡ Some inside → initialisers_of d.number c thread ≡ in_progress_by thread.number inside.own c
+      → Contains m.domains d → d.inside ≡ Some inside → initialisers_of d.number c thread ≡ progress_by thread.number inside.own c
   pub live : (d : DomainState) (inside : Inside) (c : ClassId) (t : ThreadNo) → Contains m.domains d → d.inside ≡ Some inside
       → state_of inside.own c ≡ State.InProgress t → IsLiveThread m t
 

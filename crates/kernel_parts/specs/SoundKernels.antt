@@ -13,7 +13,6 @@ use Rattle.jk_model.specs.SystemTable.{system_classes}
 use Rattle.jk_model_classes.specs.declared.records.ClassRecord.{ClassRecord}
 use Rattle.jk_model_classes.specs.declared.sharing.Stub.{Stub}
 use Rattle.jk_model_classes.specs.Classes.{HasClass}
-use Rattle.jk_model_classes.specs.Stubs.{IsStub}
 use Rattle.jk_model_classes.specs.Worlds.{DomainRecord, IsWorld, WorldRecord}
 use Rattle.jk_model_heaps.specs.Capabilities.{Capability}
 use Rattle.jk_model_sharing.specs.SharedStates.{SharedState}
@@ -58,17 +57,11 @@ parts_of k = record {
 abbrev pub kernel_machine : KernelContent → Machine
 kernel_machine k = machine_of (parts_of k)
 
--- each stub is that of its class, which is there, and no class has two
-pub record AreOfTheirClasses (classes : List ClassRecord) (stubs : List Stub) : Type 0 where
-  pub each : (s : Stub) → Contains stubs s → IsStub classes s.class s
-  pub there : (s : Stub) → Contains stubs s → HasClass classes s.class
-  pub apart : (s u : Stub) → Contains stubs s → Contains stubs u → s.class ≡ u.class → s ≡ u
-
 pub record IsSoundKernel (k : KernelContent) : Type 0 where
   pub fitting : AreFittingParts (parts_of k)
   pub machine : IsSoundMachine (kernel_machine k)
   -- a run has no stub that stands in for another domain's
-  pub stubs : AreOfTheirClasses k.world.classes k.shared.stubs
+  pub stubs : (s : Stub) → Contains k.shared.stubs s → HasClass k.world.classes s.class
   -- what loading a folder asks
   pub world : IsWorld k.world (length k.world.domains)
   pub few_domains : length k.world.domains ≤ 65535

@@ -51,10 +51,10 @@ pub record HaveSegments (p : MachineParts) : Type 0 where
   pub no_others : (n : SegmentNo) (g : StoredSegment) → p.frames.segment n ≡ Some g
       → (t : SharedThread) × (s : SharedSegment) × Contains p.shared.threads t × Contains t.segments s × (s.number ≡ n)
 
--- ---- Stubs: those of the classes that are there; others stand in for classes that aren't, where a domain is replayed alone.
+-- ---- Stubs: each is known, and each class and each capability that wants one has one.
 
 pub record HaveStubs (classes : List ClassRecord) (s : SharedState) : Type 0 where
-  pub each : (stub : Stub) → Contains s.stubs stub → IsStub classes stub.class stub ⊎ (record_of classes stub.class ≡ None)
+  pub known : AreKnownStubs classes s.stubs
   pub all : (c : ClassId) (r : ClassRecord) → record_of classes c ≡ Some r → r.home ≢ None → ImplementsRemote classes c
       → (stub : Stub) × (stub_for s c ≡ Some stub)
   -- each capability was made with a stub

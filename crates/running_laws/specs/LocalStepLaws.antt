@@ -10,7 +10,7 @@ use Rattle.jk_model_domains.specs.OwnStates.{HasState}
 use Rattle.jk_model_heaps.specs.Capabilities.{IsGivenOut}
 use Rattle.jk_model_heaps.specs.CalledFrames.{resumed}
 use Rattle.jk_model_heaps.specs.Workings.{Inside, Request, Run, Setting}
-use Rattle.jk_model_running.specs.Constants.{LacksConstants, SetsConstants}
+use Rattle.jk_model_heap_rows.specs.Constants.{LacksConstants, SetsConstants}
 use Rattle.jk_model_running.specs.Initialising.{FrameNeeds, IsInProgressElsewhere}
 use Rattle.jk_model_running.specs.LocalSteps.{LocalStep, TopFrame, with_top}
 use Rattle.jk_model_running.specs.Ways.{Went, Asks}

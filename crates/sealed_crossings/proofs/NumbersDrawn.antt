@@ -15,7 +15,8 @@ use Rattle.jk_model_machine_state.specs.Machines.{DomainState, Machine, paid}
 use Rattle.jk_model_machine_state.specs.Places.{RunningSegment, with_flags, with_run, without_top}
 use Rattle.jk_model_crossings.specs.Answers.{Receives, Returns}
 use Rattle.jk_model_crossings.specs.DomainEnds.{Terminates}
-use Rattle.jk_model_crossings.specs.Requests.{Granted, Grants}
+use Rattle.jk_model_sharing.specs.Answers.{Granted}
+use Rattle.jk_model_crossings.specs.Requests.{Grants}
 use Rattle.jk_model_crossings.specs.Throwing.{Brings, RaisesInThread, Throws, TopTwo}
 use Rattle.jk_model_runs.specs.Confined.{drawn_by}
 use Rattle.jk_model_runs.specs.Events.{Kills}

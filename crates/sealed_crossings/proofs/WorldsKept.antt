@@ -23,7 +23,8 @@ use Rattle.jk_model_machine_state.specs.Places.{LiveDomain, RunningSegment, with
 use Rattle.jk_model_crossings.specs.Answers.{Receives, Returns}
 use Rattle.jk_model_crossings.specs.DomainEnds.{Terminates, ended_domain, has_segments, without_segments_of}
 use Rattle.jk_model_crossings.specs.RemoteCalls.{Enters, RemoteCall, arrived, departed}
-use Rattle.jk_model_crossings.specs.Requests.{Granted, Grants}
+use Rattle.jk_model_sharing.specs.Answers.{Granted}
+use Rattle.jk_model_crossings.specs.Requests.{Grants}
 use Rattle.jk_model_crossings.specs.Throwing.{Brings, RaisesInThread, Throws, TopTwo}
 use Rattle.jk_model_runs.specs.Events.{Kills}
 use Rattle.jk_model_runs.specs.Steps.{Acts, Deed, Ensues, StepsBy}

@@ -12,7 +12,8 @@ use Rattle.jk_model_machine_state.specs.Places.{RunningSegment}
 use Rattle.jk_model_crossings.specs.Answers.{Receives, Returns}
 use Rattle.jk_model_crossings.specs.DomainEnds.{Terminates}
 use Rattle.jk_model_crossings.specs.RemoteCalls.{Enters, RemoteCall}
-use Rattle.jk_model_crossings.specs.Requests.{Granted, Grants}
+use Rattle.jk_model_sharing.specs.Answers.{Granted}
+use Rattle.jk_model_crossings.specs.Requests.{Grants}
 use Rattle.jk_model_crossings.specs.Throwing.{RaisesInThread, Throws}
 use Rattle.jk_model_runs.specs.AnsweredCalls.{AreCallsAnswered}
 use Rattle.jk_model_runs.specs.Confined.{Confined}

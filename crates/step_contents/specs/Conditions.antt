@@ -1,12 +1,12 @@
 -- When a step function may be called: all that it may rest on. Nothing is asked of other domains' heaps and of other segments.
-use Rattle.std.specs.Prelude.{◌≡◌, ◌≢◌, ℕ, ◌^◌, ◌<◌, ◌⊎◌, true, List, [], ◌∷◌, ◌++◌, Contains, Some, None, slice_get}
+use Rattle.std.specs.Prelude.{◌≡◌, ◌≢◌, ℕ, ◌^◌, ◌<◌, true, List, [], ◌∷◌, ◌++◌, Some, None}
 use Rattle.jk_model.specs.declared.identifiers.CapId.{CapId}
 use Rattle.jk_model.specs.declared.identifiers.ClassId.{ClassId}
 use Rattle.jk_model.specs.declared.identifiers.DomainId.{DomainId}
 use Rattle.jk_model_classes.specs.declared.records.ClassRecord.{ClassRecord}
 use Rattle.jk_model_classes.specs.declared.sharing.Stub.{Stub}
-use Rattle.jk_model_classes.specs.Classes.{IsInterface, record_of}
-use Rattle.jk_model_classes.specs.Stubs.{ImplementsRemote, IsStub}
+use Rattle.jk_model_classes.specs.Classes.{record_of}
+use Rattle.jk_model_classes.specs.Stubs.{ImplementsRemote}
 use Rattle.jk_model_classes.specs.Worlds.{DomainRecord, domain_of}
 use Rattle.jk_model_frames.specs.Frames.{FrameState}
 use Rattle.jk_model_heaps.specs.Capabilities.{IsGivenOut}
@@ -15,6 +15,7 @@ use Rattle.jk_model_heaps.specs.Workings.{Run, Working}
 use Rattle.jk_model_sealing.specs.FittingFrames.{FitsAsTop}
 use Rattle.jk_model_sealing.specs.SealedInsides.{IsSealedInside, Surroundings}
 use Rattle.jk_model_sealing.specs.SealedRuns.{IsSealedRun}
+use Rattle.jk_model_sharing.specs.KnownStubs.{AreKnownStubs}
 use Rattle.jk_model_sharing.specs.SharedStates.{SharedDomain, SharedState, caps_of, domain_numbered, stub_for, stub_of}
 use Rattle.class_init.specs.KeptStates.{HasRooms}
 use Rattle.sealed_rows.specs.RaisableObjects.{KeepsStates, MayMeetRaise}
@@ -25,20 +26,13 @@ use Rattle.step_contents.specs.PlacesInCode.{IsPlaceIn, PlaceInCode}
 
 -- ---- What domains share.
 
--- The stub of a class that isn't there, which stands for another domain's where one is replayed alone: it shows interfaces, in rising number.
-pub record IsForeignStub (classes : List ClassRecord) (s : Stub) : Type 0 where
-  pub not_there : record_of classes s.class ≡ None
-  pub interfaces : (i : ClassId) → Contains s.interfaces i → IsInterface classes i
-  pub rising : (j k : ℕ) (a b : ClassId) → j < k → slice_get s.interfaces j ≡ Some a → slice_get s.interfaces k ≡ Some b → a.0 < b.0
-
--- The domain is live; each stub is that of its class, which has no other; there is one for each class of a folder that implements jk/Remote, and for each
+-- The domain is live; each stub is known; there is one for each class of a folder that implements jk/Remote, and for each
 -- capability; and numbers of capabilities fit 24 bits.
 pub record SharesWell (classes : List ClassRecord) (shared : SharedState) (d : DomainId) : Type 0 where
   pub domain : SharedDomain
   pub is_domain : domain_numbered shared d ≡ Some domain
   pub live : domain.live ≡ true
-  pub stubs : (s : Stub) → Contains shared.stubs s → IsStub classes s.class s ⊎ IsForeignStub classes s
-  pub apart : (s r : Stub) → Contains shared.stubs s → Contains shared.stubs r → s.class ≡ r.class → s ≡ r
+  pub stubs : AreKnownStubs classes shared.stubs
   pub remote : (c : ClassId) (r : ClassRecord) → record_of classes c ≡ Some r → r.home ≢ None → ImplementsRemote classes c
       → (s : Stub) × (stub_for shared c ≡ Some s)
   pub capabilities : (k : CapId) → IsGivenOut (caps_of shared) k → ((s : Stub) × (stub_of shared k ≡ Some s)) × (k.0 < 2 ^ 24)

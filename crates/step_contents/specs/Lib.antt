@@ -1,4 +1,4 @@
-pub mod Answers
+pub mod AnsweredSteps
 pub mod Conditions
 pub mod Contents
 pub mod PlacesInCode

@@ -11,12 +11,12 @@ use Rattle.jk_model.specs.declared.values.Value.{Value}
 use Rattle.jk_model_heaps.specs.CalledFrames.{as_entries}
 use Rattle.jk_model_heaps.specs.Workings.{Request, Setting, Working, Asks, GoesOn, Raises, Says, Terminates}
 use Rattle.jk_model_call_rows.specs.CallRows.{CallsSystem}
+use Rattle.jk_model_sharing.specs.Answers.{Answers}
 use Rattle.jk_model_system_rows.specs.SystemCalls.{DoesSystem}
 use Rattle.step_contents.specs.Conditions.{MayDo, working}
 use Rattle.step_contents.specs.Contents.{Becomes, Contents, Here, LeftBehind, with_frame}
 use Rattle.step_contents.specs.PlacesInCode.{PlaceInCode}
 use Rattle.step_contents.specs.Settings.{IsSetting}
-use Rattle.system_calls.specs.SharedAnswers.{Answers}
 
 -- pub fn call<H: ObjectStore, F: FrameStore, S: Sink>(heap: &mut H, frames: &mut F, shared: &mut Shared, w: &World, d: DomainId,
 --     s: SegmentNo, at: &StandsAt<'_>, m: MemberId, out: &mut S) -> Result<After, SinkFailed>

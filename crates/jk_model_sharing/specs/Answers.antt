@@ -1,18 +1,37 @@
 -- What is answered to a method of package jk that touches more than its own domain's inside: capabilities, bound names, and flags of
--- segments. These are the answers of a machine, over what domains share alone.
-use Rattle.std.specs.Prelude.{◌≡◌, List, ℕ, Option, Some, None, Result, Ok}
+-- segments. What is asked for is done, and the answer is a value or none, or something to raise. All of it is over what domains share alone.
+use Rattle.std.specs.Prelude.{◌≡◌, List, ℕ, Option, Some, None, Result, Ok, Err}
 use Rattle.jk_model.specs.declared.identifiers.CapId.{CapId}
 use Rattle.jk_model.specs.declared.identifiers.ClassId.{ClassId}
 use Rattle.jk_model.specs.declared.identifiers.DomainId.{DomainId}
 use Rattle.jk_model.specs.declared.identifiers.SegmentNo.{SegmentNo}
 use Rattle.jk_model.specs.declared.steps.Raise.{Raise}
+use Rattle.jk_model.specs.declared.values.Value.{Value}
+use Rattle.jk_model.specs.declared.values.Value.TheVariants as Held
 use Rattle.jk_model_heaps.specs.Capabilities.{CapRange}
 use Rattle.jk_model_heaps.specs.Workings.{Request}
 use Rattle.jk_model_heaps.specs.Workings.{Binds as AsksToBind, Creates as AsksToCreate, LooksUp as AsksToLookUp, Resumes as AsksToResume, Revokes as AsksToRevoke, Stops as AsksToStop, Suspends as AsksToSuspend, Unbinds as AsksToUnbind}
 use Rattle.jk_model_sharing.specs.BoundNames.{Binds, BoundName, LooksUp, Unbinds}
 use Rattle.jk_model_sharing.specs.CapabilityCalls.{Creates, Revokes}
 use Rattle.jk_model_sharing.specs.SharedStates.{Resumes, SharedDomain, SharedState, Stops, Suspends, domain_numbered, with_caps}
-use Rattle.jk_model_crossings.specs.Requests.{Granted, as_capability, as_nothing, as_reference}
+
+-- ---- Answers as values.
+
+abbrev pub Granted : Type 0
+Granted = Result (Option Value) Raise
+
+abbrev pub as_capability : Result CapId Raise → Granted
+as_capability (Ok k) = Ok (Some (Held.Cap k))
+as_capability (Err r) = Err r
+
+abbrev pub as_nothing : Result (Unit {0}) Raise → Granted
+as_nothing (Ok u) = Ok None
+as_nothing (Err r) = Err r
+
+-- a capability, or null
+abbrev pub as_reference : Option CapId → Value
+as_reference (Some k) = Held.Cap k
+as_reference None = Held.Null
 
 -- ---- What is answered to a domain.
 
