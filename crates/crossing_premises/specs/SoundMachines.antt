@@ -3,7 +3,6 @@ use Rattle.std.specs.Prelude.{true, List, Contains, map}
 use Rattle.jk_model.specs.declared.identifiers.ThreadNo.{ThreadNo}
 use Rattle.jk_model_classes.specs.Worlds.{NamedClass}
 use Rattle.jk_model_sharing.specs.Segments.{with_revoked}
-use Rattle.jk_model_sound_classes.specs.SoundClasses.{AreSoundClasses}
 use Rattle.jk_model_machine_state.specs.Machines.{DomainState, Machine}
 use Rattle.jk_model_machine_state.specs.Places.{RunningSegment, with_flags, without_top}
 use Rattle.jk_model_runs.specs.AnsweredCalls.{AreCallsAnswered}
@@ -17,7 +16,6 @@ abbrev pub tables_of : Machine → List (List NamedClass)
 tables_of m = map (λ (d : DomainState). d.table) m.domains
 
 pub record HasSoundClasses (m : Machine) : Type 0 where
-  pub sound : AreSoundClasses m.classes (tables_of m)
   pub linked : AreLinked m.classes (tables_of m)
   -- what each instruction of a step rests on
   pub codes : AreSoundCodes m.classes

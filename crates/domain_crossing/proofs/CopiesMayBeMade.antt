@@ -199,7 +199,7 @@ module _ (p : MachineParts) (may : MayCross p) where
 
   are_there : (d : DomainId) (l : LiveDomain (machine_of p) d) → AreThere p.world.classes l.domain.table
   are_there d l c is =
-      let known = may.sound.sound.closed l.domain.table (is_table d l) c is in
+      let known = (may.sound.tables l.domain (Contains-at (machine_of p).domains d.0 l.domain l.is_domain)).closed c is in
       slice_get_within p.world.classes c.0 known.0 known.1
 
   own_names : (d : DomainId) (l : LiveDomain (machine_of p) d) → HasOwnNames p.world.classes l.domain.table

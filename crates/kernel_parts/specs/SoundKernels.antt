@@ -4,8 +4,9 @@
 --     pub frames: F, pub main_kind: MethodType }
 --   ghost Value     = { Machine }
 --   ghost view      = { λ k. kernel_machine (content_of k) }
---   ghost invariant = { λ k. IsSoundKernel (content_of k) }
+--   ghost invariant = { λ k. AreSoundParts (content_of k) }
 -- where `content_of k` is the record of `k.world`, `k.owns.items`, `k.shared`, `H.content k.heap`, `F.content k.frames` and `k.main_kind`.
+-- Of the kernel over such parts it is `IsSoundKernel` of the same record.
 use Rattle.std.specs.Prelude.{◌≡◌, ℕ, ◌+◌, ◌*◌, ◌≤◌, List, length, map, Contains, Option, Some, codes, option_map, slice_get}
 use Rattle.jk_model.specs.declared.descriptors.MethodType.{MethodType}
 use Rattle.jk_model.specs.Descriptors.{IsMethodText}
@@ -17,21 +18,14 @@ use Rattle.jk_model_classes.specs.Worlds.{DomainRecord, IsWorld, WorldRecord}
 use Rattle.jk_model_heaps.specs.Capabilities.{Capability}
 use Rattle.jk_model_sharing.specs.SharedStates.{SharedState}
 use Rattle.jk_model_machine_state.specs.Machines.{DomainState, Machine}
-use Rattle.jk_model_runs.specs.Events.{IsWhole}
+use Rattle.jk_model_runs.specs.AnsweredCalls.{AreCallsAnswered}
+use Rattle.jk_model_runs.specs.Sealed.{IsSealed}
 use Rattle.class_init.specs.KeptStates.{HasRooms, KeptState}
 use Rattle.object_store.specs.HeapContents.{HeapContent}
 use Rattle.frame_store.specs.FrameContents.{FrameContent}
 use Rattle.crossing_premises.specs.SoundMachines.{HasSoundClasses}
 use Rattle.machine_parts.specs.FittingParts.{AreFittingParts}
 use Rattle.machine_parts.specs.MachineParts.{MachineParts, machine_of}
-
--- ---- Of the machine: it is sealed and its calls are answered, and its classes and names are sound and linked.
-
-pub record IsSoundMachine (m : Machine) : Type 0 where
-  pub whole : IsWhole m
-  pub sound : HasSoundClasses m
-  -- a run has no capability of a class that isn't there
-  pub capabilities : (d : DomainState) (c : Capability) → Contains m.domains d → Contains d.caps.made c → HasClass m.classes c.class
 
 -- ---- Of the parts, as contracts see them.
 
@@ -57,16 +51,26 @@ parts_of k = record {
 abbrev pub kernel_machine : KernelContent → Machine
 kernel_machine k = machine_of (parts_of k)
 
-pub record IsSoundKernel (k : KernelContent) : Type 0 where
+-- What holds of the parts at every moment, also where one domain is replayed alone and others stand in.
+pub record AreSoundParts (k : KernelContent) : Type 0 where
   pub fitting : AreFittingParts (parts_of k)
-  pub machine : IsSoundMachine (kernel_machine k)
-  -- a run has no stub that stands in for another domain's
-  pub stubs : (s : Stub) → Contains k.shared.stubs s → HasClass k.world.classes s.class
+  pub sealed : IsSealed (kernel_machine k)
+  pub sound : HasSoundClasses (kernel_machine k)
   -- what loading a folder asks
   pub world : IsWorld k.world (length k.world.domains)
-  pub few_domains : length k.world.domains ≤ 65535
   pub few_classes : length k.world.classes ≤ length system_classes + 512 * length k.world.domains
   -- each literal of a live domain has room for its object, so that no step takes memory
   pub rooms : (i : ℕ) (names : DomainRecord) (own : KeptState) → slice_get k.world.domains i ≡ Some names → slice_get k.owns i ≡ Some (Some own)
       → HasRooms k.world.classes names.table own
   pub main : IsMethodText (codes "([Ljava/lang/String;)V") k.main_kind
+
+-- ---- Of a kernel, in which every domain runs and none stands in for another.
+
+pub record IsSoundKernel (k : KernelContent) : Type 0 where
+  pub parts : AreSoundParts k
+  pub answered : AreCallsAnswered (kernel_machine k)
+  -- no capability and no stub is of a class that isn't there
+  pub capabilities : (d : DomainState) (c : Capability) → Contains (kernel_machine k).domains d → Contains d.caps.made c
+      → HasClass (kernel_machine k).classes c.class
+  pub stubs : (s : Stub) → Contains k.shared.stubs s → HasClass k.world.classes s.class
+  pub few_domains : length k.world.domains ≤ 65535

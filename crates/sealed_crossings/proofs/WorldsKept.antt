@@ -17,7 +17,6 @@ use Rattle.jk_model_heaps.specs.Workings.{Inside, Request}
 use Rattle.jk_model_running.specs.Ways.{Went}
 use Rattle.jk_model_sharing.specs.BoundNames.{without_names_of}
 use Rattle.jk_model_sharing.specs.Segments.{SharedSegment, with_revoked, with_stop}
-use Rattle.jk_model_sound_classes.specs.SoundClasses.{AreSoundClasses}
 use Rattle.jk_model_machine_state.specs.Machines.{DomainState, Machine, Segment, paid, with_domain, without_thread}
 use Rattle.jk_model_machine_state.specs.Places.{LiveDomain, RunningSegment, with_flags, with_run, with_running, without_top}
 use Rattle.jk_model_crossings.specs.Answers.{Receives, Returns}
@@ -259,8 +258,6 @@ of_table P (e ∷ domains) d all there = elim (Contains-cases d e domains there)
 
 pub sound_classes_stay : (m new : Machine) → KeepsWorld m new → HasSoundClasses m → HasSoundClasses new
 sound_classes_stay m new h sound = record {
-  sound = subst (λ (x : List (List NamedClass)). AreSoundClasses new.classes x) tables
-      (subst (λ (x : List ClassRecord). AreSoundClasses x (tables_of m)) (sym h.classes) sound.sound);
   linked = subst (λ (x : List (List NamedClass)). AreLinked new.classes x) tables
       (subst (λ (x : List ClassRecord). AreLinked x (tables_of m)) (sym h.classes) sound.linked);
   codes = subst AreSoundCodes (sym h.classes) sound.codes;
