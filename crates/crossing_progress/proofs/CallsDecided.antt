@@ -36,7 +36,7 @@ use Rattle.decided_lookups.proofs.MembersFound.{call_selects}
 use Rattle.class_lemmas.proofs.CodeOfMethods.{absent_has_none, system_has_none}
 use Rattle.class_lemmas.proofs.OneRecord.{one_method}
 use Rattle.list_lemmas.proofs.ItemsOfLists.{Contains-at}
-use Rattle.crossing_progress.specs.StepsAreThere.{MayArrive}
+use Rattle.crossing_progress.specs.GoingOn.{MayArrive}
 use Rattle.crossing_progress.proofs.PassagesDecided.{passages_are_decided}
 
 -- ---- A walk finds one member.

@@ -1,5 +1,4 @@
 -- The derivations of the laws.
 pub mod CallsDecided
-pub mod EventsGoOn
 pub mod PassagesDecided
 pub mod RequestsGranted

@@ -1,1 +1,1 @@
-pub mod StepsAreThere
+pub mod GoingOn

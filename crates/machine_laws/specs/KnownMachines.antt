@@ -28,3 +28,7 @@ pub record RunsNoPackageJk (m : Machine) : Type 0 where
   -- no capability was created, and each thread has one segment
   pub no_capabilities : (d : DomainState) → Contains m.domains d → d.caps.made ≡ []
   pub one_segment : (thread : Thread) → Contains m.threads thread → (s : Segment) × (thread.segments ≡ s ∷ [])
+
+-- all of this is known of the machine
+abbrev pub IsKnownWithoutJk : Machine → Type 0
+IsKnownWithoutJk m = IsKnownMachine m × RunsNoPackageJk m

@@ -17,7 +17,7 @@ use Rattle.jk_model_crossings.specs.Requests.{Grants}
 use Rattle.jk_model_crossings.specs.Throwing.{RaisesInThread, Throws}
 use Rattle.jk_model_runs.specs.AnsweredCalls.{AreCallsAnswered}
 use Rattle.jk_model_runs.specs.Confined.{Confined}
-use Rattle.jk_model_runs.specs.Events.{IsWhole, Kills}
+use Rattle.jk_model_runs.specs.Events.{IsWhole}
 use Rattle.jk_model_runs.specs.Sealed.{IsSealed}
 use Rattle.jk_model_runs.specs.Steps.{Deed, StepsBy}
 use Rattle.crossing_premises.specs.CallsAndAnswers.{Awaits, IsKnownAnswer, IsLeft, IsTaken, IsThrown, MayBeAsked, MayBeRaised, StandsAtCall}
@@ -67,18 +67,13 @@ pub record RequestsStaySealed : Type 0 where
   pub receives : (m new : Machine) (t : ThreadNo) (p : RunningSegment m t) (a : Answered p) → IsSealedAtCall m t → HasSoundClasses m
       → Receives p p.home.inside.heap a.answer new → IsSealed new
 
--- ---- Ends of domains, by a program and by the script.
+-- ---- Ends of domains.
 
 pub record EndsStaySealed : Type 0 where
   pub sealed : (m new : Machine) (d : DomainState) (lines : List Line) → IsSealed m → Terminates m d lines new → IsSealed new
   pub answered : (m new : Machine) (d : DomainState) (lines : List Line) → IsWhole m → Terminates m d lines new → AreCallsAnswered new
-  pub kills : (m new : Machine) (name : List ℕ) (lines : List Line) → IsWhole m → Kills m name lines new → IsWhole new
 
--- ---- A whole step.
-
-abbrev pub StepsKeepWhole : Type 0
-StepsKeepWhole =
-    (m new : Machine) (t : ThreadNo) (deed : Deed) (lines : List Line) → IsWhole m → HasSoundClasses m → StepsBy m t deed lines new → IsWhole new
+-- ---- What a whole step changes elsewhere.
 
 abbrev pub StepsAreConfined : Type 0
 StepsAreConfined =

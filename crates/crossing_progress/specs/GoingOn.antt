@@ -1,5 +1,5 @@
--- From each sealed machine each thread goes on: a call through a capability enters or is refused, what comes back arrives, what is raised is
--- caught or leaves the thread, and so each thread number has a step. The rest of an event rests on it whose lines didn't go out.
+-- From each sealed machine a thread goes on where it leaves its segment: a call through a capability enters or is refused, what comes back
+-- arrives, what is raised is caught or leaves the thread, requests are answered, and domains end.
 use Rattle.std.specs.Prelude.{ℕ, ◌≤◌, ◌⊎◌, List, ◌∷◌, length, Option}
 use Rattle.jk_model.specs.declared.identifiers.ThreadNo.{ThreadNo}
 use Rattle.jk_model.specs.declared.output.Line.{Line}
@@ -18,13 +18,10 @@ use Rattle.jk_model_sharing.specs.Answers.{Granted}
 use Rattle.jk_model_crossings.specs.Requests.{Grants}
 use Rattle.jk_model_crossings.specs.Throwing.{RaisesInThread, Throws}
 use Rattle.jk_model_domains.specs.Objects.{NamedObject}
-use Rattle.jk_model_runs.specs.Events.{Goes, IsWhole, Rounds, Turns}
 use Rattle.jk_model_runs.specs.Sealed.{IsSealed}
-use Rattle.jk_model_runs.specs.Steps.{Deed, StepsBy}
 use Rattle.crossing_premises.specs.CallsAndAnswers.{IsTaken, IsThrown, MayBeRaised, StandsAtCall}
 use Rattle.crossing_premises.specs.SoundMachines.{HasSoundClasses, IsSealedAtCall}
 use Rattle.heap_graphs.specs.CopiedGraphs.{IsWhollyThere}
-use Rattle.sealed_crossings.specs.SealedCrossings.{StepsKeepWhole}
 
 -- ---- Values pass, or one of the two reasons keeps them, whatever the heap is into which they pass.
 
@@ -72,23 +69,3 @@ GrantsAreThere =
 
 abbrev pub EndsAreThere : Type 0
 EndsAreThere = (m : Machine) (d : DomainState) → IsLiveDomain d → (lines : List Line) × (new : Machine) × Terminates m d lines new
-
--- ---- Whole steps, and steps in turn.
-
-abbrev pub StepsAreThere : Type 0
-StepsAreThere =
-    (m : Machine) (t : ThreadNo) → IsWhole m → HasSoundClasses m → (deed : Deed) × (lines : List Line) × (new : Machine) × StepsBy m t deed lines new
-
--- Each thread has a step from each machine that is whole, and each step leads to such a machine.
-pub record StepsGoOn : Type 0 where
-  pub there : StepsAreThere
-  pub whole : StepsKeepWhole
-
--- Where steps go on, so do turns and rounds.
-pub record TurnsAreThere : Type 0 where
-  pub turns : StepsGoOn → (n : ℕ) (t : ThreadNo) (m : Machine) → IsWhole m → HasSoundClasses m
-      → (lines : List Line) × (new : Machine) × Turns n t m lines new × IsWhole new × HasSoundClasses new
-  pub goes : StepsGoOn → (steps thread : ℕ) (m : Machine) → IsWhole m → HasSoundClasses m
-      → (lines : List Line) × (new : Machine) × Goes steps thread m lines new × IsWhole new × HasSoundClasses new
-  pub rounds : StepsGoOn → (n steps : ℕ) (m : Machine) → IsWhole m → HasSoundClasses m
-      → (lines : List Line) × (new : Machine) × Rounds n steps m lines new × IsWhole new × HasSoundClasses new

@@ -1,0 +1,2 @@
+-- Lemmas on whole machines.
+pub mod EventsGoOn
