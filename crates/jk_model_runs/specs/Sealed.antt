@@ -13,6 +13,7 @@ use Rattle.jk_model_classes.specs.Stubs.{ImplementsRemote}
 use Rattle.jk_model_domains.specs.declared.states.ClassState.TheVariants as State
 use Rattle.jk_model_domains.specs.Objects.{Task}
 use Rattle.jk_model_domains.specs.OwnStates.{state_of}
+use Rattle.jk_model_frames.specs.Frames.{FrameState}
 use Rattle.jk_model_frames.specs.Pools.{IsPlaced, Pool}
 use Rattle.jk_model_heaps.specs.Capabilities.{Capability, IsGivenOut}
 use Rattle.jk_model_heaps.specs.Workings.{Inside}
