@@ -1,17 +1,18 @@
 -- How the parts of a machine fit each other: each list has the same domains, the stores have just the live ones and the segments of live
 -- threads, what they count is what these cost, and no object is marked.
-use Rattle.std.specs.Prelude.{◌≡◌, ◌≢◌, ℕ, ◌⊎◌, List, length, Contains, Option, Some, None, is_some, slice_get}
+use Rattle.std.specs.Prelude.{◌≡◌, ◌≢◌, ℕ, List, length, Contains, Option, Some, None, is_some, slice_get}
 use Rattle.jk_model.specs.declared.identifiers.ClassId.{ClassId}
 use Rattle.jk_model.specs.declared.identifiers.DomainId.{DomainId}
 use Rattle.jk_model.specs.declared.identifiers.SegmentNo.{SegmentNo}
 use Rattle.jk_model_classes.specs.declared.records.ClassRecord.{ClassRecord}
 use Rattle.jk_model_classes.specs.declared.sharing.Stub.{Stub}
 use Rattle.jk_model_classes.specs.Classes.{record_of}
-use Rattle.jk_model_classes.specs.Stubs.{ImplementsRemote, IsStub}
+use Rattle.jk_model_classes.specs.Stubs.{ImplementsRemote}
 use Rattle.jk_model_classes.specs.Worlds.{DomainRecord}
 use Rattle.jk_model_domains.specs.OwnStates.{OwnState}
 use Rattle.jk_model_heaps.specs.Capabilities.{Capability}
 use Rattle.jk_model_heaps.specs.Heaps.{heap_words}
+use Rattle.jk_model_sharing.specs.KnownStubs.{AreKnownStubs}
 use Rattle.jk_model_sharing.specs.Segments.{SharedSegment, SharedThread}
 use Rattle.jk_model_sharing.specs.SharedStates.{SharedDomain, SharedState, stub_for}
 use Rattle.jk_model_machine_state.specs.Machines.{chunks_used}

@@ -21,7 +21,7 @@ use Rattle.sealed_rows.specs.RaisableObjects.{KeepsStates}
 use Rattle.step_contents.specs.Conditions.{KnowsDomain, around}
 use Rattle.step_contents.specs.Contents.{Becomes, Contents, Here, Holds, LeftBehind, with_frame}
 use Rattle.step_contents.specs.Settings.{IsSetting}
-use Rattle.system_calls.specs.SharedAnswers.{Answers}
+use Rattle.jk_model_sharing.specs.Answers.{Answers}
 use Rattle.segment_steps.specs.declared.went.Went.{Went}
 use Rattle.segment_steps.specs.declared.went.Went.TheVariants as Goes
 use Rattle.segment_steps.specs.RaisingHere.{went_of}
