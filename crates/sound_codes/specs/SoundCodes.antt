@@ -80,6 +80,9 @@ pub record AreSoundCodes (classes : List ClassRecord) : Type 0 where
   pub interface_methods : (m : MemberId) (method : MethodRecord) → IsInterface classes m.class → MethodIs classes m method
       → method.name ≢ CLINIT → IsTrue (has method.flags ABSTRACT)
   pub constants : (m : MemberId) (field : FieldRecord) → FieldIs classes m field → SuitsType field.kind field.constant
+  -- a static method isn't abstract (C6)
+  pub static_methods : (m : MemberId) (method : MethodRecord) → MethodIs classes m method → IsTrue (is_static method)
+      → IsFalse (has method.flags ABSTRACT)
   -- a method that isn't abstract runs (C9, C13), and one of a folder's classes runs no method of the system
   pub bodies : (m : MemberId) (method : MethodRecord) → MethodIs classes m method → IsFalse (has method.flags ABSTRACT)
       → IsRunnable method.body
