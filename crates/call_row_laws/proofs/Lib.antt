@@ -1,0 +1,7 @@
+-- Lemmas on rows of instructions of call.
+pub mod CallsFound
+pub mod ClassesOfReceivers
+pub mod NamedMethods
+pub mod SelectedMethods
+pub mod TargetsFound
+pub mod WaysUp
