@@ -142,7 +142,7 @@ module _ (s : CodeScope) (heap : List NamedObject) (sound : AreSoundCodes s.clas
         this.0,
         this.1,
         superclasses-trans s.classes sound.ordered this.0 s.self up this.2
-        (superclasses-trans s.classes sound.ordered s.self c up (own_or_parent c own) above),
+            (superclasses-trans s.classes sound.ordered s.self c up (own_or_parent c own) above),
       )
   special_below i c up method v op (for_special is other below fits) none above some = elim (reference_runs v _ fits) [
     | inl null ↦ absurd (some null)

@@ -55,7 +55,7 @@ module _ (around : Surroundings) (x : Setting) (w : Working) (statics : StaticsA
             linked,
             is,
             has_room around runs.setting.codes w.inside.heap m known.method linked known.is_method is call.given
-            (given_fits around runs.setting.codes w.inside.heap m known.method linked known.is_method is call.given known.begins),
+                (given_fits around runs.setting.codes w.inside.heap m known.method linked known.is_method is call.given known.begins),
           )
       body_by (inr system) = inr system
 
@@ -78,10 +78,14 @@ module _ (around : Surroundings) (x : Setting) (w : Working) (statics : StaticsA
 
     row : (t : Target) → call.target ≡ t → (new : Working) (outcome : Outcome) → FollowsTarget x t call.given w new outcome → There
     row t e new outcome follows =
-        inl (new, outcome, record {
-          call = call;
-          follows = subst (λ (target : Target). FollowsTarget x target call.given w new outcome) (sym e) follows;
-        })
+        inl (
+          new,
+          outcome,
+          record {
+            call = call;
+            follows = subst (λ (target : Target). FollowsTarget x target call.given w new outcome) (sym e) follows;
+          },
+        )
 
     module _ (m : MemberId) (e : call.target ≡ Runs m) (method : MethodRecord) (is : MethodIs x.classes m method) where
       with_code : (linked : LinkedCode) → method.body ≡ Does.Linked linked → length (locals_of call.given) ≤ linked.max_locals
