@@ -24,12 +24,10 @@ use Rattle.sealed_rows.specs.RunningFrames.{RunsWell}
 use Rattle.sound_codes.specs.SoundCodes.{IsRunnable}
 use Rattle.typed_operands.proofs.BegunMethods.{given_fits, has_room}
 use Rattle.call_row_laws.specs.CallRowLaws.{RunsKnownMethod}
-use Rattle.call_row_laws.specs.StaticMethods.{StaticsAreConcrete}
 use Rattle.call_row_laws.proofs.CallsFound.{call_found}
 use Rattle.call_row_laws.proofs.CallsKnown.{KnownRun, known_run}
 
-module _ (around : Surroundings) (x : Setting) (w : Working) (statics : StaticsAreConcrete around.classes) (runs : RunsWell around x w)
-    (code : RunsCode around.classes w.frame) where
+module _ (around : Surroundings) (x : Setting) (w : Working) (runs : RunsWell around x w) (code : RunsCode around.classes w.frame) where
   abbrev s : CodeScope
   s = code.scope
 
@@ -41,7 +39,7 @@ module _ (around : Surroundings) (x : Setting) (w : Working) (statics : StaticsA
 
     module _ (m : MemberId) (known : KnownRun around w.inside.heap call.method call.given m) where
       not_abstract : IsTrue (has known.method.flags STATIC) ⊎ IsFalse (has known.method.flags ABSTRACT) → IsFalse (has known.method.flags ABSTRACT)
-      not_abstract (inl static) = statics m known.method known.is_method static
+      not_abstract (inl static) = runs.setting.codes.static_methods m known.method known.is_method static
       not_abstract (inr concrete) = concrete
 
       abbrev Body : Type 0

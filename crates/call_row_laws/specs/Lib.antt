@@ -1,3 +1,2 @@
 -- What is said of rows of instructions of call.
 pub mod CallRowLaws
-pub mod StaticMethods
