@@ -1,6 +1,8 @@
-//! The laws. The functions have no bodies: each stands for its clauses.
+//! The laws. The functions do nothing but that one calls another law: each stands for its clauses.
 
-ghost use Rattle.heap_row_laws.specs.HeapRowLaws.{HeapOperandsAreFound, HeapRowsAreOfHeaps, HeapRowsAreThere, OperandsGiveRows};
+use jk_model_heaps::laws::fields_stand_in_one_order;
+
+ghost use Rattle.heap_row_laws.specs.HeapRowLaws.{HeapOperandsAreFound, HeapRowsAreOfHeaps, HeapRowsAreThere, HeapRowsKeep, OperandsGiveRows};
 ghost use Rattle.heap_row_laws.specs.NewTrees.{FittingTreesAreMade};
 ghost use Rattle.heap_row_laws.specs.ObjectFields.{ObjectsHaveTheirFields};
 
@@ -25,3 +27,10 @@ pub fn heap_rows_are_there()
     ensures rows { HeapRowsAreThere }
     ensures no_others { HeapRowsAreOfHeaps }
 {}
+
+/// Each row of an instruction on objects keeps what is kept, and what it leaves fits.
+pub fn heap_rows_keep()
+    ensures { HeapRowsKeep }
+{
+    fields_stand_in_one_order();
+}
