@@ -8,6 +8,7 @@ pub mod ItemsByKey
 pub mod NextLive
 pub mod OrderIsKept
 pub mod RangesWithClasses
+pub mod SameInstances
 pub mod StatesByPart
 pub mod StubsByClass
 pub mod ThreadsOfEntries
