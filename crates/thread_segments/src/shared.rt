@@ -10,6 +10,7 @@ ghost use Rattle.jk_model_sharing.specs.Segments.{with_revoked, with_stop};
 ghost use Rattle.jk_model_sharing.specs.SharedStates.{MayBegin, Resumes, Stops, Suspends, admitted, caps_of, first_state, popped, spent, stub_of, with_flags};
 ghost use Rattle.thread_segments.specs.Answers.{Begins, CreatesFor, IsLeastAbove, IsLiveNumber, count_numbers_left, known_status, number_below, quotas_of, segment_info, steps_left_of, top_number};
 ghost use Rattle.thread_segments.specs.Asked.{AreWithin, HasRoomForSegment, IsAdmitted, IsLiveDomain, IsLiveThread, IsNext, IsThere, MayDrawSegment, MayDrawThread, MaySpend};
+ghost use Rattle.thread_segments.specs.SoundStates.{AreSound};
 
 use crate::capabilities::Capabilities;
 use crate::domains::DomainEntry;
@@ -38,22 +39,14 @@ pub struct Shared {
 }
 
 impl Model for Shared {
-    ghost use Rattle.std.specs.Prelude.{[]};
     ghost use Rattle.jk_model_sharing.specs.SharedStates.{SharedState};
-    ghost use Rattle.thread_segments.specs.DomainEntries.{AreCounted, domains_with};
+    ghost use Rattle.thread_segments.specs.DomainEntries.{IsKept, state_of};
 
     ghost Value = { SharedState };
 
-    ghost view = { λ s. record {
-      domains = domains_with 0 s.domains.items s.caps;
-      names = [];
-      threads = s.threads.threads;
-      next_thread = s.threads.next_thread;
-      next_segment = s.threads.next_segment;
-      stubs = s.stubs.stubs;
-    } };
+    ghost view = { λ s. state_of s.domains.items s.caps s.stubs.stubs s.threads };
 
-    ghost invariant = { λ s. AreCounted s.domains.items s.caps s.threads };
+    ghost invariant = { λ s. IsKept s.domains.items s.caps s.stubs.stubs s.threads };
 }
 
 impl Shared {
@@ -98,6 +91,13 @@ impl Shared {
             threads: 0,
         });
         Ok(())
+    }
+
+    /// Whatever the calls did, what domains share is sound. It does nothing.
+    pub fn is_sound(&self)
+        ensures { AreSound self.now }
+    {
+        let _ = &self.domains;
     }
 
     /// How many numbers of capabilities are in no range yet.
