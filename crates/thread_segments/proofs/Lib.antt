@@ -6,8 +6,16 @@ pub mod DomainsByNumber
 pub mod InterfacesShown
 pub mod ItemsByKey
 pub mod NextLive
+pub mod OneMore
 pub mod OrderIsKept
 pub mod RangesWithClasses
+pub mod Remaining
+pub mod SameInstances
+pub mod SoundAdmission
+pub mod SoundCapabilities
+pub mod SoundDomains
+pub mod SoundGrowth
+pub mod SoundThreads
 pub mod StatesByPart
 pub mod StubsByClass
 pub mod ThreadsOfEntries

@@ -21,21 +21,11 @@ use Rattle.thread_segments.specs.ClassedRanges.{CreatesIn, has_room_in, used_up_
 use Rattle.thread_segments.specs.Asked.{IsAdmitted, IsLiveDomain, IsNext, MaySpend}
 use Rattle.thread_segments.specs.Answers.{CreatesFor, count_numbers_left, has_stub, known_status, quotas_of, steps_left_of}
 use Rattle.thread_segments.specs.declared.domains.DomainEntry.{DomainEntry}
-use Rattle.thread_segments.specs.DomainEntries.{AreCounted, domain_with, domains_with}
+use Rattle.thread_segments.specs.DomainEntries.{AreCounted, domain_with, domains_with, state_of}
 use Rattle.thread_segments.specs.ThreadEntries.{ThreadList}
 use Rattle.thread_segments.proofs.ItemsByKey.{found_none}
 use Rattle.thread_segments.proofs.CapsOfDomains.{AreOwnedFrom, caps_changed, one_range, owner_found, range_stays}
 use Rattle.thread_segments.proofs.DomainsByNumber.{changed_at, domains_with-push, length-domains_with, ranges_of-domains_with, same_domains, stands_at}
-
-abbrev pub state_of : List DomainEntry → List CapRange → List Stub → ThreadList → SharedState
-state_of es rs stubs t = record {
-  domains = domains_with 0 es rs;
-  names = [];
-  threads = t.threads;
-  next_thread = t.next_thread;
-  next_segment = t.next_segment;
-  stubs = stubs;
-}
 
 module _ (es : List DomainEntry) (rs : List CapRange) (stubs : List Stub) (t : ThreadList) (h : AreCounted es rs t) where
   abbrev here : SharedState
