@@ -12,7 +12,7 @@ use Rattle.jk_model.specs.declared.steps.Standing.TheVariants as Stands
 use Rattle.jk_model_classes.specs.declared.records.ClassRecord.{ClassRecord}
 use Rattle.jk_model_classes.specs.Classes.{IsSubclass}
 use Rattle.jk_model_typing.specs.FrameTypes.{THROWABLE}
-use Rattle.jk_model_domains.specs.Objects.{NamedObject, Object, Plain, Task, object_words}
+use Rattle.jk_model_domains.specs.Objects.{NamedObject, Object, Task, object_words}
 use Rattle.jk_model_heaps.specs.declared.shapes.Shape.TheVariants as Of
 use Rattle.jk_model_heaps.specs.Heaps.{MakesOne, heap_words, named, zero_fields}
 use Rattle.jk_model_heaps.specs.Throwables.{IsRaised, IsStanding, fresh_throwable, standing_class}
