@@ -7,9 +7,11 @@ pub mod InterfacesShown
 pub mod ItemsByKey
 pub mod NextLive
 pub mod OneMore
+pub mod OwnersByNumber
 pub mod OrderIsKept
 pub mod RangesWithClasses
 pub mod Remaining
+pub mod RevokedInRange
 pub mod SameInstances
 pub mod SoundAdmission
 pub mod SoundCapabilities

@@ -4,11 +4,12 @@ ghost use Rattle.std.specs.Prelude.{◌≡◌, ◌≢◌, ◌⊎◌, ◌-◌, �
 ghost use Rattle.jk_model.specs.declared.identifiers.ClassId.{ClassId as Class};
 ghost use Rattle.jk_model_classes.specs.declared.records.BaseRef.TheVariants as Base;
 ghost use Rattle.jk_model_classes.specs.declared.sharing.Stub.{Stub as AStub};
+ghost use Rattle.jk_model_heaps.specs.Capabilities.{IsGivenOut, has_number};
 ghost use Rattle.jk_model_sharing.specs.CapabilityCalls.{LacksNumbers};
 ghost use Rattle.jk_model_sharing.specs.KnownStubs.{AreRising};
 ghost use Rattle.jk_model_sharing.specs.Segments.{with_revoked, with_stop};
-ghost use Rattle.jk_model_sharing.specs.SharedStates.{MayBegin, Resumes, Stops, Suspends, admitted, caps_of, first_state, popped, spent, stub_of, with_flags};
-ghost use Rattle.thread_segments.specs.Answers.{Begins, CreatesFor, IsLeastAbove, IsLiveNumber, count_numbers_left, known_status, number_below, quotas_of, segment_info, steps_left_of, top_number};
+ghost use Rattle.jk_model_sharing.specs.SharedStates.{MayBegin, Resumes, SharedDomain as Domain, Stops, Suspends, admitted, caps_of, domain_numbered, first_state, popped, spent, stub_of, with_flags};
+ghost use Rattle.thread_segments.specs.Answers.{Begins, CreatesFor, IsLeastAbove, IsLiveNumber, RevokesFor, count_numbers_left, known_status, number_below, quotas_of, segment_info, steps_left_of, top_number};
 ghost use Rattle.thread_segments.specs.Asked.{AreWithin, HasRoomForSegment, IsAdmitted, IsLiveDomain, IsLiveThread, IsNext, IsThere, MayDrawSegment, MayDrawThread, MaySpend};
 ghost use Rattle.thread_segments.specs.SoundStates.{AreSound};
 
@@ -21,7 +22,8 @@ use capability_table::CapsError;
 use class_table::ClassTable;
 use instance_tests::CapabilityTests;
 use jk_model::{
-    CapId, CapStatus, ClassId, DomainId, List, OutOfMemory, Quotas, Raise, SegmentNo, ThreadNo,
+    CapId, CapStatus, ClassId, DomainId, List, OutOfMemory, Quotas, Raise, SegmentNo, Standing,
+    ThreadNo,
 };
 use jk_model_classes::{BaseRef, Stub, TypeRef};
 use jk_model_heaps::system_classes::{CAPABILITY, ILLEGAL_ARGUMENT_EXCEPTION, OBJECT, REMOTE};
@@ -248,6 +250,32 @@ impl Shared {
         match self.stubs.find(class) {
             Some(_) => self.caps.create(d, class, target),
             None => Err(Raise::Fresh(ILLEGAL_ARGUMENT_EXCEPTION)),
+        }
+    }
+
+    /// Revokes a capability that was given out, for a live domain. SecurityException is raised exactly where another domain owns it,
+    /// and then all is as before. One that is revoked stays so.
+    pub fn revoke(&mut self, d: DomainId, k: CapId) -> Result<(), Raise>
+        requires live { IsLiveDomain self.old d }
+        requires given { IsGivenOut (caps_of self.old) k }
+        ensures { RevokesFor self.old d k result self.new }
+    {
+        if !self.owns(d, k) {
+            return Err(Raise::Standing(Standing::Security));
+        }
+        self.caps.revoke(k);
+        Ok(())
+    }
+
+    /// Whether a capability that was given out is a domain's.
+    fn owns(&self, d: DomainId, k: CapId) -> bool
+        requires live { IsLiveDomain self.now d }
+        requires given { IsGivenOut (caps_of self.now) k }
+        ensures { (e : Domain) → domain_numbered self.now d ≡ Some e → result ≡ has_number k e.caps }
+    {
+        match self.caps.status(k) {
+            Some(status) => status.owner == d,
+            None => false,
         }
     }
 
