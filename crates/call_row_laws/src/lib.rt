@@ -1,5 +1,7 @@
 //! Rows of instructions of call: what they find on the stack, that each call runs a method, is handed on or fails, and what each keeps.
 //! There is no code here but that of laws: functions that do nothing, whose contracts are theorems on the definitions.
+//!
+//! `specs/` says more than is proved: that each method is known and each row is there is proved where no static method is abstract.
 #![tactic(auto)]
 
 pub mod laws;
