@@ -22,9 +22,6 @@ use Rattle.typed_operands.proofs.InstancesDecided.{instance_decided}
 
 -- ---- Arrays of one kind.
 
-as_type : BaseRef → TypeRef
-as_type base = record { dims = 0; base = base }
-
 base_decided : HasDecidedEquality BaseRef
 base_decided a b =
     let of : BaseRef → TypeRef = λ (base : BaseRef). record { dims = 0; base = base } in

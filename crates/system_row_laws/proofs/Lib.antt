@@ -2,6 +2,7 @@
 pub mod AnswersKept
 pub mod ArraysCopied
 pub mod CallsKept
+pub mod CallsOfSystem
 pub mod CopiesKept
 pub mod FirstFields
 pub mod GivenByNumber

@@ -258,13 +258,13 @@ module _ (x : Setting) (old : Inside) where
 -- ---- In the frame that calls.
 
 module _ (f : FrameState) (given : List Value) (top : IsOnTop f given) where
-  abbrev Answered_by : Answer → Type 0
-  Answered_by answer = (g : FrameState) × (outcome : Outcome) × Answering f given answer g outcome
+  abbrev Follows : Answer → Type 0
+  Follows answer = (g : FrameState) × (outcome : Outcome) × Answering f given answer g outcome
 
   replaced : (pushed : List Value) → (g : FrameState) × Replaces f g given pushed
   replaced pushed = (record f { stack = top.0 ++ pushed }, record { below = top.0; before = top.1; after = refl })
 
-  answering : (answer : Answer) → Answered_by answer
+  answering : (answer : Answer) → Follows answer
   answering (Gives v) = let r = replaced (as_entries v) in (r.0, GoesOn (f.head.at + 1), (r.1, refl))
   answering (Tells text) = let r = replaced [] in (r.0, Says text (f.head.at + 1), (r.1, refl))
   answering (Fails raise) = (f, Raises raise, (refl, refl))
