@@ -1,2 +1,6 @@
--- Lemmas on one step of a segment.
+-- Lemmas on steps of a segment.
 pub mod NumberRowsKept
+pub mod NumberRowsThere
+mod NumbersGoOn
+mod OpcodesByKind
+mod TextsOfLiterals
