@@ -1,4 +1,7 @@
--- Lemmas on steps of a segment.
+-- Lemmas on one step of a segment.
+pub mod ConstantsKept
+mod ConstantsWritten
+mod LiteralsAdded
 pub mod NumberRowsKept
 pub mod NumberRowsThere
 mod NumbersGoOn

@@ -46,7 +46,7 @@ module _ {X : Type 0} where
 abbrev Text : Type 0
 Text = List ℕ
 
-abbrev IsOther : Text → Text → Type 0
+abbrev pub IsOther : Text → Text → Type 0
 IsOther text other = other ≢ text
 
 abbrev AreOnce : List Text → Type 0
@@ -139,7 +139,7 @@ name_at n (text ∷ more) zero e at =
     omega (arith, number)
 name_at n (text ∷ more) (suc i) e at = let later = name_at (suc n) more i e at in omega (arith, later)
 
-abbrev text_words : Text → ℕ
+abbrev pub text_words : Text → ℕ
 text_words text = HEADER_WORDS + length text
 
 pub words_from : (classes : List ClassRecord) (n : ℕ) (texts : List Text)
