@@ -1,4 +1,4 @@
-//! The laws. The functions do nothing but that one calls another law: each stands for its clauses.
+//! The laws. The functions have no bodies but for one, which calls the law on which it rests: each stands for its clauses.
 
 ghost use Rattle.heap_row_laws.specs.HeapRowLaws.{HeapOperandsAreFound, HeapRowsAreOfHeaps, HeapRowsAreThere, HeapRowsKeep, OperandsGiveRows};
 ghost use Rattle.heap_row_laws.specs.NewTrees.{FittingTreesAreMade};
