@@ -77,7 +77,7 @@ module _ (classes : List ClassRecord) (sound : AreSoundCodes classes) where
       Contains-none (at_member m.class m.index field)
       (subst (λ (fields : List InstanceField). Contains fields (at_member m.class m.index field)) empty there)
 
-  class_below : (d e : ClassId) → RefFits classes (class_type d) (class_type e) → IsSubclass classes d e
+  pub class_below : (d e : ClassId) → RefFits classes (class_type d) (class_type e) → IsSubclass classes d e
   class_below d e (inl same) =
       let base : Base.Class d ≡ Base.Class e = ap (λ (t : TypeRef). t.base) same in
       let one : d ≡ e = cc in
@@ -85,7 +85,7 @@ module _ (classes : List ClassRecord) (sound : AreSoundCodes classes) where
   class_below d e (inr (inl (dims, up))) = up
   class_below d e (inr (inr (lower, object))) = absurd (omega (arith, lower))
 
-  array_above : (dims : ℕ) (base : BaseRef) (e : ClassId) → RefFits classes (array_type (dims + 1) base) (class_type e) → e ≡ OBJECT
+  pub array_above : (dims : ℕ) (base : BaseRef) (e : ClassId) → RefFits classes (array_type (dims + 1) base) (class_type e) → e ≡ OBJECT
   array_above dims base e (inl same) = let count : dims + 1 ≡ 0 = ap (λ (t : TypeRef). t.dims) same in absurd (omega (arith, count))
   array_above dims base e (inr (inl (count, up))) = absurd (omega (arith, count))
   array_above dims base e (inr (inr (lower, object))) = let same : Base.Class e ≡ Base.Class OBJECT = object in cc

@@ -1,6 +1,21 @@
 -- Lemmas on rows of instructions on heaps.
+pub mod ArraysByType
+pub mod ArraysOfArraysMade
+pub mod CastsAndThrows
+pub mod ClassesToMake
+pub mod ElementsRead
+pub mod ElementsWritten
+pub mod FieldsByPlace
 pub mod FieldsNamed
 pub mod FieldsOfObjects
+pub mod FieldsRead
+pub mod FieldsWritten
+pub mod FramesLeft
+pub mod HeapRowsKept
+pub mod InsidesMade
+pub mod InsidesWritten
+pub mod LiteralsLoaded
+pub mod ObjectsMade
 pub mod OpcodesOfHeaps
 pub mod OperandsFound
 pub mod RowsFromOperands

@@ -148,7 +148,7 @@ finals_kept : list_all keeps_finals system_classes ≡ true
 finals_kept = refl
 
 module _ (classes : List ClassRecord) (sound : AreSoundCodes classes) where
-  system_entry : (c : ClassId) (r : ClassRecord) → record_of classes c ≡ Some r → r.home ≡ None
+  pub system_entry : (c : ClassId) (r : ClassRecord) → record_of classes c ≡ Some r → r.home ≡ None
       → (entry : SystemClass) × (slice_get system_classes c.0 ≡ Some entry) × IsSystemRecord c.0 entry r
   system_entry c r is none =
       let entry = item_there system_classes c.0 (sound.of_system c r is none) in

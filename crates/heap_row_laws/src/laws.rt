@@ -1,8 +1,10 @@
-//! The laws. The functions have no bodies: each stands for its clauses.
+//! The laws. The functions do nothing but that one calls another law: each stands for its clauses.
 
-ghost use Rattle.heap_row_laws.specs.HeapRowLaws.{HeapOperandsAreFound, HeapRowsAreOfHeaps, HeapRowsAreThere, OperandsGiveRows};
+ghost use Rattle.heap_row_laws.specs.HeapRowLaws.{HeapOperandsAreFound, HeapRowsAreOfHeaps, HeapRowsAreThere, HeapRowsKeep, OperandsGiveRows};
 ghost use Rattle.heap_row_laws.specs.NewTrees.{FittingTreesAreMade};
 ghost use Rattle.heap_row_laws.specs.ObjectFields.{ObjectsHaveTheirFields};
+
+use jk_model_heaps::laws::fields_stand_in_one_order;
 
 /// Where an instruction on objects finds its operands there is a row of it.
 pub fn operands_give_rows()
@@ -25,3 +27,10 @@ pub fn heap_rows_are_there()
     ensures rows { HeapRowsAreThere }
     ensures no_others { HeapRowsAreOfHeaps }
 {}
+
+/// Each row of an instruction on objects keeps what is kept, and what it leaves fits.
+pub fn heap_rows_keep()
+    ensures { HeapRowsKeep }
+{
+    fields_stand_in_one_order();
+}
