@@ -324,22 +324,26 @@ home_of n (x ∷ threads) t e h at = elim (cases_Bool (x.number.0 == t.0)) [
 
 -- ---- Ranges of capabilities.
 
-pub counts_caps : (es : List DomainEntry) (rs : List CapRange) (t : ThreadList) (class : ClassId) (target k : ℕ) → AreCounted es rs t
-    → AreCounted es (map (one_range (with_created class target) k) rs) t
-counts_caps es rs t class target k h = record {
-  as_many = length-map rs (one_range (with_created class target) k) ∙ h.as_many;
+pub counts_ranges : (g : CapRange → CapRange) → ((r : CapRange) → (g r).owner ≡ r.owner) → (es : List DomainEntry) (rs : List CapRange) (t : ThreadList)
+    → AreCounted es rs t → AreCounted es (map g rs) t
+counts_ranges g same es rs t h = record {
+  as_many = length-map rs g ∙ h.as_many;
   owners =
       λ i r at.
-      let from = comes_from (one_range (with_created class target) k) rs i r at in
-      ap (λ (x : CapRange). x.owner.0) (sym from.gives) ∙ same_owner from.from ∙ h.owners i from.from from.there;
+      let from = comes_from g rs i r at in
+      ap (λ (x : CapRange). x.owner.0) (sym from.gives) ∙ ap (λ (d : DomainId). d.0) (same from.from) ∙ h.owners i from.from from.there;
   started = h.started;
   within = h.within;
   small = h.small;
   homes = h.homes;
   room = h.room;
 }
+
+counts_caps : (es : List DomainEntry) (rs : List CapRange) (t : ThreadList) (class : ClassId) (target k : ℕ) → AreCounted es rs t
+    → AreCounted es (map (one_range (with_created class target) k) rs) t
+counts_caps es rs t class target k h = counts_ranges (one_range (with_created class target) k) same_owner es rs t h
   where
-    same_owner : (r : CapRange) → (one_range (with_created class target) k r).owner.0 ≡ r.owner.0
+    same_owner : (r : CapRange) → (one_range (with_created class target) k r).owner ≡ r.owner
     same_owner r = elim (cases_Bool (r.owner.0 == k)) [ inl hit ↦ rw hit refl | inr miss ↦ rw miss refl ]
 
 pub counts_created : (es : List DomainEntry) (rs : List CapRange) (t : ThreadList) (class : ClassId) (target : ℕ) (r : CapRange)

@@ -1,6 +1,6 @@
 -- A capability shows the interfaces of its stub, and no others.
 use Rattle.std.proofs.Common.{◌≡◌, ℕ, zero, suc, ◌+◌, ◌⊎◌, inl, inr, true, false, List, [], ◌∷◌, find, flat_map, Contains, Option, Some, None, Result, Ok, Err, IsTrue, is_ok, refl, sym, ap, subst, ◌∙◌, arith}
-use Rattle.std.specs.Prelude.{◌==◌, is_some, option_and_then}
+use Rattle.std.specs.Prelude.{◌==◌, option_and_then}
 use Rattle.std.specs.Result.{result_ok}
 use Rattle.std.proofs.lemmas.Bool.{eq-eqb, eqb-true}
 use Rattle.std.proofs.lemmas.Option.{same_Some}
@@ -16,12 +16,13 @@ use Rattle.jk_model_classes.specs.Stubs.{IsRemoteInterfaceOf}
 use Rattle.jk_model_heaps.specs.Capabilities.{CapabilityIsA, OwnedCapability, ShowsInterface, StandsInFor, capability_numbered}
 use Rattle.jk_model_domains.specs.Objects.{CAPABILITY}
 use Rattle.jk_model_heaps.specs.SystemClasses.{REMOTE}
+use Rattle.jk_model_sharing.specs.KnownStubs.{AreKnownStubs, AreRising}
 use Rattle.jk_model_sharing.specs.SharedStates.{SharedState, caps_of, stub_for, stub_of}
 use Rattle.list_lemmas.proofs.FoundItems.{Finds, finds}
 use Rattle.list_lemmas.proofs.ItemsOfLists.{Contains-at, Contains-cases, Contains-here, Contains-none, Contains-there}
 use Rattle.thread_segments.proofs.ThreadsOfEntries.{head_fails}
 use Rattle.thread_segments.specs.Places.{IsOnlyAt, IsPlaceOf, has_key}
-use Rattle.thread_segments.specs.KnownStubs.{AreStubs, known_capabilities}
+use Rattle.thread_segments.specs.KnownStubs.{known_capabilities}
 
 -- ---- A class that isn't there implements nothing.
 
@@ -76,7 +77,7 @@ IsShown classes s k i =
     (c : OwnedCapability) × (capability_numbered (caps_of s) k ≡ Some c)
     × (ShowsInterface classes c.capability i ⊎ StandsInFor classes s.stubs c.capability i)
 
-module _ (classes : List ClassRecord) (s : SharedState) (k : CapId) (stub : Stub) (known : AreStubs classes s.stubs) (is : stub_of s k ≡ Some stub)
+module _ (classes : List ClassRecord) (s : SharedState) (k : CapId) (stub : Stub) (known : AreKnownStubs classes s.stubs) (is : stub_of s k ≡ Some stub)
     (i : ClassId) where
   pub listed_is_shown : Contains stub.interfaces i → IsShown classes s k i
   listed_is_shown there =
@@ -86,7 +87,7 @@ module _ (classes : List ClassRecord) (s : SharedState) (k : CapId) (stub : Stub
             let P : ClassId → Type 0 = λ c. IsRemoteInterfaceOf classes c i in
             (x.cap, x.is_cap, inl (subst P x.class (of_class.listed i there)))
         | inr gone ↦
-            let none : record_of classes x.cap.capability.class ≡ None = ap (record_of classes) (sym x.class) ∙ gone in
+            let none : record_of classes x.cap.capability.class ≡ None = ap (record_of classes) (sym x.class) ∙ gone.not_there in
             (x.cap, x.is_cap, inr (none, (stub, x.among, x.class, there)))
       ]
 
@@ -103,7 +104,7 @@ module _ (classes : List ClassRecord) (s : SharedState) (k : CapId) (stub : Stub
             let P : ClassId → Type 0 = λ c. IsRemoteInterfaceOf classes c i in
             of_class.all i (subst P (sym x.class) interface)
         | inr gone ↦
-            absurd (implements_nothing classes x.cap.capability.class i (ap (record_of classes) (sym x.class) ∙ gone) interface.0)
+            absurd (implements_nothing classes x.cap.capability.class i (ap (record_of classes) (sym x.class) ∙ gone.not_there) interface.0)
       ]
 
   pub shown_is_listed : IsShown classes s k i → Contains stub.interfaces i
@@ -116,8 +117,11 @@ module _ (classes : List ClassRecord) (s : SharedState) (k : CapId) (stub : Stub
         | inr instead ↦ stands_in x instead
       ]
 
-pub stub_is_among : (s : SharedState) (k : CapId) (stub : Stub) → stub_of s k ≡ Some stub → Contains s.stubs stub
-stub_is_among s k stub is = (stubbed s k stub is).among
+-- its interfaces rise
+pub rising_stub : (classes : List ClassRecord) (s : SharedState) (k : CapId) (stub : Stub) → AreKnownStubs classes s.stubs → stub_of s k ≡ Some stub
+    → AreRising stub.interfaces
+rising_stub classes s k stub known is =
+    elim (known.each stub (stubbed s k stub is).among) [ inl of_class ↦ of_class.rising | inr gone ↦ gone.rising ]
 
 -- ---- Instances.
 
@@ -135,7 +139,7 @@ one_class : (t : TypeRef) (c d : ClassId) → t ≡ record { dims = 0; base = Ba
 unfolding named_or
 one_class t c d is_c is_d = ap (λ (x : TypeRef). named_or c x.base) (sym is_c ∙ is_d)
 
-module _ (classes : List ClassRecord) (s : SharedState) (k : CapId) (stub : Stub) (known : AreStubs classes s.stubs) (is : stub_of s k ≡ Some stub)
+module _ (classes : List ClassRecord) (s : SharedState) (k : CapId) (stub : Stub) (known : AreKnownStubs classes s.stubs) (is : stub_of s k ≡ Some stub)
     (t : TypeRef) (c : ClassId) (named : t ≡ record { dims = 0; base = Base.Class c }) where
   pub listed_is_a : Contains stub.interfaces c → CapabilityIsA classes (known_capabilities s) k t
   listed_is_a there = record { class = c; no_array = named; above = inr (inr (inr (listed_is_shown classes s k stub known is c there))) }
@@ -155,11 +159,6 @@ module _ (classes : List ClassRecord) (s : SharedState) (k : CapId) (stub : Stub
           ]
         ]
       ]
-
--- what is there is something
-pub some_of : {X : Type 0} (o : Option X) → is_some o ≡ true → (x : X) × (o ≡ Some x)
-some_of None h = absurd cc
-some_of (Some x) h = (x, refl)
 
 -- ---- A search among interfaces that rise.
 

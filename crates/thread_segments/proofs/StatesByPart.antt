@@ -1,5 +1,5 @@
 -- The shared state as its parts have it, and what the calls make of it.
-use Rattle.std.proofs.Common.{◌≡◌, ◌≢◌, ℕ, suc, ◌-◌, ◌<◌, IsTrue, List, [], ◌∷◌, ◌++◌, length, nat_lt, set, find, Option, Some, None, slice_get, refl, sym, ap, subst, ◌∙◌, arith, map, Result, Ok, Err}
+use Rattle.std.proofs.Common.{◌≡◌, ◌≢◌, ℕ, suc, true, false, ◌-◌, ◌<◌, IsTrue, List, [], ◌∷◌, ◌++◌, length, nat_lt, set, find, Option, Some, None, slice_get, refl, sym, ap, subst, ◌∙◌, arith, map, Result, Ok, Err}
 use Rattle.std.specs.Prelude.{◌==◌, option_and_then, option_map}
 use Rattle.std.proofs.lemmas.Bool.{lt-ltb, ltb-true}
 use Rattle.std.proofs.lemmas.Option.{same_Some, slice_get_within}
@@ -13,29 +13,21 @@ use Rattle.jk_model.specs.declared.steps.Raise.{Raise}
 use Rattle.jk_model.specs.declared.steps.Raise.TheVariants.{Standing}
 use Rattle.jk_model.specs.declared.steps.Standing.TheVariants as Stands
 use Rattle.jk_model_classes.specs.declared.sharing.Stub.{Stub}
-use Rattle.jk_model_heaps.specs.Capabilities.{CapRange, OwnedCapability, capability_numbered}
-use Rattle.jk_model_sharing.specs.CapabilityCalls.{LacksNumbers, count_numbers, first_range, has_room, next_number, status_of, used_up, with_created}
+use Rattle.jk_model_heaps.specs.Capabilities.{CapRange, OwnedCapability, capability_numbered, has_number}
+use Rattle.jk_model_sharing.specs.CapabilityCalls.{LacksNumbers, count_numbers, first_range, has_room, next_number, of_another, own, status_of, used_up, with_capability_revoked, with_created}
 use Rattle.jk_model_sharing.specs.Segments.{live_threads, new_segment, with_stack, without_top}
 use Rattle.jk_model_sharing.specs.SharedStates.{MayBegin, SharedDomain, SharedState, admitted, begun, caps_of, domain_numbered, popped, spent, stub_for, stub_of, with_caps}
-use Rattle.thread_segments.specs.ClassedRanges.{CreatesIn, has_room_in, used_up_in}
+use Rattle.thread_segments.specs.ClassedRanges.{CreatesIn, has_room_in, revoked_in, used_up_in}
 use Rattle.thread_segments.specs.Asked.{IsAdmitted, IsLiveDomain, IsNext, MaySpend}
-use Rattle.thread_segments.specs.Answers.{CreatesFor, count_numbers_left, has_stub, known_status, quotas_of, steps_left_of}
+use Rattle.thread_segments.specs.Answers.{CreatesFor, RevokesFor, count_numbers_left, has_stub, known_status, quotas_of, steps_left_of}
 use Rattle.thread_segments.specs.declared.domains.DomainEntry.{DomainEntry}
-use Rattle.thread_segments.specs.DomainEntries.{AreCounted, domain_with, domains_with}
+use Rattle.thread_segments.specs.DomainEntries.{AreCounted, domain_with, domains_with, state_of}
 use Rattle.thread_segments.specs.ThreadEntries.{ThreadList}
+use Rattle.thread_segments.specs.SoundStates.{AreSound}
+use Rattle.thread_segments.proofs.OwnersByNumber.{put_back, revoked_for}
 use Rattle.thread_segments.proofs.ItemsByKey.{found_none}
 use Rattle.thread_segments.proofs.CapsOfDomains.{AreOwnedFrom, caps_changed, one_range, owner_found, range_stays}
-use Rattle.thread_segments.proofs.DomainsByNumber.{changed_at, domains_with-push, length-domains_with, ranges_of-domains_with, same_domains, stands_at}
-
-abbrev pub state_of : List DomainEntry → List CapRange → List Stub → ThreadList → SharedState
-state_of es rs stubs t = record {
-  domains = domains_with 0 es rs;
-  names = [];
-  threads = t.threads;
-  next_thread = t.next_thread;
-  next_segment = t.next_segment;
-  stubs = stubs;
-}
+use Rattle.thread_segments.proofs.DomainsByNumber.{changed_at, domains_with-mapped, domains_with-push, length-domains_with, ranges_of-domains_with, same_domains, stands_at}
 
 module _ (es : List DomainEntry) (rs : List CapRange) (stubs : List Stub) (t : ThreadList) (h : AreCounted es rs t) where
   abbrev here : SharedState
@@ -212,3 +204,31 @@ module _ (es : List DomainEntry) (rs : List CapRange) (stubs : List Stub) (t : T
       let whole = with_range d a (with_created class target) a.range.owner.0 range (owner_is d a) refl in
       let P : SharedState → Type 0 = λ x. CreatesFor here d class target (Ok (next_number a.range)) x in
       subst P whole (has_stub stub e (Ok (next_number a.range)) range is a.is (has_room room))
+
+  -- ---- A capability is revoked.
+
+  pub revoked_is : (k : CapId) (d : DomainId) (e : SharedDomain) → AreSound here → domain_numbered here d ≡ Some e → has_number k e.caps ≡ true
+      → state_of es (map (revoked_in k) rs) stubs t ≡ with_caps d (with_capability_revoked k e.caps) here
+  revoked_is k d e sound is has =
+      ap (λ (ds : List SharedDomain). record here { domains = ds })
+      (domains_with-mapped (revoked_in k) 0 es rs ∙ revoked_for here sound k d e is has)
+
+  pub revokes_own : (k : CapId) (d : DomainId) (e : SharedDomain) → AreSound here → domain_numbered here d ≡ Some e → has_number k e.caps ≡ true
+      → RevokesFor here d k (Ok tt) (state_of es (map (revoked_in k) rs) stubs t)
+  revokes_own k d e sound is has = record {
+    domain = e;
+    is_domain = is;
+    range = with_capability_revoked k e.caps;
+    revokes = own has;
+    becomes = revoked_is k d e sound is has;
+  }
+
+  pub revokes_none : (k : CapId) (d : DomainId) (e : SharedDomain) → AreSound here → domain_numbered here d ≡ Some e → has_number k e.caps ≡ false
+      → RevokesFor here d k (Err (Standing Stands.Security)) here
+  revokes_none k d e sound is other = record {
+    domain = e;
+    is_domain = is;
+    range = e.caps;
+    revokes = of_another other;
+    becomes = sym (put_back here sound d e is);
+  }

@@ -1,10 +1,12 @@
 -- Domains as a list of entries and the list of their ranges of capabilities keep them. None has ended so far.
 use Rattle.std.specs.Prelude.{◌≡◌, ℕ, suc, ◌+◌, ◌-◌, ◌<◌, ◌≤◌, true, List, [], ◌∷◌, length, sum_by, Some, slice_get}
 use Rattle.std.specs.List.{AllByRecursion}
+use Rattle.jk_model_classes.specs.declared.sharing.Stub.{Stub}
 use Rattle.jk_model_heaps.specs.Capabilities.{CapRange}
 use Rattle.jk_model_sharing.specs.Segments.{SharedThread, count_started_in}
-use Rattle.jk_model_sharing.specs.SharedStates.{SharedDomain}
+use Rattle.jk_model_sharing.specs.SharedStates.{SharedDomain, SharedState}
 use Rattle.thread_segments.specs.declared.domains.DomainEntry.{DomainEntry}
+use Rattle.thread_segments.specs.SoundStates.{AreSound}
 use Rattle.thread_segments.specs.ThreadEntries.{ThreadList}
 
 abbrev pub domain_with : ℕ → DomainEntry → CapRange → SharedDomain
@@ -29,3 +31,20 @@ pub record AreCounted (entries : List DomainEntry) (ranges : List CapRange) (t :
   pub homes : AllByRecursion (λ (thread : SharedThread). thread.domain.0 < length entries) t.threads
   -- there is room for all threads that may be started
   pub room : length t.threads + sum_by spare entries ≤ t.most
+
+-- ---- All that domains share.
+
+abbrev pub state_of : List DomainEntry → List CapRange → List Stub → ThreadList → SharedState
+state_of entries caps stubs t = record {
+  domains = domains_with 0 entries caps;
+  names = [];
+  threads = t.threads;
+  next_thread = t.next_thread;
+  next_segment = t.next_segment;
+  stubs = stubs;
+}
+
+-- Counts are right, and what is seen is sound.
+pub record IsKept (entries : List DomainEntry) (caps : List CapRange) (stubs : List Stub) (t : ThreadList) : Type 0 where
+  pub counted : AreCounted entries caps t
+  pub sound : AreSound (state_of entries caps stubs t)

@@ -5,6 +5,7 @@
 
 mod capabilities;
 mod domains;
+pub mod laws;
 mod parts;
 mod segments;
 mod shared;

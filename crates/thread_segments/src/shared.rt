@@ -4,13 +4,14 @@ ghost use Rattle.std.specs.Prelude.{◌≡◌, ◌≢◌, ◌⊎◌, ◌-◌, �
 ghost use Rattle.jk_model.specs.declared.identifiers.ClassId.{ClassId as Class};
 ghost use Rattle.jk_model_classes.specs.declared.records.BaseRef.TheVariants as Base;
 ghost use Rattle.jk_model_classes.specs.declared.sharing.Stub.{Stub as AStub};
-ghost use Rattle.jk_model_heaps.specs.Capabilities.{CapabilityIsA, IsGivenOut};
+ghost use Rattle.jk_model_heaps.specs.Capabilities.{IsGivenOut, has_number};
 ghost use Rattle.jk_model_sharing.specs.CapabilityCalls.{LacksNumbers};
+ghost use Rattle.jk_model_sharing.specs.KnownStubs.{AreRising};
 ghost use Rattle.jk_model_sharing.specs.Segments.{with_revoked, with_stop};
-ghost use Rattle.jk_model_sharing.specs.SharedStates.{MayBegin, Resumes, Stops, Suspends, admitted, caps_of, first_state, popped, spent, stub_of, with_flags};
-ghost use Rattle.thread_segments.specs.Answers.{Begins, CreatesFor, IsLeastAbove, IsLiveNumber, count_numbers_left, known_status, number_below, quotas_of, segment_info, steps_left_of, top_number};
+ghost use Rattle.jk_model_sharing.specs.SharedStates.{MayBegin, Resumes, SharedDomain as Domain, Stops, Suspends, admitted, caps_of, domain_numbered, first_state, popped, spent, stub_of, with_flags};
+ghost use Rattle.thread_segments.specs.Answers.{Begins, CreatesFor, IsLeastAbove, IsLiveNumber, RevokesFor, count_numbers_left, known_status, number_below, quotas_of, segment_info, steps_left_of, top_number};
 ghost use Rattle.thread_segments.specs.Asked.{AreWithin, HasRoomForSegment, IsAdmitted, IsLiveDomain, IsLiveThread, IsNext, IsThere, MayDrawSegment, MayDrawThread, MaySpend};
-ghost use Rattle.thread_segments.specs.KnownStubs.{AreRising, AreStubs, known_capabilities};
+ghost use Rattle.thread_segments.specs.SoundStates.{AreSound};
 
 use crate::capabilities::Capabilities;
 use crate::domains::DomainEntry;
@@ -18,25 +19,16 @@ use crate::segments::SegmentInfo;
 use crate::stub_index::StubIndex;
 use crate::threads::Threads;
 use capability_table::CapsError;
-use domain_resolver::World;
+use class_table::ClassTable;
+use instance_tests::CapabilityTests;
 use jk_model::{
-    CapId, CapStatus, ClassId, DomainId, List, OutOfMemory, Quotas, Raise, SegmentNo, ThreadNo,
+    CapId, CapStatus, ClassId, DomainId, List, OutOfMemory, Quotas, Raise, SegmentNo, Standing,
+    ThreadNo,
 };
 use jk_model_classes::{BaseRef, Stub, TypeRef};
+use jk_model_heaps::system_classes::{CAPABILITY, ILLEGAL_ARGUMENT_EXCEPTION, OBJECT, REMOTE};
 use std::alloc::Global;
 use std::marker::Model;
-
-/// java/lang/Object.
-const OBJECT: ClassId = ClassId(0);
-
-/// jk/Remote.
-const REMOTE: ClassId = ClassId(10);
-
-/// jk/Capability.
-const CAPABILITY: ClassId = ClassId(11);
-
-/// java/lang/IllegalArgumentException.
-const ILLEGAL_ARGUMENT_EXCEPTION: ClassId = ClassId(22);
 
 /// The threads and their segments, the capabilities with their stubs, the repository, and what is counted of each domain. The
 /// memory for all that a domain may have is taken when it is admitted, and no other call takes any.
@@ -49,22 +41,14 @@ pub struct Shared {
 }
 
 impl Model for Shared {
-    ghost use Rattle.std.specs.Prelude.{[]};
     ghost use Rattle.jk_model_sharing.specs.SharedStates.{SharedState};
-    ghost use Rattle.thread_segments.specs.DomainEntries.{AreCounted, domains_with};
+    ghost use Rattle.thread_segments.specs.DomainEntries.{IsKept, state_of};
 
     ghost Value = { SharedState };
 
-    ghost view = { λ s. record {
-      domains = domains_with 0 s.domains.items s.caps;
-      names = [];
-      threads = s.threads.threads;
-      next_thread = s.threads.next_thread;
-      next_segment = s.threads.next_segment;
-      stubs = s.stubs.stubs;
-    } };
+    ghost view = { λ s. state_of s.domains.items s.caps s.stubs.stubs s.threads };
 
-    ghost invariant = { λ s. AreCounted s.domains.items s.caps s.threads };
+    ghost invariant = { λ s. IsKept s.domains.items s.caps s.stubs.stubs s.threads };
 }
 
 impl Shared {
@@ -109,6 +93,13 @@ impl Shared {
             threads: 0,
         });
         Ok(())
+    }
+
+    /// Whatever the calls did, what domains share is sound. It does nothing.
+    pub fn is_sound(&self)
+        ensures { AreSound self.now }
+    {
+        let _ = &self.domains;
     }
 
     /// How many numbers of capabilities are in no range yet.
@@ -262,6 +253,32 @@ impl Shared {
         }
     }
 
+    /// Revokes a capability that was given out, for a live domain. SecurityException is raised exactly where another domain owns it,
+    /// and then all is as before. One that is revoked stays so.
+    pub fn revoke(&mut self, d: DomainId, k: CapId) -> Result<(), Raise>
+        requires live { IsLiveDomain self.old d }
+        requires given { IsGivenOut (caps_of self.old) k }
+        ensures { RevokesFor self.old d k result self.new }
+    {
+        if !self.owns(d, k) {
+            return Err(Raise::Standing(Standing::Security));
+        }
+        self.caps.revoke(k);
+        Ok(())
+    }
+
+    /// Whether a capability that was given out is a domain's.
+    fn owns(&self, d: DomainId, k: CapId) -> bool
+        requires live { IsLiveDomain self.now d }
+        requires given { IsGivenOut (caps_of self.now) k }
+        ensures { (e : Domain) → domain_numbered self.now d ≡ Some e → result ≡ has_number k e.caps }
+    {
+        match self.caps.status(k) {
+            Some(status) => status.owner == d,
+            None => false,
+        }
+    }
+
     /// What is known of a capability. None exactly where it wasn't given out.
     pub fn status(&self, k: CapId) -> Option<CapStatus>
         ensures { result ≡ known_status self.now k }
@@ -279,20 +296,6 @@ impl Shared {
         }
     }
 
-    /// Whether a capability that was given out is an instance of a type: of java/lang/Object, jk/Capability, jk/Remote or one of
-    /// its stub's interfaces. An interface of the stub has those above it in the stub too, so no class is asked.
-    pub fn is_instance(&self, w: &World, k: CapId, t: &TypeRef) -> bool
-        requires given { IsGivenOut (caps_of self.now) k }
-        requires stub { IsSome (stub_of self.now k) }
-        requires stubs { AreStubs w.now.classes self.now.stubs }
-        ensures { IsTrue result ↔ CapabilityIsA w.now.classes (known_capabilities self.now) k t.now }
-    {
-        match class_of(t) {
-            Some(c) => is_any_capability(c) || self.shows(k, c),
-            None => false,
-        }
-    }
-
     /// Whether an interface is one of those of a capability's stub.
     fn shows(&self, k: CapId, interface: ClassId) -> bool
         requires { (stub : AStub) → stub_of self.now k ≡ Some stub → AreRising stub.interfaces }
@@ -300,6 +303,23 @@ impl Shared {
     {
         match self.stub(k) {
             Some(stub) => is_listed(stub.interfaces.as_slice(), interface),
+            None => false,
+        }
+    }
+}
+
+impl CapabilityTests for Shared {
+    ghost use Rattle.thread_segments.specs.KnownStubs.{KnowsStubs, known_capabilities};
+
+    ghost known = { known_capabilities };
+
+    ghost agrees = { KnowsStubs };
+
+    // An interface of the stub has those above it in the stub too, so no class is asked.
+    fn is_capability_a(&self, t: &ClassTable, k: CapId, kind: &TypeRef) -> bool {
+        let _ = t;
+        match class_of(kind) {
+            Some(c) => is_any_capability(c) || self.shows(k, c),
             None => false,
         }
     }

@@ -1,14 +1,24 @@
 -- The threads' flags alone are changed.
-use Rattle.std.proofs.Common.{ap, refl}
+use Rattle.std.proofs.Common.{ap, refl, subst, sym, true}
+use Rattle.jk_model_sharing.specs.Segments.{with_suspended}
+use Rattle.thread_segments.specs.DomainEntries.{state_of}
+use Rattle.thread_segments.specs.SoundStates.{AreSound}
 use Rattle.thread_segments.specs.ThreadEntries.{ThreadList}
 use Rattle.thread_segments.proofs.CountsAreKept.{recounts_same}
+use Rattle.thread_segments.proofs.SoundThreads.{sound_flags}
 use Rattle.thread_segments.proofs.shared.Shared.suspend.Goals as goal
 
 pub invariant_of-self : goal.invariant_of-self
 invariant_of-self c =
     let s = c.self.inside in
-    recounts_same s.domains.items s.caps s.threads c.set_suspended.new.self _ c.self.invariant
-    (ap (λ (t : ThreadList). t.threads) c.set_suspended.ensures) (ap (λ (t : ThreadList). t.most) c.set_suspended.ensures)
+    let P : ThreadList → Type 0 = λ t. AreSound (state_of s.domains.items s.caps s.stubs.stubs t) in
+    let now = state_of s.domains.items s.caps s.stubs.stubs s.threads in
+    record {
+      counted =
+          recounts_same s.domains.items s.caps s.threads c.set_suspended.new.self _ c.self.invariant.counted
+          (ap (λ (t : ThreadList). t.threads) c.set_suspended.ensures) (ap (λ (t : ThreadList). t.most) c.set_suspended.ensures);
+      sound = subst P (sym c.set_suspended.ensures) (sound_flags now c.self.invariant.sound c.args.s (with_suspended true) (λ x. (refl, refl)));
+    }
 
 pub returns : goal.returns
 returns c = rw (← c.self.view_is, c.set_suspended.ensures) refl
