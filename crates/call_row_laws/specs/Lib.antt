@@ -1,2 +1,3 @@
 -- What is said of rows of instructions of call.
 pub mod CallRowLaws
+pub mod StaticMethods

@@ -24,7 +24,7 @@ use Rattle.jk_model_typing.specs.declared.frames.Demand.{Demand}
 use Rattle.jk_model_typing.specs.declared.frames.Demand.TheVariants.{Fitting, FittingBoth, Receiver, Reference}
 use Rattle.jk_model_typing.specs.declared.frames.FrameType.{FrameType}
 use Rattle.jk_model_typing.specs.declared.frames.VType.{VType}
-use Rattle.jk_model_typing.specs.declared.frames.VType.TheVariants.{Int, Long, Null, Fresh, FreshThis}
+use Rattle.jk_model_typing.specs.declared.frames.VType.TheVariants.{Fresh, FreshThis}
 use Rattle.jk_model_typing.specs.FrameTypes.{RefFits, erased, of_class, value_of}
 use Rattle.jk_model_typing.specs.Groups.{Constructs, Shape, Takes, group_of}
 use Rattle.jk_model_typing.specs.Rows.{Does, HasShape, MakesAt, Row, arguments, is_fresh_this, is_made_at, replaced}
@@ -112,7 +112,7 @@ module _ (s : CodeScope) (i : Instr) (m : MemberId) (method : MethodRecord) (nam
 
 module _ (s : CodeScope) (heap : List NamedObject) (sound : AreSoundCodes s.classes) where
   -- one instruction makes objects of one class
-  one_class : (place : ℕ) (c d : ClassId) → MakesAt s place c → MakesAt s place d → d ≡ c
+  pub one_class : (place : ℕ) (c d : ClassId) → MakesAt s place c → MakesAt s place d → d ≡ c
   one_class place c d (i, at, op, names) (j, at_too, op_too, names_too) =
       let instr : j ≡ i = same_Some j i (sym at_too ∙ at) in
       let links = one_link s i (To.Class (class_type d)) (To.Class (class_type c)) (subst (λ (k : Instr). NamesClass s k d) instr names_too) names in

@@ -37,7 +37,7 @@ module _ (s : CodeScope) (heap : List NamedObject) (ordered : AreOrdered s.class
   many_above (v ∷ vs) (t ∷ ts) [] h k = absurd k
   many_above (v ∷ vs) (t ∷ ts) (u ∷ us) h k = (value-above s heap ordered v t u h.0 k.0, many_above vs ts us h.1 k.1)
 
-  holds_above : (f : FrameState) (t u : FrameType) → FrameHolds s heap f t → FrameFits s.classes t u → FrameHolds s heap f u
+  pub holds_above : (f : FrameState) (t u : FrameType) → FrameHolds s heap f t → FrameFits s.classes t u → FrameHolds s heap f u
   holds_above f t u h k = record {
     locals = many_above f.locals t.locals u.locals h.locals k.locals;
     stack = many_above f.stack t.stack u.stack h.stack k.stack;

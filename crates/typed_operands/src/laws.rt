@@ -1,6 +1,6 @@
 //! The laws. The functions have no bodies: each stands for its clauses.
 
-ghost use Rattle.typed_operands.specs.CallOperands.{CallersFit, ResumedFramesFit};
+ghost use Rattle.typed_operands.specs.CallOperands.{ArgumentsHaveRoom, CalledFramesFit, CallersFit, CallsAreGiven, ResumedFramesFit, StaticCallsAreGiven, StaticFramesFit};
 ghost use Rattle.typed_operands.specs.FittingInstances.{AllAreBelowObject, CapabilitiesFit, InstancesAreDecided, InstancesAreHeld, InstancesFit};
 ghost use Rattle.typed_operands.specs.Operands.{ElementsAreFound, ElementsFit, NewObjectsFit, PushedFit, TakenMeet};
 ghost use Rattle.typed_operands.specs.StandingFrames.{CodeIsOne, RunningFramesAreTyped, RunningFramesHaveCode};
@@ -51,4 +51,18 @@ pub fn running_frames_are_typed()
 pub fn callers_fit()
     ensures left { CallersFit }
     ensures resumed { ResumedFramesFit }
+{}
+
+/// A call finds on the stack what its method asks for, and a receiver before that, unless it is invokestatic.
+pub fn calls_are_given()
+    ensures statics { StaticCallsAreGiven }
+    ensures others { CallsAreGiven }
+{}
+
+/// A frame that begins a method with values of its parameters' types, behind a receiver where it isn't static, fits there, and the values
+/// have room in its locals.
+pub fn called_frames_fit()
+    ensures others { CalledFramesFit }
+    ensures statics { StaticFramesFit }
+    ensures room { ArgumentsHaveRoom }
 {}
