@@ -91,7 +91,8 @@ module _ (x : Setting) (sound : AreSoundCodes x.classes) (heap : List NamedObjec
       → ValueFits s heap (Held.Obj a) (elim o as (λ _. VType) [ Some k ↦ of_class s.classes k | None ↦ throwable ])
   caught_by None is =
       let fits : RefFits x.classes (class_type throws.0) (class_type THROWABLE) = inr (inl (refl, throws.3)) in
-      (Plain throws.0 throws.1, throws.2, subst (λ (cs : List ClassRecord). RefFits cs (class_type throws.0) (class_type THROWABLE)) (sym c.code.is_scope.all) fits)
+      let here = subst (λ (cs : List ClassRecord). RefFits cs (class_type throws.0) (class_type THROWABLE)) (sym c.code.is_scope.all) fits in
+      (Plain throws.0 throws.1, throws.2, here)
   caught_by (Some k) (o, is, isa) =
       let fits : RefFits x.classes (type_of o) (erased x.classes (class_type k)) = instance_fits x.classes sound (type_of o) (class_type k) isa in
       (o, is, subst (λ (cs : List ClassRecord). RefFits cs (type_of o) (erased cs (class_type k))) (sym c.code.is_scope.all) fits)
