@@ -90,19 +90,26 @@ below_with_stack t change n (e ∷ threads) h =
 
 -- ---- Room.
 
+pub part_le : (f : DomainEntry → ℕ) (es : List DomainEntry) (i : ℕ) (e : DomainEntry) → slice_get es i ≡ Some e → f e ≤ sum_by f es
+part_le f [] i e at = absurd cc
+part_le f (x ∷ es) zero e at =
+    let same : f x ≡ f e = ap f (same_Some x e at) in
+    omega (arith, same, sum_by-cons f x es)
+part_le f (x ∷ es) (suc i) e at = omega (arith, part_le f es i e at, sum_by-cons f x es)
+
+pub part_set : (f : DomainEntry → ℕ) (es : List DomainEntry) (i : ℕ) (e new : DomainEntry) → slice_get es i ≡ Some e
+    → sum_by f (set es i new) + f e ≡ sum_by f es + f new
+part_set f es i e new at =
+    let low = slice_get_within es i e at in
+    let here : f (get_or es i e) ≡ f e = ap f (get_or_from_slice_get es i e e at) in
+    omega (arith, sum_by-set f es i new e low, here)
+
 spare_le : (es : List DomainEntry) (i : ℕ) (e : DomainEntry) → slice_get es i ≡ Some e → spare e ≤ sum_by spare es
-spare_le [] i e at = absurd cc
-spare_le (x ∷ es) zero e at =
-    let same : spare x ≡ spare e = ap spare (same_Some x e at) in
-    omega (arith, same, sum_by-cons spare x es)
-spare_le (x ∷ es) (suc i) e at = omega (arith, spare_le es i e at, sum_by-cons spare x es)
+spare_le es i e at = part_le spare es i e at
 
 spare_set : (es : List DomainEntry) (i : ℕ) (e new : DomainEntry) → slice_get es i ≡ Some e
     → sum_by spare (set es i new) + spare e ≡ sum_by spare es + spare new
-spare_set es i e new at =
-    let low = slice_get_within es i e at in
-    let here : spare (get_or es i e) ≡ spare e = ap spare (get_or_from_slice_get es i e e at) in
-    omega (arith, sum_by-set spare es i new e low, here)
+spare_set es i e new at = part_set spare es i e new at
 
 -- one more thread has room where one more may be started
 pub room_for_one : (es : List DomainEntry) (rs : List CapRange) (t : ThreadList) (i : ℕ) (e : DomainEntry) → AreCounted es rs t → slice_get es i ≡ Some e
@@ -116,7 +123,7 @@ few_started es rs t i e h at few = omega (arith, h.small i e at, few)
 -- ---- All counts.
 
 -- after an item is replaced, what stands at a place is the new one there, or what stood elsewhere
-stands_after : {X : Type 0} (xs : List X) (i j : ℕ) (new x : X) → slice_get (set xs i new) j ≡ Some x → i < length xs
+pub stands_after : {X : Type 0} (xs : List X) (i j : ℕ) (new x : X) → slice_get (set xs i new) j ≡ Some x → i < length xs
     → ((i ≡ j) × (new ≡ x)) ⊎ ((i ≢ j) × (slice_get xs j ≡ Some x))
 stands_after xs i j new x at low = elim (cases_eq i j) [
   | inl same ↦

@@ -5,6 +5,9 @@ pub mod CreatedInRange
 pub mod DomainsByNumber
 pub mod InterfacesShown
 pub mod ItemsByKey
+pub mod NamesAreCounted
+pub mod NamesByPlace
+pub mod NamesOfStates
 pub mod NextLive
 pub mod OneMore
 pub mod OwnersByNumber
@@ -17,6 +20,7 @@ pub mod SoundAdmission
 pub mod SoundCapabilities
 pub mod SoundDomains
 pub mod SoundGrowth
+pub mod SoundNames
 pub mod SoundThreads
 pub mod StatesByPart
 pub mod StubsByClass

@@ -11,10 +11,10 @@ pub returns-in-Some : goal.returns-in-Some
 returns-in-Some c =
     λ e is.
     let s = c.self.inside in
-    let now = state_of s.domains.items s.caps s.stubs.stubs s.threads in
+    let now = state_of s.domains.items s.caps s.stubs.stubs s.names s.threads in
     let P : SharedState → Type 0 = λ x. domain_numbered x c.args.d ≡ Some e in
     let known =
-    sym c.in-Some.is ∙ c.status.ensures ∙ status_here s.domains.items s.caps s.stubs.stubs s.threads c.self.invariant.counted c.args.k in
+    sym c.in-Some.is ∙ c.status.ensures ∙ status_here s.domains.items s.caps s.stubs.stubs s.names s.threads c.self.invariant.counted c.args.k in
     c.eq.ensures
     ∙ status_tells now c.self.invariant.sound c.args.k c.args.d e c.in-Some.status (subst P (sym c.self.view_is) is) known
 
@@ -22,8 +22,8 @@ pub returns-in-None : goal.returns-in-None
 returns-in-None c =
     λ e is.
     let s = c.self.inside in
-    let now = state_of s.domains.items s.caps s.stubs.stubs s.threads in
+    let now = state_of s.domains.items s.caps s.stubs.stubs s.names s.threads in
     let P : SharedState → Type 0 = λ x. IsGivenOut (caps_of x) c.args.k in
     let known =
-    sym c.in-None.is ∙ c.status.ensures ∙ status_here s.domains.items s.caps s.stubs.stubs s.threads c.self.invariant.counted c.args.k in
+    sym c.in-None.is ∙ c.status.ensures ∙ status_here s.domains.items s.caps s.stubs.stubs s.names s.threads c.self.invariant.counted c.args.k in
     absurd (no_status now c.args.k (subst P (sym c.self.view_is) c.requires.given) known)
