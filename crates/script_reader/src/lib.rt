@@ -13,6 +13,3 @@ mod words;
 
 pub use error::ScriptError;
 pub use script::read_script;
-
-#[cfg(test)]
-mod tests;
