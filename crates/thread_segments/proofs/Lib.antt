@@ -19,6 +19,7 @@ pub mod SameInstances
 pub mod SoundAdmission
 pub mod SoundCapabilities
 pub mod SoundDomains
+pub mod SoundEnding
 pub mod SoundGrowth
 pub mod SoundNames
 pub mod SoundThreads

@@ -1,5 +1,5 @@
 -- The name at a place: how it is found, and the names after it is changed or removed.
-use Rattle.std.proofs.Common.{◌≡◌, ℕ, zero, suc, ◌+◌, ◌<◌, inl, inr, Bool, true, false, List, [], ◌∷◌, ◌++◌, length, drop, filter, find, map, set, take, Option, Some, None, slice_get, refl, sym, ap, subst, ◌∙◌, arith}
+use Rattle.std.proofs.Common.{◌≡◌, ℕ, zero, suc, ◌+◌, ◌<◌, inl, inr, Bool, true, false, List, [], ◌∷◌, length, drop, filter, find, map, set, take, Option, Some, None, slice_get, refl, sym, ap, subst, ◌∙◌, arith}
 use Rattle.std.specs.Prelude.{◌==◌, bytes_eq, if◌then◌else◌, not, option_map}
 use Rattle.std.specs.List.{position, position_from, remove}
 use Rattle.std.proofs.lemmas.Bool.{cases_Bool}
@@ -64,8 +64,7 @@ place_told entries text None e =
 place_told entries text (Some k) e =
     let r = position_some (λ (x : NameEntry). bytes_eq x.text.items text) 0 entries k (from_start (λ (x : NameEntry). bytes_eq x.text.items text) entries ∙ sym e) in
     let P : ℕ → Type 0 = λ i. slice_get entries i ≡ Some r.item in
-    let place : r.place ≡ k = omega (arith, r.is) in
-    (
+    let place : r.place ≡ k = omega (arith, r.is) in (
       name_of r.item,
       mapped_at name_of entries k r.item (subst P place r.there),
       text_same r.item.text.items text r.passes,
@@ -139,7 +138,7 @@ count_removed d (m ∷ names) zero n at =
     ]
 count_removed d (m ∷ names) (suc i) n at =
     let rest = count_removed d names i n at in
-    elim (cases_Bool (m.binder.0 == d.0)) [ | inl hit ↦ rw hit (omega (arith, rest)) | inr miss ↦ rw miss rest ]
+    elim (cases_Bool (m.binder.0 == d.0)) [ inl hit ↦ rw hit (omega (arith, rest)) | inr miss ↦ rw miss rest ]
 
 pub count_set : (d : DomainId) (names : List BoundName) (i : ℕ) (n new : BoundName) → slice_get names i ≡ Some n → new.binder ≡ n.binder
     → count_bound_by (set names i new) d ≡ count_bound_by names d
@@ -153,7 +152,7 @@ count_set d (m ∷ names) zero n new at same =
     ]
 count_set d (m ∷ names) (suc i) n new at same =
     let rest = count_set d names i n new at same in
-    elim (cases_Bool (m.binder.0 == d.0)) [ | inl hit ↦ rw hit (ap suc rest) | inr miss ↦ rw miss rest ]
+    elim (cases_Bool (m.binder.0 == d.0)) [ inl hit ↦ rw hit (ap suc rest) | inr miss ↦ rw miss rest ]
 
 pub length-removed : {X : Type 0} (xs : List X) (i : ℕ) → i < length xs → length (remove xs i) + 1 ≡ length xs
 length-removed [] i low = absurd (omega arith)

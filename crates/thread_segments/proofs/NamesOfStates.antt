@@ -1,9 +1,8 @@
 -- What domains share after a name was asked for, by the place of the name.
-use Rattle.std.proofs.Common.{◌≡◌, ◌≢◌, ℕ, ◌+◌, ◌<◌, ◌≤◌, inl, inr, true, false, List, [], ◌∷◌, ◌++◌, length, set, Option, Some, None, Ok, Err, slice_get, refl, sym, ap, subst, ◌∙◌, arith, find}
+use Rattle.std.proofs.Common.{◌≡◌, ◌≢◌, ℕ, ◌<◌, ◌≤◌, true, false, List, [], ◌∷◌, ◌++◌, length, set, Option, Some, None, Ok, Err, slice_get, refl, sym, ap, ◌∙◌}
 use Rattle.std.specs.Prelude.{◌==◌, bytes_eq}
 use Rattle.std.specs.List.{remove}
-use Rattle.std.proofs.lemmas.Bool.{eqb-true, ne_eqb, eq-eqb}
-use Rattle.std.proofs.lemmas.Option.{same_Some}
+use Rattle.std.proofs.lemmas.Bool.{eqb-true, eq-eqb}
 use Rattle.jk_model.specs.declared.identifiers.CapId.{CapId}
 use Rattle.jk_model.specs.declared.identifiers.DomainId.{DomainId}
 use Rattle.jk_model.specs.declared.steps.Raise.TheVariants.{Fresh, Standing}
@@ -13,7 +12,6 @@ use Rattle.jk_model_sharing.specs.BoundNames.{BoundName, bound_as, count_bound_b
 use Rattle.jk_model_sharing.specs.SharedStates.{SharedDomain, SharedState, domain_numbered}
 use Rattle.list_lemmas.proofs.ItemsOfLists.{Contains-at}
 use Rattle.thread_segments.specs.Answers.{BindsFor, UnbindsFor}
-use Rattle.thread_segments.specs.Asked.{IsLiveDomain}
 use Rattle.thread_segments.specs.SoundStates.{AreSound}
 use Rattle.thread_segments.proofs.NamesByPlace.{one_left_out, one_replaced}
 use Rattle.thread_segments.proofs.SoundNames.{found_name, no_name, one_name, text_same, text_told}

@@ -1,6 +1,6 @@
 -- Where capabilities are revoked in the table, they are so in what is seen of it.
-use Rattle.std.proofs.Common.{◌≡◌, ℕ, suc, ◌+◌, ◌-◌, ◌≤◌, inl, inr, List, [], ◌∷◌, length, map, Option, Some, None, IsSome, refl, sym, ap, ◌∙◌, subst, arith, find}
-use Rattle.std.specs.Prelude.{◌==◌, if◌then◌else◌, option_map}
+use Rattle.std.proofs.Common.{◌≡◌, ℕ, suc, ◌+◌, ◌-◌, inl, inr, List, [], ◌∷◌, length, map, None, IsSome, refl, sym, ap, ◌∙◌, subst, arith}
+use Rattle.std.specs.Prelude.{◌==◌, if◌then◌else◌}
 use Rattle.std.specs.List.{AllByRecursion}
 use Rattle.std.proofs.lemmas.Bool.{cases_Bool}
 use Rattle.std.proofs.lemmas.List.Sums.{sum_by-cons}
@@ -9,8 +9,8 @@ use Rattle.jk_model.specs.Capabilities as low
 use Rattle.jk_model.specs.declared.identifiers.CapId.{CapId}
 use Rattle.jk_model.specs.declared.identifiers.ClassId.{ClassId}
 use Rattle.jk_model.specs.declared.identifiers.DomainId.{DomainId}
-use Rattle.jk_model_heaps.specs.Capabilities.{CapRange, IsGivenOut, OwnedCapability, capability_numbered, has_number}
-use Rattle.jk_model_sharing.specs.CapabilityCalls.{revoked_at, status_of, with_capability_revoked}
+use Rattle.jk_model_heaps.specs.Capabilities.{CapRange, IsGivenOut, has_number}
+use Rattle.jk_model_sharing.specs.CapabilityCalls.{revoked_at}
 use Rattle.thread_segments.specs.ClassedRanges.{AreApart, AreChained, AreClassed, IsWithinClasses, made_with, range_with, ranges_with, revoked_in}
 use Rattle.thread_segments.proofs.RangesWithClasses.{status_is}
 use Rattle.thread_segments.proofs.ThreadsOfEntries.{find_miss, head_fails}

@@ -1,13 +1,13 @@
 -- What domains share stays sound where a name is bound or removed.
-use Rattle.std.proofs.Common.{◌≡◌, ◌≢◌, ℕ, zero, suc, ◌+◌, ◌<◌, ◌≤◌, ◌⊎◌, inl, inr, Bool, true, false, List, [], ◌∷◌, ◌++◌, length, filter, find, map, Option, Some, None, Contains, slice_get, refl, sym, ap, subst, ◌∙◌, arith, Result}
+use Rattle.std.proofs.Common.{◌≡◌, ◌≢◌, ℕ, suc, ◌<◌, ◌≤◌, ◌⊎◌, inl, inr, Bool, true, false, List, [], ◌∷◌, ◌++◌, length, filter, map, Option, Some, None, Contains, slice_get, refl, sym, ap, subst, ◌∙◌, arith, Result}
 use Rattle.std.specs.Prelude.{◌==◌, bytes_eq, if◌then◌else◌, not}
-use Rattle.std.proofs.lemmas.Bool.{cases_Bool, eq-eqb, eqb-true, ne_eqb}
+use Rattle.std.proofs.lemmas.Bool.{cases_Bool, eqb-true}
 use Rattle.std.proofs.lemmas.Option.{same_Some}
 use Rattle.std.specs.Cmp.Lexicographic.{other_text, same_text}
 use Rattle.jk_model.specs.declared.identifiers.DomainId.{DomainId}
 use Rattle.jk_model.specs.declared.steps.Raise.{Raise}
 use Rattle.jk_model_heaps.specs.Capabilities.{IsGivenOut}
-use Rattle.jk_model_sharing.specs.BoundNames.{Binds, BoundName, Unbinds, bound_as, count_bound_by, longest_name, new_name, not_bound, not_own, of_another, one_too_many, own_name, removed, too_long, with_name, without_name}
+use Rattle.jk_model_sharing.specs.BoundNames.{Binds, BoundName, Unbinds, bound_as, count_bound_by, longest_name, new_name, not_bound, not_own, of_another, one_too_many, own_name, removed, too_long, with_name}
 use Rattle.jk_model_sharing.specs.SharedStates.{SharedDomain, SharedState, caps_of, domain_numbered}
 use Rattle.list_lemmas.proofs.FoundItems.{Finds, finds}
 use Rattle.list_lemmas.proofs.ItemsByPlace.{comes_from, slice_get-push_cases}
@@ -18,7 +18,7 @@ use Rattle.thread_segments.specs.SoundStates.{AreSound, AreSoundNames}
 use Rattle.thread_segments.proofs.OneMore.{last_more, new_or_old, one_passes}
 use Rattle.thread_segments.proofs.Remaining.{filtered_remain, no_more_pass, remained, still_differ}
 use Rattle.thread_segments.proofs.SoundDomains.{was_mapped}
-use Rattle.thread_segments.proofs.SoundGrowth.{found_domain, of_domain}
+use Rattle.thread_segments.proofs.SoundGrowth.{of_domain}
 use Rattle.thread_segments.proofs.ThreadsOfEntries.{one_if}
 
 -- ---- Texts.
@@ -27,7 +27,7 @@ pub text_same : (a b : List ℕ) → bytes_eq a b ≡ true → a ≡ b
 text_same a b h = same_text a b (sym h)
 
 pub text_told : (a b : List ℕ) → a ≡ b → bytes_eq a b ≡ true
-text_told a b e = elim (cases_Bool (bytes_eq a b)) [ | inl hit ↦ hit | inr miss ↦ absurd (other_text a b (sym miss) e) ]
+text_told a b e = elim (cases_Bool (bytes_eq a b)) [ inl hit ↦ hit | inr miss ↦ absurd (other_text a b (sym miss) e) ]
 
 -- ---- All but the names is as before.
 

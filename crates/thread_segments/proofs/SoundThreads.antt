@@ -220,7 +220,7 @@ pub same_domains : (s : SharedState) → KeepsDomains s s
 same_domains s = record { from = λ e there. (e, there, refl, refl); live = λ d h. h; admitted = λ d h. h }
 
 module _ (s : SharedState) (h : AreSound s) where
-  threads_changed : (threads : List SharedThread) → Remains SameThread s.threads threads → Remains SameSegment (all_segments s) (segments_in threads)
+  pub threads_changed : (threads : List SharedThread) → Remains SameThread s.threads threads → Remains SameSegment (all_segments s) (segments_in threads)
       → ((t : SharedThread) → Contains threads t → t.segments ≢ []) → AreSound (with_threads threads s)
   threads_changed threads left less whole =
       let new = with_threads threads s in

@@ -6,6 +6,7 @@ pub mod DomainEntries
 pub mod KnownStubs
 pub mod NameEntries
 pub mod Places
+pub mod SoundLaws
 pub mod SoundStates
 pub mod StateParts
 pub mod StubPlaces

@@ -1,5 +1,5 @@
 -- The name at the place alone is changed.
-use Rattle.std.proofs.Common.{◌≡◌, ◌∙◌, ◌<◌, Some, List, Ok, ap, length, refl, set, slice_get, subst, sym}
+use Rattle.std.proofs.Common.{◌≡◌, ◌∙◌, ◌<◌, Some, Ok, ap, length, refl, set, slice_get, subst, sym}
 use Rattle.std.specs.Prelude.{◌==◌}
 use Rattle.jk_model.specs.declared.identifiers.DomainId.{DomainId}
 use Rattle.jk_model_heaps.specs.Capabilities.{IsGivenOut}
@@ -8,7 +8,6 @@ use Rattle.jk_model_sharing.specs.SharedStates.{SharedState, caps_of, domain_num
 use Rattle.list_lemmas.proofs.ItemsByPlace.{item_there}
 use Rattle.thread_segments.specs.Answers.{BindsFor}
 use Rattle.thread_segments.specs.DomainEntries.{state_of}
-use Rattle.thread_segments.specs.NameEntries.{NameList}
 use Rattle.thread_segments.proofs.NamesAreCounted.{named_anew}
 use Rattle.thread_segments.proofs.NamesOfStates.{binds_anew, binds_not}
 use Rattle.thread_segments.proofs.SoundNames.{sound_bound}

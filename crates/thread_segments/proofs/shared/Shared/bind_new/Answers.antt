@@ -1,5 +1,5 @@
 -- One more name, which is counted of the domain.
-use Rattle.std.proofs.Common.{◌≡◌, ◌∙◌, ◌+◌, ◌<◌, ◌≤◌, ◌^◌, ◌++◌, ◌∷◌, [], None, Some, Ok, ap, arith, refl, rules, subst, sym}
+use Rattle.std.proofs.Common.{◌≡◌, ◌∙◌, ◌+◌, ◌<◌, ◌^◌, ◌++◌, ◌∷◌, [], None, Ok, ap, arith, refl, rules, subst, sym}
 use Rattle.std.proofs.lemmas.Option.{get_or_from_slice_get}
 use Rattle.jk_model_heaps.specs.Capabilities.{IsGivenOut}
 use Rattle.jk_model_sharing.specs.BoundNames.{BoundName, bound_as}

@@ -1,5 +1,5 @@
 -- The owner's range has the number, and no other has.
-use Rattle.std.proofs.Common.{◌≡◌, ◌∙◌, Some, None, subst, sym}
+use Rattle.std.proofs.Common.{◌≡◌, ◌∙◌, Some, subst, sym}
 use Rattle.jk_model_heaps.specs.Capabilities.{IsGivenOut}
 use Rattle.jk_model_sharing.specs.SharedStates.{SharedState, caps_of, domain_numbered}
 use Rattle.thread_segments.specs.DomainEntries.{state_of}
