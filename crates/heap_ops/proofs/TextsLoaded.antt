@@ -135,7 +135,7 @@ module _ (heaps : HeapContent) (frames : FrameContent) (h : Here) (k : Doing hea
 
 -- ---- A text that is longer than any heap.
 
-left_most : (used : ℕ) (q : Option ℕ) → ((n : ℕ) → q ≡ Some n → n ≤ 16777216) → option_map_or (λ (m : ℕ). m - used) q 0 ≤ 16777216
+pub left_most : (used : ℕ) (q : Option ℕ) → ((n : ℕ) → q ≡ Some n → n ≤ 16777216) → option_map_or (λ (m : ℕ). m - used) q 0 ≤ 16777216
 left_most used None most = omega arith
 left_most used (Some n) most = let few = most n refl in omega (arith, few)
 
