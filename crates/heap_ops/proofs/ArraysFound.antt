@@ -87,6 +87,7 @@ module _ (heaps : HeapContent) (frames : FrameContent) (h : Here) (k : Doing hea
     where
       parts : {e f : TypeRef} {xs ys : List Value} → Array e xs ≡ Array f ys → e ≡ f
       parts p = cc
+
       items : {e f : TypeRef} {xs ys : List Value} → Array e xs ≡ Array f ys → xs ≡ ys
       items p = cc
 
@@ -101,5 +102,6 @@ shape_told c d a t u m n at same = record {
   where
     element : {e f : TypeRef} {j k : ℕ} → Of.Array e j ≡ Of.Array f k → e ≡ f
     element p = cc
+
     count : {e f : TypeRef} {j k : ℕ} → Of.Array e j ≡ Of.Array f k → j ≡ k
     count p = cc

@@ -58,11 +58,10 @@ module _ (heaps : HeapContent) (frames : FrameContent) (h : Here) (k : Doing hea
   -- what the operand leads to is there
   pub base_there : (t : TypeRef) → LeadsToType (place_in h) t → HasBase h.world.now.classes t.base
   base_there t to =
-      shape_has_classes (around k.may.domain) (Of.Array (array_type 0 t.base) 0) k.may.domain.table
-      (
+      shape_has_classes (around k.may.domain) (Of.Array (array_type 0 t.base) 0) k.may.domain.table (
         type_known (around k.may.domain) k.setting (w heaps frames h k)
-        (runs_well (c heaps frames h k) (here heaps frames h k) (place_in h) k.may k.setting k.is_setting)
-        (code_of (c heaps frames h k) (here heaps frames h k) (place_in h) k.may) t to,
+            (runs_well (c heaps frames h k) (here heaps frames h k) (place_in h) k.may k.setting k.is_setting)
+            (code_of (c heaps frames h k) (here heaps frames h k) (place_in h) k.may) t to,
         omega arith,
       )
 

@@ -29,8 +29,10 @@ same_ints (k ∷ ks) (l ∷ ls) e = both (first e) (same_ints ks ls (rest e))
   where
     first : {a b : ℤ} {xs ys : List Value} → Held.Int a ∷ xs ≡ Held.Int b ∷ ys → a ≡ b
     first p = cc
+
     rest : {a b : Value} {xs ys : List Value} → a ∷ xs ≡ b ∷ ys → xs ≡ ys
     rest p = cc
+
     both : {a b : ℤ} {xs ys : List ℤ} → a ≡ b → xs ≡ ys → a ∷ xs ≡ b ∷ ys
     both p q = cc
 
@@ -73,8 +75,7 @@ int_here c s ks i h low =
     let values : map Held.Int ks ≡ map Held.Int parts.front ++ Held.Int parts.one ∷ map Held.Int parts.back =
     ap (map Held.Int) parts.whole ∙ map-append Held.Int parts.front (parts.one ∷ parts.back) in
     let at = stands_below c s h.frame (map Held.Int parts.front) (Held.Int parts.one) (map Held.Int parts.back) h.top
-    (h.below, h.stack ∙ ap (λ (xs : List Value). h.below ++ xs) values) in
-    (
+    (h.below, h.stack ∙ ap (λ (xs : List Value). h.below ++ xs) values) in (
       parts.one,
       parts.there,
       subst (λ (n : ℕ). StandsBelow c s n (Held.Int parts.one)) (length-map parts.back Held.Int ∙ parts.behind) at,

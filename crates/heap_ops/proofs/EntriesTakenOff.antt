@@ -41,8 +41,7 @@ pub more_there : (old now : FrameContent) (s : SegmentNo) (count done : ℕ) →
     → HasEntry now s 0
 more_there old now s count done h so_far low =
     let same : h.frame ≡ so_far.frame = same_top old s h.frame so_far.frame h.top so_far.top in
-    let whole : h.below ++ h.entries ≡ so_far.below ++ so_far.gone = sym h.stack ∙ ap (λ (f : FrameState). f.stack) same ∙ so_far.stack in
-    (
+    let whole : h.below ++ h.entries ≡ so_far.below ++ so_far.gone = sym h.stack ∙ ap (λ (f : FrameState). f.stack) same ∙ so_far.stack in (
       with_stack so_far.frame so_far.below,
       top_after old now s (with_stack so_far.frame so_far.below) so_far.sets,
       omega (arith, ap length whole, length-append h.below h.entries, length-append so_far.below so_far.gone, h.many, so_far.as_many),
@@ -80,8 +79,7 @@ pub room_left : (old now : FrameContent) (s : SegmentNo) (count : ℕ) → IsCon
     → HasFreeEntry now s
 room_left old now s count is h some off =
     let g = with_stack h.frame h.below in
-    let few = stack_fits old s h.frame is h.top in
-    (
+    let few = stack_fits old s h.frame is h.top in (
       g,
       top_after old now s g (off h.frame h.below h.entries h.top h.stack h.many),
       omega (arith, few, ap length h.stack, length-append h.below h.entries, h.many),

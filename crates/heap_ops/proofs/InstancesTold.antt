@@ -61,8 +61,11 @@ module _ (classes : List ClassRecord) (shared : SharedState) (a b : KnownCapabil
       above_too class (inr (inr (inr (c, numbered, inl shows)))) =
           inr (inr (inr (c, subst (λ (ranges : List CapRange). capability_numbered ranges k ≡ Some c) (first.ranges ∙ sym second.ranges) numbered, inl shows)))
       above_too class (inr (inr (inr (c, numbered, inr stands)))) =
-          inr (inr (inr (c, subst (λ (ranges : List CapRange). capability_numbered ranges k ≡ Some c) (first.ranges ∙ sym second.ranges) numbered,
-          inr (stands_too c.capability class stands))))
+          inr (inr (inr (
+            c,
+            subst (λ (ranges : List CapRange). capability_numbered ranges k ≡ Some c) (first.ranges ∙ sym second.ranges) numbered,
+            inr (stands_too c.capability class stands),
+          )))
 
   pub instance_too : (heap : List NamedObject) (v : Value) (t : TypeRef) → IsInstance classes a heap v t → IsInstance classes b heap v t
   instance_too heap (Held.Obj n) t is = is

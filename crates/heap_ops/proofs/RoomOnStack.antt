@@ -53,9 +53,11 @@ module _ (heaps : HeapContent) (frames : FrameContent) (h : Here) (k : Doing hea
   by_takes t is =
       let does = does_shape (s heaps frames h k) (w heaps frames h k).inside.heap (w heaps frames h k).frame.head.at (i heaps frames h k)
       (w heaps frames h k).frame typed.before typed.after (Takes [] (t ∷ [])) typed.typed is in
-      let none = nothing does.1 does.3 in
-      (t, ap (λ (x : FrameType). x.stack) does.4 ∙ ap (λ (xs : List VType). xs ++ t ∷ [])
-      (sym (does.2 ∙ ap (λ (xs : List VType). does.0 ++ xs) none ∙ append-nil does.0)))
+      let none = nothing does.1 does.3 in (
+        t,
+        ap (λ (x : FrameType). x.stack) does.4 ∙ ap (λ (xs : List VType). xs ++ t ∷ [])
+            (sym (does.2 ∙ ap (λ (xs : List VType). does.0 ++ xs) none ∙ append-nil does.0)),
+      )
     where
       nothing : (taken : List VType) → AllMeet (s heaps frames h k) [] taken → taken ≡ []
       nothing [] meet = refl

@@ -16,7 +16,6 @@ use code_places::{StandsAt, type_named};
 use frame_store::FrameStore;
 use heap_loops::{arrays_words, make_arrays};
 use jk_model::{Raise, SegmentNo, Standing, Value};
-use jk_model_heap_rows::laws::trees_cost_their_words;
 use object_store::ObjectStore;
 
 /// How many counts an instruction takes at most.
@@ -71,8 +70,6 @@ fn make_counted<H: ObjectStore, F: FrameStore>(
     if !fits(arrays_words(kind, counts), free) {
         return Err(Raise::Standing(Standing::OutOfMemoryError));
     }
-    // By this law all of them cost what was counted.
-    trees_cost_their_words();
     let a = make_arrays(heap, here.world.classes(), here.domain, kind, counts);
     replace(frames, here.segment, counts.len() as u16, Value::Obj(a));
     Ok(())

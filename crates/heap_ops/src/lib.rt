@@ -10,7 +10,6 @@ mod fields;
 mod here;
 mod literals;
 mod making;
-mod probe;
 mod statics;
 mod steps;
 mod stored;
