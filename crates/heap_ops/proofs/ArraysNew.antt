@@ -1,11 +1,10 @@
 -- A new array of so many elements of a type.
-use Rattle.std.proofs.Common.{◌≡◌, inl, inr, ℕ, ℤ, pos, negsuc, ◌+◌, ◌<◌, ◌≤◌, List, [], ◌∷◌, ◌++◌, Some, None, refl, sym, ap, subst, ◌∙◌, arith}
+use Rattle.std.proofs.Common.{◌≡◌, inl, inr, ℕ, ℤ, pos, ◌+◌, ◌<◌, ◌≤◌, List, [], ◌∷◌, Some, None, refl, ap, subst, ◌∙◌, arith}
 use Rattle.jk_model.specs.declared.identifiers.SegmentNo.{SegmentNo}
 use Rattle.jk_model.specs.declared.opcodes.TheConstants.{ANEWARRAY, NEWARRAY}
 use Rattle.jk_model.specs.declared.steps.After.TheVariants as Next
 use Rattle.jk_model.specs.declared.steps.Raise.TheVariants as Raised
 use Rattle.jk_model.specs.declared.steps.Standing.TheVariants as Stands
-use Rattle.jk_model.specs.declared.values.Value.{Value}
 use Rattle.jk_model.specs.declared.values.Value.TheVariants as Held
 use Rattle.jk_model_classes.specs.declared.records.BaseRef.{BaseRef}
 use Rattle.jk_model_classes.specs.declared.records.BaseRef.TheVariants as Base
@@ -13,7 +12,6 @@ use Rattle.jk_model_classes.specs.declared.records.ClassRecord.{ClassRecord}
 use Rattle.jk_model_classes.specs.declared.records.TypeRef.{TypeRef}
 use Rattle.jk_model_typing.specs.FrameTypes.{array_type}
 use Rattle.jk_model_typing.specs.Rows.{IsCodeOf}
-use Rattle.jk_model_domains.specs.NumberRows.{IsOnTop}
 use Rattle.jk_model_heaps.specs.declared.shapes.Shape.TheVariants as Of
 use Rattle.jk_model_heaps.specs.Heaps.{zero_object}
 use Rattle.jk_model_heaps.specs.SystemClasses.{NEGATIVE_ARRAY_SIZE_EXCEPTION}
@@ -25,12 +23,12 @@ use Rattle.object_store.specs.HeapContents.{HasBase, HeapContent, IsHeapContent,
 use Rattle.heap_row_laws.proofs.ClassesToMake.{type_known}
 use Rattle.stored_objects.proofs.LaidOut.{shape_has_classes}
 use Rattle.step_contents.specs.Conditions.{around}
+use Rattle.code_places.proofs.InstructionsBegin.{runs_code, runs_well}
 use Rattle.heap_ops.specs.declared.here.Here.{Here}
 use Rattle.heap_ops.specs.OneInstruction.{place_in}
 use Rattle.heap_ops.specs.TopEntries.{HasEntries, PutsFor, StandsBelow}
 use Rattle.heap_ops.proofs.DoingHere.{Doing, Done, below, c, entries, found, here, i, is_there, put, raised, s, w}
 use Rattle.heap_ops.proofs.FoundByOpcode.{NewArrayFound, found_at}
-use Rattle.heap_ops.proofs.KnownHere.{code_of, runs_well}
 use Rattle.heap_ops.proofs.ObjectsMade.{fails_new, pushed_new}
 use Rattle.heap_ops.proofs.RoomOnStack.{shape_at}
 
@@ -60,8 +58,8 @@ module _ (heaps : HeapContent) (frames : FrameContent) (h : Here) (k : Doing hea
   base_there t to =
       shape_has_classes (around k.may.domain) (Of.Array (array_type 0 t.base) 0) k.may.domain.table (
         type_known (around k.may.domain) k.setting (w heaps frames h k)
-            (runs_well (c heaps frames h k) (here heaps frames h k) (place_in h) k.may k.setting k.is_setting)
-            (code_of (c heaps frames h k) (here heaps frames h k) (place_in h) k.may) t to,
+            (runs_well k.may k.setting k.is_setting)
+            (runs_code k.may) t to,
         omega arith,
       )
 

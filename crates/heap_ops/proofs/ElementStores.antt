@@ -1,5 +1,5 @@
 -- A value that an instruction stores into an array.
-use Rattle.std.proofs.Common.{◌≡◌, ◌⊎◌, inl, inr, ℕ, ℤ, pos, ◌+◌, ◌<◌, List, [], ◌∷◌, ◌++◌, length, Some, slice_get, append-nil, refl, sym, ap, subst, ◌∙◌, arith}
+use Rattle.std.proofs.Common.{◌≡◌, inl, inr, ℕ, ℤ, pos, ◌+◌, ◌<◌, List, [], ◌∷◌, ◌++◌, length, Some, slice_get, append-nil, refl, sym, ap, subst, ◌∙◌, arith}
 use Rattle.std.specs.Prelude.{IsTrue, slice_set}
 use Rattle.list_lemmas.proofs.ItemsByPlace.{item_there}
 use Rattle.jk_model.specs.declared.opcodes.TheConstants.{AASTORE}
@@ -9,7 +9,7 @@ use Rattle.jk_model.specs.declared.values.Value.{Value}
 use Rattle.jk_model.specs.declared.values.Value.TheVariants as Held
 use Rattle.jk_model_classes.specs.declared.records.ClassRecord.{ClassRecord}
 use Rattle.jk_model_classes.specs.declared.records.TypeRef.{TypeRef}
-use Rattle.jk_model_domains.specs.Objects.{NamedObject, Object, Array, Text, object_named}
+use Rattle.jk_model_domains.specs.Objects.{NamedObject, Object, Array, Text}
 use Rattle.jk_model_heaps.specs.Heaps.{with_object}
 use Rattle.jk_model_heaps.specs.References.{IsHeapArray, IsNullOrInstance}
 use Rattle.jk_model_heaps.specs.StoredValues.{stored}

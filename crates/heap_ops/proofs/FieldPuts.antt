@@ -1,5 +1,5 @@
 -- A value that an instruction puts into a field.
-use Rattle.std.proofs.Common.{◌≡◌, inl, inr, ℕ, ◌+◌, ◌<◌, ◌^◌, List, [], ◌∷◌, ◌++◌, length, Some, slice_get, append-nil, refl, sym, ap, subst, ◌∙◌}
+use Rattle.std.proofs.Common.{◌≡◌, inl, inr, ℕ, ◌+◌, ◌<◌, ◌^◌, List, [], ◌∷◌, ◌++◌, append-nil, refl, sym, ap, subst, ◌∙◌}
 use Rattle.std.specs.Prelude.{IsFalse, IsTrue, slice_set}
 use Rattle.jk_model.specs.Flags.{has, STATIC}
 use Rattle.jk_model.specs.declared.identifiers.MemberId.{MemberId}
@@ -8,7 +8,6 @@ use Rattle.jk_model.specs.declared.steps.After.TheVariants as Next
 use Rattle.jk_model.specs.declared.steps.Raise.TheVariants as Raised
 use Rattle.jk_model.specs.declared.values.Value.{Value}
 use Rattle.jk_model.specs.declared.values.Value.TheVariants as Held
-use Rattle.jk_model_classes.specs.declared.records.FieldRecord.{FieldRecord}
 use Rattle.jk_model_classes.specs.declared.records.TypeRef.{TypeRef}
 use Rattle.jk_model_classes.specs.Lookups.{FieldIs}
 use Rattle.jk_model_domains.specs.Objects.{NamedObject, Object, Plain, Text}
@@ -32,7 +31,7 @@ use Rattle.heap_ops.specs.OneInstruction.{place_in}
 use Rattle.heap_ops.specs.TopEntries.{HasEntries, IsNullOrName, StandsBelow, TakesOff}
 use Rattle.heap_ops.proofs.ArraysFound.{never_both, null_or_name, null_too, same_name}
 use Rattle.heap_ops.proofs.DoingHere.{Doing, Done, below, entries, found, i, is_there, raised, s, took, w}
-use Rattle.heap_ops.proofs.FieldsFound.{field_here, is_plain, is_that, laid_out, leads, object_live, object_named_so, object_sealed, place_small, place_told, value_there}
+use Rattle.heap_ops.proofs.FieldsFound.{field_here, is_plain, is_that, laid_out, leads, object_live, object_named_so, object_sealed, place_small, place_told}
 use Rattle.heap_ops.proofs.FoundByOpcode.{PutFieldFound, found_at}
 use Rattle.heap_ops.proofs.InstructionDone.{going}
 use Rattle.heap_ops.proofs.ObjectsMade.{went_on_grown}

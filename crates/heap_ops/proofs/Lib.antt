@@ -14,7 +14,6 @@ mod FieldsFound
 mod FoundByOpcode
 mod InstancesTold
 mod InstructionDone
-mod KnownHere
 mod ObjectsMade
 mod ObjectsNew
 mod ObjectsPut

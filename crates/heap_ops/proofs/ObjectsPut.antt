@@ -1,6 +1,6 @@
 -- A value that is put into an object: it is of the kind of the value that stands there, and small; and the heap that is left.
-use Rattle.std.proofs.Common.{◌≡◌, inl, inr, ℕ, ◌+◌, ◌<◌, ◌^◌, List, [], ◌∷◌, ◌++◌, length, Some, slice_get, refl, sym, ap, subst, ◌∙◌, arith}
-use Rattle.std.specs.Prelude.{slice_set, ⊤}
+use Rattle.std.proofs.Common.{◌≡◌, ℕ, ◌+◌, List, [], ◌∷◌, ◌++◌, Some, slice_get, sym, ap, subst, ◌∙◌, arith}
+use Rattle.std.specs.Prelude.{slice_set}
 use Rattle.std.specs.List.{AllByRecursion}
 use Rattle.std.proofs.lemmas.Option.{same_Some, slice_get_within}
 use Rattle.list_lemmas.proofs.ItemsByPlace.{item_there, slice_get-set_same}
@@ -23,16 +23,15 @@ use Rattle.jk_model_sharing.specs.SharedStates.{caps_of}
 use Rattle.frame_store.specs.FrameContents.{FrameContent}
 use Rattle.grown_heaps.proofs.ObjectsAfterChanges.{found_stands, written_there, written_words}
 use Rattle.heap_row_laws.specs.HeapRowLaws.{HeapRowsKeep}
-use Rattle.object_store.specs.HeapContents.{AreOfKind, HeapBecomes, HeapContent, IsHeapContent, IsLive, IsSmall, WritesObject}
+use Rattle.object_store.specs.HeapContents.{AreOfKind, HeapBecomes, HeapContent, IsHeapContent, IsSmall, WritesObject}
 use Rattle.step_contents.specs.Conditions.{around}
 use Rattle.stored_objects.proofs.KindsOfTypes.{kind_of_zero, one_kind}
 use Rattle.stored_objects.proofs.LaidOut.{known_small}
+use Rattle.code_places.proofs.InstructionsBegin.{runs_code, runs_well}
 use Rattle.heap_ops.specs.declared.here.Here.{Here}
 use Rattle.heap_ops.specs.OneInstruction.{place_in}
 use Rattle.heap_ops.proofs.DoingHere.{Doing, c, here, i, s, same_heap, w}
-use Rattle.heap_ops.proofs.FieldsFound.{object_sealed}
 use Rattle.heap_ops.proofs.InstructionDone.{heap_words_used}
-use Rattle.heap_ops.proofs.KnownHere.{code_of, names_known, runs_well}
 
 -- ---- Lists.
 
@@ -67,7 +66,7 @@ module _ (heaps : HeapContent) (frames : FrameContent) (h : Here) (k : Doing hea
   top_known taken on_top =
       last_known (IsKnownValue (caps_of k.shared) heap) on_top.0 taken
       (subst (AllByRecursion (IsKnownValue (caps_of k.shared) heap)) on_top.1
-      (names_known (c heaps frames h k) (here heaps frames h k) (place_in h) k.may).1)
+      (runs_well k.may k.setting k.is_setting).known.1)
 
   pub stored_small : IsHeapContent heaps → (t : TypeRef) (v : Value) → IsKnownValue (caps_of k.shared) heap v → IsSmall (stored t v)
   stored_small holds t v known =
@@ -83,8 +82,8 @@ module _ (heaps : HeapContent) (frames : FrameContent) (h : Here) (k : Doing hea
     after_sealed : IsSealedInside (around k.may.domain) k.setting.quota g.inside
     after_sealed =
         (keep (around k.may.domain) k.setting (w heaps frames h k) g (GoesOn ((w heaps frames h k).frame.head.at + 1))
-        (runs_well (c heaps frames h k) (here heaps frames h k) (place_in h) k.may k.setting k.is_setting)
-        (code_of (c heaps frames h k) (here heaps frames h k) (place_in h) k.may) row).0.inside.sealed
+        (runs_well k.may k.setting k.is_setting)
+        (runs_code k.may) row).0.inside.sealed
 
     pub new_sealed : IsSealedObject (around k.may.domain) (with_object a new heap) new
     new_sealed =

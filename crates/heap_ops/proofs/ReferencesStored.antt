@@ -1,5 +1,5 @@
 -- A reference that an instruction stores into an array of references.
-use Rattle.std.proofs.Common.{◌≡◌, ◌⊎◌, inl, inr, ℕ, List, [], ◌∷◌, ◌++◌, length, refl, sym, ap, subst, ◌∙◌}
+use Rattle.std.proofs.Common.{◌≡◌, ◌⊎◌, inl, inr, ℕ, List, [], ◌∷◌, ◌++◌, refl, sym, ap, subst, ◌∙◌}
 use Rattle.std.specs.Prelude.{IsTrue}
 use Rattle.list_lemmas.proofs.EndsOfLists.{one_split}
 use Rattle.jk_model.specs.declared.identifiers.CapId.{CapId}
@@ -10,7 +10,6 @@ use Rattle.jk_model_classes.specs.declared.records.ClassRecord.{ClassRecord}
 use Rattle.jk_model_classes.specs.declared.records.TypeRef.{TypeRef}
 use Rattle.jk_model_typing.specs.declared.frames.Demand.TheVariants.{Fitting, Reference, ReferenceArray}
 use Rattle.jk_model_typing.specs.declared.frames.VType.TheVariants.{Int}
-use Rattle.jk_model_domains.specs.NumberRows.{IsOnTop}
 use Rattle.jk_model_domains.specs.Objects.{NamedObject}
 use Rattle.jk_model_heaps.specs.Capabilities.{CapRange, IsGivenOut, KnownCapabilities}
 use Rattle.jk_model_heaps.specs.Instances.{IsInstance}

@@ -9,7 +9,6 @@ use Rattle.jk_model.specs.declared.opcodes.TheConstants.{MULTIANEWARRAY}
 use Rattle.jk_model.specs.declared.steps.After.TheVariants as Next
 use Rattle.jk_model.specs.declared.steps.Raise.TheVariants as Raised
 use Rattle.jk_model.specs.declared.steps.Standing.TheVariants as Stands
-use Rattle.jk_model.specs.declared.values.Value.{Value}
 use Rattle.jk_model.specs.declared.values.Value.TheVariants as Held
 use Rattle.jk_model_classes.specs.declared.records.ClassRecord.{ClassRecord}
 use Rattle.jk_model_classes.specs.declared.records.TypeRef.{TypeRef}
@@ -23,9 +22,10 @@ use Rattle.jk_model_heap_rows.proofs.TreesCost.{trees_cost}
 use Rattle.code_places.specs.Operands.{LeadsToType}
 use Rattle.frame_store.specs.FrameContents.{FrameContent}
 use Rattle.heap_loops.specs.ObjectsMade.{MakesObjects}
-use Rattle.object_store.specs.HeapContents.{HeapContent, IsHeapContent, IsSame, words_left}
+use Rattle.object_store.specs.HeapContents.{HeapContent, IsHeapContent, words_left}
 use Rattle.heap_row_laws.proofs.ClassesToMake.{type_short}
 use Rattle.step_contents.specs.Conditions.{around}
+use Rattle.code_places.proofs.InstructionsBegin.{runs_code, runs_well}
 use Rattle.heap_ops.specs.declared.here.Here.{Here}
 use Rattle.heap_ops.specs.ArrayCounts.{AreIntsOnTop}
 use Rattle.heap_ops.specs.OneInstruction.{place_in}
@@ -33,8 +33,7 @@ use Rattle.heap_ops.specs.TopEntries.{HasEntries, PutsFor}
 use Rattle.heap_ops.proofs.CountsRead.{ints_are_one}
 use Rattle.heap_ops.proofs.DoingHere.{Doing, Done, c, entries, found, here, i, put, raised, s, same_classes, same_heap, top, w}
 use Rattle.heap_ops.proofs.FoundByOpcode.{NewArraysFound, found_at}
-use Rattle.heap_ops.proofs.KnownHere.{code_of, runs_well}
-use Rattle.heap_ops.proofs.ObjectsMade.{fits, grown_by, lacks, raised_so, went_on_grown}
+use Rattle.heap_ops.proofs.ObjectsMade.{fits, grown_by, lacks, went_on_grown}
 use Rattle.heap_ops.proofs.ObjectsNew.{one_type}
 use Rattle.heap_ops.proofs.RoomOnStack.{shape_at}
 use Rattle.heap_ops.proofs.StaticsUsed.{never_true}
@@ -85,9 +84,9 @@ module _ (heaps : HeapContent) (frames : FrameContent) (h : Here) (k : Doing hea
   pub counts_are_few : (n : ℕ) × ((place_in h).instr.b ≡ pos n) × (n ≤ 255)
   counts_are_few =
       let f = here_found in
-      let runs = runs_well (c heaps frames h k) (here heaps frames h k) (place_in h) k.may k.setting k.is_setting in
+      let runs = runs_well k.may k.setting k.is_setting in
       let short = type_short (around k.may.domain) k.setting (w heaps frames h k) runs
-      (code_of (c heaps frames h k) (here heaps frames h k) (place_in h) k.may) f.kind f.leads in
+      (runs_code k.may) f.kind f.leads in
       let most = (few_counts f.kind f.leads (length f.counts) f.as_many).1 in
       (length f.counts, f.as_many, omega (arith, short, most))
 
@@ -138,9 +137,9 @@ module _ (heaps : HeapContent) (frames : FrameContent) (h : Here) (k : Doing hea
 
     pub few_bytes : Fits w16 (length sizes)
     few_bytes =
-        let runs = runs_well (c heaps frames h k) (here heaps frames h k) (place_in h) k.may k.setting k.is_setting in
+        let runs = runs_well k.may k.setting k.is_setting in
         let short = type_short (around k.may.domain) k.setting (w heaps frames h k) runs
-        (code_of (c heaps frames h k) (here heaps frames h k) (place_in h) k.may) t to in
+        (runs_code k.may) t to in
         let most = some_sizes.1 in
         let bound : length sizes < 65536 = omega (arith, short, most) in
         record { fits = bound }

@@ -1,5 +1,5 @@
 -- One instruction on objects, as functions do it that see some of the stores alone: it may be done, and is, whatever the others hold.
-use Rattle.std.specs.Prelude.{◌≡◌, ◌+◌, Result, Ok, Err}
+use Rattle.std.specs.Prelude.{◌+◌, Result, Ok, Err}
 use Rattle.jk_model.specs.declared.steps.After.{After}
 use Rattle.jk_model.specs.declared.steps.After.TheVariants as Next
 use Rattle.jk_model.specs.declared.steps.Raise.{Raise}

@@ -1,9 +1,9 @@
 -- The arrays are made where all of them fit together.
-use Rattle.std.proofs.Common.{◌≡◌, ◌<◌, ◌≤◌, ℕ, List, Option, Some, None, IsTrue, MatchOption, length, refl, sym, ap, subst, ◌∙◌, arith}
+use Rattle.std.proofs.Common.{List, sym, ap, subst, ◌∙◌, arith}
 use Rattle.jk_model_classes.specs.declared.records.ClassRecord.{ClassRecord}
 use Rattle.jk_model_heap_rows.specs.ArrayTrees.{tree_words}
 use Rattle.heap_loops.specs.ObjectsMade.{MakesObjects}
-use Rattle.object_store.specs.HeapContents.{HasBase, words_left}
+use Rattle.object_store.specs.HeapContents.{HasBase}
 use Rattle.heap_ops.proofs.ArraysNew.{base_there}
 use Rattle.heap_ops.proofs.DoingHere.{Doing, doing}
 use Rattle.heap_ops.proofs.TreesMade.{arrays_pushed, few_bytes, many_there, names_type, some_sizes, trees_fit, trees_lack, words_fail}

@@ -1,8 +1,7 @@
 -- A negative count is met first.
-use Rattle.std.proofs.Common.{◌≡◌, ℤ, List, length, pos, sym, ap, subst, ◌∙◌}
+use Rattle.std.proofs.Common.{length, sym, ap, subst}
 use Rattle.jk_model.specs.declared.steps.After.TheVariants as Next
 use Rattle.jk_model.specs.declared.steps.Raise.{Raise}
-use Rattle.heap_ops.specs.ArrayCounts.{AreIntsOnTop}
 use Rattle.heap_ops.proofs.DoingHere.{Doing, Done, doing}
 use Rattle.heap_ops.proofs.TreesMade.{ints_as_many, negative_raises}
 use Rattle.heap_ops.proofs.array_trees.make_read.Goals as goal

@@ -1,5 +1,5 @@
 -- Null is met first, then the index, then the type; else what a store leaves of the value is put in the item's place.
-use Rattle.std.proofs.Common.{◌≡◌, ℤ, pos, sym, subst, ◌∙◌}
+use Rattle.std.proofs.Common.{ℤ, sym, subst, ◌∙◌}
 use Rattle.std.specs.Int.{w32}
 use Rattle.std.proofs.lemmas.Int.{to_z-of_z}
 use Rattle.std.proofs.lemmas.Result.{err_from_is_err_and}

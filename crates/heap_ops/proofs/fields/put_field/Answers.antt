@@ -1,5 +1,5 @@
 -- Null is met first; else what a store leaves of the value is put in the field's place.
-use Rattle.std.proofs.Common.{◌≡◌, ℕ, List, sym, subst, ◌∙◌}
+use Rattle.std.proofs.Common.{List, sym, subst, ◌∙◌}
 use Rattle.std.proofs.lemmas.Result.{err_from_is_err_and}
 use Rattle.jk_model.specs.declared.steps.Raise.TheVariants as Raised
 use Rattle.jk_model_classes.specs.declared.records.ClassRecord.{ClassRecord}

@@ -1,5 +1,5 @@
 -- A negative count is met first; else the array is pushed where it fits.
-use Rattle.std.proofs.Common.{◌≡◌, ◌<◌, ◌≤◌, List, subst, ◌∙◌}
+use Rattle.std.proofs.Common.{◌<◌, ◌≤◌, List, subst, ◌∙◌}
 use Rattle.std.proofs.lemmas.Result.{err_from_is_err_and}
 use Rattle.jk_model.specs.declared.steps.Raise.TheVariants as Raised
 use Rattle.jk_model_classes.specs.declared.records.ClassRecord.{ClassRecord}

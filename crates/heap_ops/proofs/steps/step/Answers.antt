@@ -1,5 +1,5 @@
 -- What domains share is right of the classes, and the next place fits 32 bits.
-use Rattle.std.proofs.Common.{◌+◌, ◌<◌, arith}
+use Rattle.std.proofs.Common.{arith}
 use Rattle.std.proofs.lemmas.Option.{slice_get_within}
 use Rattle.heap_ops.proofs.steps.step.Goals as goal
 
