@@ -64,7 +64,8 @@ all_taken old new s count done so_far end = λ f below taken top stack many.
     let same : f ≡ so_far.frame = same_top old s f so_far.frame top so_far.top in
     let whole : below ++ taken ≡ so_far.below ++ so_far.gone = sym stack ∙ ap (λ (x : FrameState). x.stack) same ∙ so_far.stack in
     let both = one_split below so_far.below taken so_far.gone whole (many ∙ sym end ∙ sym so_far.as_many) in
-    let as_frame : SetsTop old new s (with_stack f so_far.below) = subst (λ (x : FrameState). SetsTop old new s (with_stack x so_far.below)) (sym same) so_far.sets in
+    let as_frame : SetsTop old new s (with_stack f so_far.below) = subst (λ (x : FrameState). SetsTop old new s (with_stack x so_far.below)) (sym same)
+    so_far.sets in
     subst (λ (xs : List Value). SetsTop old new s (with_stack f xs)) (sym both.0) as_frame
 
 -- ---- Another one is pushed.

@@ -50,7 +50,8 @@ make_arrays-a-requires-clause-some g c =
     let heaps = g.H.ObjectStore.content c.args.heap.now in
     let frames = g.F.FrameStore.content c.args.frames.now in
     let k = doing heaps frames c.args.here.now c.requires.may in
-    let some = (some_sizes heaps frames c.args.here.now k c.requires.op c.requires.counts.0 c.requires.counts.1 c.requires.counts.2 c.args.counts.now c.requires.counts.3
+    let some = (some_sizes heaps frames c.args.here.now k c.requires.op c.requires.counts.0 c.requires.counts.1 c.requires.counts.2 c.args.counts.now
+    c.requires.counts.3
     c.type_named-kind.result.now c.type_named-kind.ensures).0 in
     omega (arith, some)
 
@@ -91,7 +92,8 @@ replace-requires-clause-some g c =
     let heaps = g.H.ObjectStore.content c.args.heap.now in
     let frames = g.F.FrameStore.content c.args.frames.now in
     let k = doing heaps frames c.args.here.now c.requires.may in
-    let some = (some_sizes heaps frames c.args.here.now k c.requires.op c.requires.counts.0 c.requires.counts.1 c.requires.counts.2 c.args.counts.now c.requires.counts.3
+    let some = (some_sizes heaps frames c.args.here.now k c.requires.op c.requires.counts.0 c.requires.counts.1 c.requires.counts.2 c.args.counts.now
+    c.requires.counts.3
     c.type_named-kind.result.now c.type_named-kind.ensures).0 in
     some
 
@@ -102,7 +104,8 @@ returns g c = λ own shared x may setting.
     let k : Doing heaps frames c.args.here.now =
     record { own = own; shared = shared; may = may; kind = c.requires.may.kind; setting = x; is_setting = setting } in
     let after = g.H.ObjectStore.content c.make_arrays-a.new.heap in
-    arrays_pushed heaps frames c.args.here.now k c.requires.op c.requires.counts.0 c.requires.counts.1 c.requires.counts.2 c.args.counts.now c.requires.counts.3
+    arrays_pushed heaps frames c.args.here.now k c.requires.op c.requires.counts.0 c.requires.counts.1 c.requires.counts.2 c.args.counts.now
+    c.requires.counts.3
     c.type_named-kind.result.now c.type_named-kind.ensures
     (g.met.H.ObjectStore.holds c.args.heap.now)
     (trees_fit heaps c.args.here.now.domain (tree_words c.type_named-kind.result.now c.args.counts.now) c.arrays_words.result c.from-free.result

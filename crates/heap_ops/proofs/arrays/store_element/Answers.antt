@@ -71,7 +71,8 @@ write-requires g c =
     takes heaps frames c.args.here.now k c.requires.op c.in_ok-a.a c.array_at-len.result.0 c.array_at-len.result.1 c.in_ok-a.ensures
     c.array_at-len.ensures.is c.int_at-index.result c.int_at-index.ensures
     c.in_ok-place.place (sym is ∙ c.in_ok-place.ensures.0) c.in_ok-place.ensures.1 c.heap_rows_keep.ensures
-    (g.met.H.ObjectStore.holds c.args.heap.now) (λ op. absurd (c.requires.numbers op)) c.value_at-top.result c.stored-v.result c.value_at-top.ensures c.stored-v.ensures c.classes.result.now
+    (g.met.H.ObjectStore.holds c.args.heap.now) (λ op. absurd (c.requires.numbers op)) c.value_at-top.result c.stored-v.result c.value_at-top.ensures
+    c.stored-v.ensures c.classes.result.now
 
 pub drop_entries-requires : goal.drop_entries-requires
 drop_entries-requires g c =
@@ -90,5 +91,6 @@ returns g c = λ own shared x may setting.
     element_put heaps frames c.args.here.now k c.requires.op c.in_ok-a.a c.array_at-len.result.0 c.array_at-len.result.1 c.in_ok-a.ensures
     c.array_at-len.ensures.is c.int_at-index.result c.int_at-index.ensures
     c.in_ok-place.place (sym is ∙ c.in_ok-place.ensures.0) c.in_ok-place.ensures.1 c.heap_rows_keep.ensures
-    (g.met.H.ObjectStore.holds c.args.heap.now) (λ op. absurd (c.requires.numbers op)) c.value_at-top.result c.stored-v.result c.value_at-top.ensures c.stored-v.ensures
+    (g.met.H.ObjectStore.holds c.args.heap.now) (λ op. absurd (c.requires.numbers op)) c.value_at-top.result c.stored-v.result c.value_at-top.ensures
+    c.stored-v.ensures
     (g.H.ObjectStore.content c.write.new.self) (g.F.FrameStore.content c.drop_entries.new.frames) c.write.ensures c.drop_entries.ensures

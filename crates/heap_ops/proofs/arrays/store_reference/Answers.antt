@@ -59,7 +59,8 @@ returns-in_err-place g c = λ own shared known x may setting.
     let e = c.in_err-place.ensures in
     let is = to_z-of_z w32 c.int_at-index.result (record { sfits = c.int_at-index.type_inv }) in
     answered heaps frames c.args.here.now k heaps frames own c.from_residual-in_err-place.result p.0 (Raised.Fresh ARRAY_INDEX_EXCEPTION) p.1 (p.2 ∙ e.1)
-    (index_raises heaps frames c.args.here.now k (is_store heaps frames c.args.here.now k c.requires.op) c.in_ok-a.a c.array_at-len.result.0 c.array_at-len.result.1 c.in_ok-a.ensures
+    (index_raises heaps frames c.args.here.now k (is_store heaps frames c.args.here.now k c.requires.op) c.in_ok-a.a c.array_at-len.result.0
+    c.array_at-len.result.1 c.in_ok-a.ensures
     c.array_at-len.ensures.is c.int_at-index.result c.int_at-index.ensures (subst (λ (n : ℤ). HasNoPlace n c.array_at-len.result.1) is e.0))
 
 pub value_at-top-requires : goal.value_at-top-requires
@@ -94,12 +95,15 @@ returns-then-not-may_be_cast g c = λ own shared known x may setting.
     let k : Doing heaps frames c.args.here.now =
     record { own = own; shared = shared; may = may; kind = c.requires.may.kind; setting = x; is_setting = setting } in
     let is = to_z-of_z w32 c.int_at-index.result (record { sfits = c.int_at-index.type_inv }) in
-    type_raises heaps frames c.args.here.now k (is_store heaps frames c.args.here.now k c.requires.op) c.in_ok-a.a c.array_at-len.result.0 c.array_at-len.result.1 c.in_ok-a.ensures
+    type_raises heaps frames c.args.here.now k (is_store heaps frames c.args.here.now k c.requires.op) c.in_ok-a.a c.array_at-len.result.0
+    c.array_at-len.result.1 c.in_ok-a.ensures
     c.array_at-len.ensures.is c.int_at-index.result c.int_at-index.ensures
     c.in_ok-place.place (sym is ∙ c.in_ok-place.ensures.0) c.in_ok-place.ensures.1 c.requires.op
     (λ suits. never_true c.may_be_cast.result c.if-not-may_be_cast.true (c.may_be_cast.ensures.1
-    (told heaps frames c.args.here.now k c.requires.op caps known c.value_at-top.result c.value_at-top.ensures (array_here heaps frames c.args.here.now k (is_store heaps frames c.args.here.now k c.requires.op) c.in_ok-a.a c.array_at-len.result.0 c.array_at-len.result.1 c.in_ok-a.ensures
-    c.array_at-len.ensures.is c.int_at-index.result c.int_at-index.ensures).element c.array_at-len.result.0 (same_element heaps frames c.args.here.now k (is_store heaps frames c.args.here.now k c.requires.op) c.in_ok-a.a c.array_at-len.result.0 c.array_at-len.result.1 c.in_ok-a.ensures
+    (told heaps frames c.args.here.now k c.requires.op caps known c.value_at-top.result c.value_at-top.ensures (array_here heaps frames c.args.here.now k
+    (is_store heaps frames c.args.here.now k c.requires.op) c.in_ok-a.a c.array_at-len.result.0 c.array_at-len.result.1 c.in_ok-a.ensures
+    c.array_at-len.ensures.is c.int_at-index.result c.int_at-index.ensures).element c.array_at-len.result.0 (same_element heaps frames c.args.here.now k
+    (is_store heaps frames c.args.here.now k c.requires.op) c.in_ok-a.a c.array_at-len.result.0 c.array_at-len.result.1 c.in_ok-a.ensures
     c.array_at-len.ensures.is c.int_at-index.result c.int_at-index.ensures) suits)))
 
 pub write-requires : goal.write-requires
@@ -109,14 +113,19 @@ write-requires g c =
     let caps = g.C.CapabilityTests.known c.args.caps.now in
     let k = doing_among heaps frames caps c.args.here.now c.requires.may in
     let is = to_z-of_z w32 c.int_at-index.result (record { sfits = c.int_at-index.type_inv }) in
-    let suits = asked heaps frames c.args.here.now k c.requires.op caps c.requires.may.known c.value_at-top.result c.value_at-top.ensures (array_here heaps frames c.args.here.now k (is_store heaps frames c.args.here.now k c.requires.op) c.in_ok-a.a c.array_at-len.result.0 c.array_at-len.result.1 c.in_ok-a.ensures
-    c.array_at-len.ensures.is c.int_at-index.result c.int_at-index.ensures).element c.array_at-len.result.0 (same_element heaps frames c.args.here.now k (is_store heaps frames c.args.here.now k c.requires.op) c.in_ok-a.a c.array_at-len.result.0 c.array_at-len.result.1 c.in_ok-a.ensures
+    let suits = asked heaps frames c.args.here.now k c.requires.op caps c.requires.may.known c.value_at-top.result c.value_at-top.ensures (array_here heaps
+    frames c.args.here.now k (is_store heaps frames c.args.here.now k c.requires.op) c.in_ok-a.a c.array_at-len.result.0 c.array_at-len.result.1
+    c.in_ok-a.ensures
+    c.array_at-len.ensures.is c.int_at-index.result c.int_at-index.ensures).element c.array_at-len.result.0 (same_element heaps frames c.args.here.now k
+    (is_store heaps frames c.args.here.now k c.requires.op) c.in_ok-a.a c.array_at-len.result.0 c.array_at-len.result.1 c.in_ok-a.ensures
     c.array_at-len.ensures.is c.int_at-index.result c.int_at-index.ensures)
     (c.may_be_cast.ensures.0 c.if-not-may_be_cast.false) in
-    takes heaps frames c.args.here.now k (is_store heaps frames c.args.here.now k c.requires.op) c.in_ok-a.a c.array_at-len.result.0 c.array_at-len.result.1 c.in_ok-a.ensures
+    takes heaps frames c.args.here.now k (is_store heaps frames c.args.here.now k c.requires.op) c.in_ok-a.a c.array_at-len.result.0 c.array_at-len.result.1
+    c.in_ok-a.ensures
     c.array_at-len.ensures.is c.int_at-index.result c.int_at-index.ensures
     c.in_ok-place.place (sym is ∙ c.in_ok-place.ensures.0) c.in_ok-place.ensures.1 c.heap_rows_keep.ensures
-    (g.met.H.ObjectStore.holds c.args.heap.now) (λ op. suits) c.value_at-top.result c.stored-v.result c.value_at-top.ensures c.stored-v.ensures c.classes.result.now
+    (g.met.H.ObjectStore.holds c.args.heap.now) (λ op. suits) c.value_at-top.result c.stored-v.result c.value_at-top.ensures c.stored-v.ensures
+    c.classes.result.now
 
 pub drop_entries-requires : goal.drop_entries-requires
 drop_entries-requires g c =
@@ -134,11 +143,14 @@ returns g c = λ own shared known x may setting.
     let k : Doing heaps frames c.args.here.now =
     record { own = own; shared = shared; may = may; kind = c.requires.may.kind; setting = x; is_setting = setting } in
     let is = to_z-of_z w32 c.int_at-index.result (record { sfits = c.int_at-index.type_inv }) in
-    let suits = asked heaps frames c.args.here.now k c.requires.op caps known c.value_at-top.result c.value_at-top.ensures (array_here heaps frames c.args.here.now k (is_store heaps frames c.args.here.now k c.requires.op) c.in_ok-a.a c.array_at-len.result.0 c.array_at-len.result.1 c.in_ok-a.ensures
-    c.array_at-len.ensures.is c.int_at-index.result c.int_at-index.ensures).element c.array_at-len.result.0 (same_element heaps frames c.args.here.now k (is_store heaps frames c.args.here.now k c.requires.op) c.in_ok-a.a c.array_at-len.result.0 c.array_at-len.result.1 c.in_ok-a.ensures
+    let suits = asked heaps frames c.args.here.now k c.requires.op caps known c.value_at-top.result c.value_at-top.ensures (array_here heaps frames
+    c.args.here.now k (is_store heaps frames c.args.here.now k c.requires.op) c.in_ok-a.a c.array_at-len.result.0 c.array_at-len.result.1 c.in_ok-a.ensures
+    c.array_at-len.ensures.is c.int_at-index.result c.int_at-index.ensures).element c.array_at-len.result.0 (same_element heaps frames c.args.here.now k
+    (is_store heaps frames c.args.here.now k c.requires.op) c.in_ok-a.a c.array_at-len.result.0 c.array_at-len.result.1 c.in_ok-a.ensures
     c.array_at-len.ensures.is c.int_at-index.result c.int_at-index.ensures)
     (c.may_be_cast.ensures.0 c.if-not-may_be_cast.false) in
-    element_put heaps frames c.args.here.now k (is_store heaps frames c.args.here.now k c.requires.op) c.in_ok-a.a c.array_at-len.result.0 c.array_at-len.result.1 c.in_ok-a.ensures
+    element_put heaps frames c.args.here.now k (is_store heaps frames c.args.here.now k c.requires.op) c.in_ok-a.a c.array_at-len.result.0
+    c.array_at-len.result.1 c.in_ok-a.ensures
     c.array_at-len.ensures.is c.int_at-index.result c.int_at-index.ensures
     c.in_ok-place.place (sym is ∙ c.in_ok-place.ensures.0) c.in_ok-place.ensures.1 c.heap_rows_keep.ensures
     (g.met.H.ObjectStore.holds c.args.heap.now) (λ op. suits) c.value_at-top.result c.stored-v.result c.value_at-top.ensures c.stored-v.ensures
