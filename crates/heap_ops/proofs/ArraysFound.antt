@@ -1,5 +1,5 @@
 -- Arrays that instructions find on the stack, as the store has them.
-use Rattle.std.proofs.Common.{◌≡◌, inl, inr, ℕ, ℤ, pos, negsuc, ◌<◌, List, [], ◌∷◌, length, Option, Some, None, slice_get, refl, sym, ap, subst, ◌∙◌, arith}
+use Rattle.std.proofs.Common.{◌≡◌, inl, inr, ℕ, ℤ, pos, negsuc, ◌<◌, List, length, Some, None, refl, sym, ap, subst, ◌∙◌, arith}
 use Rattle.std.specs.Prelude.{nat_lt, if◌then◌else◌, true, false, Bool}
 use Rattle.std.proofs.lemmas.Bool.{lt-ltb, ltb-true}
 use Rattle.std.proofs.lemmas.Option.{same_Some}
@@ -7,7 +7,7 @@ use Rattle.jk_model.specs.declared.identifiers.DomainId.{DomainId}
 use Rattle.jk_model.specs.declared.values.Value.{Value}
 use Rattle.jk_model.specs.declared.values.Value.TheVariants as Held
 use Rattle.jk_model_classes.specs.declared.records.TypeRef.{TypeRef}
-use Rattle.jk_model_domains.specs.Objects.{NamedObject, Object, Array, object_named}
+use Rattle.jk_model_domains.specs.Objects.{NamedObject, Object, Array}
 use Rattle.jk_model_heaps.specs.declared.shapes.Shape.TheVariants as Of
 use Rattle.jk_model_heaps.specs.References.{IsHeapArray}
 use Rattle.jk_model_heap_rows.specs.ElementRows.{place_at}
@@ -87,6 +87,7 @@ module _ (heaps : HeapContent) (frames : FrameContent) (h : Here) (k : Doing hea
     where
       parts : {e f : TypeRef} {xs ys : List Value} → Array e xs ≡ Array f ys → e ≡ f
       parts p = cc
+
       items : {e f : TypeRef} {xs ys : List Value} → Array e xs ≡ Array f ys → xs ≡ ys
       items p = cc
 
@@ -101,5 +102,6 @@ shape_told c d a t u m n at same = record {
   where
     element : {e f : TypeRef} {j k : ℕ} → Of.Array e j ≡ Of.Array f k → e ≡ f
     element p = cc
+
     count : {e f : TypeRef} {j k : ℕ} → Of.Array e j ≡ Of.Array f k → j ≡ k
     count p = cc

@@ -1,12 +1,10 @@
 -- An instruction that may be done, with all that functions find of it.
-use Rattle.std.proofs.Common.{◌≡◌, inl, inr, ℕ, ◌+◌, ◌∷◌, ◌++◌, [], List, length, Some, Result, Err, refl, sym, ap, subst, ◌∙◌}
-use Rattle.jk_model.specs.declared.identifiers.DomainId.{DomainId}
+use Rattle.std.proofs.Common.{◌≡◌, ℕ, ◌+◌, ◌∷◌, ◌++◌, [], List, length, Some, Result, Err, refl, sym, ap, subst, ◌∙◌}
 use Rattle.jk_model.specs.declared.instructions.Instr.{Instr}
 use Rattle.jk_model.specs.declared.steps.After.{After}
 use Rattle.jk_model.specs.declared.steps.After.TheVariants as Next
 use Rattle.jk_model.specs.declared.steps.Raise.{Raise}
 use Rattle.jk_model.specs.declared.values.Value.{Value}
-use Rattle.jk_model_classes.specs.declared.records.ClassRecord.{ClassRecord}
 use Rattle.jk_model_typing.specs.Scopes.{CodeScope}
 use Rattle.jk_model_frames.specs.Frames.{FrameState}
 use Rattle.jk_model_domains.specs.NumberRows.{IsOnTop}
@@ -19,16 +17,17 @@ use Rattle.class_init.specs.KeptStates.{KeptState}
 use Rattle.frame_store.specs.FrameContents.{FrameContent, SetsTop, TopFrame}
 use Rattle.object_store.specs.HeapContents.{HeapContent, IsLive}
 use Rattle.heap_row_laws.specs.HeapOperands.{HeapOperands}
+use Rattle.heap_row_laws.proofs.OperandsFound.{operands_found}
 use Rattle.number_laws.proofs.FrameParts.{with_stack}
-use Rattle.step_contents.specs.Conditions.{MayDo, working}
-use Rattle.step_contents.specs.Contents.{Contents, InsideBecomes, contents_of, inside_in}
+use Rattle.step_contents.specs.Conditions.{MayDo, around, working}
+use Rattle.step_contents.specs.Contents.{Contents, contents_of}
 use Rattle.step_contents.specs.Contents.{Here as Within}
 use Rattle.step_contents.specs.Settings.{IsSetting}
+use Rattle.code_places.proofs.InstructionsBegin.{is_some_setting, runs_code, runs_well, some_setting, top_frame}
 use Rattle.heap_ops.specs.declared.here.Here.{Here}
 use Rattle.heap_ops.specs.OneInstruction.{MayStep, MayStepAmong, MayStepWith, among, answer, place_in}
 use Rattle.heap_ops.specs.TopEntries.{HasEntries, PutsFor, StandsBelow, TakesOff}
 use Rattle.heap_ops.proofs.InstructionDone.{DoneAs, frame_stays, going, goes_on, inside_stays, is_same, raises}
-use Rattle.heap_ops.proofs.KnownHere.{all_known, all_stubs, frame_on_top, is_setting_among, operands, setting_among}
 use Rattle.heap_ops.proofs.ValuesOnTop.{entries_there, same_below, stands_below}
 
 pub record Doing (heaps : HeapContent) (frames : FrameContent) (h : Here) : Type 0 where
@@ -41,15 +40,13 @@ pub record Doing (heaps : HeapContent) (frames : FrameContent) (h : Here) : Type
 
 abbrev pub doing : (heaps : HeapContent) (frames : FrameContent) (h : Here) → MayStep heaps frames h → Doing heaps frames h
 doing heaps frames h step =
-    let c = contents_of heaps frames step.own in
-    let here = among h step.shared in
     record {
       own = step.own;
       shared = step.shared;
       may = step.may;
       kind = step.kind;
-      setting = setting_among step.may.domain (all_stubs c here step.may.domain);
-      is_setting = is_setting_among c here step.may.domain (all_stubs c here step.may.domain) (all_known c here step.may.domain);
+      setting = some_setting step.may;
+      is_setting = is_some_setting step.may;
     }
 
 -- the same where it is given what is known of capabilities
@@ -80,10 +77,10 @@ module _ (heaps : HeapContent) (frames : FrameContent) (h : Here) (k : Doing hea
   i = (place_in h).instr
 
   pub found : HeapOperands k.setting s i w
-  found = operands c here (place_in h) k.may k.setting k.is_setting k.kind
+  found = operands_found (around k.may.domain) k.setting w (runs_well k.may k.setting k.is_setting) (runs_code k.may) k.kind
 
   pub top : TopFrame frames h.segment w.frame
-  top = frame_on_top c here (place_in h) k.may
+  top = top_frame k.may
 
   pub same_heap : w.inside.heap ≡ heaps.heap h.domain
   same_heap = ap (λ (x : Inside). x.heap) k.may.holds.inside

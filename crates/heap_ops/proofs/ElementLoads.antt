@@ -1,5 +1,5 @@
 -- The element of an array that an instruction finds.
-use Rattle.std.proofs.Common.{◌≡◌, inl, inr, ℕ, ℤ, pos, ◌+◌, ◌<◌, List, [], ◌∷◌, length, Some, slice_get, IsTrue, refl, sym, ap, subst, ◌∙◌, arith}
+use Rattle.std.proofs.Common.{◌≡◌, inl, inr, ℕ, ℤ, pos, ◌+◌, ◌<◌, List, [], ◌∷◌, length, Some, IsTrue, refl, ap, ◌∙◌, arith}
 use Rattle.list_lemmas.proofs.ItemsByPlace.{item_there}
 use Rattle.jk_model.specs.declared.steps.After.TheVariants as Next
 use Rattle.jk_model.specs.declared.steps.Raise.TheVariants as Raised

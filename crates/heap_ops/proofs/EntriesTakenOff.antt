@@ -41,8 +41,7 @@ pub more_there : (old now : FrameContent) (s : SegmentNo) (count done : ℕ) →
     → HasEntry now s 0
 more_there old now s count done h so_far low =
     let same : h.frame ≡ so_far.frame = same_top old s h.frame so_far.frame h.top so_far.top in
-    let whole : h.below ++ h.entries ≡ so_far.below ++ so_far.gone = sym h.stack ∙ ap (λ (f : FrameState). f.stack) same ∙ so_far.stack in
-    (
+    let whole : h.below ++ h.entries ≡ so_far.below ++ so_far.gone = sym h.stack ∙ ap (λ (f : FrameState). f.stack) same ∙ so_far.stack in (
       with_stack so_far.frame so_far.below,
       top_after old now s (with_stack so_far.frame so_far.below) so_far.sets,
       omega (arith, ap length whole, length-append h.below h.entries, length-append so_far.below so_far.gone, h.many, so_far.as_many),
@@ -65,7 +64,8 @@ all_taken old new s count done so_far end = λ f below taken top stack many.
     let same : f ≡ so_far.frame = same_top old s f so_far.frame top so_far.top in
     let whole : below ++ taken ≡ so_far.below ++ so_far.gone = sym stack ∙ ap (λ (x : FrameState). x.stack) same ∙ so_far.stack in
     let both = one_split below so_far.below taken so_far.gone whole (many ∙ sym end ∙ sym so_far.as_many) in
-    let as_frame : SetsTop old new s (with_stack f so_far.below) = subst (λ (x : FrameState). SetsTop old new s (with_stack x so_far.below)) (sym same) so_far.sets in
+    let as_frame : SetsTop old new s (with_stack f so_far.below) = subst (λ (x : FrameState). SetsTop old new s (with_stack x so_far.below)) (sym same)
+    so_far.sets in
     subst (λ (xs : List Value). SetsTop old new s (with_stack f xs)) (sym both.0) as_frame
 
 -- ---- Another one is pushed.
@@ -80,8 +80,7 @@ pub room_left : (old now : FrameContent) (s : SegmentNo) (count : ℕ) → IsCon
     → HasFreeEntry now s
 room_left old now s count is h some off =
     let g = with_stack h.frame h.below in
-    let few = stack_fits old s h.frame is h.top in
-    (
+    let few = stack_fits old s h.frame is h.top in (
       g,
       top_after old now s g (off h.frame h.below h.entries h.top h.stack h.many),
       omega (arith, few, ap length h.stack, length-append h.below h.entries, h.many),

@@ -1,5 +1,5 @@
 -- Fields that instructions name, and objects that have them, as the store has these.
-use Rattle.std.proofs.Common.{inl, inr, ◌≡◌, ℕ, ◌+◌, ◌<◌, ◌≤◌, ◌^◌, pos, List, length, Contains, Option, Some, slice_get, IsTrue, refl, sym, ap, subst, ◌∙◌, arith}
+use Rattle.std.proofs.Common.{◌≡◌, ℕ, ◌<◌, ◌^◌, pos, List, Contains, Some, slice_get, IsTrue, sym, ap, subst, ◌∙◌, arith}
 use Rattle.std.specs.Prelude.{IsFalse}
 use Rattle.std.proofs.lemmas.Option.{same_Some, slice_get_within}
 use Rattle.list_lemmas.proofs.ItemsOfLists.{Contains-at}
@@ -15,7 +15,7 @@ use Rattle.jk_model_classes.specs.declared.records.Link.{Link}
 use Rattle.jk_model_classes.specs.declared.records.Link.TheVariants as To
 use Rattle.jk_model_classes.specs.Lookups.{FieldIs}
 use Rattle.jk_model_typing.specs.Scopes.{CodeScope, LeadsToLink}
-use Rattle.jk_model_domains.specs.Objects.{NamedObject, Object, Plain, object_named}
+use Rattle.jk_model_domains.specs.Objects.{Object, Plain, object_named}
 use Rattle.jk_model_heaps.specs.Heaps.{named}
 use Rattle.jk_model_heaps.specs.RunningCode.{NamesField}
 use Rattle.jk_model_heap_rows.specs.FieldRows.{HasField, field_place}

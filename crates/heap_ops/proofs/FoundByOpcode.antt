@@ -4,7 +4,7 @@ use Rattle.std.proofs.lemmas.Bool.{eqb-true}
 use Rattle.jk_model.specs.declared.identifiers.ClassId.{ClassId}
 use Rattle.jk_model.specs.declared.identifiers.MemberId.{MemberId}
 use Rattle.jk_model.specs.declared.instructions.Instr.{Instr}
-use Rattle.jk_model.specs.declared.opcodes.TheConstants.{AALOAD, AASTORE, ANEWARRAY, ARRAYLENGTH, ATHROW, BALOAD, BASTORE, CALOAD, CASTORE, CHECKCAST, GETFIELD, GETSTATIC, IALOAD, IASTORE, INSTANCEOF, LALOAD, LASTORE, LDC_W, MULTIANEWARRAY, NEW, NEWARRAY, PUTFIELD, PUTSTATIC, SALOAD, SASTORE}
+use Rattle.jk_model.specs.declared.opcodes.TheConstants.{ANEWARRAY, ARRAYLENGTH, ATHROW, CHECKCAST, GETFIELD, GETSTATIC, INSTANCEOF, LDC_W, MULTIANEWARRAY, NEW, NEWARRAY, PUTFIELD, PUTSTATIC}
 use Rattle.jk_model.specs.declared.values.Value.{Value}
 use Rattle.jk_model.specs.declared.values.Value.TheVariants as Held
 use Rattle.jk_model_classes.specs.declared.records.FieldRecord.{FieldRecord}

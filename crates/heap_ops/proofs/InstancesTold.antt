@@ -1,7 +1,6 @@
 -- What is known of capabilities where domains share this tells the same instances, however stand-ins are listed; and what an instruction
 -- finds of a reference.
-use Rattle.std.proofs.Common.{◌≡◌, ◌≢◌, ◌⊎◌, inl, inr, ℕ, ◌+◌, pos, IsTrue, List, [], ◌∷◌, ◌++◌, Contains, Some, None, refl, sym, ap, subst, ◌∙◌}
-use Rattle.std.specs.Prelude.{◌↔◌, ⊤}
+use Rattle.std.proofs.Common.{◌≡◌, ◌⊎◌, inl, inr, ◌+◌, pos, List, [], ◌∷◌, ◌++◌, Some, None, refl, sym, ap, subst, ◌∙◌}
 use Rattle.jk_model.specs.declared.identifiers.CapId.{CapId}
 use Rattle.jk_model.specs.declared.identifiers.ClassId.{ClassId}
 use Rattle.jk_model.specs.declared.opcodes.TheConstants.{CHECKCAST, INSTANCEOF}
@@ -11,21 +10,19 @@ use Rattle.jk_model.specs.declared.values.Value.{Value}
 use Rattle.jk_model.specs.declared.values.Value.TheVariants as Held
 use Rattle.jk_model_classes.specs.declared.records.ClassRecord.{ClassRecord}
 use Rattle.jk_model_classes.specs.declared.records.TypeRef.{TypeRef}
-use Rattle.jk_model_classes.specs.declared.sharing.Stub.{Stub}
 use Rattle.jk_model_classes.specs.Classes.{OBJECT, record_of}
-use Rattle.jk_model_domains.specs.Objects.{NamedObject, Object, CAPABILITY, object_named}
-use Rattle.jk_model_heaps.specs.Capabilities.{CapRange, Capability, CapabilityIsA, IsGivenOut, KnownCapabilities, OwnedCapability, ShowsInterface, StandsInFor, capability_numbered}
+use Rattle.jk_model_domains.specs.Objects.{NamedObject, Object, CAPABILITY}
+use Rattle.jk_model_heaps.specs.Capabilities.{CapRange, Capability, CapabilityIsA, KnownCapabilities, OwnedCapability, ShowsInterface, StandsInFor, capability_numbered}
 use Rattle.jk_model_heaps.specs.Instances.{IsInstance}
 use Rattle.jk_model_heaps.specs.References.{IsNullOrInstance}
 use Rattle.jk_model_heaps.specs.SystemClasses.{CLASS_CAST_EXCEPTION, REMOTE}
-use Rattle.jk_model_heaps.specs.Workings.{GoesOn, Setting}
 use Rattle.jk_model_heap_rows.specs.HeapRows.{casts, tests}
 use Rattle.jk_model_sealing.specs.SealedInsides.{IsKnownValue}
-use Rattle.jk_model_sharing.specs.SharedStates.{SharedState, caps_of}
+use Rattle.jk_model_sharing.specs.SharedStates.{SharedState}
 use Rattle.code_places.specs.Operands.{LeadsToType}
 use Rattle.frame_store.specs.FrameContents.{FrameContent, SetsTop}
 use Rattle.object_store.specs.HeapContents.{HeapContent, IsReference}
-use Rattle.heap_row_laws.specs.HeapOperands.{IsObjectOrNull, IsReferenceOrNull}
+use Rattle.heap_row_laws.specs.HeapOperands.{IsReferenceOrNull}
 use Rattle.number_laws.proofs.FrameParts.{with_stack}
 use Rattle.step_contents.specs.Settings.{AreKnown}
 use Rattle.heap_ops.specs.declared.here.Here.{Here}
@@ -59,10 +56,14 @@ module _ (classes : List ClassRecord) (shared : SharedState) (a b : KnownCapabil
       above_too class (inr (inl h)) = inr (inl h)
       above_too class (inr (inr (inl h))) = inr (inr (inl h))
       above_too class (inr (inr (inr (c, numbered, inl shows)))) =
-          inr (inr (inr (c, subst (λ (ranges : List CapRange). capability_numbered ranges k ≡ Some c) (first.ranges ∙ sym second.ranges) numbered, inl shows)))
+          inr (inr (inr (c, subst (λ (ranges : List CapRange). capability_numbered ranges k ≡ Some c) (first.ranges ∙ sym second.ranges) numbered, inl
+          shows)))
       above_too class (inr (inr (inr (c, numbered, inr stands)))) =
-          inr (inr (inr (c, subst (λ (ranges : List CapRange). capability_numbered ranges k ≡ Some c) (first.ranges ∙ sym second.ranges) numbered,
-          inr (stands_too c.capability class stands))))
+          inr (inr (inr (
+            c,
+            subst (λ (ranges : List CapRange). capability_numbered ranges k ≡ Some c) (first.ranges ∙ sym second.ranges) numbered,
+            inr (stands_too c.capability class stands),
+          )))
 
   pub instance_too : (heap : List NamedObject) (v : Value) (t : TypeRef) → IsInstance classes a heap v t → IsInstance classes b heap v t
   instance_too heap (Held.Obj n) t is = is

@@ -1,5 +1,5 @@
 -- What was done to the stores is what a row says.
-use Rattle.std.proofs.Common.{◌≡◌, ◌≢◌, ℕ, ◌+◌, List, [], ◌∷◌, ◌++◌, Option, Some, refl, sym, ap, subst, ◌∙◌}
+use Rattle.std.proofs.Common.{◌≡◌, ℕ, ◌+◌, List, [], ◌∷◌, ◌++◌, Option, Some, refl, sym, ap, subst, ◌∙◌}
 use Rattle.std.proofs.lemmas.List.Sums.{sum_by_push}
 use Rattle.std.proofs.lemmas.Option.{same_Some}
 use Rattle.list_lemmas.proofs.LastItems.{one_last}
@@ -17,7 +17,7 @@ use Rattle.jk_model_heaps.specs.Heaps.{heap_words}
 use Rattle.jk_model_heaps.specs.Workings.{GoesOn, GoesOnWith, Inside, Outcome, Raises, Setting, Working}
 use Rattle.jk_model_heap_rows.specs.HeapRows.{HeapRow}
 use Rattle.class_init.specs.KeptStates.{KeptState}
-use Rattle.frame_store.specs.FrameContents.{Changes, FrameContent, SetsTop, StoredSegment}
+use Rattle.frame_store.specs.FrameContents.{Changes, SetsTop, StoredSegment}
 use Rattle.object_store.specs.HeapContents.{HeapBecomes, HeapContent, IsSame}
 use Rattle.number_laws.proofs.FrameParts.{with_stack}
 use Rattle.number_ops.proofs.TopFrames.{stays}
@@ -25,7 +25,7 @@ use Rattle.step_contents.specs.AnsweredSteps.{IsAnswered}
 use Rattle.step_contents.specs.Conditions.{MayDo, working}
 use Rattle.step_contents.specs.Contents.{Becomes, Contents, FramesBecome, Here, InsideBecomes, inside_in, with_frame}
 use Rattle.step_contents.specs.PlacesInCode.{PlaceInCode}
-use Rattle.heap_ops.proofs.KnownHere.{frame_on_top}
+use Rattle.code_places.proofs.InstructionsBegin.{top_frame}
 
 -- ---- The inside.
 
@@ -41,9 +41,11 @@ inside_becomes old new here before heap own is heaps kept page = record {
       (sym (ap (λ (k : KeptState). k.state) kept))
       ∙ ap (λ (h : List NamedObject). let i : Inside = record { own = new.own.state; heap = h; heap_at = before.heap_at; stack_at = before.stack_at } in i)
       (sym heaps.becomes)
-      ∙ ap (λ (p : Option ℕ). let i : Inside = record { own = new.own.state; heap = new.heaps.heap here.domain; heap_at = p; stack_at = before.stack_at } in i)
+      ∙ ap (λ (p : Option ℕ). let i : Inside = record { own = new.own.state; heap = new.heaps.heap here.domain; heap_at = p; stack_at = before.stack_at } in
+      i)
       (ap (λ (i : Inside). i.heap_at) is ∙ sym (heaps.domains.first_page here.domain))
-      ∙ ap (λ (p : Option ℕ). let i : Inside = record { own = new.own.state; heap = new.heaps.heap here.domain; heap_at = new.heaps.first_page here.domain; stack_at = p } in i)
+      ∙ ap (λ (p : Option ℕ). let i : Inside = record { own = new.own.state; heap = new.heaps.heap here.domain; heap_at = new.heaps.first_page here.domain;
+      stack_at = p } in i)
       (ap (λ (i : Inside). i.stack_at) is ∙ sym page);
   heaps = heaps;
   rooms = ap (λ (k : KeptState). k.rooms) kept;
@@ -125,7 +127,7 @@ module _ (c new : Contents) (here : Here) (at : PlaceInCode) (may : MayDo c here
 
 module _ (c : Contents) (here : Here) (at : PlaceInCode) (may : MayDo c here at) where
   pub frame_stays : SetsTop c.frames c.frames here.segment may.frame
-  frame_stays = stays c.frames here.segment may.frame (frame_on_top c here at may)
+  frame_stays = stays c.frames here.segment may.frame (top_frame may)
 
   -- the heap's words are counted
   pub heap_words_used : c.heaps.used here.domain ≡ heap_words here.world.classes may.run.inside.heap

@@ -1,20 +1,26 @@
 -- What is known of instructions on objects in the stores.
 mod ArrayLengths
 mod ArraysFound
+mod ArraysNew
+mod CountsRead
 mod DoingHere
 mod ElementLoads
+mod ElementStores
 mod EntriesTakenOff
 mod FieldGets
 mod FieldPlaces
+mod FieldPuts
 mod FieldsFound
 mod FoundByOpcode
 mod InstancesTold
 mod InstructionDone
-mod KnownHere
 mod ObjectsMade
 mod ObjectsNew
+mod ObjectsPut
+mod ReferencesStored
 mod RoomOnStack
 mod StaticsUsed
 mod TextsLoaded
 mod Throws
+mod TreesMade
 mod ValuesOnTop

@@ -134,10 +134,9 @@ module _ (heaps : HeapContent) (frames : FrameContent) (h : Here) (k : Doing hea
       let becomes : HeapBecomes heaps new_heaps h.domain (heaps.heap h.domain ++ named a o ∷ [])
       (heaps.used h.domain + heap_words h.world.now.classes (named a o ∷ [])) =
       subst (λ (n : ℕ). HeapBecomes heaps new_heaps h.domain (heaps.heap h.domain ++ named a o ∷ []) (heaps.used h.domain + n)) (sym cost)
-      makes.becomes in
-      (
+      makes.becomes in (
         subst (λ (classes : List ClassRecord). MakesOne classes k.setting.quota heap a o (heap ++ named a o ∷ []))
-        (sym (same_classes heaps frames h k)) made,
+            (sym (same_classes heaps frames h k)) made,
         grown_by new_heaps (named a o ∷ []) becomes,
       )
 

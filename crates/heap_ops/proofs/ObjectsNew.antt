@@ -1,32 +1,27 @@
 -- A new object of the class that an instruction names.
-use Rattle.std.proofs.Common.{◌≡◌, inl, inr, ℕ, ◌+◌, ◌<◌, ◌≤◌, List, [], ◌∷◌, ◌++◌, Contains, Some, refl, sym, ap, subst, ◌∙◌, append-nil}
+use Rattle.std.proofs.Common.{◌≡◌, ℕ, ◌+◌, ◌<◌, ◌≤◌, List, [], ◌∷◌, ◌++◌, Some, refl, sym, ap, subst, ◌∙◌, append-nil}
 use Rattle.std.proofs.lemmas.Option.{slice_get_within}
 use Rattle.jk_model.specs.declared.identifiers.ClassId.{ClassId}
-use Rattle.jk_model.specs.declared.identifiers.MemberId.{MemberId}
 use Rattle.jk_model.specs.declared.opcodes.TheConstants.{NEW}
 use Rattle.jk_model.specs.declared.steps.After.TheVariants as Next
 use Rattle.jk_model.specs.declared.steps.Raise.TheVariants as Raised
 use Rattle.jk_model.specs.declared.steps.Standing.TheVariants as Stands
-use Rattle.jk_model.specs.declared.values.Value.{Value}
 use Rattle.jk_model.specs.declared.values.Value.TheVariants as Held
-use Rattle.jk_model_classes.specs.declared.records.BaseRef.{BaseRef}
 use Rattle.jk_model_classes.specs.declared.records.BaseRef.TheVariants as Base
-use Rattle.jk_model_classes.specs.declared.records.Link.{Link}
 use Rattle.jk_model_classes.specs.declared.records.Link.TheVariants as To
 use Rattle.jk_model_classes.specs.declared.records.TypeRef.{TypeRef}
 use Rattle.jk_model_classes.specs.declared.records.ClassRecord.{ClassRecord}
 use Rattle.jk_model_classes.specs.Classes.{HasClass, record_of}
 use Rattle.jk_model_typing.specs.FrameTypes.{array_type}
-use Rattle.jk_model_typing.specs.Scopes.{CodeScope, LeadsToLink, NamesClass}
+use Rattle.jk_model_typing.specs.Scopes.{NamesClass}
 use Rattle.jk_model_domains.specs.NumberRows.{IsOnTop}
 use Rattle.jk_model_heaps.specs.declared.shapes.Shape.TheVariants as Of
 use Rattle.jk_model_heaps.specs.Heaps.{zero_object}
 use Rattle.jk_model_heap_rows.specs.HeapRows.{makes_object}
 use Rattle.code_places.specs.Operands.{LeadsToType}
-use Rattle.frame_store.specs.FrameContents.{FrameContent, HasFreeEntry, SetsTop, TopFrame}
+use Rattle.frame_store.specs.FrameContents.{FrameContent, SetsTop, TopFrame}
 use Rattle.object_store.specs.HeapContents.{HeapContent, IsHeapContent, IsSame, MakesObject, shape_words, words_left}
 use Rattle.number_laws.proofs.FrameParts.{with_stack}
-use Rattle.sound_codes.specs.NamedWell.{NamesWell}
 use Rattle.jk_model_frames.specs.Frames.{FrameState}
 use Rattle.heap_ops.specs.declared.here.Here.{Here}
 use Rattle.heap_ops.specs.OneInstruction.{place_in}

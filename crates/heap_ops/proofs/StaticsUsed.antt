@@ -1,5 +1,5 @@
 -- Static fields that instructions name.
-use Rattle.std.proofs.Common.{◌≡◌, inl, inr, ℕ, ◌+◌, Bool, true, false, List, [], ◌∷◌, ◌++◌, append-nil, Some, refl, sym, ap, subst, ◌∙◌}
+use Rattle.std.proofs.Common.{◌≡◌, inl, inr, ◌+◌, Bool, true, false, List, [], ◌∷◌, ◌++◌, append-nil, Some, refl, sym, ap, subst, ◌∙◌}
 use Rattle.std.proofs.lemmas.Option.{same_Some}
 use Rattle.jk_model.specs.declared.identifiers.MemberId.{MemberId}
 use Rattle.jk_model.specs.declared.opcodes.TheConstants.{GETSTATIC, PUTSTATIC}
@@ -7,7 +7,6 @@ use Rattle.jk_model.specs.declared.steps.After.TheVariants as Next
 use Rattle.jk_model.specs.declared.values.Value.{Value}
 use Rattle.jk_model.specs.declared.values.Value.TheVariants as Held
 use Rattle.jk_model_classes.specs.declared.records.ClassRecord.{ClassRecord}
-use Rattle.jk_model_classes.specs.declared.records.FieldRecord.{FieldRecord}
 use Rattle.jk_model_classes.specs.declared.records.TypeRef.{TypeRef}
 use Rattle.jk_model_classes.specs.Lookups.{FieldIs}
 use Rattle.jk_model_frames.specs.Frames.{FrameState}

@@ -1,43 +1,37 @@
 -- The object of the text that an instruction loads.
-use Rattle.std.proofs.Common.{◌≡◌, ◌⊎◌, inl, inr, ℕ, ◌+◌, ◌-◌, ◌<◌, ◌≤◌, List, [], ◌∷◌, ◌++◌, length, Contains, Option, Some, None, refl, sym, ap, subst, ◌∙◌, arith}
+use Rattle.std.proofs.Common.{◌≡◌, inl, inr, ℕ, ◌+◌, ◌-◌, ◌<◌, ◌≤◌, List, [], ◌∷◌, ◌++◌, length, Contains, Option, Some, None, refl, sym, ap, subst, ◌∙◌, arith}
 use Rattle.std.specs.Option.{option_map_or}
 use Rattle.list_lemmas.proofs.ItemsOfLists.{Contains-at}
 use Rattle.jk_model.specs.declared.frames.FrameHead.{FrameHead}
-use Rattle.jk_model.specs.declared.identifiers.ClassId.{ClassId}
 use Rattle.jk_model.specs.declared.identifiers.DomainId.{DomainId}
-use Rattle.jk_model.specs.declared.identifiers.MemberId.{MemberId}
 use Rattle.jk_model.specs.declared.opcodes.TheConstants.{LDC_W}
 use Rattle.jk_model.specs.declared.steps.After.TheVariants as Next
 use Rattle.jk_model.specs.declared.steps.Raise.TheVariants as Raised
 use Rattle.jk_model.specs.declared.steps.Standing.TheVariants as Stands
-use Rattle.jk_model.specs.declared.values.Value.{Value}
 use Rattle.jk_model.specs.declared.values.Value.TheVariants as Held
-use Rattle.jk_model_classes.specs.declared.records.ClassRecord.{ClassRecord}
 use Rattle.jk_model_classes.specs.declared.records.Link.{Link}
 use Rattle.jk_model_classes.specs.declared.records.Link.TheVariants as To
 use Rattle.jk_model_frames.specs.Frames.{FrameState}
 use Rattle.jk_model_domains.specs.Objects.{NamedObject, Object, Text, object_words}
 use Rattle.jk_model_domains.specs.OwnStates.{IsLiteralOf, Literal, OwnState, literal_named}
-use Rattle.jk_model_heaps.specs.Heaps.{MakesOne, named}
-use Rattle.jk_model_heaps.specs.Workings.{GoesOn, Inside, Raises, with_heap}
-use Rattle.jk_model_heap_rows.specs.HeapRows.{HeapRow, loads_text}
+use Rattle.jk_model_heaps.specs.Heaps.{named}
+use Rattle.jk_model_heaps.specs.Workings.{Inside, with_heap}
+use Rattle.jk_model_heap_rows.specs.HeapRows.{loads_text}
 use Rattle.jk_model_heap_rows.specs.NewObjectRows.{LacksWords, with_literal}
 use Rattle.jk_model_sealing.specs.SealedRuns.{KnowsClassOf}
-use Rattle.jk_model_typing.specs.Scopes.{LeadsToLink}
 use Rattle.class_init.specs.KeptStates.{KeptState}
 use Rattle.code_places.specs.Operands.{LeadsToText}
 use Rattle.frame_store.specs.FrameContents.{FrameContent, SetsTop, TopFrame}
 use Rattle.object_store.specs.HeapContents.{HeapContent, IsHeapContent, IsSame, MakesObject, words_left}
 use Rattle.number_laws.proofs.FrameParts.{with_stack}
 use Rattle.step_contents.specs.Contents.{InsideBecomes, contents_of}
+use Rattle.code_places.proofs.InstructionsBegin.{runs_well}
 use Rattle.heap_ops.specs.declared.here.Here.{Here}
 use Rattle.heap_ops.specs.LiteralObjects.{HasObject, LacksObject, LiteralCall, with_text}
 use Rattle.heap_ops.specs.OneInstruction.{place_in}
-use Rattle.heap_ops.proofs.DoingHere.{Doing, Done, c, found, here, i, s, same_classes, top, w}
-use Rattle.heap_ops.proofs.FieldsFound.{one_link}
+use Rattle.heap_ops.proofs.DoingHere.{Doing, Done, c, found, here, i, s, top, w}
 use Rattle.heap_ops.proofs.FoundByOpcode.{TextFound, found_at}
 use Rattle.heap_ops.proofs.InstructionDone.{frame_stays, going, goes_on, inside_stays, raises}
-use Rattle.heap_ops.proofs.KnownHere.{at_home}
 use Rattle.heap_ops.proofs.ObjectsMade.{inside_now, lacks, one_made, own_is}
 use Rattle.heap_ops.proofs.ObjectsNew.{nothing_taken}
 
@@ -55,7 +49,7 @@ module _ (heaps : HeapContent) (frames : FrameContent) (h : Here) (k : Doing hea
         let code = k.may.place in
         let home : KnowsClassOf k.may.domain.names.table (Some code.method) =
         subst (KnowsClassOf k.may.domain.names.table) (ap (λ (x : FrameHead). x.method) (sym k.may.head) ∙ code.is_method)
-        (at_home (c heaps frames h k) (here heaps frames h k) (place_in h) k.may).0 in
+        (runs_well k.may k.setting k.is_setting).at_home.0 in
         let listed : Contains code.is_scope.class.links (To.Text text) =
         subst (λ (links : List Link). Contains links (To.Text text)) code.is_scope.links
         (Contains-at (s heaps frames h k).links to.0 (To.Text text) to.2) in
@@ -135,7 +129,7 @@ module _ (heaps : HeapContent) (frames : FrameContent) (h : Here) (k : Doing hea
 
 -- ---- A text that is longer than any heap.
 
-left_most : (used : ℕ) (q : Option ℕ) → ((n : ℕ) → q ≡ Some n → n ≤ 16777216) → option_map_or (λ (m : ℕ). m - used) q 0 ≤ 16777216
+pub left_most : (used : ℕ) (q : Option ℕ) → ((n : ℕ) → q ≡ Some n → n ≤ 16777216) → option_map_or (λ (m : ℕ). m - used) q 0 ≤ 16777216
 left_most used None most = omega arith
 left_most used (Some n) most = let few = most n refl in omega (arith, few)
 

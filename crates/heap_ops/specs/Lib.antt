@@ -1,4 +1,5 @@
 -- What an instruction on objects, and the fall of an initialiser's need, make of the stores.
+pub mod ArrayCounts
 pub mod ConstantsSet
 pub mod HeapSteps
 pub mod HeapValues

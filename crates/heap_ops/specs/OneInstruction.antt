@@ -1,5 +1,5 @@
 -- One instruction on objects, as functions do it that see some of the stores alone: it may be done, and is, whatever the others hold.
-use Rattle.std.specs.Prelude.{◌≡◌, ◌+◌, Result, Ok, Err}
+use Rattle.std.specs.Prelude.{◌+◌, Result, Ok, Err}
 use Rattle.jk_model.specs.declared.steps.After.{After}
 use Rattle.jk_model.specs.declared.steps.After.TheVariants as Next
 use Rattle.jk_model.specs.declared.steps.Raise.{Raise}
@@ -47,6 +47,13 @@ pub record MayStepAmong (heaps : HeapContent) (frames : FrameContent) (caps : Kn
   pub kind : IsOfHeaps (place_in h).scope (place_in h).instr
   pub known : AreKnown h.world.now.classes shared caps
 
+-- It may be done where both are given.
+pub record MayStepAll (heaps : HeapContent) (frames : FrameContent) (own : KeptState) (caps : KnownCapabilities) (h : Here) : Type 0 where
+  pub shared : SharedState
+  pub may : MayDo (contents_of heaps frames own) (among h shared) (place_in h)
+  pub kind : IsOfHeaps (place_in h).scope (place_in h).instr
+  pub known : AreKnown h.world.now.classes shared caps
+
 -- ---- After.
 
 -- the frame goes on at the next place, or this is raised
@@ -68,3 +75,9 @@ abbrev pub StepsAmong : HeapContent → HeapContent → FrameContent → FrameCo
 StepsAmong heaps new_heaps frames new_frames known h result =
     (own : KeptState) (shared : SharedState) → AreKnown h.world.now.classes shared known
     → HeapDone (contents_of heaps frames own) (contents_of new_heaps new_frames own) (among h shared) (place_in h) (answer h result)
+
+abbrev pub StepsAll : HeapContent → HeapContent → FrameContent → FrameContent → KeptState → KeptState → KnownCapabilities → Here
+    → Result (Unit {0}) Raise → Type 0
+StepsAll heaps new_heaps frames new_frames own new_own known h result =
+    (shared : SharedState) → AreKnown h.world.now.classes shared known
+    → HeapDone (contents_of heaps frames own) (contents_of new_heaps new_frames new_own) (among h shared) (place_in h) (answer h result)

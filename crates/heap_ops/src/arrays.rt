@@ -1,21 +1,25 @@
 //! Elements of arrays, and their lengths.
 
-ghost use Rattle.std.specs.Prelude.{◌≡◌, ◌<◌, ◌^◌, ℕ, pos, IsTrue, MatchResult};
-ghost use Rattle.jk_model.specs.declared.opcodes.TheConstants.{ARRAYLENGTH as LENGTH};
+ghost use Rattle.std.specs.Prelude.{◌≡◌, ◌≢◌, ◌<◌, ◌^◌, ℕ, pos, IsTrue, MatchResult};
+ghost use Rattle.jk_model.specs.declared.opcodes.TheConstants.{AASTORE, ARRAYLENGTH as LENGTH};
 ghost use Rattle.jk_model.specs.declared.steps.Raise.TheVariants as Raised;
 ghost use Rattle.jk_model_classes.specs.declared.records.TypeRef.{TypeRef as AType};
-ghost use Rattle.jk_model_heap_rows.specs.ElementRows.{is_element_load};
+ghost use Rattle.jk_model_heap_rows.specs.ElementRows.{is_element_load, is_element_store};
 ghost use Rattle.jk_model_heaps.specs.SystemClasses.{ARRAY_INDEX_EXCEPTION};
 ghost use Rattle.heap_ops.specs.HeapValues.{HasNoPlace, IsArrayAt};
-ghost use Rattle.heap_ops.specs.OneInstruction.{MayStep, Steps, place_in};
+ghost use Rattle.heap_ops.specs.OneInstruction.{MayStep, MayStepAmong, Steps, StepsAmong, place_in};
 
-use crate::entries::{int_at, object_at, replace};
+use crate::casts::may_be_cast;
+use crate::entries::{drop_entries, int_at, object_at, replace, value_at};
 use crate::here::Here;
+use crate::stored::stored;
 use frame_store::FrameStore;
+use heap_row_laws::laws::heap_rows_keep;
+use instance_tests::CapabilityTests;
 use jk_model::{DomainId, Raise, Value};
 use jk_model_classes::TypeRef;
 use jk_model_heaps::Shape;
-use jk_model_heaps::system_classes::ARRAY_INDEX_EXCEPTION;
+use jk_model_heaps::system_classes::{ARRAY_INDEX_EXCEPTION, ARRAY_STORE_EXCEPTION};
 use object_store::ObjectStore;
 
 /// The element type and the length of an array.
@@ -81,5 +85,58 @@ pub(crate) fn load_element<H: ObjectStore, F: FrameStore>(
     let place = place_at(index, len)?;
     let v = heap.read(here.world.classes(), here.domain, a, place);
     replace(frames, here.segment, 2, v);
+    Ok(())
+}
+
+/// Takes an array, an index and a whole number, and stores the number there, as the array's own element type says.
+pub(crate) fn store_element<H: ObjectStore, F: FrameStore>(
+    heap: &mut H,
+    frames: &mut F,
+    here: &Here<'_>,
+) -> Result<(), Raise>
+    requires op { IsTrue (is_element_store (place_in here.now).instr.op) }
+    requires numbers { (place_in here.now).instr.op ≢ AASTORE }
+    requires may { MayStep (H.content heap.old) (F.content frames.old) here.now }
+    ensures { Steps (H.content heap.old) (H.content heap.new) (F.content frames.old) (F.content frames.new) here.now result }
+{
+    let a = object_at(frames, here.segment, 2)?;
+    let (element, len) = array_at(heap, here.domain, a);
+    let index = int_at(frames, here.segment, 1);
+    let place = place_at(index, len)?;
+    let top = value_at(frames, here.segment, 0);
+    let v = stored(&element, top);
+    // By this law the value is of the elements' kind.
+    heap_rows_keep();
+    heap.write(here.world.classes(), here.domain, a, place, v);
+    drop_entries(frames, here.segment, 3);
+    Ok(())
+}
+
+/// Takes an array, an index and a reference, and stores the reference there. An ArrayStoreException is raised where it is neither
+/// null nor an instance of the array's own element type.
+pub(crate) fn store_reference<H: ObjectStore, F: FrameStore, C: CapabilityTests>(
+    heap: &mut H,
+    frames: &mut F,
+    caps: &C,
+    here: &Here<'_>,
+) -> Result<(), Raise>
+    requires op { (place_in here.now).instr.op ≡ AASTORE }
+    requires may { MayStepAmong (H.content heap.old) (F.content frames.old) (C.known caps.now) here.now }
+    requires right { C.agrees caps.now here.now.world.now.classes }
+    ensures { StepsAmong (H.content heap.old) (H.content heap.new) (F.content frames.old) (F.content frames.new) (C.known caps.now) here.now result }
+{
+    let a = object_at(frames, here.segment, 2)?;
+    let (element, len) = array_at(heap, here.domain, a);
+    let index = int_at(frames, here.segment, 1);
+    let place = place_at(index, len)?;
+    let top = value_at(frames, here.segment, 0);
+    if !may_be_cast(heap, caps, here, top, &element) {
+        return Err(Raise::Fresh(ARRAY_STORE_EXCEPTION));
+    }
+    let v = stored(&element, top);
+    // By this law the value is of the elements' kind.
+    heap_rows_keep();
+    heap.write(here.world.classes(), here.domain, a, place, v);
+    drop_entries(frames, here.segment, 3);
     Ok(())
 }

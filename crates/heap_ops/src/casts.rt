@@ -48,7 +48,7 @@ fn is_instance_of<H: ObjectStore, C: CapabilityTests>(
 }
 
 /// Whether a reference is null or an instance of a type.
-fn may_be_cast<H: ObjectStore, C: CapabilityTests>(
+pub(crate) fn may_be_cast<H: ObjectStore, C: CapabilityTests>(
     heap: &H,
     caps: &C,
     here: &Here<'_>,

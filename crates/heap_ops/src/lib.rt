@@ -1,7 +1,8 @@
 //! What the instructions do that work on objects, arrays, static fields and literals: they change a domain's heap, its own state and
-//! the top frame of a segment, in whatever stores these stand. The contracts stand in `specs/`; the code comes under them.
+//! the top frame of a segment, in whatever stores these stand. Nothing here takes memory.
 #![tactic(auto)]
 
+mod array_trees;
 mod arrays;
 mod casts;
 mod entries;
@@ -9,6 +10,8 @@ mod fields;
 mod here;
 mod literals;
 mod making;
-mod probe;
 mod statics;
+mod steps;
 mod stored;
+
+pub use steps::step;

@@ -30,10 +30,22 @@ fn literal_object<H: ObjectStore>(
 ) -> Result<u32, NoRoom>
     requires admitted { IsAdmitted (H.content heap.old) d }
     requires known { Contains own.old.rooms text.now }
-    ensures ok { IfOk result (λ a. let x : LiteralCall = record { heaps = H.content heap.old; new_heaps = H.content heap.new;
-        own = own.old; new_own = own.new; domain = d; text = text.now } in HasObject x t.now a) }
-    ensures err { OnErr result (let x : LiteralCall = record { heaps = H.content heap.old; new_heaps = H.content heap.new;
-        own = own.old; new_own = own.new; domain = d; text = text.now } in LacksObject x) }
+    ensures ok { IfOk result (λ a. let x : LiteralCall = record {
+      heaps = H.content heap.old;
+      new_heaps = H.content heap.new;
+      own = own.old;
+      new_own = own.new;
+      domain = d;
+      text = text.now;
+    } in HasObject x t.now a) }
+    ensures err { OnErr result (let x : LiteralCall = record {
+      heaps = H.content heap.old;
+      new_heaps = H.content heap.new;
+      own = own.old;
+      new_own = own.new;
+      domain = d;
+      text = text.now;
+    } in LacksObject x) }
 {
     if let Some(a) = own.literal(text) {
         return Ok(a);

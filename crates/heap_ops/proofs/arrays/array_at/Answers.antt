@@ -1,9 +1,6 @@
 -- The array's shape tells its elements and how many they are, and an array is short.
-use Rattle.std.proofs.Common.{◌≡◌, ℕ, List, length, refl, sym, ap, subst, arith}
-use Rattle.jk_model.specs.declared.values.Value.{Value}
-use Rattle.jk_model_classes.specs.declared.records.TypeRef.{TypeRef}
+use Rattle.std.proofs.Common.{length, ap, arith}
 use Rattle.jk_model_domains.specs.Objects.{Array}
-use Rattle.jk_model_heaps.specs.declared.shapes.Shape.TheVariants as Of
 use Rattle.object_store.proofs.ObjectsWritten.{is_short}
 use Rattle.heap_ops.proofs.ArraysFound.{shape_told}
 use Rattle.heap_ops.proofs.arrays.array_at.Goals as goal

@@ -1,5 +1,4 @@
 -- Null and instances stay, and else an exception is raised.
-use Rattle.std.proofs.Common.{◌≡◌}
 use Rattle.heap_ops.proofs.DoingHere.{Doing, doing_among}
 use Rattle.heap_ops.proofs.InstancesTold.{cast_done, cast_fails, cast_found, is_known, names_type, reference, value_below}
 use Rattle.heap_ops.proofs.StaticsUsed.{never_true}

@@ -1,5 +1,4 @@
 -- 1 is pushed at an instance, and else 0.
-use Rattle.std.proofs.Common.{◌≡◌}
 use Rattle.heap_ops.proofs.DoingHere.{Doing, doing_among}
 use Rattle.heap_ops.proofs.InstancesTold.{is_known, names_type, one_there, reference, test_fails, test_found, test_holds, value_below}
 use Rattle.heap_ops.proofs.StaticsUsed.{never_true}

@@ -19,7 +19,8 @@ loop-i-preserved g c =
     one_more_taken (g.F.FrameStore.content c.args.frames.now) (g.F.FrameStore.content c.loop-i.frames) (g.F.FrameStore.content c.pop_value-entry.new.self)
     c.args.s c.loop-i._i c.pop_value-entry.result so_far
     (c.pop_value-entry.ensures (with_stack so_far.frame so_far.below)
-    (top_after (g.F.FrameStore.content c.args.frames.now) (g.F.FrameStore.content c.loop-i.frames) c.args.s (with_stack so_far.frame so_far.below) so_far.sets))
+    (top_after (g.F.FrameStore.content c.args.frames.now) (g.F.FrameStore.content c.loop-i.frames) c.args.s (with_stack so_far.frame so_far.below)
+    so_far.sets))
 
 pub returns : goal.returns
 returns g c =

@@ -1,5 +1,5 @@
 -- The literal's object is pushed, which is there or fits.
-use Rattle.std.proofs.Common.{◌≡◌, List, subst}
+use Rattle.std.proofs.Common.{List, subst}
 use Rattle.jk_model_classes.specs.declared.records.ClassRecord.{ClassRecord}
 use Rattle.heap_ops.specs.LiteralObjects.{HasObject, LiteralCall}
 use Rattle.heap_ops.proofs.DoingHere.{Doing, doing_with}

@@ -1,5 +1,5 @@
 -- The object is pushed where it fits.
-use Rattle.std.proofs.Common.{◌≡◌, ◌<◌, ◌≤◌, List, sym, subst}
+use Rattle.std.proofs.Common.{◌<◌, ◌≤◌, List, sym, subst}
 use Rattle.jk_model_classes.specs.declared.records.ClassRecord.{ClassRecord}
 use Rattle.jk_model_classes.specs.Classes.{HasClass}
 use Rattle.jk_model_heaps.specs.declared.shapes.Shape.TheVariants as Of

@@ -1,5 +1,5 @@
 -- What a store leaves of the top entry is the field's value then.
-use Rattle.std.proofs.Common.{◌≡◌, ◌+◌, List, sym, subst}
+use Rattle.std.proofs.Common.{◌+◌, List, sym, subst}
 use Rattle.jk_model.specs.declared.steps.After.TheVariants as Next
 use Rattle.jk_model_classes.specs.declared.records.ClassRecord.{ClassRecord}
 use Rattle.jk_model_classes.specs.Lookups.{FieldIs}

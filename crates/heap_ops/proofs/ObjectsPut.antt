@@ -1,0 +1,132 @@
+-- A value that is put into an object: it is of the kind of the value that stands there, and small; and the heap that is left.
+use Rattle.std.proofs.Common.{◌≡◌, ℕ, ◌+◌, List, [], ◌∷◌, ◌++◌, Some, slice_get, sym, ap, subst, ◌∙◌, arith}
+use Rattle.std.specs.Prelude.{slice_set}
+use Rattle.std.specs.List.{AllByRecursion}
+use Rattle.std.proofs.lemmas.Option.{same_Some, slice_get_within}
+use Rattle.list_lemmas.proofs.ItemsByPlace.{item_there, slice_get-set_same}
+use Rattle.jk_model.specs.declared.identifiers.ClassId.{ClassId}
+use Rattle.jk_model.specs.declared.values.Value.{Value}
+use Rattle.jk_model.specs.declared.values.Value.TheVariants as Held
+use Rattle.jk_model_classes.specs.declared.records.ClassRecord.{ClassRecord}
+use Rattle.jk_model_classes.specs.declared.records.TypeRef.{TypeRef}
+use Rattle.jk_model_domains.specs.NumberRows.{IsOnTop}
+use Rattle.jk_model_domains.specs.Objects.{NamedObject, Object, Array, Plain, object_named}
+use Rattle.jk_model_domains.specs.OwnStates.{zero_of}
+use Rattle.jk_model_domains.specs.ValueTypes.{HoldsDeclared}
+use Rattle.jk_model_heaps.specs.Capabilities.{CapRange}
+use Rattle.jk_model_heaps.specs.Heaps.{IsAlike, field_records, heap_words, named, with_object}
+use Rattle.jk_model_heaps.specs.StoredValues.{stored}
+use Rattle.jk_model_heaps.specs.Workings.{GoesOn, Inside, Working, with_heap}
+use Rattle.jk_model_heap_rows.specs.HeapRows.{HeapRow}
+use Rattle.jk_model_sealing.specs.SealedInsides.{IsKnownValue, IsSealedInside, IsSealedObject}
+use Rattle.jk_model_sharing.specs.SharedStates.{caps_of}
+use Rattle.frame_store.specs.FrameContents.{FrameContent}
+use Rattle.grown_heaps.proofs.ObjectsAfterChanges.{found_stands, written_there, written_words}
+use Rattle.heap_row_laws.specs.HeapRowLaws.{HeapRowsKeep}
+use Rattle.object_store.specs.HeapContents.{AreOfKind, HeapBecomes, HeapContent, IsHeapContent, IsSmall, WritesObject}
+use Rattle.step_contents.specs.Conditions.{around}
+use Rattle.stored_objects.proofs.KindsOfTypes.{kind_of_zero, one_kind}
+use Rattle.stored_objects.proofs.LaidOut.{known_small}
+use Rattle.code_places.proofs.InstructionsBegin.{runs_code, runs_well}
+use Rattle.heap_ops.specs.declared.here.Here.{Here}
+use Rattle.heap_ops.specs.OneInstruction.{place_in}
+use Rattle.heap_ops.proofs.DoingHere.{Doing, c, here, i, s, same_heap, w}
+use Rattle.heap_ops.proofs.InstructionDone.{heap_words_used}
+
+-- ---- Lists.
+
+last_known : (P : Value → Type 0) (below taken : List Value) → AllByRecursion P (below ++ taken) → AllByRecursion P taken
+last_known P [] taken h = h
+last_known P (v ∷ below) taken h = last_known P below taken h.1
+
+item_known : {X : Type 0} (P : X → Type 0) (xs : List X) (k : ℕ) (x : X) → AllByRecursion P xs → slice_get xs k ≡ Some x → P x
+item_known P [] k x h e = absurd cc
+item_known P (y ∷ xs) ℕ.zero x h e = subst P (same_Some y x e) h.0
+item_known P (y ∷ xs) (ℕ.suc k) x h e = item_known P xs k x h.1 e
+
+-- ---- Values.
+
+stored_known : (caps : List CapRange) (heap : List NamedObject) (t : TypeRef) (v : Value) → IsKnownValue caps heap v → IsKnownValue caps heap (stored t v)
+stored_known caps heap t (Held.Int n) h = tt
+stored_known caps heap t (Held.Long n) h = h
+stored_known caps heap t Held.Null h = h
+stored_known caps heap t (Held.Obj a) h = h
+stored_known caps heap t (Held.Cap k) h = h
+stored_known caps heap t Held.Unset h = h
+
+module _ (heaps : HeapContent) (frames : FrameContent) (h : Here) (k : Doing heaps frames h) where
+  abbrev heap : List NamedObject
+  heap = (w heaps frames h k).inside.heap
+
+  abbrev classes : List ClassRecord
+  classes = h.world.now.classes
+
+  -- what is known of the values on top
+  pub top_known : (taken : List Value) → IsOnTop (w heaps frames h k).frame taken → AllByRecursion (IsKnownValue (caps_of k.shared) heap) taken
+  top_known taken on_top =
+      last_known (IsKnownValue (caps_of k.shared) heap) on_top.0 taken
+      (subst (AllByRecursion (IsKnownValue (caps_of k.shared) heap)) on_top.1
+      (runs_well k.may k.setting k.is_setting).known.1)
+
+  pub stored_small : IsHeapContent heaps → (t : TypeRef) (v : Value) → IsKnownValue (caps_of k.shared) heap v → IsSmall (stored t v)
+  stored_small holds t v known =
+      known_small heaps h.domain (caps_of k.shared) (stored t v) holds (λ n given. (k.may.domain.shares.capabilities n given).1)
+      (subst (λ (xs : List NamedObject). IsKnownValue (caps_of k.shared) xs (stored t v)) (same_heap heaps frames h k)
+      (stored_known (caps_of k.shared) heap t v known))
+
+  -- ---- An object of the heap that a row leaves.
+
+  module _ (keep : HeapRowsKeep) (a : ℕ) (o new : Object) (there : object_named heap a ≡ Some o) (g : Working) (leaves : g.inside ≡ with_heap
+      (w heaps frames h k).inside (with_object a new heap))
+      (row : HeapRow k.setting (s heaps frames h k) (i heaps frames h k) (w heaps frames h k) g (GoesOn ((w heaps frames h k).frame.head.at + 1))) where
+    after_sealed : IsSealedInside (around k.may.domain) k.setting.quota g.inside
+    after_sealed =
+        (keep (around k.may.domain) k.setting (w heaps frames h k) g (GoesOn ((w heaps frames h k).frame.head.at + 1))
+        (runs_well k.may k.setting k.is_setting)
+        (runs_code k.may) row).0.inside.sealed
+
+    pub new_sealed : IsSealedObject (around k.may.domain) (with_object a new heap) new
+    new_sealed =
+        let sealed : IsSealedInside (around k.may.domain) k.setting.quota (with_heap (w heaps frames h k).inside (with_object a new heap)) =
+        subst (IsSealedInside (around k.may.domain) k.setting.quota) leaves after_sealed in
+        sealed.objects (named a new) (found_stands a new (with_object a new heap) (written_there a new o heap there))
+
+  one_type_kind : (before after : List NamedObject) (t : TypeRef) (v u : Value) → HoldsDeclared classes before v t → HoldsDeclared classes after u t
+      → AreOfKind v u
+  one_type_kind before after t v u first second =
+      one_kind (zero_of t) v u (kind_of_zero classes before t v first) (kind_of_zero classes after t u second)
+
+  -- a field's value is of the kind of the one that takes its place
+  pub field_kind_kept : (class : ClassId) (fields : List Value) (place : ℕ) (v u : Value) (new : List NamedObject)
+      → IsSealedObject (around k.may.domain) heap (Plain class fields)
+      → IsSealedObject (around k.may.domain) new (Plain class (slice_set fields place u)) → slice_get fields place ≡ Some v → AreOfKind v u
+  field_kind_kept class fields place v u new before after at =
+      let low = slice_get_within fields place v at in
+      let record_at = item_there (field_records classes class) place (omega (arith, low, before.4.as_many)) in
+      one_type_kind heap new record_at.0.kind v u (before.4.each place v record_at.0 at record_at.1).0
+      (after.4.each place u record_at.0 (slice_get-set_same fields place u low) record_at.1).0
+
+  -- and so is an item's
+  pub item_kind_kept : (element : TypeRef) (items : List Value) (place : ℕ) (v u : Value) (new : List NamedObject)
+      → IsSealedObject (around k.may.domain) heap (Array element items)
+      → IsSealedObject (around k.may.domain) new (Array element (slice_set items place u)) → slice_get items place ≡ Some v → AreOfKind v u
+  item_kind_kept element items place v u new before after at =
+      let low = slice_get_within items place v at in
+      let first = item_known _ items place v before.2 at in
+      let second = item_known _ (slice_set items place u) place u after.2 (slice_get-set_same items place u low) in
+      one_type_kind heap new element v u first.0 second.0
+
+  -- ---- The heap that is left.
+
+  pub written_heap : (new_heaps : HeapContent) (a : ℕ) (o new : Object) → object_named heap a ≡ Some o → IsAlike o new
+      → WritesObject heaps new_heaps h.domain a new
+      → HeapBecomes heaps new_heaps h.domain (with_object a new heap) (heap_words classes (with_object a new heap))
+  written_heap new_heaps a o new there alike writes = record {
+    domains = writes.domains;
+    becomes = writes.becomes ∙ ap (with_object a new) (sym (same_heap heaps frames h k));
+    others = writes.others;
+    uses = writes.uses ∙ heap_words_used (c heaps frames h k) (here heaps frames h k) (place_in h) k.may
+        ∙ sym (written_words classes a new o heap k.may.sealed.inside.names_differ alike there);
+    other_uses = writes.other_uses;
+    mark = writes.mark;
+  }
