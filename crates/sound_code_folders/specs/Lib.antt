@@ -1,0 +1,2 @@
+pub mod MarkedMethods
+pub mod SoundFolders
