@@ -7,3 +7,13 @@ pub mod FilesHaveClasses
 pub mod MeaningsOfNames
 pub mod ConstantsOfFields
 pub mod ParentsOfClasses
+pub mod InstructionsOfFiles
+pub mod OpcodesByTest
+pub mod FieldsNamedWell
+pub mod MethodsNamedWell
+pub mod ObjectsMadeWell
+pub mod NamesOfNewCode
+pub mod NamesStay
+pub mod LinkedAgain
+pub mod SoundAgain
+pub mod SystemClassesSound

@@ -1,0 +1,10 @@
+-- By the lemmas on accepted folders.
+use Rattle.sound_code_folders.proofs.SoundAgain.{accepted_linked, accepted_marks, accepted_sound}
+use Rattle.sound_code_folders.proofs.laws.marked_folders_stay_sound.Goals as goal
+
+pub returns : goal.returns
+returns c = λ old new tables f name first table offers stubs sound marks linked a. (
+  accepted_sound a tables sound marks linked,
+  accepted_marks a tables sound marks linked,
+  accepted_linked a tables sound marks linked,
+)
