@@ -144,5 +144,6 @@ module _ {f : FolderFiles} {w : WorldRecord} {into : List ℕ} {first : ClassId}
   decoded code body = elim n.is.body [
     | inl (abstract, absent) ↦ absurd (absent_has_none code (sym absent ∙ body))
     | inr (concrete, (a, of, made, there, called, layout, is, is_made)) ↦
-        subst IsDecoded (same_code made code (sym is_made ∙ body)) (made_decoded (link_scope l.placed (record { 0 = length w.classes + n.of.k })) n.of.own.file of made layout.code.1 is)
+        subst IsDecoded (same_code made code (sym is_made ∙ body))
+        (made_decoded (link_scope l.placed (record { 0 = length w.classes + n.of.k })) n.of.own.file of made layout.code.1 is)
   ]

@@ -139,8 +139,14 @@ module _ {f : FolderFiles} {w : WorldRecord} {into : List ℕ} {first : ClassId}
     | inr fails ↦
         let place = place_of n.info.attributes a on in
         absurd (good_attributes l n.of.own.place n.of.own.file n.of.own.listed (Member (m.index + 1))
-        (inr (inl (n.info, (m.index, refl, n.listed), inr (static,
-        inr (place.0, a, place.1, (called, λ is. fails (said_by a index entry body at is))))))))
+        (inr (inl (
+          n.info,
+          (m.index, refl, n.listed),
+          inr (
+            static,
+            inr (place.0, a, place.1, (called, λ is. fails (said_by a index entry body at is))),
+          ),
+        ))))
   ]
 
   pub constant_suits : SuitsType field.kind field.constant

@@ -49,8 +49,12 @@ module _ {f : FolderFiles} {w : WorldRecord} {into : List ℕ} {first : ClassId}
         let never : IsTrue (not (has field.flags STATIC)) = rw other refl in
         let simple : IsSimple i.op = static_field_by IsSimple i.op refl refl test in
         absurd (links_well l m method n code body i on simple
-        (λ x same_op same_a. inl (target, field, uses x same_a,
-        inl (subst (λ (o : ℕ). IsTrue (is_static_access o)) (sym same_op) test, never))))
+        (λ x same_op same_a. inl (
+          target,
+          field,
+          uses x same_a,
+          inl (subst (λ (o : ℕ). IsTrue (is_static_access o)) (sym same_op) test, never),
+        )))
   ]
 
   pub object_named : IsTrue (uses_object_field i.op) → IsFalse (has field.flags STATIC)
@@ -59,8 +63,12 @@ module _ {f : FolderFiles} {w : WorldRecord} {into : List ℕ} {first : ClassId}
     | inl static ↦
         let simple : IsSimple i.op = object_field_by IsSimple i.op refl refl test in
         absurd (links_well l m method n code body i on simple
-        (λ x same_op same_a. inl (target, field, uses x same_a,
-        inr (subst (λ (o : ℕ). IsTrue (is_instance_access o)) (sym same_op) test, static))))
+        (λ x same_op same_a. inl (
+          target,
+          field,
+          uses x same_a,
+          inr (subst (λ (o : ℕ). IsTrue (is_instance_access o)) (sym same_op) test, static),
+        )))
   ]
 
   pub own_final_named : IsTrue (puts_field i.op) → IsTrue (has field.flags FINAL) → target.class ≡ own_class l m method n
@@ -69,6 +77,12 @@ module _ {f : FolderFiles} {w : WorldRecord} {into : List ℕ} {first : ClassId}
     | inr differ ↦
         let simple : IsSimple i.op = put_by IsSimple i.op refl refl test in
         absurd (accesses_well l m method n code body i on simple
-        (λ x same_op same_a. inl (target, field, uses x same_a, subst (λ (o : ℕ). IsTrue (is_put o)) (sym same_op) test, final,
-        λ e. differ (ap (λ (c : ClassId). c.0) e))))
+        (λ x same_op same_a. inl (
+          target,
+          field,
+          uses x same_a,
+          subst (λ (o : ℕ). IsTrue (is_put o)) (sym same_op) test,
+          final,
+          λ e. differ (ap (λ (c : ClassId). c.0) e),
+        )))
   ]

@@ -50,7 +50,6 @@ module _ (files : List ClassFile) where
     apart k l d less within = elim (eqb_tells (get_or order k d) (get_or order l d)) [
       | inr other ↦ other.0
       | inl same ↦
-
           let here = slice_get-get_or order k d (omega (arith, less, within)) in
           let there : slice_get order l ≡ Some (get_or order k d) = slice_get-get_or order l d within ∙ ap Some (sym same.1) in
           absurd (not_before_itself (get_or order k d) (is.rising k l (get_or order k d) (get_or order k d) less here there))

@@ -197,8 +197,12 @@ module _ {f : FolderFiles} {w : WorldRecord} {into : List ℕ} {first : ClassId}
     object_called test = elim (cases_Bool (has called.flags STATIC)) [
       | inr other ↦ other
       | inl static ↦ absurd (links_well l m method n code body i on (object_call_by IsSimple i.op refl refl refl test)
-          (λ x same_op same_a. inr (target, called, uses x same_a,
-          inr (inl (subst (λ (o : ℕ). IsTrue (is_instance_call o)) (sym same_op) test, static)))))
+          (λ x same_op same_a. inr (
+            target,
+            called,
+            uses x same_a,
+            inr (inl (subst (λ (o : ℕ). IsTrue (is_instance_call o)) (sym same_op) test, static)),
+          )))
     ]
 
     pub concrete_called : i.op ≡ INVOKESPECIAL → IsFalse (has called.flags ABSTRACT)
@@ -238,14 +242,18 @@ module _ {f : FolderFiles} {w : WorldRecord} {into : List ℕ} {first : ClassId}
     own_private_called private marks = elim (cases_eq target.class.0 (length w.classes + n.of.k)) [
       | inl same ↦ same_class target.class (own_class l m method n) same
       | inr differ ↦ absurd (l.none_placed C21 n.of.own.place (Entry index) (Contains-at placed_rules 1 C21 refl) (
-          n.of.own.file,
-          own_class l m method n,
-          n.of.own.listed,
-          (n.of.k, n.of.own.ordered, refl),
-          inr (inr (target, found.0, λ (flags, (other, other_is, e), allows).
-          let same : flags ≡ called.flags =
-          e ∙ ap (λ (x : MethodRecord). x.flags) (one_method l.placed.unlinked target other called other_is unlinked_is) in
-          not_allowed private marks (λ here. differ (ap (λ (c : ClassId). c.0) here))
-          (subst (AllowsFrom l.placed.unlinked (own_class l m method n) target.class) same allows))),
-        ))
+        n.of.own.file,
+        own_class l m method n,
+        n.of.own.listed,
+        (n.of.k, n.of.own.ordered, refl),
+        inr (inr (
+          target,
+          found.0,
+          λ (flags, (other, other_is, e), allows).
+              let same : flags ≡ called.flags =
+              e ∙ ap (λ (x : MethodRecord). x.flags) (one_method l.placed.unlinked target other called other_is unlinked_is) in
+              not_allowed private marks (λ here. differ (ap (λ (c : ClassId). c.0) here))
+              (subst (AllowsFrom l.placed.unlinked (own_class l m method n) target.class) same allows),
+        )),
+      ))
     ]

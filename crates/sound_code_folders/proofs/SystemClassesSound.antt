@@ -107,11 +107,13 @@ module _ (classes : List ClassRecord) (system : AreSystemRecords classes) where
 
   -- what a test says of each method of the table it says of a method's entry
   module _ (m : MemberId) (method : MethodRecord) (is : MethodIs classes m method) where
-    method_entry : (class : SystemClass) × (e : SystemMethod) × IsSystemRecord m.class.0 class is.0 × IsSystemMethodAt (method_number m.class.0 m.index) e method
+    method_entry : (class : SystemClass) × (e : SystemMethod) × IsSystemRecord m.class.0 class is.0
+        × IsSystemMethodAt (method_number m.class.0 m.index) e method
         × ((test : SystemClass → SystemMethod → Bool) → list_all (of_each_method test) system_classes ≡ true → test class e ≡ true)
     method_entry =
         let of = entry_of m.class is.0 is.1 in
-        let e = item_there of.0.methods m.index (omega (arith, slice_get_within is.0.methods m.index method is.2, of.2.method_count)) in (
+        let few = slice_get_within is.0.methods m.index method is.2 in
+        let e = item_there of.0.methods m.index (omega (arith, few, of.2.method_count)) in (
           of.0,
           e.0,
           of.2,
