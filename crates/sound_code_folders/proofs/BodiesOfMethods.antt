@@ -1,5 +1,5 @@
 -- A method of a folder's class is abstract, or runs code of its own (C9, C13). Its code fits 32 bits, and the keys of its switches rise (C15).
-use Rattle.std.proofs.Common.{◌≡◌, ◌≢◌, ℕ, zero, suc, ◌+◌, ◌<◌, ◌≤◌, ◌⊎◌, inl, inr, ℤ, pos, ◌<ℤ◌, true, false, IsTrue, List, [], ◌∷◌, length, map, Some, slice_get, Contains, refl, sym, ap, subst, ◌∙◌, arith, ◌^◌}
+use Rattle.std.proofs.Common.{◌≡◌, ℕ, zero, suc, ◌+◌, ◌<◌, inl, inr, ℤ, pos, List, [], ◌∷◌, length, map, Some, slice_get, refl, sym, ap, subst, ◌∙◌, arith, ◌^◌}
 use Rattle.std.proofs.lemmas.Bool.{false≢true}
 use Rattle.std.proofs.lemmas.Int.{ints}
 use Rattle.std.proofs.lemmas.Option.{slice_get_within, same_Some, none-some}
@@ -11,23 +11,19 @@ use Rattle.jk_model.specs.Flags.{has, ABSTRACT}
 use Rattle.jk_model.specs.Instructions.{AreInstrs, IsInstr, Means, Format, Rises, keys, table_cases, case_at, signed_int, WideMeans, WideFormat, WideLocal, WideIncrement, format_of, wide_format_of, AsIs, Short, ByteConstant, ShortConstant, LocalIndex, BytePoolIndex, PoolIndex, Increment, Jump, FarJump, InterfaceCall, ArrayOfKind, ManyDimensions, TableSwitch, LookupSwitch, Wide}
 use Rattle.jk_model.specs.declared.class_file.ClassFile.{ClassFile}
 use Rattle.jk_model.specs.declared.class_file.Code.{Code}
-use Rattle.jk_model.specs.declared.class_file.MemberInfo.{MemberInfo}
 use Rattle.jk_model.specs.declared.identifiers.ClassId.{ClassId}
 use Rattle.jk_model.specs.declared.identifiers.MemberId.{MemberId}
 use Rattle.jk_model.specs.declared.instructions.Instr.{Instr}
 use Rattle.jk_model.specs.declared.instructions.SwitchCase.{SwitchCase}
 use Rattle.jk_model_classes.specs.LinkRules.{LinkScope}
 use Rattle.jk_model_classes.specs.Worlds.{NamedClass, WorldRecord}
-use Rattle.jk_model_classes.specs.declared.records.Body.{Body}
-use Rattle.jk_model_classes.specs.declared.records.ClassRecord.{ClassRecord}
 use Rattle.jk_model_classes.specs.declared.records.LinkedCode.{LinkedCode}
 use Rattle.jk_model_classes.specs.declared.records.MethodRecord.{MethodRecord}
 use Rattle.jk_model_classes.specs.declared.sharing.Offer.{Offer}
 use Rattle.jk_model_classes.specs.declared.sharing.Stub.{Stub}
 use Rattle.class_lemmas.proofs.CodeOfMethods.{absent_has_none, same_code}
-use Rattle.jk_model_typing.specs.Scopes.{CodeScope, IsScopeOf}
 use Rattle.jk_model_folders.specs.FolderRules.{link_scope}
-use Rattle.jk_model_folders.specs.LinkedClasses.{GoAlong, IsCaseFor, IsInstrFor, IsLinkedCode, IsBodyFor}
+use Rattle.jk_model_folders.specs.LinkedClasses.{IsCaseFor, IsLinkedCode}
 use Rattle.jk_model_folders.specs.Loads.{Loads}
 use Rattle.jk_model_folders.specs.declared.files.FolderFiles.{FolderFiles}
 use Rattle.sound_codes.specs.SoundCodes.{IsDecoded, IsRunnable}

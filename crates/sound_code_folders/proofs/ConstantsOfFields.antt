@@ -1,26 +1,23 @@
 -- What C9 asks of the constants of a folder's fields: they suit the field's type.
-use Rattle.std.proofs.Common.{◌≡◌, ◌≢◌, ℕ, ◌+◌, ◌<◌, ◌^◌, ◌⊎◌, inl, inr, IsTrue, List, [], ◌∷◌, length, Option, Some, None, slice_get, Contains, refl, sym, ap, subst, ◌∙◌, arith, codes}
+use Rattle.std.proofs.Common.{◌≡◌, ℕ, ◌+◌, ◌<◌, ◌^◌, ◌⊎◌, inl, inr, IsTrue, List, length, Option, Some, slice_get, refl, sym, ap, subst, ◌∙◌, arith, codes}
 use Rattle.std.proofs.lemmas.Bool.{cases_eq}
 use Rattle.std.proofs.lemmas.Nat.{from_be_bytes-to_be_bytes_2}
 use Rattle.std.proofs.lemmas.Option.{same_Some, slice_get_within}
 use Rattle.std.specs.Int.{from_be_bytes, w16}
 use Rattle.list_lemmas.proofs.ItemsByPlace.{item_there}
 use Rattle.list_lemmas.proofs.ItemsOfLists.{place_of}
-use Rattle.jk_model.specs.ClassFile.{u2, IsU2, NamesEntry}
+use Rattle.jk_model.specs.ClassFile.{u2}
 use Rattle.jk_model.specs.Descriptors.{IsFieldText}
 use Rattle.jk_model.specs.Flags.{has, STATIC}
 use Rattle.jk_model.specs.declared.class_file.Attribute.{Attribute}
-use Rattle.jk_model.specs.declared.class_file.ClassFile.{ClassFile}
-use Rattle.jk_model.specs.declared.class_file.MemberInfo.{MemberInfo}
 use Rattle.jk_model.specs.declared.class_file.PoolEntry.{PoolEntry}
 use Rattle.jk_model.specs.declared.descriptors.FieldType.{FieldType}
 use Rattle.jk_model.specs.declared.identifiers.ClassId.{ClassId}
 use Rattle.jk_model.specs.declared.identifiers.MemberId.{MemberId}
 use Rattle.descriptors.proofs.NoTextBeginsAnother.{one_field}
 use Rattle.jk_model_classes.specs.Items.{Member}
-use Rattle.jk_model_classes.specs.MemberAttributes.{IsConstantOf, IsConstant, IsConstantValue}
-use Rattle.jk_model_classes.specs.Members.{TextAt}
-use Rattle.jk_model_classes.specs.SystemRecords.{IsBaseFor, IsTypeFor, system_meaning}
+use Rattle.jk_model_classes.specs.MemberAttributes.{IsConstantOf, IsConstant}
+use Rattle.jk_model_classes.specs.SystemRecords.{IsBaseFor, IsTypeFor}
 use Rattle.jk_model_classes.specs.Worlds.{NamedClass, WorldRecord}
 use Rattle.jk_model_classes.specs.declared.records.BaseRef.{BaseRef}
 use Rattle.jk_model_classes.specs.declared.records.FieldRecord.{FieldRecord}
@@ -44,7 +41,6 @@ use Rattle.jk_model.specs.declared.descriptors.Base.{Base as ABase}
 use Rattle.jk_model.specs.declared.descriptors.Base.TheVariants as Said
 use Rattle.jk_model.specs.declared.class_file.PoolEntry.TheVariants as Held
 use Rattle.jk_model_classes.specs.declared.records.BaseRef.TheVariants as Base
-use Rattle.jk_model_classes.specs.declared.records.Link.TheVariants as To
 
 -- ---- Entries.
 

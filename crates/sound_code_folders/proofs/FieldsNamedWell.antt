@@ -1,5 +1,5 @@
 -- What C20 and C21 ask of the fields that a new method's instructions name.
-use Rattle.std.proofs.Common.{◌≡◌, ◌≢◌, ℕ, pos, ◌+◌, ◌⊎◌, inl, inr, true, false, IsTrue, List, length, Some, slice_get, Contains, refl, sym, ap, subst, ◌∙◌}
+use Rattle.std.proofs.Common.{◌≡◌, ℕ, pos, ◌+◌, inl, inr, IsTrue, List, length, Some, slice_get, Contains, refl, sym, ap, subst, ◌∙◌}
 use Rattle.std.proofs.lemmas.Bool.{cases_Bool, cases_eq}
 use Rattle.std.specs.Prelude.{IsFalse, ◌||◌, not}
 use Rattle.model_lemmas.proofs.SameNumbers.{same_class}
@@ -21,7 +21,7 @@ use Rattle.jk_model_folders.specs.declared.files.FolderFiles.{FolderFiles}
 use Rattle.class_growth.proofs.LinksDontMatter.{field-linked}
 use Rattle.sound_codes.specs.NamedWell.{uses_static_field, uses_object_field, puts_field}
 use Rattle.sound_folders.proofs.FoundByLinks.{field-found, only_links}
-use Rattle.sound_folders.proofs.NewClasses.{all, added}
+use Rattle.sound_folders.proofs.NewClasses.{all}
 use Rattle.sound_code_folders.proofs.InstructionsOfFiles.{links_well, accesses_well, own_class, own_scope}
 use Rattle.sound_code_folders.proofs.NewMembers.{IsNewMethod}
 use Rattle.sound_code_folders.proofs.OpcodesByTest.{static_field_by, object_field_by, put_by}

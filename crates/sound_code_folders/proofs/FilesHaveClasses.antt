@@ -1,6 +1,6 @@
 -- Each file of a folder has a place in the order of classes: places differ, and are as many as the files.
-use Rattle.std.proofs.Common.{◌≡◌, ◌≢◌, ℕ, zero, suc, ◌+◌, ◌<◌, ◌≤◌, ◌⊎◌, inl, inr, true, false, eqb, List, [], ◌∷◌, ◌++◌, length, get_or, Some, slice_get, Contains, refl, sym, ap, subst, ◌∙◌, arith, eqb-true}
-use Rattle.std.proofs.lemmas.Bool.{cases_lt, cases_order, cases_Bool}
+use Rattle.std.proofs.Common.{◌≡◌, ℕ, zero, suc, ◌<◌, ◌≤◌, inl, inr, true, false, eqb, List, [], ◌∷◌, ◌++◌, length, get_or, Some, slice_get, Contains, refl, sym, ap, subst, ◌∙◌, arith, eqb-true}
+use Rattle.std.proofs.lemmas.Bool.{cases_Bool}
 use Rattle.std.proofs.lemmas.Bool.Decides.{eqb_tells}
 use Rattle.std.proofs.lemmas.List.{length_push}
 use Rattle.std.proofs.lemmas.List.Elements.{Contains-push_cases}
@@ -9,9 +9,9 @@ use Rattle.std.proofs.lemmas.Map.Steps.{length-le_from_distinct_below}
 use Rattle.std.proofs.lemmas.Map.Views.{Contains-from_any}
 use Rattle.std.proofs.lemmas.Option.{same_Some, slice_get-get_or}
 use Rattle.std.specs.Cmp.{nat_eq_equiv}
-use Rattle.std.specs.List.{AllByRecursion, IsDistinct, list_any}
+use Rattle.std.specs.List.{IsDistinct, list_any}
 use Rattle.jk_model.specs.declared.class_file.ClassFile.{ClassFile}
-use Rattle.jk_model_classes.specs.References.{IsCalledClass, StepsUp}
+use Rattle.jk_model_classes.specs.References.{IsCalledClass}
 use Rattle.class_lemmas.proofs.OneText.{one_class}
 use Rattle.jk_model_folders.specs.ClassOrder.{ClimbsTo, ComesBefore, HasHeight, IsClassOrder, IsOfFiles}
 

@@ -1,5 +1,5 @@
 -- An instruction of a new method's code stands in its file, but for where it leads. So no rule on instructions is broken there.
-use Rattle.std.proofs.Common.{◌≡◌, ℕ, ◌+◌, ◌⊎◌, inl, inr, true, IsTrue, List, length, Some, slice_get, Contains, refl, sym, ap, subst, ◌∙◌, arith, ◌&&◌}
+use Rattle.std.proofs.Common.{◌≡◌, ℕ, ◌+◌, ◌⊎◌, inl, inr, IsTrue, List, length, Some, slice_get, Contains, refl, sym, subst, ◌∙◌, arith}
 use Rattle.std.proofs.lemmas.Bool.{cases_Bool}
 use Rattle.std.proofs.lemmas.Option.{slice_get_within}
 use Rattle.std.specs.Prelude.{◌||◌, not}
@@ -7,13 +7,10 @@ use Rattle.list_lemmas.proofs.ItemsByPlace.{item_there}
 use Rattle.list_lemmas.proofs.ItemsOfLists.{place_of, Contains-at}
 use Rattle.list_lemmas.proofs.TestsAndOrders.{both_true}
 use Rattle.jk_model.specs.Flags.{has, ABSTRACT, NATIVE}
-use Rattle.jk_model.specs.declared.class_file.ClassFile.{ClassFile}
-use Rattle.jk_model.specs.declared.class_file.PoolEntry.{PoolEntry}
 use Rattle.jk_model.specs.declared.identifiers.ClassId.{ClassId}
 use Rattle.jk_model.specs.declared.identifiers.MemberId.{MemberId}
 use Rattle.jk_model.specs.declared.instructions.Instr.{Instr}
 use Rattle.jk_model.specs.declared.output.Rule.TheVariants.{C20, C21}
-use Rattle.jk_model_classes.specs.ClassFlags.{MethodFlags}
 use Rattle.jk_model_classes.specs.Items.{Member}
 use Rattle.jk_model_classes.specs.LinkRules.{LinkScope, FindsWrongField, FindsWrongMethod, PutsFinal, MakesWhatItMayNot}
 use Rattle.jk_model_classes.specs.MemberCode.{HasBadEntry, CallsInit, HasCode, HasInstr, is_jump, is_switch}
@@ -24,7 +21,6 @@ use Rattle.jk_model_classes.specs.declared.sharing.Offer.{Offer}
 use Rattle.jk_model_classes.specs.declared.sharing.Stub.{Stub}
 use Rattle.class_lemmas.proofs.CodeOfMethods.{same_code, absent_has_none}
 use Rattle.jk_model_folders.specs.FolderRules.{link_scope, placed_rules}
-use Rattle.jk_model_folders.specs.LinkedClasses.{IsBodyFor}
 use Rattle.jk_model_folders.specs.Loads.{Loads}
 use Rattle.jk_model_folders.specs.declared.files.FolderFiles.{FolderFiles}
 use Rattle.sound_code_folders.proofs.NewMembers.{IsNewMethod, never_native, good_code}

@@ -1,5 +1,5 @@
 -- The classes and the names with those of an accepted folder are linked as before, and its names are sound.
-use Rattle.std.proofs.Common.{◌≡◌, ◌≢◌, ℕ, ◌≤◌, inl, inr, IsTrue, List, [], ◌∷◌, ◌++◌, length, take, Option, Some, None, slice_get, Contains, refl, sym, ap, subst, ◌∙◌, arith, take_all}
+use Rattle.std.proofs.Common.{◌≡◌, ℕ, inl, inr, IsTrue, List, [], ◌∷◌, ◌++◌, length, take, Option, Some, None, Contains, refl, sym, subst, ◌∙◌, arith, take_all}
 use Rattle.std.proofs.lemmas.List.Elements.{Contains-push_cases}
 use Rattle.std.proofs.lemmas.Option.{none-some, slice_get_within}
 use Rattle.list_lemmas.proofs.ItemsByPlace.{item_there, slice_get-in_take}
@@ -8,10 +8,8 @@ use Rattle.jk_model.specs.SystemTable.{system_classes}
 use Rattle.jk_model.specs.declared.identifiers.ClassId.{ClassId}
 use Rattle.jk_model.specs.declared.identifiers.DomainId.{DomainId}
 use Rattle.jk_model.specs.declared.identifiers.MemberId.{MemberId}
-use Rattle.jk_model.specs.declared.instructions.Instr.{Instr}
-use Rattle.jk_model_classes.specs.Classes.{record_of, AreOrdered}
+use Rattle.jk_model_classes.specs.Classes.{AreOrdered}
 use Rattle.jk_model_classes.specs.Lookups.{MethodIs}
-use Rattle.jk_model_classes.specs.Members.{CLINIT}
 use Rattle.jk_model_classes.specs.SystemRecords.{AreTypesFor, system_meaning}
 use Rattle.jk_model_classes.specs.Worlds.{NamedClass, WorldRecord, class_named}
 use Rattle.jk_model_classes.specs.declared.records.ClassRecord.{ClassRecord}

@@ -1,25 +1,23 @@
 -- What a name of the new domain means: a system class is meant by its own name, and the flags of what a name means are those that C19 reads.
-use Rattle.std.proofs.Common.{◌≡◌, ℕ, ◌+◌, ◌-◌, ◌<◌, ◌≤◌, ◌⊎◌, inl, inr, List, ◌++◌, length, take, Some, slice_get, refl, sym, ap, subst, ◌∙◌, arith}
-use Rattle.std.proofs.lemmas.Bool.{cases_lt}
+use Rattle.std.proofs.Common.{◌≡◌, ℕ, ◌+◌, ◌<◌, ◌≤◌, inl, inr, List, length, Some, slice_get, refl, sym, ap, ◌∙◌, arith}
 use Rattle.std.proofs.lemmas.Option.{same_Some, slice_get_within}
-use Rattle.list_lemmas.proofs.ItemsByPlace.{item_there, slice_get-in_take, slice_get-front}
-use Rattle.model_lemmas.proofs.SameNumbers.{same_class}
+use Rattle.list_lemmas.proofs.ItemsByPlace.{slice_get-in_take, slice_get-front}
 use Rattle.jk_model.specs.SystemTable.{SystemClass, system_classes}
 use Rattle.jk_model.specs.declared.class_file.ClassFile.{ClassFile}
 use Rattle.jk_model.specs.declared.identifiers.ClassId.{ClassId}
 use Rattle.jk_model_classes.specs.Classes.{record_of}
 use Rattle.jk_model_classes.specs.Items.{HasItem}
 use Rattle.jk_model_classes.specs.References.{FlagsOfNamed, IsCalledClass, FolderScope}
-use Rattle.jk_model_classes.specs.SystemRecords.{IsSystemRecord, system_meaning}
+use Rattle.jk_model_classes.specs.SystemRecords.{system_meaning}
 use Rattle.jk_model_classes.specs.Worlds.{NamedClass, WorldRecord, class_named}
 use Rattle.jk_model_classes.specs.declared.records.ClassRecord.{ClassRecord}
 use Rattle.jk_model_classes.specs.declared.sharing.Offer.{Offer}
 use Rattle.jk_model_classes.specs.declared.sharing.Stub.{Stub}
-use Rattle.jk_model_folders.specs.FolderRules.{link_scope, IsOwnNamed}
+use Rattle.jk_model_folders.specs.FolderRules.{IsOwnNamed}
 use Rattle.jk_model_folders.specs.Loads.{Loads, MayLoad}
 use Rattle.jk_model_folders.specs.declared.files.FolderFiles.{FolderFiles}
 use Rattle.sound_folders.proofs.NamesOfTables.{system_meant}
-use Rattle.sound_folders.proofs.NewClasses.{meaning, all, added, system_few, OwnFile}
+use Rattle.sound_folders.proofs.NewClasses.{meaning, all, added, system_few}
 use Rattle.sound_code_folders.proofs.FilesHaveClasses.{has_place}
 use Rattle.sound_code_folders.proofs.NewMembers.{new_class, IsNew}
 

@@ -1,5 +1,5 @@
 -- What C7, C15, C20 and C21 ask of the methods that a new method's instructions name.
-use Rattle.std.proofs.Common.{◌≡◌, ◌≢◌, ℕ, pos, ◌+◌, ◌⊎◌, inl, inr, true, false, IsTrue, List, [], ◌∷◌, length, Option, Some, slice_get, Contains, refl, sym, ap, subst, ◌∙◌, bytes_eq}
+use Rattle.std.proofs.Common.{◌≡◌, ◌≢◌, ℕ, pos, ◌+◌, inl, inr, IsTrue, List, length, Some, slice_get, Contains, refl, sym, ap, subst, ◌∙◌}
 use Rattle.std.proofs.lemmas.Bool.{cases_Bool, cases_eq, false≢true}
 use Rattle.std.proofs.lemmas.Option.{same_Some}
 use Rattle.std.proofs.lemmas.Slice.Eq.{bytes_eq-Decides}
@@ -13,14 +13,14 @@ use Rattle.jk_model.specs.declared.class_file.PoolEntry.{PoolEntry}
 use Rattle.jk_model.specs.declared.identifiers.ClassId.{ClassId}
 use Rattle.jk_model.specs.declared.identifiers.MemberId.{MemberId}
 use Rattle.jk_model.specs.declared.instructions.Instr.{Instr}
-use Rattle.jk_model.specs.declared.opcodes.TheConstants.{INVOKEINTERFACE, INVOKESPECIAL, INVOKESTATIC, INVOKEVIRTUAL}
+use Rattle.jk_model.specs.declared.opcodes.TheConstants.{INVOKEINTERFACE, INVOKESPECIAL, INVOKESTATIC}
 use Rattle.jk_model.specs.declared.output.Rule.TheVariants.{C20, C21}
 use Rattle.jk_model_classes.specs.ClassNames.{IsReferenceName}
 use Rattle.jk_model_classes.specs.Classes.{IsInterface}
 use Rattle.jk_model_classes.specs.Items.{Entry}
 use Rattle.jk_model_classes.specs.LinkRules.{FindsFieldAt, FindsMethodAt, NamesRightSort, UsesMethod, is_instance_call}
 use Rattle.jk_model_classes.specs.Lookups.{MethodIs, AllowsFrom}
-use Rattle.jk_model_classes.specs.MemberCode.{UsesEntry, is_jump, is_switch, IsMethodEntry, IsInterfaceMethodEntry, HasBadEntry, CallsInit, is_call, is_field_access}
+use Rattle.jk_model_classes.specs.MemberCode.{UsesEntry, is_jump, is_switch, IsMethodEntry, IsInterfaceMethodEntry, is_call, is_field_access}
 use Rattle.jk_model_classes.specs.Members.{CLINIT, INIT, MemberKind, reference, ReferenceAt}
 use Rattle.jk_model_classes.specs.Worlds.{NamedClass, WorldRecord}
 use Rattle.jk_model_classes.specs.declared.records.ClassRecord.{ClassRecord}

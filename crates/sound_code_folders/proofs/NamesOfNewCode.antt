@@ -1,5 +1,5 @@
 -- The instructions of a new method name what they need.
-use Rattle.std.proofs.Common.{◌≡◌, ℕ, ◌+◌, ◌≤◌, List, length, Some, slice_get, Contains, refl, sym, ap, subst, ◌∙◌}
+use Rattle.std.proofs.Common.{◌≡◌, ℕ, ◌≤◌, List, length, Some, slice_get, Contains, sym, ap, subst, ◌∙◌}
 use Rattle.std.proofs.lemmas.Option.{same_Some}
 use Rattle.model_lemmas.proofs.SameNumbers.{same_class}
 use Rattle.jk_model.specs.declared.identifiers.ClassId.{ClassId}
@@ -21,7 +21,7 @@ use Rattle.jk_model_folders.specs.declared.files.FolderFiles.{FolderFiles}
 use Rattle.sound_codes.specs.NamedWell.{NamesWell, MayBeMade}
 use Rattle.sound_folders.proofs.NewClasses.{all}
 use Rattle.sound_code_folders.proofs.FieldsNamedWell.{static_named, object_named, own_final_named}
-use Rattle.sound_code_folders.proofs.InstructionsOfFiles.{own_class, own_scope}
+use Rattle.sound_code_folders.proofs.InstructionsOfFiles.{own_class}
 use Rattle.sound_code_folders.proofs.MethodsNamedWell.{interface_named, class_named_there, static_called, object_called, concrete_called, constructor_called, no_initialiser_called, own_private_called}
 use Rattle.sound_code_folders.proofs.NewMembers.{IsNewMethod, method_of, new_class}
 use Rattle.sound_code_folders.proofs.ObjectsMadeWell.{may_be_made}

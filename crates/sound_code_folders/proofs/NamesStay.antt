@@ -1,5 +1,5 @@
 -- What an instruction names is what it needs with more classes behind too, where the classes that stood are closed.
-use Rattle.std.proofs.Common.{◌≡◌, ℕ, List, ◌++◌, Some, slice_get, sym, subst}
+use Rattle.std.proofs.Common.{List, ◌++◌, sym, subst}
 use Rattle.jk_model.specs.declared.identifiers.ClassId.{ClassId}
 use Rattle.jk_model.specs.declared.identifiers.MemberId.{MemberId}
 use Rattle.jk_model.specs.declared.instructions.Instr.{Instr}
@@ -7,9 +7,8 @@ use Rattle.jk_model_classes.specs.Classes.{HasClass, IsInterface}
 use Rattle.jk_model_classes.specs.Lookups.{FieldIs, MethodIs}
 use Rattle.jk_model_classes.specs.declared.records.ClassRecord.{ClassRecord}
 use Rattle.jk_model_classes.specs.declared.records.FieldRecord.{FieldRecord}
-use Rattle.jk_model_classes.specs.declared.records.Link.{Link}
 use Rattle.jk_model_classes.specs.declared.records.MethodRecord.{MethodRecord}
-use Rattle.jk_model_typing.specs.Scopes.{CodeScope, IsScopeOf, LeadsToLink}
+use Rattle.jk_model_typing.specs.Scopes.{CodeScope, IsScopeOf}
 use Rattle.jk_model_heaps.specs.RunningCode.{NamesField, NamesMethod}
 use Rattle.class_growth.proofs.MoreClasses.{field-before, method-before, is_interface-before, is_interface-still, record-still}
 use Rattle.class_growth.proofs.ScopesKept.{scope-before, closed-scope, IsClosedScope}

@@ -1,12 +1,12 @@
 -- What C21 asks of the classes of which a new method's instructions make objects.
-use Rattle.std.proofs.Common.{◌≡◌, ◌≢◌, ℕ, zero, suc, pos, ◌+◌, ◌<◌, ◌⊎◌, inl, inr, true, IsTrue, List, [], ◌∷◌, length, take, Some, slice_get, Contains, refl, sym, ap, subst, ◌∙◌, arith}
+use Rattle.std.proofs.Common.{◌≡◌, ℕ, zero, suc, pos, ◌<◌, ◌⊎◌, inl, inr, IsTrue, List, [], ◌∷◌, length, Some, slice_get, Contains, refl, sym, ap, subst, ◌∙◌, arith}
 use Rattle.std.proofs.lemmas.Bool.{cases_Bool}
 use Rattle.std.proofs.lemmas.Option.{same_Some, none-some, slice_get_within}
-use Rattle.std.specs.Prelude.{IsFalse, ◌||◌, not}
+use Rattle.std.specs.Prelude.{◌||◌, not}
 use Rattle.list_lemmas.proofs.ItemsByPlace.{item_there, slice_get-in_take, slice_get-front}
 use Rattle.list_lemmas.proofs.ItemsOfLists.{Contains-at}
 use Rattle.jk_model.specs.Flags.{has, ABSTRACT, INTERFACE}
-use Rattle.jk_model.specs.SystemTable.{SystemClass, SystemMethod, system_classes}
+use Rattle.jk_model.specs.SystemTable.{SystemMethod, system_classes}
 use Rattle.jk_model.specs.declared.identifiers.ClassId.{ClassId}
 use Rattle.jk_model.specs.declared.identifiers.MemberId.{MemberId}
 use Rattle.jk_model.specs.declared.instructions.Instr.{Instr}
@@ -32,7 +32,7 @@ use Rattle.system_facts.specs.ClosedClasses.{IsClosedClass}
 use Rattle.sound_codes.specs.NamedWell.{MayBeMade}
 use Rattle.sound_folders.proofs.FoundByLinks.{type-found, only_links}
 use Rattle.sound_folders.proofs.NewClasses.{all, added, meaning, meant_there, system_few}
-use Rattle.sound_code_folders.proofs.InstructionsOfFiles.{accesses_well, own_class, own_scope}
+use Rattle.sound_code_folders.proofs.InstructionsOfFiles.{accesses_well, own_scope}
 use Rattle.sound_code_folders.proofs.MeaningsOfNames.{system_named}
 use Rattle.sound_code_folders.proofs.NewMembers.{IsNewMethod}
 use Rattle.sound_code_folders.proofs.TypesOfMethods.{text_or_not}

@@ -1,5 +1,5 @@
 -- What the tests on opcodes of accesses and calls say, opcode by opcode.
-use Rattle.std.proofs.Common.{◌≡◌, ℕ, inl, inr, IsTrue, sym, subst, eqb-true}
+use Rattle.std.proofs.Common.{ℕ, inl, inr, IsTrue, sym, subst, eqb-true}
 use Rattle.std.proofs.lemmas.Bool.{or_cases}
 use Rattle.std.specs.Prelude.{◌==◌, ◌||◌}
 use Rattle.jk_model.specs.declared.opcodes.TheConstants.{GETFIELD, GETSTATIC, PUTFIELD, PUTSTATIC, INVOKEINTERFACE, INVOKESPECIAL, INVOKESTATIC, INVOKEVIRTUAL}

@@ -1,29 +1,26 @@
 -- What C19 asks of the parent and the interfaces of a folder's class.
-use Rattle.std.proofs.Common.{◌≡◌, ◌≢◌, ℕ, ◌+◌, ◌<◌, ◌≤◌, ◌⊎◌, inl, inr, Bool, true, false, IsTrue, List, length, Option, Some, None, slice_get, Contains, refl, sym, ap, subst, ◌∙◌, arith, codes}
+use Rattle.std.proofs.Common.{◌≡◌, ℕ, ◌⊎◌, inl, inr, IsTrue, List, Some, Contains, refl, sym, subst, ◌∙◌, arith, codes}
 use Rattle.std.proofs.lemmas.Bool.{cases_Bool}
-use Rattle.std.proofs.lemmas.Option.{same_Some, slice_get_within}
+use Rattle.std.proofs.lemmas.Option.{slice_get_within}
 use Rattle.std.specs.Prelude.{not}
 use Rattle.list_lemmas.proofs.ItemsByPlace.{item_there}
 use Rattle.list_lemmas.proofs.ItemsOfLists.{place_of, Contains-at}
 use Rattle.jk_model.specs.Flags.{has, INTERFACE}
-use Rattle.jk_model.specs.SystemTable.{system_classes}
-use Rattle.jk_model.specs.declared.class_file.ClassFile.{ClassFile}
 use Rattle.jk_model.specs.declared.identifiers.ClassId.{ClassId}
 use Rattle.jk_model.specs.declared.output.Rule.TheVariants.{C19}
-use Rattle.jk_model_classes.specs.Classes.{record_of, IsInterface, OBJECT, HasClass}
+use Rattle.jk_model_classes.specs.Classes.{IsInterface, OBJECT}
 use Rattle.jk_model_classes.specs.Items.{Member}
 use Rattle.jk_model_classes.specs.Members.{ClassAt}
-use Rattle.jk_model_classes.specs.References.{HasBadParent, HasBadInterface, HasBadHierarchy}
+use Rattle.jk_model_classes.specs.References.{HasBadParent, HasBadInterface}
 use Rattle.jk_model_classes.specs.Worlds.{NamedClass, WorldRecord}
 use Rattle.jk_model_classes.specs.declared.records.ClassRecord.{ClassRecord}
 use Rattle.jk_model_classes.specs.declared.sharing.Offer.{Offer}
 use Rattle.jk_model_classes.specs.declared.sharing.Stub.{Stub}
-use Rattle.jk_model_folders.specs.FolderRules.{name_rules, link_scope}
-use Rattle.jk_model_folders.specs.LinkedClasses.{NamesClassAt}
+use Rattle.jk_model_folders.specs.FolderRules.{name_rules}
 use Rattle.jk_model_folders.specs.Loads.{Loads, MayLoad}
 use Rattle.jk_model_folders.specs.declared.files.FolderFiles.{FolderFiles}
 use Rattle.system_facts.specs.ClosedClasses.{IsClosedClass}
-use Rattle.sound_folders.proofs.NewClasses.{meaning, all, added, meant_there}
+use Rattle.sound_folders.proofs.NewClasses.{meaning, all, meant_there}
 use Rattle.sound_code_folders.proofs.MeaningsOfNames.{scope, flags_of, system_means, system_named}
 use Rattle.sound_code_folders.proofs.NewMembers.{IsNew}
 use Rattle.sound_code_folders.proofs.TypesOfMethods.{text_or_not}

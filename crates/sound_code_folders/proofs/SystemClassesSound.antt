@@ -1,6 +1,6 @@
 -- The system classes alone are sound, by their table.
-use Rattle.std.proofs.Common.{◌≡◌, ◌≢◌, ℕ, zero, suc, ◌+◌, ◌≤◌, ◌<◌, ◌⊎◌, inl, inr, Bool, true, false, ◌&&◌, IsTrue, List, [], ◌∷◌, length, map, take, Option, Some, None, slice_get, Contains, refl, sym, ap, subst, ◌∙◌, arith, bytes_eq, true≢false, eqb-true, take_all}
-use Rattle.std.proofs.lemmas.Bool.{false≢true, leb-true, cases_Bool}
+use Rattle.std.proofs.Common.{◌≡◌, ◌≢◌, ℕ, ◌≤◌, ◌<◌, inr, Bool, true, false, ◌&&◌, IsTrue, List, [], length, Option, Some, None, slice_get, Contains, refl, sym, ap, subst, ◌∙◌, arith, bytes_eq, eqb-true, take_all}
+use Rattle.std.proofs.lemmas.Bool.{false≢true, leb-true}
 use Rattle.std.proofs.lemmas.Option.{slice_get_within, same_Some}
 use Rattle.std.proofs.lemmas.Slice.Eq.{bytes_eq-Decides}
 use Rattle.std.specs.List.{list_all}
@@ -10,15 +10,14 @@ use Rattle.list_lemmas.proofs.ItemsByPlace.{item_there, mapped_at}
 use Rattle.list_lemmas.proofs.ItemsOfLists.{place_of, passed_at, Contains-none}
 use Rattle.list_lemmas.proofs.TestsAndOrders.{so_not}
 use Rattle.model_lemmas.proofs.SameNumbers.{same_class}
-use Rattle.jk_model.specs.Flags.{has, ABSTRACT, INTERFACE, PRIVATE, PROTECTED, PUBLIC, STATIC}
+use Rattle.jk_model.specs.Flags.{has, ABSTRACT, INTERFACE, PRIVATE, STATIC}
 use Rattle.jk_model.specs.SystemTable.{SystemClass, SystemField, SystemMethod, system_classes, parent_number, interface_numbers, method_number}
 use Rattle.jk_model.specs.declared.identifiers.ClassId.{ClassId}
 use Rattle.jk_model.specs.declared.identifiers.MemberId.{MemberId}
 use Rattle.jk_model_classes.specs.Classes.{record_of, IsInterface, OBJECT}
 use Rattle.jk_model_classes.specs.Lookups.{FieldIs, MethodIs}
 use Rattle.jk_model_classes.specs.Members.{CLINIT, INIT}
-use Rattle.jk_model_classes.specs.SystemRecords.{AreSystemRecords, IsSystemRecord, IsSystemField, IsSystemMethodAt}
-use Rattle.jk_model_classes.specs.Worlds.{NamedClass}
+use Rattle.jk_model_classes.specs.SystemRecords.{AreSystemRecords, IsSystemRecord, IsSystemMethodAt}
 use Rattle.jk_model_classes.specs.declared.records.ClassRecord.{ClassRecord}
 use Rattle.jk_model_classes.specs.declared.records.FieldRecord.{FieldRecord}
 use Rattle.jk_model_classes.specs.declared.records.Link.{Link}
@@ -26,17 +25,14 @@ use Rattle.jk_model_classes.specs.declared.records.MethodRecord.{MethodRecord}
 use Rattle.jk_model_classes.specs.declared.records.TypeRef.{TypeRef}
 use Rattle.class_lemmas.proofs.CodeOfMethods.{system_has_none}
 use Rattle.jk_model_typing.specs.Scopes.{CodeScope, IsScopeOf, is_static}
-use Rattle.jk_model_sound_classes.specs.SoundClasses.{AreSoundClasses}
 use Rattle.erased_typings.proofs.SystemParents.{system_parents}
 use Rattle.system_facts.proofs.TypesRead.{method_types-read}
 use Rattle.system_facts.specs.DescriptorReader.{MethodTypes, method_types}
-use Rattle.system_facts.specs.SystemTypes.{HaveSystemClasses}
-use Rattle.sound_codes.specs.SoundCodes.{AreSoundCodes, SuitsType, IsRunnable}
+use Rattle.sound_codes.specs.SoundCodes.{AreSoundCodes, SuitsType}
 use Rattle.sound_folders.proofs.FirstClasses.{first-sound, first-linked}
 use Rattle.sound_folders.specs.LinkedWorlds.{AreLinked}
 use Rattle.sound_code_folders.specs.MarkedMethods.{HaveOneMark}
 use Rattle.sound_code_folders.specs.SoundFolders.{AreSound}
-use Rattle.jk_model_classes.specs.declared.records.Body.TheVariants as Does
 use Rattle.jk_model_classes.specs.declared.records.Link.TheVariants as To
 
 -- ---- Tests on entries of the table.

@@ -1,11 +1,10 @@
 -- What C8 asks of the types of a folder's methods: few parameters, and none, nor a result, where the method is a class initialiser.
-use Rattle.std.proofs.Common.{◌≡◌, ◌≢◌, ℕ, ◌+◌, ◌≤◌, ◌⊎◌, inl, inr, true, List, [], ◌∷◌, length, Option, Some, None, refl, sym, ap, subst, ◌∙◌, arith, true≢false, codes, bytes_eq, ◌<◌, sum_by}
-use Rattle.std.proofs.lemmas.Bool.{false≢true, cond_both, cases_Bool, cases_lt}
+use Rattle.std.proofs.Common.{◌≡◌, ℕ, ◌+◌, ◌≤◌, ◌⊎◌, inl, inr, List, [], ◌∷◌, length, Option, Some, None, refl, sym, ap, subst, ◌∙◌, arith, true≢false, codes, bytes_eq, sum_by}
+use Rattle.std.proofs.lemmas.Bool.{cond_both, cases_Bool, cases_lt}
 use Rattle.std.proofs.lemmas.List.Sums.{sum_by-cons}
 use Rattle.std.proofs.lemmas.Slice.Eq.{bytes_eq-Decides}
 use Rattle.std.specs.Prelude.{◌==◌}
-use Rattle.jk_model.specs.Descriptors.{IsMethodText, field_slots, base_slots, method_slots, receiver_slots}
-use Rattle.jk_model.specs.Flags.{has, STATIC}
+use Rattle.jk_model.specs.Descriptors.{IsMethodText, field_slots, base_slots}
 use Rattle.jk_model.specs.declared.descriptors.Base.{Base}
 use Rattle.jk_model.specs.declared.descriptors.FieldType.{FieldType}
 use Rattle.jk_model.specs.declared.descriptors.MethodType.{MethodType}
@@ -15,7 +14,7 @@ use Rattle.descriptors.proofs.NoTextBeginsAnother.{one_method}
 use Rattle.jk_model_classes.specs.ClassNames.{HasText}
 use Rattle.jk_model_classes.specs.Items.{Member}
 use Rattle.jk_model_classes.specs.MemberDescriptors.{HasMethodType}
-use Rattle.jk_model_classes.specs.Members.{CLINIT, INIT, IsClinit, IsInit, TextAt}
+use Rattle.jk_model_classes.specs.Members.{CLINIT, INIT, TextAt}
 use Rattle.jk_model_classes.specs.SystemRecords.{IsResultFor}
 use Rattle.jk_model_classes.specs.Worlds.{NamedClass, WorldRecord}
 use Rattle.jk_model_classes.specs.declared.records.MethodRecord.{MethodRecord}

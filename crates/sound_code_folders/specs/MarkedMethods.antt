@@ -1,6 +1,6 @@
 -- A method has one mark: a private one is neither public nor protected (C6). So no rule on access lets a private method be called from
--- another class.
-use Rattle.std.specs.Prelude.{◌≡◌, ℕ, IsFalse, IsTrue, List, ◌∷◌, [], ◌++◌}
+-- another class. `AreSoundCodes` doesn't say so of the methods that stood: it is kept beside it.
+use Rattle.std.specs.Prelude.{ℕ, IsFalse, IsTrue, List, ◌∷◌, [], ◌++◌}
 use Rattle.jk_model.specs.Flags.{has, PRIVATE, PROTECTED, PUBLIC}
 use Rattle.jk_model.specs.declared.identifiers.ClassId.{ClassId}
 use Rattle.jk_model.specs.declared.identifiers.MemberId.{MemberId}
