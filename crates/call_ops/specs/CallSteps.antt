@@ -13,17 +13,6 @@ use Rattle.step_contents.specs.Contents.{Becomes, Contents, Here, KeepsFrames}
 use Rattle.step_contents.specs.PlacesInCode.{PlaceInCode}
 use Rattle.step_contents.specs.Settings.{IsSetting}
 
--- pub fn step<H: ObjectStore, F: FrameStore>(heap: &H, frames: &mut F, w: &World, d: DomainId, s: SegmentNo, at: &StandsAt<'_>) -> After
---   requires may { (own : KeptState) × (shared : SharedState)
---       × MayDo (contents_of (H.content heap.now) (F.content frames.old) own) (here_at w.now shared d s) (place_of at.now) }
---   requires kind { IsOfCalls at.now.instr.now }
---   ensures { (own : KeptState) (shared : SharedState)
---       → CallDone (contents_of (H.content heap.now) (F.content frames.old) own)
---       (contents_of (H.content heap.now) (F.content frames.new) own) (here_at w.now shared d s) (place_of at.now) result }
--- Neither the own state nor what domains share is asked for, so the clauses hold of whichever there are. It takes no memory.
--- pub fn call_head(m: MemberId, code: &LinkedCode) -> FrameHead
---   ensures { result ≡ call_head m code.now }
-
 -- What the call comes to, by the answer.
 pub data CallFollows {old : Contents} {here : Here} {at : PlaceInCode} (x : Setting) (may : MayDo old here at) (new : Contents)
     : After → Type 0 where

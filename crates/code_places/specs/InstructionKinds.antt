@@ -8,10 +8,6 @@ use Rattle.step_contents.specs.PlacesInCode.{PlaceInCode}
 use Rattle.code_places.specs.declared.kinds.Kind.{Kind}
 use Rattle.code_places.specs.declared.kinds.Kind.TheVariants as Of
 
--- pub fn kind_of(at: &StandsAt<'_>) -> Kind
---   requires { HasRow (place_of at.now) }
---   ensures { IsOfKind (place_of at.now) result }
-
 -- typing has a row for the instruction there
 abbrev pub HasRow : PlaceInCode → Type 0
 HasRow at = (before : FrameType) × (after : FrameType) × Row at.scope at.head.at at.instr before after

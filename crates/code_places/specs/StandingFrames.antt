@@ -10,9 +10,6 @@ use Rattle.code_places.specs.declared.places.StandsAt.{StandsAt}
 abbrev pub place_of : StandsAt → PlaceInCode
 place_of at = record { head = at.head; scope = scope_of at.code; instr = at.instr.now }
 
--- pub fn stands_at<'a>(t: &'a ClassTable, head: &FrameHead) -> Option<StandsAt<'a>>
---   ensures { IsPlaceOf t.now head.now (option_map place_of result) }
-
 -- A frame with this head stands there; it stands nowhere where it has no code.
 abbrev pub IsPlaceOf : List ClassRecord → FrameHead → Option PlaceInCode → Type 0
 IsPlaceOf classes head None = (at : PlaceInCode) → at.head ≡ head → IsPlaceIn classes at → ⊥

@@ -1,3 +1,6 @@
 -- What raising an object makes of the stores.
+pub mod Handlers
+pub mod LeftFrames
 pub mod RaisedObjects
+pub mod Trials
 pub mod UnwoundFrames

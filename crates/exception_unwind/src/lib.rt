@@ -1,3 +1,11 @@
-//! Throwables: which object is raised, and which frame of a segment catches it, in whatever stores objects and frames stand. The
-//! contracts stand in `specs/`; the code comes under them.
+//! Throwables: which object is raised, and which frame of a segment catches it, in whatever stores objects and frames stand.
 #![tactic(auto)]
+
+mod catching;
+mod handlers;
+mod leaving;
+mod raising;
+mod unwinding;
+
+pub use raising::raised;
+pub use unwinding::unwind;

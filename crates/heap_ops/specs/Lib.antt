@@ -1,3 +1,7 @@
 -- What an instruction on objects, and the fall of an initialiser's need, make of the stores.
 pub mod ConstantsSet
 pub mod HeapSteps
+pub mod HeapValues
+pub mod LiteralObjects
+pub mod OneInstruction
+pub mod TopEntries

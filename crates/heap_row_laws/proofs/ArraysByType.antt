@@ -1,5 +1,5 @@
 -- What typing says of an array tells what its elements are; and the opcodes of loads and stores of elements, one by one.
-use Rattle.std.proofs.Common.{inl, inr, ◌≡◌, ◌⊎◌, ℕ, ◌+◌, ◌==◌, ◌||◌, Bool, IsTrue, List, Some, slice_get, refl, sym, ap, subst, ◌∙◌, arith}
+use Rattle.std.proofs.Common.{inl, inr, ◌≡◌, ◌⊎◌, ℕ, ◌+◌, ◌==◌, ◌||◌, Bool, IsTrue, List, Some, slice_get, sym, ap, subst, ◌∙◌, arith}
 use Rattle.std.proofs.lemmas.Bool.{eqb-true, or_cases}
 use Rattle.std.proofs.lemmas.Option.{same_Some}
 use Rattle.jk_model.specs.declared.values.Value.{Value}
@@ -7,14 +7,14 @@ use Rattle.jk_model_classes.specs.declared.records.BaseRef.{BaseRef}
 use Rattle.jk_model_classes.specs.declared.records.BaseRef.TheVariants as Base
 use Rattle.jk_model_classes.specs.declared.records.ClassRecord.{ClassRecord}
 use Rattle.jk_model_classes.specs.declared.records.TypeRef.{TypeRef}
-use Rattle.jk_model_classes.specs.Classes.{AreOrdered, OBJECT}
+use Rattle.jk_model_classes.specs.Classes.{AreOrdered}
 use Rattle.jk_model_typing.specs.declared.frames.Demand.TheVariants.{Fitting, FittingEither}
-use Rattle.jk_model_typing.specs.declared.frames.VType.TheVariants.{Int, Ref}
-use Rattle.jk_model_typing.specs.FrameTypes.{IsClassBelow, RefFits, array_type, value_of}
+use Rattle.jk_model_typing.specs.declared.frames.VType.TheVariants.{Ref}
+use Rattle.jk_model_typing.specs.FrameTypes.{IsClassBelow, RefFits, array_type}
 use Rattle.jk_model_typing.specs.Rows.{IsClass}
 use Rattle.jk_model_typing.specs.Scopes.{CodeScope}
-use Rattle.jk_model_domains.specs.Objects.{NamedObject, Object, Array, object_named, type_of}
-use Rattle.jk_model_domains.specs.ValueTypes.{HoldsDeclared, ValueFits}
+use Rattle.jk_model_domains.specs.Objects.{NamedObject, Object, Array, type_of}
+use Rattle.jk_model_domains.specs.ValueTypes.{ValueFits}
 use Rattle.jk_model_heaps.specs.Heaps.{named}
 use Rattle.jk_model_heaps.specs.References.{IsHeapArray}
 use Rattle.jk_model_heaps.specs.Workings.{Inside}

@@ -1,6 +1,6 @@
 -- Arrays of arrays keep what is kept: each array that is made is sealed, and the one of the first count fits where it is pushed.
-use Rattle.std.proofs.Common.{inl, inr, ◌≡◌, ℕ, zero, suc, ◌+◌, ◌-◌, ◌<◌, ◌≤◌, ℤ, negsuc, List, [], ◌∷◌, ◌++◌, length, map, replicate, Contains, Option, Some, None, refl, sym, ap, subst, ◌∙◌, arith}
-use Rattle.std.specs.Prelude.{flat_map, option_and_then, option_map, pos}
+use Rattle.std.proofs.Common.{inl, inr, ◌≡◌, ℕ, zero, suc, ◌+◌, ◌-◌, ◌≤◌, ℤ, List, [], ◌∷◌, length, map, replicate, Contains, Option, Some, None, refl, sym, ap, subst, ◌∙◌, arith}
+use Rattle.std.specs.Prelude.{flat_map, option_and_then, option_map}
 use Rattle.std.specs.List.{AllByRecursion}
 use Rattle.std.proofs.lemmas.List.{length-map, length-replicate}
 use Rattle.std.proofs.lemmas.List.Elements.{Contains-append_cases, Contains-append_left, Contains-append_right}
@@ -19,12 +19,11 @@ use Rattle.jk_model_typing.specs.declared.frames.VType.TheVariants.{Int}
 use Rattle.jk_model_typing.specs.FrameTypes.{array_type, of_type, value_of}
 use Rattle.jk_model_typing.specs.Scopes.{CodeScope}
 use Rattle.jk_model_domains.specs.Objects.{NamedObject, Object, Array, object_named, type_of}
-use Rattle.jk_model_domains.specs.OwnStates.{zero_of}
 use Rattle.jk_model_domains.specs.ValueTypes.{HoldsDeclared, ValueFits}
 use Rattle.jk_model_heaps.specs.Heaps.{Makes, named}
 use Rattle.jk_model_heaps.specs.RunningCode.{RunsCode}
 use Rattle.jk_model_heaps.specs.Workings.{GoesOnWith, Outcome, Setting, Working, with_heap}
-use Rattle.jk_model_heap_rows.specs.ArrayTrees.{IsTree, Made, MakesTree, element_type}
+use Rattle.jk_model_heap_rows.specs.ArrayTrees.{IsTree, Made, element_type}
 use Rattle.jk_model_heap_rows.specs.NewObjectRows.{MakesArrays, count_of, counts_of}
 use Rattle.jk_model_sealing.specs.SealedInsides.{IsNamedBase, IsSealedObject, Surroundings}
 use Rattle.grown_heaps.proofs.NewObjects.{zero_fits}

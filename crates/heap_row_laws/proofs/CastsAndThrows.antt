@@ -12,13 +12,12 @@ use Rattle.jk_model_classes.specs.Classes.{AreOrdered, IsInterface, OBJECT, reco
 use Rattle.jk_model_typing.specs.declared.frames.Demand.TheVariants.{Fitting, Reference}
 use Rattle.jk_model_typing.specs.declared.frames.VType.TheVariants.{Int}
 use Rattle.jk_model_typing.specs.FrameTypes.{RefFits, STRING, THROWABLE, of_type, throwable}
-use Rattle.jk_model_typing.specs.Scopes.{LeadsToLink}
 use Rattle.jk_model_domains.specs.Objects.{NamedObject, Object, Array, Plain, Task, Text, TASK, class_type, object_named, type_of}
 use Rattle.jk_model_domains.specs.ValueTypes.{ValueFits}
 use Rattle.jk_model_heaps.specs.Instances.{IsInstance}
 use Rattle.jk_model_heaps.specs.References.{IsNullOrInstance}
 use Rattle.jk_model_heaps.specs.RunningCode.{RunsCode}
-use Rattle.jk_model_heaps.specs.Workings.{GoesOnWith, Outcome, RaisesHere, Setting, Working}
+use Rattle.jk_model_heaps.specs.Workings.{GoesOnWith, Outcome, Setting, Working}
 use Rattle.jk_model_heap_rows.specs.InstanceRows.{Casts, RaisesObject, Tests}
 use Rattle.jk_model_sealing.specs.SealedInsides.{Surroundings}
 use Rattle.number_laws.proofs.ValuesAbove.{value-above}

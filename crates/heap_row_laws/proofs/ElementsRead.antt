@@ -6,12 +6,10 @@ use Rattle.jk_model.specs.declared.values.Value.TheVariants as Held
 use Rattle.jk_model_classes.specs.declared.records.BaseRef.{BaseRef}
 use Rattle.jk_model_classes.specs.declared.records.BaseRef.TheVariants as Base
 use Rattle.jk_model_classes.specs.declared.records.ClassRecord.{ClassRecord}
-use Rattle.jk_model_classes.specs.declared.records.TypeRef.{TypeRef}
-use Rattle.jk_model_classes.specs.Classes.{AreOrdered}
 use Rattle.jk_model_typing.specs.declared.frames.Demand.{Demand}
 use Rattle.jk_model_typing.specs.declared.frames.Demand.TheVariants.{Array, Fitting, FittingEither}
 use Rattle.jk_model_typing.specs.declared.frames.VType.{VType}
-use Rattle.jk_model_typing.specs.declared.frames.VType.TheVariants.{Int, Long, Ref}
+use Rattle.jk_model_typing.specs.declared.frames.VType.TheVariants.{Int, Ref}
 use Rattle.jk_model_typing.specs.FrameTypes.{array_type, value_of}
 use Rattle.jk_model_typing.specs.Groups.{Takes}
 use Rattle.jk_model_typing.specs.Rows.{IsClass}
@@ -67,8 +65,8 @@ module _ (around : Surroundings) (x : Setting) (w new : Working) (outcome : Outc
         told_loaded 0x33 is refl (FittingEither (Ref (array_type 1 Base.Byte)) (Ref (array_type 1 Base.Bool))) Int
         (shape_at around x w runs code 0x33 is)
         (λ meet. elim (bytes_fit code.scope w.inside.heap sound_here.ordered v a meet) [
-        | inl byte ↦ ap (value_of code.scope.classes) byte
-        | inr bool ↦ ap (value_of code.scope.classes) bool
+          | inl byte ↦ ap (value_of code.scope.classes) byte
+          | inr bool ↦ ap (value_of code.scope.classes) bool
         ])
 
     references_loaded : code.instr.op ≡ 0x32 → Keeps around x w runs code new outcome

@@ -1,10 +1,9 @@
 -- Stores of elements keep what is kept: the value that is stored is of the array's element type.
-use Rattle.std.proofs.Common.{inl, inr, ◌≡◌, ◌⊎◌, ℕ, zero, suc, ◌+◌, ◌<◌, ◌≤◌, IsTrue, not, ℤ, set, List, [], ◌∷◌, Some, refl, sym, ap, subst, ◌∙◌, arith}
+use Rattle.std.proofs.Common.{inl, inr, ◌≡◌, ◌⊎◌, ℕ, zero, suc, ◌+◌, ◌<◌, ◌≤◌, IsTrue, not, ℤ, set, List, [], ◌∷◌, refl, sym, ap, subst, ◌∙◌, arith}
 use Rattle.std.specs.List.{AllByRecursion}
 use Rattle.std.proofs.lemmas.List.{length-set}
 use Rattle.std.proofs.lemmas.Option.{same_Some}
 use Rattle.list_lemmas.proofs.ItemsOfLists.{each-weaker}
-use Rattle.jk_model.specs.declared.identifiers.SegmentNo.{SegmentNo}
 use Rattle.jk_model.specs.declared.opcodes.TheConstants.{AASTORE}
 use Rattle.jk_model.specs.declared.values.Value.{Value}
 use Rattle.jk_model.specs.declared.values.Value.TheVariants as Held
@@ -22,7 +21,7 @@ use Rattle.jk_model_typing.specs.Groups.{Takes}
 use Rattle.jk_model_typing.specs.Rows.{IsClass, IsReferenceArray}
 use Rattle.jk_model_typing.specs.Scopes.{CodeScope}
 use Rattle.jk_model_typing.specs.Typing.{leaves_line}
-use Rattle.jk_model_domains.specs.Objects.{NamedObject, Object, Array, Task, object_named, type_of}
+use Rattle.jk_model_domains.specs.Objects.{NamedObject, Object, Array, type_of}
 use Rattle.jk_model_domains.specs.ValueTypes.{HoldsDeclared, ValueFits}
 use Rattle.jk_model_heaps.specs.Heaps.{IsAlike, IsGrown, with_object}
 use Rattle.jk_model_heaps.specs.Instances.{IsInstance}
@@ -37,7 +36,6 @@ use Rattle.grown_heaps.proofs.StillFits.{declared_held, value_known}
 use Rattle.sealed_rows.specs.FittingOutcomes.{IsOfType}
 use Rattle.sealed_rows.specs.KeptInsides.{KeepsInside}
 use Rattle.sealed_rows.specs.RunningFrames.{RunsWell}
-use Rattle.sound_codes.specs.SoundCodes.{AreSoundCodes}
 use Rattle.typed_operands.specs.Operands.{ValueMeets}
 use Rattle.typed_operands.proofs.ElementsOfArrays.{dims_fit, null_only}
 use Rattle.typed_operands.proofs.InstancesFitTypes.{instance_held}
@@ -161,8 +159,8 @@ module _ (around : Surroundings) (x : Setting) (w new : Working) (outcome : Outc
         told_stored 0x54 is refl (FittingEither (Ref (array_type 1 Base.Byte)) (Ref (array_type 1 Base.Bool))) (Fitting Int)
         (shape_at around x w runs code 0x54 is)
         (λ array value. elim (bytes_fit code.scope w.inside.heap ordered_here v a array) [
-        | inl byte ↦ number_held Base.Byte byte value
-        | inr bool ↦ number_held Base.Bool bool value
+          | inl byte ↦ number_held Base.Byte byte value
+          | inr bool ↦ number_held Base.Bool bool value
         ])
 
     instance_here : ValueMeets code.scope w.inside.heap ReferenceArray v → IsNullOrInstance x w.inside.heap u a.element

@@ -1,5 +1,5 @@
 -- The place of a field among the values of an object is the place of its record, and so what stands there is of the field's type.
-use Rattle.std.proofs.Common.{◌≡◌, ℕ, zero, suc, ◌+◌, ◌==◌, ◌&&◌, ◌<◌, Bool, true, false, not, cond, List, [], ◌∷◌, length, Some, slice_get, refl, sym, ap, subst, ◌∙◌, arith}
+use Rattle.std.proofs.Common.{◌≡◌, ℕ, suc, ◌+◌, ◌==◌, ◌&&◌, ◌<◌, Bool, true, false, not, cond, List, [], ◌∷◌, length, Some, slice_get, refl, sym, ap, subst, ◌∙◌, arith}
 use Rattle.std.specs.Prelude.{position}
 use Rattle.std.specs.List.{AllZip, position_or_len}
 use Rattle.std.proofs.lemmas.Bool.{eqb-true}
@@ -74,8 +74,8 @@ record_placed order classes c m field place is is_place low =
 
 -- ---- What an object holds there.
 
-module _ (order : StandInOneOrder) (around : Surroundings) (quota : ℕ) (inside : Inside) (sealed : IsSealedInside around quota inside) (m : MemberId) (field : FieldRecord)
-    (is : FieldIs around.classes m field) (v : Value) (f : HasField around.classes inside.heap v m) where
+module _ (order : StandInOneOrder) (around : Surroundings) (quota : ℕ) (inside : Inside) (sealed : IsSealedInside around quota inside)
+    (m : MemberId) (field : FieldRecord) (is : FieldIs around.classes m field) (v : Value) (f : HasField around.classes inside.heap v m) where
   pub object_there : IsSealedObject around inside.heap (Plain f.class f.fields)
   object_there = sealed.objects (named f.name (Plain f.class f.fields)) (found_stands f.name (Plain f.class f.fields) inside.heap f.object)
 

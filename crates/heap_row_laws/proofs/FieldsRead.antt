@@ -21,7 +21,6 @@ use Rattle.jk_model_classes.specs.Lookups.{FieldIs}
 use Rattle.class_lemmas.proofs.OneRecord.{one_field}
 use Rattle.jk_model_typing.specs.declared.frames.Demand.TheVariants.{Receiver}
 use Rattle.jk_model_typing.specs.FrameTypes.{value_of}
-use Rattle.jk_model_typing.specs.Scopes.{CodeScope}
 use Rattle.jk_model_domains.specs.Objects.{Plain, PRINT_STREAM, class_type}
 use Rattle.jk_model_domains.specs.ValueTypes.{HoldsDeclared}
 use Rattle.jk_model_heaps.specs.RunningCode.{NamesField, RunsCode}

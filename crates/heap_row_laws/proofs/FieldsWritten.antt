@@ -1,10 +1,9 @@
 -- Putstatic and putfield keep what is kept: the value that is put is of the field's type.
-use Rattle.std.proofs.Common.{inl, inr, ◌≡◌, ℕ, set, List, [], ◌∷◌, length, Some, slice_get, refl, sym, ap, subst, ◌∙◌, arith}
+use Rattle.std.proofs.Common.{inl, inr, ◌≡◌, ℕ, set, List, [], ◌∷◌, Some, slice_get, refl, sym, subst, ◌∙◌, arith}
 use Rattle.std.proofs.lemmas.List.{length-set}
 use Rattle.std.proofs.lemmas.Option.{same_Some}
 use Rattle.list_lemmas.proofs.ItemsByPlace.{slice_get-set_cases}
 use Rattle.jk_model.specs.declared.identifiers.MemberId.{MemberId}
-use Rattle.jk_model.specs.declared.identifiers.SegmentNo.{SegmentNo}
 use Rattle.jk_model.specs.declared.values.Value.{Value}
 use Rattle.jk_model_classes.specs.declared.records.ClassRecord.{ClassRecord}
 use Rattle.jk_model_classes.specs.declared.records.FieldRecord.{FieldRecord}
@@ -12,14 +11,14 @@ use Rattle.jk_model_classes.specs.declared.records.TypeRef.{TypeRef}
 use Rattle.jk_model_classes.specs.Lookups.{FieldIs}
 use Rattle.jk_model_typing.specs.declared.frames.Demand.TheVariants.{Fitting, PutReceiver}
 use Rattle.jk_model_typing.specs.FrameTypes.{value_of}
-use Rattle.jk_model_domains.specs.Objects.{NamedObject, Object, Plain, Task}
+use Rattle.jk_model_domains.specs.Objects.{NamedObject, Plain}
 use Rattle.jk_model_heaps.specs.Heaps.{IsAlike, IsGrown, field_records, with_object}
 use Rattle.jk_model_heaps.specs.RunningCode.{RunsCode}
 use Rattle.jk_model_heaps.specs.StoredValues.{stored}
 use Rattle.jk_model_heaps.specs.Workings.{GoesOnWith, Inside, Outcome, Setting, Working, with_heap, with_own}
 use Rattle.jk_model_domains.specs.OwnStates.{with_static}
 use Rattle.jk_model_heap_rows.specs.FieldRows.{HasField, PutsField, PutsStatic, with_field_value}
-use Rattle.jk_model_sealing.specs.SealedInsides.{HasFields, IsSealedInside, IsSealedObject, Surroundings}
+use Rattle.jk_model_sealing.specs.SealedInsides.{HasFields, IsSealedInside, Surroundings}
 use Rattle.grown_heaps.proofs.GrownHeaps.{writing_grows}
 use Rattle.grown_heaps.proofs.StillFits.{declared_held, value_known}
 use Rattle.sealed_rows.specs.FittingOutcomes.{IsOfType}

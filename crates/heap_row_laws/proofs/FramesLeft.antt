@@ -1,10 +1,8 @@
 -- What an instruction on objects leaves is kept and fits: where it goes on, by what it pushes; and where something is raised, for nothing
 -- else changes.
-use Rattle.std.proofs.Common.{inl, inr, ◌≡◌, ℕ, ◌+◌, ◌<◌, true, not, pos, List, ◌++◌, length, refl, sym, ap, subst, ◌∙◌, arith}
+use Rattle.std.proofs.Common.{inl, ◌≡◌, ℕ, ◌+◌, ◌<◌, true, not, List, length, refl, sym, ap, subst, ◌∙◌, arith}
 use Rattle.std.specs.Prelude.{IsTrue}
-use Rattle.std.specs.List.{AllByRecursion}
 use Rattle.list_lemmas.proofs.EndsOfLists.{one_split}
-use Rattle.jk_model.specs.declared.frames.FrameHead.{FrameHead}
 use Rattle.jk_model.specs.declared.identifiers.ClassId.{ClassId}
 use Rattle.jk_model.specs.declared.instructions.Instr.{Instr}
 use Rattle.jk_model.specs.declared.steps.Raise.{Raise}
@@ -20,7 +18,6 @@ use Rattle.jk_model_typing.specs.declared.frames.VType.{VType}
 use Rattle.jk_model_typing.specs.FrameTypes.{value_of}
 use Rattle.jk_model_typing.specs.Groups.{Takes, group_of}
 use Rattle.jk_model_typing.specs.Rows.{HasShape}
-use Rattle.jk_model_typing.specs.Scopes.{CodeScope}
 use Rattle.jk_model_typing.specs.Typing.{leaves_line}
 use Rattle.jk_model_frames.specs.Frames.{FrameState}
 use Rattle.jk_model_domains.specs.NumberRows.{IsOnTop, Replaces}
@@ -29,7 +26,7 @@ use Rattle.jk_model_domains.specs.OwnStates.{state_of}
 use Rattle.jk_model_domains.specs.ValueTypes.{EachValueFits, FrameHolds, HoldsDeclared, ValueFits}
 use Rattle.jk_model_heaps.specs.RunningCode.{RunsCode}
 use Rattle.jk_model_heaps.specs.Workings.{GoesOn, GoesOnWith, Inside, Outcome, Raises, RaisesHere, Setting, Working}
-use Rattle.jk_model_sealing.specs.SealedInsides.{IsKnownValue, Surroundings}
+use Rattle.jk_model_sealing.specs.SealedInsides.{Surroundings}
 use Rattle.grown_heaps.proofs.GrownHeaps.{grown_self}
 use Rattle.grown_heaps.proofs.StillFits.{names_known}
 use Rattle.number_laws.proofs.ValuesAbove.{value-above}

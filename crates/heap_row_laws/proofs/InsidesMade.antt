@@ -1,16 +1,15 @@
 -- A domain's inside keeps what is kept where sealed objects are made in it, and an object of a shape that the domain may make is pushed.
-use Rattle.std.proofs.Common.{inl, inr, ◌≡◌, ◌⊎◌, ◌+◌, ◌<◌, ℕ, List, [], ◌∷◌, Contains, Some, None, slice_get, refl, sym, subst, ◌∙◌}
+use Rattle.std.proofs.Common.{inl, inr, ◌≡◌, ◌⊎◌, ℕ, List, [], ◌∷◌, Contains, Some, refl, subst}
 use Rattle.list_lemmas.proofs.ItemsOfLists.{Contains-here, only_in}
-use Rattle.jk_model.specs.declared.identifiers.ClassId.{ClassId}
 use Rattle.jk_model.specs.declared.identifiers.SegmentNo.{SegmentNo}
 use Rattle.jk_model.specs.declared.steps.Raise.TheVariants as Raised
 use Rattle.jk_model.specs.declared.steps.Standing.TheVariants as Stands
 use Rattle.jk_model.specs.declared.values.Value.{Value}
 use Rattle.jk_model.specs.declared.values.Value.TheVariants as Held
 use Rattle.jk_model_classes.specs.declared.records.ClassRecord.{ClassRecord}
-use Rattle.jk_model_domains.specs.Objects.{NamedObject, Object, Plain, Array, Task, Text, object_named, object_words}
+use Rattle.jk_model_domains.specs.Objects.{NamedObject, Object, Task, object_named, object_words}
 use Rattle.jk_model_heaps.specs.declared.shapes.Shape.{Shape}
-use Rattle.jk_model_heaps.specs.Heaps.{IsGrown, Lacks, Makes, MakesOne, named, zero_object}
+use Rattle.jk_model_heaps.specs.Heaps.{Lacks, Makes, MakesOne, named, zero_object}
 use Rattle.jk_model_heaps.specs.RunningCode.{RunsCode}
 use Rattle.jk_model_heaps.specs.Workings.{GoesOnWith, Inside, Outcome, RaisesHere, Setting, Working, with_heap}
 use Rattle.jk_model_heap_rows.specs.NewObjectRows.{PushesNew}

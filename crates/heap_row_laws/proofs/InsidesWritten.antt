@@ -1,6 +1,6 @@
 -- What is stored in a field or an element still is of its type, and a domain's inside keeps what is kept where an object gets contents that
 -- fit, or a static field gets a value that fits.
-use Rattle.std.proofs.Common.{inl, inr, ◌≡◌, ◌⊎◌, ℕ, zero, suc, ◌==◌, Bool, true, false, ℤ, List, [], ◌∷◌, find, Some, refl, sym, subst, ◌∙◌}
+use Rattle.std.proofs.Common.{inl, inr, ◌≡◌, ℕ, zero, suc, ◌==◌, Bool, true, false, ℤ, List, [], ◌∷◌, find, Some, refl, sym, subst, ◌∙◌}
 use Rattle.std.specs.Option.{option_map_or}
 use Rattle.std.proofs.lemmas.Bool.Decides.{eqb_tells}
 use Rattle.std.proofs.lemmas.Option.{same_Some}

@@ -1,5 +1,5 @@
 -- A load of a literal's text keeps what is kept: its object is known, or it is made and becomes the literal's.
-use Rattle.std.proofs.Common.{inl, inr, ◌≡◌, ℕ, Bool, List, [], ◌∷◌, ◌++◌, Contains, Option, Some, None, find, refl, sym, ap, subst, ◌∙◌, arith}
+use Rattle.std.proofs.Common.{inl, inr, ◌≡◌, ℕ, Bool, List, [], ◌∷◌, Some, None, find, refl, sym, ap, subst, ◌∙◌, arith}
 use Rattle.std.specs.Prelude.{bytes_eq}
 use Rattle.std.proofs.lemmas.Slice.Eq.{bytes_eq-Decides}
 use Rattle.list_lemmas.proofs.FoundItems.{Finds, finds}
@@ -7,19 +7,18 @@ use Rattle.list_lemmas.proofs.ItemsOfLists.{Contains-at}
 use Rattle.list_lemmas.proofs.TestsAndOrders.{mapped_option}
 use Rattle.jk_model.specs.declared.steps.Raise.TheVariants as Raised
 use Rattle.jk_model.specs.declared.steps.Standing.TheVariants as Stands
-use Rattle.jk_model.specs.declared.values.Value.{Value}
 use Rattle.jk_model.specs.declared.values.Value.TheVariants as Held
 use Rattle.jk_model_classes.specs.declared.records.ClassRecord.{ClassRecord}
 use Rattle.jk_model_classes.specs.declared.records.Link.TheVariants as To
 use Rattle.jk_model_classes.specs.Worlds.{IsNamed}
 use Rattle.jk_model_typing.specs.FrameTypes.{STRING, string}
 use Rattle.jk_model_typing.specs.Groups.{Takes}
-use Rattle.jk_model_domains.specs.Objects.{NamedObject, Text, object_named, object_words}
+use Rattle.jk_model_domains.specs.Objects.{NamedObject, Text, object_named}
 use Rattle.jk_model_domains.specs.OwnStates.{Literal, literal_named}
 use Rattle.jk_model_domains.specs.ValueTypes.{ValueFits}
-use Rattle.jk_model_heaps.specs.Heaps.{Lacks, MakesOne}
+use Rattle.jk_model_heaps.specs.Heaps.{MakesOne}
 use Rattle.jk_model_heaps.specs.RunningCode.{RunsCode}
-use Rattle.jk_model_heaps.specs.Workings.{GoesOnWith, Inside, Outcome, RaisesHere, Setting, Working, with_heap}
+use Rattle.jk_model_heaps.specs.Workings.{GoesOnWith, Inside, Outcome, Setting, Working, with_heap}
 use Rattle.jk_model_heap_rows.specs.NewObjectRows.{LoadsText, with_literal}
 use Rattle.jk_model_sealing.specs.SealedInsides.{IsSealedInside, Surroundings}
 use Rattle.grown_heaps.proofs.SealedStill.{literal_sealed}
@@ -34,7 +33,7 @@ use Rattle.heap_row_laws.proofs.InsidesMade.{one_made_keeps, one_made_there}
 abbrev of_text : List ℕ → Literal → Bool
 of_text text l = bytes_eq l.text text
 
-found_literal : (around : Surroundings) (quota : ℕ) (inside : Inside) → IsSealedInside around quota inside → (text : List ℕ) (a : ℕ)
+pub found_literal : (around : Surroundings) (quota : ℕ) (inside : Inside) → IsSealedInside around quota inside → (text : List ℕ) (a : ℕ)
     → literal_named inside.own text ≡ Some a → object_named inside.heap a ≡ Some (Text text)
 found_literal around quota inside sealed text a is =
     let found = mapped_option (λ (l : Literal). l.name) (find (of_text text) inside.own.literals) a is in

@@ -1,13 +1,11 @@
 -- New objects and arrays keep what is kept: what is made is sealed, and fits where it is pushed.
-use Rattle.std.proofs.Common.{inl, inr, ◌≡◌, ℕ, ◌+◌, ◌==◌, ◌≤◌, ℤ, List, [], ◌∷◌, Some, slice_get, refl, sym, ap, subst, ◌∙◌, arith}
-use Rattle.std.specs.Prelude.{if◌then◌else◌, pos, replicate}
+use Rattle.std.proofs.Common.{inl, inr, ◌≡◌, ℕ, ◌+◌, ◌==◌, ◌≤◌, ℤ, List, [], ◌∷◌, Some, refl, sym, ap, subst, ◌∙◌, arith}
+use Rattle.std.specs.Prelude.{if◌then◌else◌, replicate}
 use Rattle.list_lemmas.proofs.TestsAndOrders.{same_pos}
-use Rattle.jk_model.specs.declared.identifiers.ClassId.{ClassId}
 use Rattle.jk_model.specs.declared.values.Value.{Value}
 use Rattle.jk_model.specs.declared.values.Value.TheVariants as Held
 use Rattle.jk_model_classes.specs.declared.records.BaseRef.{BaseRef}
 use Rattle.jk_model_classes.specs.declared.records.BaseRef.TheVariants as Base
-use Rattle.jk_model_classes.specs.declared.records.ClassRecord.{ClassRecord}
 use Rattle.jk_model_classes.specs.declared.records.Link.TheVariants as To
 use Rattle.jk_model_classes.specs.declared.records.TypeRef.{TypeRef}
 use Rattle.jk_model_classes.specs.Worlds.{NamedClass}
@@ -17,12 +15,11 @@ use Rattle.jk_model_typing.specs.declared.frames.VType.TheVariants.{Int, Ref}
 use Rattle.jk_model_typing.specs.FrameTypes.{array_type, of_type}
 use Rattle.jk_model_typing.specs.Groups.{Takes}
 use Rattle.jk_model_typing.specs.Rows.{IsCodeOf}
-use Rattle.jk_model_typing.specs.Typing.{leaves_line}
-use Rattle.jk_model_domains.specs.Objects.{NamedObject, Object, Array, object_named}
+use Rattle.jk_model_domains.specs.Objects.{NamedObject, Array, object_named}
 use Rattle.jk_model_domains.specs.OwnStates.{zero_of}
 use Rattle.jk_model_domains.specs.ValueTypes.{ValueFits}
 use Rattle.jk_model_heaps.specs.declared.shapes.Shape.TheVariants as Of
-use Rattle.jk_model_heaps.specs.Heaps.{zero_fields, zero_object}
+use Rattle.jk_model_heaps.specs.Heaps.{zero_fields}
 use Rattle.jk_model_heaps.specs.RunningCode.{RunsCode}
 use Rattle.jk_model_heaps.specs.Workings.{Outcome, Setting, Working, with_heap}
 use Rattle.jk_model_heap_rows.specs.NewObjectRows.{MakesArray, MakesArrayOf, MakesObject, PushesNew}
@@ -68,9 +65,12 @@ module _ (around : Surroundings) (x : Setting) (w new : Working) (outcome : Outc
       let is = shape_at around x w runs code 0xbb h.op in
       let made = new_made around x w runs code h.class h.op h.names in
       let sound = runs.setting.codes in
-      pushed_keeps around x w new outcome runs code [] (Of.Plain h.class)
-      (class_known around x w runs code h.class h.names, made_no_text around.classes sound h.class made, made_no_task around.classes sound h.class made,
-      made_no_capability around.classes sound h.class made) (λ n e. absurd cc)
+      pushed_keeps around x w new outcome runs code [] (Of.Plain h.class) (
+        class_known around x w runs code h.class h.names,
+        made_no_text around.classes sound h.class made,
+        made_no_task around.classes sound h.class made,
+        made_no_capability around.classes sound h.class made,
+      ) (λ n e. absurd cc)
       (λ a heap there kept goes.
       let t = typed around x w runs code in
       went_on around x w runs code [] (Held.Obj a ∷ []) (with_heap w.inside heap) new outcome goes (in_line code.instr 0xbb h.op refl) kept

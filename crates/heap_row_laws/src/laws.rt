@@ -1,10 +1,10 @@
-//! The laws. The functions do nothing but that one calls another law: each stands for its clauses.
-
-use jk_model_heaps::laws::fields_stand_in_one_order;
+//! The laws. The functions have no bodies but for one, which calls the law on which it rests: each stands for its clauses.
 
 ghost use Rattle.heap_row_laws.specs.HeapRowLaws.{HeapOperandsAreFound, HeapRowsAreOfHeaps, HeapRowsAreThere, HeapRowsKeep, OperandsGiveRows};
 ghost use Rattle.heap_row_laws.specs.NewTrees.{FittingTreesAreMade};
 ghost use Rattle.heap_row_laws.specs.ObjectFields.{ObjectsHaveTheirFields};
+
+use jk_model_heaps::laws::fields_stand_in_one_order;
 
 /// Where an instruction on objects finds its operands there is a row of it.
 pub fn operands_give_rows()

@@ -1,7 +1,7 @@
 -- What holds of all classes where every folder was accepted, whatever domains know of them. The rule of loading that asks for a fact
 -- stands behind it.
 use Rattle.std.specs.Prelude.{◌≡◌, ◌≢◌, ℕ, ◌^◌, ◌<◌, ◌≤◌, ◌⊎◌, ⊤, IsFalse, IsTrue, List, [], length, map, Contains, Option, Some, None}
-use Rattle.jk_model.specs.Flags.{has, ABSTRACT, INTERFACE, STATIC}
+use Rattle.jk_model.specs.Flags.{has, ABSTRACT, INTERFACE, PRIVATE, PROTECTED, PUBLIC, STATIC}
 use Rattle.jk_model.specs.Instructions.{Rises}
 use Rattle.jk_model.specs.SystemTable.{system_classes}
 use Rattle.jk_model.specs.declared.identifiers.ClassId.{ClassId}
@@ -80,7 +80,9 @@ pub record AreSoundCodes (classes : List ClassRecord) : Type 0 where
   pub interface_methods : (m : MemberId) (method : MethodRecord) → IsInterface classes m.class → MethodIs classes m method
       → method.name ≢ CLINIT → IsTrue (has method.flags ABSTRACT)
   pub constants : (m : MemberId) (field : FieldRecord) → FieldIs classes m field → SuitsType field.kind field.constant
-  -- a static method isn't abstract (C6)
+  -- a private method is neither public nor protected, and a static one isn't abstract (C6)
+  pub private_methods : (m : MemberId) (method : MethodRecord) → MethodIs classes m method → IsTrue (has method.flags PRIVATE)
+      → IsFalse (has method.flags PUBLIC) × IsFalse (has method.flags PROTECTED)
   pub static_methods : (m : MemberId) (method : MethodRecord) → MethodIs classes m method → IsTrue (is_static method)
       → IsFalse (has method.flags ABSTRACT)
   -- a method that isn't abstract runs (C9, C13), and one of a folder's classes runs no method of the system

@@ -90,19 +90,26 @@ below_with_stack t change n (e ∷ threads) h =
 
 -- ---- Room.
 
+pub part_le : (f : DomainEntry → ℕ) (es : List DomainEntry) (i : ℕ) (e : DomainEntry) → slice_get es i ≡ Some e → f e ≤ sum_by f es
+part_le f [] i e at = absurd cc
+part_le f (x ∷ es) zero e at =
+    let same : f x ≡ f e = ap f (same_Some x e at) in
+    omega (arith, same, sum_by-cons f x es)
+part_le f (x ∷ es) (suc i) e at = omega (arith, part_le f es i e at, sum_by-cons f x es)
+
+pub part_set : (f : DomainEntry → ℕ) (es : List DomainEntry) (i : ℕ) (e new : DomainEntry) → slice_get es i ≡ Some e
+    → sum_by f (set es i new) + f e ≡ sum_by f es + f new
+part_set f es i e new at =
+    let low = slice_get_within es i e at in
+    let here : f (get_or es i e) ≡ f e = ap f (get_or_from_slice_get es i e e at) in
+    omega (arith, sum_by-set f es i new e low, here)
+
 spare_le : (es : List DomainEntry) (i : ℕ) (e : DomainEntry) → slice_get es i ≡ Some e → spare e ≤ sum_by spare es
-spare_le [] i e at = absurd cc
-spare_le (x ∷ es) zero e at =
-    let same : spare x ≡ spare e = ap spare (same_Some x e at) in
-    omega (arith, same, sum_by-cons spare x es)
-spare_le (x ∷ es) (suc i) e at = omega (arith, spare_le es i e at, sum_by-cons spare x es)
+spare_le es i e at = part_le spare es i e at
 
 spare_set : (es : List DomainEntry) (i : ℕ) (e new : DomainEntry) → slice_get es i ≡ Some e
     → sum_by spare (set es i new) + spare e ≡ sum_by spare es + spare new
-spare_set es i e new at =
-    let low = slice_get_within es i e at in
-    let here : spare (get_or es i e) ≡ spare e = ap spare (get_or_from_slice_get es i e e at) in
-    omega (arith, sum_by-set spare es i new e low, here)
+spare_set es i e new at = part_set spare es i e new at
 
 -- one more thread has room where one more may be started
 pub room_for_one : (es : List DomainEntry) (rs : List CapRange) (t : ThreadList) (i : ℕ) (e : DomainEntry) → AreCounted es rs t → slice_get es i ≡ Some e
@@ -116,7 +123,7 @@ few_started es rs t i e h at few = omega (arith, h.small i e at, few)
 -- ---- All counts.
 
 -- after an item is replaced, what stands at a place is the new one there, or what stood elsewhere
-stands_after : {X : Type 0} (xs : List X) (i j : ℕ) (new x : X) → slice_get (set xs i new) j ≡ Some x → i < length xs
+pub stands_after : {X : Type 0} (xs : List X) (i j : ℕ) (new x : X) → slice_get (set xs i new) j ≡ Some x → i < length xs
     → ((i ≡ j) × (new ≡ x)) ⊎ ((i ≢ j) × (slice_get xs j ≡ Some x))
 stands_after xs i j new x at low = elim (cases_eq i j) [
   | inl same ↦
@@ -324,22 +331,26 @@ home_of n (x ∷ threads) t e h at = elim (cases_Bool (x.number.0 == t.0)) [
 
 -- ---- Ranges of capabilities.
 
-pub counts_caps : (es : List DomainEntry) (rs : List CapRange) (t : ThreadList) (class : ClassId) (target k : ℕ) → AreCounted es rs t
-    → AreCounted es (map (one_range (with_created class target) k) rs) t
-counts_caps es rs t class target k h = record {
-  as_many = length-map rs (one_range (with_created class target) k) ∙ h.as_many;
+pub counts_ranges : (g : CapRange → CapRange) → ((r : CapRange) → (g r).owner ≡ r.owner) → (es : List DomainEntry) (rs : List CapRange) (t : ThreadList)
+    → AreCounted es rs t → AreCounted es (map g rs) t
+counts_ranges g same es rs t h = record {
+  as_many = length-map rs g ∙ h.as_many;
   owners =
       λ i r at.
-      let from = comes_from (one_range (with_created class target) k) rs i r at in
-      ap (λ (x : CapRange). x.owner.0) (sym from.gives) ∙ same_owner from.from ∙ h.owners i from.from from.there;
+      let from = comes_from g rs i r at in
+      ap (λ (x : CapRange). x.owner.0) (sym from.gives) ∙ ap (λ (d : DomainId). d.0) (same from.from) ∙ h.owners i from.from from.there;
   started = h.started;
   within = h.within;
   small = h.small;
   homes = h.homes;
   room = h.room;
 }
+
+counts_caps : (es : List DomainEntry) (rs : List CapRange) (t : ThreadList) (class : ClassId) (target k : ℕ) → AreCounted es rs t
+    → AreCounted es (map (one_range (with_created class target) k) rs) t
+counts_caps es rs t class target k h = counts_ranges (one_range (with_created class target) k) same_owner es rs t h
   where
-    same_owner : (r : CapRange) → (one_range (with_created class target) k r).owner.0 ≡ r.owner.0
+    same_owner : (r : CapRange) → (one_range (with_created class target) k r).owner ≡ r.owner
     same_owner r = elim (cases_Bool (r.owner.0 == k)) [ inl hit ↦ rw hit refl | inr miss ↦ rw miss refl ]
 
 pub counts_created : (es : List DomainEntry) (rs : List CapRange) (t : ThreadList) (class : ClassId) (target : ℕ) (r : CapRange)

@@ -127,3 +127,10 @@ domains_with-push n k [] (y ∷ rs) e r same is = absurd (omega (arith, same))
 domains_with-push n k (x ∷ es) [] e r same is = absurd (omega (arith, same))
 domains_with-push n k (x ∷ es) (y ∷ rs) e r same is =
     ap (λ zs. domain_with n x y ∷ zs) (domains_with-push (suc n) k es rs e r (omega (arith, same)) (omega (arith, is)))
+
+-- the ranges are changed, and so are the domains
+pub domains_with-mapped : (g : CapRange → CapRange) (n : ℕ) (es : List DomainEntry) (rs : List CapRange)
+    → domains_with n es (map g rs) ≡ map (λ (e : SharedDomain). record e { caps = g e.caps }) (domains_with n es rs)
+domains_with-mapped g n [] rs = refl
+domains_with-mapped g n (x ∷ es) [] = refl
+domains_with-mapped g n (x ∷ es) (y ∷ rs) = ap (λ zs. domain_with n x (g y) ∷ zs) (domains_with-mapped g (suc n) es rs)

@@ -56,7 +56,7 @@ module _ {X : Type 0} (n : X) where
   pub one_passes : (p : X → Bool) (xs ys : List X) → HasOneMore n xs ys → length (filter p ys) ≡ length (filter p xs) + one_if (p n)
   one_passes p xs ys h = rw (h.new, h.old) (passes_more p h.front h.back)
 
-  module _ (key : X → ℕ) where
+  module _ {K : Type 0} (key : X → K) where
     -- one that has another key than all the others goes in front
     differ_first : (x : X) (xs : List X) → DifferBy key xs → ((y : X) → Contains xs y → key x ≢ key y) → DifferBy key (x ∷ xs)
     differ_first x xs d other zero zero u v p q same = refl

@@ -69,20 +69,13 @@ module _ {X : Type 0} (Same : X → X → Type 0) where
 
 -- ---- Keys.
 
-module _ {X : Type 0} (key : X → ℕ) where
+module _ {X K : Type 0} (key : X → K) where
   -- no two items have one key
   abbrev pub DifferBy : List X → Type 0
   DifferBy xs = (i j : ℕ) (x y : X) → slice_get xs i ≡ Some x → slice_get xs j ≡ Some y → key x ≡ key y → i ≡ j
 
-  -- keys rise
-  abbrev pub RiseBy : List X → Type 0
-  RiseBy xs = (i j : ℕ) (x y : X) → i < j → slice_get xs i ≡ Some x → slice_get xs j ≡ Some y → key x < key y
-
   differ_tail : (x : X) (xs : List X) → DifferBy (x ∷ xs) → DifferBy xs
   differ_tail x xs h i j a b p q same = let e = h (suc i) (suc j) a b p q same in omega (arith, e)
-
-  rise_tail : (x : X) (xs : List X) → RiseBy (x ∷ xs) → RiseBy xs
-  rise_tail x xs h i j a b low p q = h (suc i) (suc j) a b (omega arith) p q
 
   module _ (Same : X → X → Type 0) (keeps : (x y : X) → Same x y → key x ≡ key y) where
     -- where one that is left stood
@@ -111,6 +104,15 @@ module _ {X : Type 0} (key : X → ℕ) where
         by_places rest (suc i) zero p q = absurd (never i u p (ap key (same_Some y v q) ∙ sym same))
         by_places rest (suc i) (suc j) p q = ap suc (rest i j u v p q same)
 
+module _ {X : Type 0} (key : X → ℕ) where
+  -- keys rise
+  abbrev pub RiseBy : List X → Type 0
+  RiseBy xs = (i j : ℕ) (x y : X) → i < j → slice_get xs i ≡ Some x → slice_get xs j ≡ Some y → key x < key y
+
+  rise_tail : (x : X) (xs : List X) → RiseBy (x ∷ xs) → RiseBy xs
+  rise_tail x xs h i j a b low p q = h (suc i) (suc j) a b (omega arith) p q
+
+  module _ (Same : X → X → Type 0) (keeps : (x y : X) → Same x y → key x ≡ key y) where
     pub still_rise : (xs ys : List X) → Remains Same xs ys → RiseBy xs → RiseBy ys
     still_rise [] [] nothing d i j u v low p q = absurd cc
     still_rise [] (y ∷ ys) h d i j u v low p q = elim h [ ]
@@ -120,7 +122,7 @@ module _ {X : Type 0} (key : X → ℕ) where
         by_places : RiseBy ys → (i j : ℕ) → i < j → slice_get (y ∷ ys) i ≡ Some u → slice_get (y ∷ ys) j ≡ Some v → key u < key v
         by_places rest i zero low p q = absurd (omega arith)
         by_places rest zero (suc j) low p q =
-            let r = stood xs ys j v h q in
+            let r = stood key Same keeps xs ys j v h q in
             let up = d zero (suc r.0) x r.1 (omega arith) refl r.2 in
             omega (arith, up, keeps x y s, ap key (same_Some y u p), r.3)
         by_places rest (suc i) (suc j) low p q = rest i j u v (omega arith) p q

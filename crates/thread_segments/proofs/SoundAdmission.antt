@@ -110,6 +110,10 @@ module _ (s : SharedState) (d : DomainId) (q : Quotas) (stubs : List Stub) (next
         ∙ ap (λ n. 1 + n) (sym (numbers_before i (omega (arith, here.0))))
   ]
 
+  pub none_bound : count_bound_by s.names d ≡ 0
+  none_bound =
+      none_pass (λ (n : BoundName). n.binder.0 == d.0) s.names (λ n there. let b = h.names.binders n there in other n.binder (b.0, b.1))
+
   pub sound_admitted : AreSound new
   sound_admitted = record {
     numbered = numbered_more;
@@ -143,10 +147,7 @@ module _ (s : SharedState) (d : DomainId) (q : Quotas) (stubs : List Stub) (next
       differ = h.names.differ;
       few =
           each (λ (e : SharedDomain). count_bound_by s.names e.number ≤ e.quotas.names) h.names.few
-          (let none : count_bound_by s.names d ≡ 0 =
-          none_pass (λ (n : BoundName). n.binder.0 == d.0) s.names
-          (λ n there. let b = h.names.binders n there in other n.binder (b.0, b.1)) in
-          omega (arith, none));
+          (omega (arith, none_bound));
     };
     threads = record {
       rise = h.threads.rise;

@@ -19,7 +19,7 @@ use Rattle.thread_segments.specs.SoundStates.{AreSound}
 use Rattle.thread_segments.proofs.SoundDomains.{IsSoundDomain, Refits, one_changed, sound_domain, sound_one}
 use Rattle.thread_segments.proofs.SoundGrowth.{found_domain, of_domain}
 
-maps_alike : {X Y : Type 0} (f g : X → Y) (xs : List X) → ((x : X) → Contains xs x → f x ≡ g x) → map f xs ≡ map g xs
+pub maps_alike : {X Y : Type 0} (f g : X → Y) (xs : List X) → ((x : X) → Contains xs x → f x ≡ g x) → map f xs ≡ map g xs
 maps_alike f g [] same = refl
 maps_alike f g (x ∷ xs) same =
     rw (same x (Contains-here x xs), maps_alike f g xs (λ y there. same y (Contains-there y x xs there))) refl

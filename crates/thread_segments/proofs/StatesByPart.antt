@@ -1,5 +1,5 @@
 -- The shared state as its parts have it, and what the calls make of it.
-use Rattle.std.proofs.Common.{◌≡◌, ◌≢◌, ℕ, suc, ◌-◌, ◌<◌, IsTrue, List, [], ◌∷◌, ◌++◌, length, nat_lt, set, find, Option, Some, None, slice_get, refl, sym, ap, subst, ◌∙◌, arith, map, Result, Ok, Err}
+use Rattle.std.proofs.Common.{◌≡◌, ◌≢◌, ℕ, suc, true, false, ◌-◌, ◌<◌, IsTrue, List, [], ◌∷◌, ◌++◌, length, nat_lt, set, find, Option, Some, None, slice_get, refl, sym, ap, subst, ◌∙◌, arith, map, Result, Ok, Err}
 use Rattle.std.specs.Prelude.{◌==◌, option_and_then, option_map}
 use Rattle.std.proofs.lemmas.Bool.{lt-ltb, ltb-true}
 use Rattle.std.proofs.lemmas.Option.{same_Some, slice_get_within}
@@ -13,23 +13,27 @@ use Rattle.jk_model.specs.declared.steps.Raise.{Raise}
 use Rattle.jk_model.specs.declared.steps.Raise.TheVariants.{Standing}
 use Rattle.jk_model.specs.declared.steps.Standing.TheVariants as Stands
 use Rattle.jk_model_classes.specs.declared.sharing.Stub.{Stub}
-use Rattle.jk_model_heaps.specs.Capabilities.{CapRange, OwnedCapability, capability_numbered}
-use Rattle.jk_model_sharing.specs.CapabilityCalls.{LacksNumbers, count_numbers, first_range, has_room, next_number, status_of, used_up, with_created}
+use Rattle.jk_model_heaps.specs.Capabilities.{CapRange, OwnedCapability, capability_numbered, has_number}
+use Rattle.jk_model_sharing.specs.BoundNames.{BoundName}
+use Rattle.jk_model_sharing.specs.CapabilityCalls.{LacksNumbers, count_numbers, first_range, has_room, next_number, of_another, own, status_of, used_up, with_capability_revoked, with_created}
 use Rattle.jk_model_sharing.specs.Segments.{live_threads, new_segment, with_stack, without_top}
 use Rattle.jk_model_sharing.specs.SharedStates.{MayBegin, SharedDomain, SharedState, admitted, begun, caps_of, domain_numbered, popped, spent, stub_for, stub_of, with_caps}
-use Rattle.thread_segments.specs.ClassedRanges.{CreatesIn, has_room_in, used_up_in}
+use Rattle.thread_segments.specs.ClassedRanges.{CreatesIn, has_room_in, revoked_in, used_up_in}
 use Rattle.thread_segments.specs.Asked.{IsAdmitted, IsLiveDomain, IsNext, MaySpend}
-use Rattle.thread_segments.specs.Answers.{CreatesFor, count_numbers_left, has_stub, known_status, quotas_of, steps_left_of}
+use Rattle.thread_segments.specs.Answers.{CreatesFor, RevokesFor, count_numbers_left, has_stub, known_status, quotas_of, steps_left_of}
 use Rattle.thread_segments.specs.declared.domains.DomainEntry.{DomainEntry}
 use Rattle.thread_segments.specs.DomainEntries.{AreCounted, domain_with, domains_with, state_of}
+use Rattle.thread_segments.specs.NameEntries.{NameList}
 use Rattle.thread_segments.specs.ThreadEntries.{ThreadList}
+use Rattle.thread_segments.specs.SoundStates.{AreSound}
+use Rattle.thread_segments.proofs.OwnersByNumber.{put_back, revoked_for}
 use Rattle.thread_segments.proofs.ItemsByKey.{found_none}
 use Rattle.thread_segments.proofs.CapsOfDomains.{AreOwnedFrom, caps_changed, one_range, owner_found, range_stays}
-use Rattle.thread_segments.proofs.DomainsByNumber.{changed_at, domains_with-push, length-domains_with, ranges_of-domains_with, same_domains, stands_at}
+use Rattle.thread_segments.proofs.DomainsByNumber.{changed_at, domains_with-mapped, domains_with-push, length-domains_with, ranges_of-domains_with, same_domains, stands_at}
 
-module _ (es : List DomainEntry) (rs : List CapRange) (stubs : List Stub) (t : ThreadList) (h : AreCounted es rs t) where
+module _ (es : List DomainEntry) (rs : List CapRange) (stubs : List Stub) (ns : NameList) (t : ThreadList) (h : AreCounted es rs t) where
   abbrev here : SharedState
-  here = state_of es rs stubs t
+  here = state_of es rs stubs ns t
 
   pub caps_are : caps_of here ≡ rs
   caps_are = ranges_of-domains_with 0 es rs h.as_many
@@ -105,12 +109,12 @@ module _ (es : List DomainEntry) (rs : List CapRange) (stubs : List Stub) (t : T
         next_thread = suc t.next_thread;
         next_segment = suc t.next_segment;
       }
-      → state_of (set es d.0 more) rs stubs new ≡ begun d here
+      → state_of (set es d.0 more) rs stubs ns new ≡ begun d here
   begun_is d a more new quotas steps is = rw (is, same_domains 0 d.0 es rs a.entry more a.there quotas steps) refl
 
   pub popped_is : (thread : ThreadNo) (i : ℕ) (e less : DomainEntry) (new : ThreadList) → slice_get es i ≡ Some e → less.quotas ≡ e.quotas
       → less.steps_left ≡ e.steps_left → new ≡ record t { threads = live_threads (with_stack thread without_top t.threads) }
-      → state_of (set es i less) rs stubs new ≡ popped thread here
+      → state_of (set es i less) rs stubs ns new ≡ popped thread here
   popped_is thread i e less new at quotas steps is = rw (is, same_domains 0 i es rs e less at quotas steps) refl
 
   pub admitted_is : (d : DomainId) (q : Quotas) (more : List Stub) (e : DomainEntry) → d.0 ≡ length es → e.quotas ≡ q → e.steps_left ≡ q.steps
@@ -178,7 +182,7 @@ module _ (es : List DomainEntry) (rs : List CapRange) (stubs : List Stub) (t : T
   range_found d a = owner_found 0 d.0 d.0 rs a.range owners_from a.has_range (omega arith)
 
   with_range : (d : DomainId) (a : Admitted d) (g : CapRange → CapRange) (k : ℕ) (range : CapRange) → k ≡ d.0 → g a.range ≡ range
-      → with_caps d range here ≡ state_of es (map (one_range g k) rs) stubs t
+      → with_caps d range here ≡ state_of es (map (one_range g k) rs) stubs ns t
   with_range d a g k range is becomes =
       let same = caps_changed g d.0 range 0 d.0 es rs a.range owners_from a.has_range (omega arith) becomes in
       let domains = sym same ∙ ap (λ n. domains_with 0 es (map (one_range g n) rs)) (sym is) in
@@ -189,11 +193,11 @@ module _ (es : List DomainEntry) (rs : List CapRange) (stubs : List Stub) (t : T
 
   pub create_is : (d : DomainId) (a : Admitted d) (class : ClassId) (target : ℕ) (answer : Result CapId Raise) (new : List CapRange)
       → CreatesIn rs class target a.range answer new → (stub : Stub) → stub_for here class ≡ Some stub
-      → CreatesFor here d class target answer (state_of es new stubs t)
+      → CreatesFor here d class target answer (state_of es new stubs ns t)
   create_is d a class target answer new (used_up_in full) stub is =
       let e = domain_with d.0 a.entry a.range in
       let whole : with_caps d a.range here ≡ here =
-      with_range d a (λ (r : CapRange). r) d.0 a.range refl refl ∙ ap (λ (xs : List CapRange). state_of es xs stubs t) (range_stays d.0 rs) in
+      with_range d a (λ (r : CapRange). r) d.0 a.range refl refl ∙ ap (λ (xs : List CapRange). state_of es xs stubs ns t) (range_stays d.0 rs) in
       let P : SharedState → Type 0 = λ x. CreatesFor here d class target (Err (Standing Stands.Quota)) x in
       subst P whole (has_stub stub e (Err (Standing Stands.Quota)) a.range is a.is (used_up full))
   create_is d a class target answer new (has_room_in room) stub is =
@@ -202,3 +206,44 @@ module _ (es : List DomainEntry) (rs : List CapRange) (stubs : List Stub) (t : T
       let whole = with_range d a (with_created class target) a.range.owner.0 range (owner_is d a) refl in
       let P : SharedState → Type 0 = λ x. CreatesFor here d class target (Ok (next_number a.range)) x in
       subst P whole (has_stub stub e (Ok (next_number a.range)) range is a.is (has_room room))
+
+  -- ---- A capability is revoked.
+
+  pub revoked_is : (k : CapId) (d : DomainId) (e : SharedDomain) → AreSound here → domain_numbered here d ≡ Some e → has_number k e.caps ≡ true
+      → state_of es (map (revoked_in k) rs) stubs ns t ≡ with_caps d (with_capability_revoked k e.caps) here
+  revoked_is k d e sound is has =
+      ap (λ (ds : List SharedDomain). record here { domains = ds })
+      (domains_with-mapped (revoked_in k) 0 es rs ∙ revoked_for here sound k d e is has)
+
+  pub revokes_own : (k : CapId) (d : DomainId) (e : SharedDomain) → AreSound here → domain_numbered here d ≡ Some e → has_number k e.caps ≡ true
+      → RevokesFor here d k (Ok tt) (state_of es (map (revoked_in k) rs) stubs ns t)
+  revokes_own k d e sound is has = record {
+    domain = e;
+    is_domain = is;
+    range = with_capability_revoked k e.caps;
+    revokes = own has;
+    becomes = revoked_is k d e sound is has;
+  }
+
+  pub revokes_none : (k : CapId) (d : DomainId) (e : SharedDomain) → AreSound here → domain_numbered here d ≡ Some e → has_number k e.caps ≡ false
+      → RevokesFor here d k (Err (Standing Stands.Security)) here
+  revokes_none k d e sound is other = record {
+    domain = e;
+    is_domain = is;
+    range = e.caps;
+    revokes = of_another other;
+    becomes = sym (put_back here sound d e is);
+  }
+
+  -- ---- Names.
+
+  -- an entry is changed but for what is seen of it, and the names are others
+  pub names_are : (i : ℕ) (e other : DomainEntry) (new : NameList) (names : List BoundName) → slice_get es i ≡ Some e → other.quotas ≡ e.quotas
+      → other.steps_left ≡ e.steps_left → new ≡ record ns { names = names } → state_of (set es i other) rs stubs new t ≡ record here { names = names }
+  names_are i e other new names at quotas steps becomes =
+      let same : new.names ≡ names = ap (λ (x : NameList). x.names) becomes in
+      rw (same, same_domains 0 i es rs e other at quotas steps) refl
+
+  pub names_alone : (new : NameList) (names : List BoundName) → new ≡ record ns { names = names } → state_of es rs stubs new t ≡ record here { names = names }
+  names_alone new names becomes =
+      let same : new.names ≡ names = ap (λ (x : NameList). x.names) becomes in rw same refl

@@ -7,8 +7,8 @@ use Rattle.jk_model.specs.declared.identifiers.ClassId.{ClassId}
 use Rattle.jk_model.specs.declared.steps.Raise.{Raise}
 use Rattle.jk_model.specs.declared.steps.Raise.TheVariants.{Standing}
 use Rattle.jk_model.specs.declared.steps.Standing.TheVariants as Stands
-use Rattle.jk_model_heaps.specs.Capabilities.{CapRange, Capability}
-use Rattle.jk_model_sharing.specs.CapabilityCalls.{next_number, with_created}
+use Rattle.jk_model_heaps.specs.Capabilities.{CapRange, Capability, has_number}
+use Rattle.jk_model_sharing.specs.CapabilityCalls.{next_number, with_capability_revoked, with_created}
 
 -- what stands where no capability has the number
 abbrev pub no_class : ClassId
@@ -59,3 +59,7 @@ pub data CreatesIn (caps : List CapRange) (class : ClassId) (target : ℕ) (r : 
   has_room_in : length r.made < r.count
       → CreatesIn caps class target r (Ok (next_number r))
       (map (λ (x : CapRange). if x.owner.0 == r.owner.0 then with_created class target x else x) caps)
+
+-- the range that has the number, with its capability revoked
+abbrev pub revoked_in : CapId → CapRange → CapRange
+revoked_in k r = if has_number k r then with_capability_revoked k r else r

@@ -3,9 +3,11 @@ use Rattle.std.specs.Prelude.{◌≡◌, ℕ, suc, ◌+◌, ◌-◌, ◌<◌, �
 use Rattle.std.specs.List.{AllByRecursion}
 use Rattle.jk_model_classes.specs.declared.sharing.Stub.{Stub}
 use Rattle.jk_model_heaps.specs.Capabilities.{CapRange}
+use Rattle.jk_model_sharing.specs.BoundNames.{count_bound_by}
 use Rattle.jk_model_sharing.specs.Segments.{SharedThread, count_started_in}
 use Rattle.jk_model_sharing.specs.SharedStates.{SharedDomain, SharedState}
 use Rattle.thread_segments.specs.declared.domains.DomainEntry.{DomainEntry}
+use Rattle.thread_segments.specs.NameEntries.{NameList}
 use Rattle.thread_segments.specs.SoundStates.{AreSound}
 use Rattle.thread_segments.specs.ThreadEntries.{ThreadList}
 
@@ -32,12 +34,24 @@ pub record AreCounted (entries : List DomainEntry) (ranges : List CapRange) (t :
   -- there is room for all threads that may be started
   pub room : length t.threads + sum_by spare entries ≤ t.most
 
+-- how many more names may be bound
+abbrev pub spare_names : DomainEntry → ℕ
+spare_names e = e.quotas.names - e.names
+
+-- Names are counted of the domains that bound them.
+pub record AreNamed (entries : List DomainEntry) (n : NameList) : Type 0 where
+  pub bound : (i : ℕ) (e : DomainEntry) → slice_get entries i ≡ Some e → e.names ≡ count_bound_by n.names (record { 0 = i })
+  pub within : (i : ℕ) (e : DomainEntry) → slice_get entries i ≡ Some e → e.names ≤ e.quotas.names
+  pub small : (i : ℕ) (e : DomainEntry) → slice_get entries i ≡ Some e → e.quotas.names ≤ 4096
+  -- there is room for all names that may be bound
+  pub room : length n.names + sum_by spare_names entries ≤ n.most
+
 -- ---- All that domains share.
 
-abbrev pub state_of : List DomainEntry → List CapRange → List Stub → ThreadList → SharedState
-state_of entries caps stubs t = record {
+abbrev pub state_of : List DomainEntry → List CapRange → List Stub → NameList → ThreadList → SharedState
+state_of entries caps stubs n t = record {
   domains = domains_with 0 entries caps;
-  names = [];
+  names = n.names;
   threads = t.threads;
   next_thread = t.next_thread;
   next_segment = t.next_segment;
@@ -45,6 +59,7 @@ state_of entries caps stubs t = record {
 }
 
 -- Counts are right, and what is seen is sound.
-pub record IsKept (entries : List DomainEntry) (caps : List CapRange) (stubs : List Stub) (t : ThreadList) : Type 0 where
+pub record IsKept (entries : List DomainEntry) (caps : List CapRange) (stubs : List Stub) (n : NameList) (t : ThreadList) : Type 0 where
   pub counted : AreCounted entries caps t
-  pub sound : AreSound (state_of entries caps stubs t)
+  pub named : AreNamed entries n
+  pub sound : AreSound (state_of entries caps stubs n t)

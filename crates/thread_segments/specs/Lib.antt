@@ -4,6 +4,7 @@ pub mod Asked
 pub mod ClassedRanges
 pub mod DomainEntries
 pub mod KnownStubs
+pub mod NameEntries
 pub mod Places
 pub mod SoundStates
 pub mod StateParts

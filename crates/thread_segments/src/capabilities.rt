@@ -1,10 +1,10 @@
 //! The capabilities, each with the class that its target had when it was created.
 
-ghost use Rattle.std.specs.Prelude.{◌≡◌, ℕ, ◌+◌, ◌-◌, ◌<◌, ◌≤◌, ◌==◌, ◌++◌, ◌∷◌, [], None, Some, IsSome, Err, OnOk, OnErr, find, length, option_map, replicate, vec_len, vec_capacity};
+ghost use Rattle.std.specs.Prelude.{◌≡◌, ℕ, ◌+◌, ◌-◌, ◌<◌, ◌≤◌, ◌==◌, ◌++◌, ◌∷◌, [], None, Some, IsSome, Err, OnOk, OnErr, find, length, map, option_map, replicate, vec_len, vec_capacity};
 ghost use Rattle.jk_model.specs.Capabilities.{last_number};
-ghost use Rattle.jk_model_heaps.specs.Capabilities.{CapRange, OwnedCapability, capability_numbered};
+ghost use Rattle.jk_model_heaps.specs.Capabilities.{CapRange, IsGivenOut, OwnedCapability, capability_numbered};
 ghost use Rattle.jk_model_sharing.specs.CapabilityCalls.{LacksNumbers, count_numbers, first_range, status_of};
-ghost use Rattle.thread_segments.specs.ClassedRanges.{CreatesIn, no_class};
+ghost use Rattle.thread_segments.specs.ClassedRanges.{CreatesIn, no_class, revoked_in};
 
 use capability_table::{CapabilityTable, CapsError};
 use jk_model::{CapId, CapStatus, ClassId, DomainId, OutOfMemory, Raise, Standing};
@@ -96,6 +96,14 @@ impl Capabilities {
         ensures { result ≡ option_map status_of (capability_numbered self.now k) }
     {
         self.table.status(k)
+    }
+
+    /// Revokes a capability that was given out. One that is revoked stays so.
+    pub(crate) fn revoke(&mut self, k: CapId)
+        requires { IsGivenOut self.old k }
+        ensures { self.new ≡ map (revoked_in k) self.old }
+    {
+        self.table.revoke(k);
     }
 
     /// The class that a capability's target had. None exactly where it wasn't given out.

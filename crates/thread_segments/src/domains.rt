@@ -10,4 +10,6 @@ pub(crate) struct DomainEntry {
     pub(crate) steps_left: Option<u32>,
     /// How many live threads were started in it.
     pub(crate) threads: u32,
+    /// How many names it bound.
+    pub(crate) names: u32,
 }

@@ -6,6 +6,7 @@
 mod capabilities;
 mod domains;
 pub mod laws;
+mod names;
 mod parts;
 mod segments;
 mod shared;

@@ -1,19 +1,22 @@
 //! What domains share, and how a domain gets its part of it.
 
-ghost use Rattle.std.specs.Prelude.{◌≡◌, ◌≢◌, ◌⊎◌, ◌-◌, ◌↔◌, ◌<◌, Contains, MatchOption, false, None, IsTrue, IsSome, Err, OnOk, OnErr, IfOk, Some, option_copied, option_map, vec_capacity, vec_len};
+ghost use Rattle.std.specs.Prelude.{◌≡◌, ◌≢◌, ◌⊎◌, ◌-◌, ◌↔◌, ◌<◌, Contains, MatchOption, false, None, IsTrue, IsSome, Err, OnOk, OnErr, IfOk, Some, option_copied, option_map, vec_capacity, vec_len, ◌≤◌, length, slice_get, ◌==◌};
 ghost use Rattle.jk_model.specs.declared.identifiers.ClassId.{ClassId as Class};
 ghost use Rattle.jk_model_classes.specs.declared.records.BaseRef.TheVariants as Base;
 ghost use Rattle.jk_model_classes.specs.declared.sharing.Stub.{Stub as AStub};
+ghost use Rattle.jk_model_heaps.specs.Capabilities.{IsGivenOut, has_number};
+ghost use Rattle.jk_model_sharing.specs.BoundNames.{BoundName as Name, LooksUp, bound_as, longest_name};
 ghost use Rattle.jk_model_sharing.specs.CapabilityCalls.{LacksNumbers};
 ghost use Rattle.jk_model_sharing.specs.KnownStubs.{AreRising};
 ghost use Rattle.jk_model_sharing.specs.Segments.{with_revoked, with_stop};
-ghost use Rattle.jk_model_sharing.specs.SharedStates.{MayBegin, Resumes, Stops, Suspends, admitted, caps_of, first_state, popped, spent, stub_of, with_flags};
-ghost use Rattle.thread_segments.specs.Answers.{Begins, CreatesFor, IsLeastAbove, IsLiveNumber, count_numbers_left, known_status, number_below, quotas_of, segment_info, steps_left_of, top_number};
+ghost use Rattle.jk_model_sharing.specs.SharedStates.{MayBegin, Resumes, SharedDomain as Domain, Stops, Suspends, admitted, caps_of, domain_numbered, first_state, popped, spent, stub_of, with_flags};
+ghost use Rattle.thread_segments.specs.Answers.{Begins, BindsFor, CreatesFor, IsLeastAbove, IsLiveNumber, RevokesFor, UnbindsFor, count_numbers_left, known_status, number_below, quotas_of, segment_info, steps_left_of, top_number};
 ghost use Rattle.thread_segments.specs.Asked.{AreWithin, HasRoomForSegment, IsAdmitted, IsLiveDomain, IsLiveThread, IsNext, IsThere, MayDrawSegment, MayDrawThread, MaySpend};
 ghost use Rattle.thread_segments.specs.SoundStates.{AreSound};
 
 use crate::capabilities::Capabilities;
 use crate::domains::DomainEntry;
+use crate::names::{MOST_UNITS, Names};
 use crate::segments::SegmentInfo;
 use crate::stub_index::StubIndex;
 use crate::threads::Threads;
@@ -21,7 +24,8 @@ use capability_table::CapsError;
 use class_table::ClassTable;
 use instance_tests::CapabilityTests;
 use jk_model::{
-    CapId, CapStatus, ClassId, DomainId, List, OutOfMemory, Quotas, Raise, SegmentNo, ThreadNo,
+    CapId, CapStatus, ClassId, DomainId, List, OutOfMemory, Quotas, Raise, SegmentNo, Standing,
+    ThreadNo,
 };
 use jk_model_classes::{BaseRef, Stub, TypeRef};
 use jk_model_heaps::system_classes::{CAPABILITY, ILLEGAL_ARGUMENT_EXCEPTION, OBJECT, REMOTE};
@@ -35,6 +39,7 @@ pub struct Shared {
     domains: Vec<DomainEntry>,
     caps: Capabilities,
     stubs: StubIndex,
+    names: Names,
     threads: Threads,
 }
 
@@ -44,9 +49,9 @@ impl Model for Shared {
 
     ghost Value = { SharedState };
 
-    ghost view = { λ s. state_of s.domains.items s.caps s.stubs.stubs s.threads };
+    ghost view = { λ s. state_of s.domains.items s.caps s.stubs.stubs s.names s.threads };
 
-    ghost invariant = { λ s. IsKept s.domains.items s.caps s.stubs.stubs s.threads };
+    ghost invariant = { λ s. IsKept s.domains.items s.caps s.stubs.stubs s.names s.threads };
 }
 
 impl Shared {
@@ -57,11 +62,13 @@ impl Shared {
         let domains = Vec::new(alloc);
         let caps = Capabilities::new(alloc);
         let stubs = StubIndex::new(alloc);
+        let names = Names::new(alloc);
         let threads = Threads::new(alloc);
         Ok(Shared {
             domains,
             caps,
             stubs,
+            names,
             threads,
         })
     }
@@ -83,12 +90,14 @@ impl Shared {
         reserve(&mut self.domains)?;
         self.stubs.reserve(stubs.len())?;
         self.threads.reserve(q.threads)?;
+        self.names.reserve(q.names)?;
         self.caps.admit(d, q.caps)?;
         self.stubs.add(stubs);
         self.domains.push_reserved(DomainEntry {
             quotas: *q,
             steps_left: q.steps,
             threads: 0,
+            names: 0,
         });
         Ok(())
     }
@@ -251,6 +260,116 @@ impl Shared {
         }
     }
 
+    /// Revokes a capability that was given out, for a live domain. SecurityException is raised exactly where another domain owns it,
+    /// and then all is as before. One that is revoked stays so.
+    pub fn revoke(&mut self, d: DomainId, k: CapId) -> Result<(), Raise>
+        requires live { IsLiveDomain self.old d }
+        requires given { IsGivenOut (caps_of self.old) k }
+        ensures { RevokesFor self.old d k result self.new }
+    {
+        if !self.owns(d, k) {
+            return Err(Raise::Standing(Standing::Security));
+        }
+        self.caps.revoke(k);
+        Ok(())
+    }
+
+    /// The capability of a name. None exactly where the name isn't bound.
+    pub fn lookup(&self, name: &[u16]) -> Option<CapId>
+        ensures { LooksUp self.now.names name.now result }
+    {
+        self.names.cap(name)
+    }
+
+    /// Binds a name to a capability that was given out, for a live domain. IllegalArgumentException is raised exactly where the
+    /// name has over 64 units or another domain bound it, and else QuotaException exactly where it isn't bound and the domain has
+    /// bound as many names as it may; then all is as before. A name that is bound keeps its place, and another goes last.
+    pub fn bind(&mut self, d: DomainId, name: &[u16], k: CapId) -> Result<(), Raise>
+        requires live { IsLiveDomain self.old d }
+        requires given { IsGivenOut (caps_of self.old) k }
+        ensures { BindsFor self.old (record { text = name.now; cap = k; binder = d }) result self.new }
+    {
+        if name.len() > MOST_UNITS {
+            return Err(Raise::Fresh(ILLEGAL_ARGUMENT_EXCEPTION));
+        }
+        match self.names.find(name) {
+            Some(place) => self.bind_anew(d, place, k),
+            None => self.bind_new(d, name, k),
+        }
+    }
+
+    /// Binds the name at a place anew, for a live domain.
+    fn bind_anew(&mut self, d: DomainId, place: usize, k: CapId) -> Result<(), Raise>
+        requires live { IsLiveDomain self.old d }
+        requires given { IsGivenOut (caps_of self.old) k }
+        requires bound { place < length self.old.names }
+        ensures { (n : Name) → slice_get self.old.names place ≡ Some n
+            → BindsFor self.old (record { text = n.text; cap = k; binder = d }) result self.new }
+    {
+        if !is_same(self.names.binder(place), d) {
+            return Err(Raise::Fresh(ILLEGAL_ARGUMENT_EXCEPTION));
+        }
+        self.names.set_cap(place, k);
+        Ok(())
+    }
+
+    /// Binds a name of at most 64 units that isn't bound, for a live domain.
+    fn bind_new(&mut self, d: DomainId, name: &[u16], k: CapId) -> Result<(), Raise>
+        requires live { IsLiveDomain self.old d }
+        requires given { IsGivenOut (caps_of self.old) k }
+        requires short { length name.now ≤ longest_name }
+        requires new { bound_as self.old.names name.now ≡ None }
+        ensures { BindsFor self.old (record { text = name.now; cap = k; binder = d }) result self.new }
+    {
+        let entry = &self.domains[d.0 as usize];
+        if entry.names >= entry.quotas.names {
+            return Err(Raise::Standing(Standing::Quota));
+        }
+        self.names.add(name, k, d);
+        let entry = &mut self.domains[d.0 as usize];
+        entry.names += 1;
+        Ok(())
+    }
+
+    /// Unbinds a name, for a live domain. SecurityException is raised exactly where another domain bound it, and then all is as
+    /// before, as where it isn't bound.
+    pub fn unbind(&mut self, d: DomainId, name: &[u16]) -> Result<(), Raise>
+        requires { IsLiveDomain self.old d }
+        ensures { UnbindsFor self.old d name.now result self.new }
+    {
+        match self.names.find(name) {
+            Some(place) => self.remove_name(d, place),
+            None => Ok(()),
+        }
+    }
+
+    /// Unbinds the name at a place, for a live domain.
+    fn remove_name(&mut self, d: DomainId, place: usize) -> Result<(), Raise>
+        requires live { IsLiveDomain self.old d }
+        requires bound { place < length self.old.names }
+        ensures { (n : Name) → slice_get self.old.names place ≡ Some n → UnbindsFor self.old d n.text result self.new }
+    {
+        if !is_same(self.names.binder(place), d) {
+            return Err(Raise::Standing(Standing::Security));
+        }
+        self.names.remove(place);
+        let entry = &mut self.domains[d.0 as usize];
+        entry.names -= 1;
+        Ok(())
+    }
+
+    /// Whether a capability that was given out is a domain's.
+    fn owns(&self, d: DomainId, k: CapId) -> bool
+        requires live { IsLiveDomain self.now d }
+        requires given { IsGivenOut (caps_of self.now) k }
+        ensures { (e : Domain) → domain_numbered self.now d ≡ Some e → result ≡ has_number k e.caps }
+    {
+        match self.caps.status(k) {
+            Some(status) => status.owner == d,
+            None => false,
+        }
+    }
+
     /// What is known of a capability. None exactly where it wasn't given out.
     pub fn status(&self, k: CapId) -> Option<CapStatus>
         ensures { result ≡ known_status self.now k }
@@ -295,6 +414,13 @@ impl CapabilityTests for Shared {
             None => false,
         }
     }
+}
+
+/// Whether two domains are one.
+fn is_same(a: DomainId, b: DomainId) -> bool
+    ensures { result ≡ (a.0 == b.0) }
+{
+    a == b
 }
 
 /// One fewer, where there is a number.

@@ -12,7 +12,7 @@ use Rattle.jk_model.specs.declared.steps.Standing.TheVariants as Stands
 use Rattle.jk_model_classes.specs.declared.records.ClassRecord.{ClassRecord}
 use Rattle.jk_model_classes.specs.Classes.{IsSubclass}
 use Rattle.jk_model_typing.specs.FrameTypes.{THROWABLE}
-use Rattle.jk_model_domains.specs.Objects.{NamedObject, Object, Plain, Task, object_words}
+use Rattle.jk_model_domains.specs.Objects.{NamedObject, Object, Task, object_words}
 use Rattle.jk_model_heaps.specs.declared.shapes.Shape.TheVariants as Of
 use Rattle.jk_model_heaps.specs.Heaps.{MakesOne, heap_words, named, zero_fields}
 use Rattle.jk_model_heaps.specs.Throwables.{IsRaised, IsStanding, fresh_throwable, standing_class}
@@ -83,7 +83,8 @@ module _ (around : Surroundings) (x : Setting) (known : IsKnownSetting around x)
   made_thrown c a heap low below makes = (
     record {
       sealed = made_sealed around x.quota old (named a (fresh c) ∷ []) heap sealed makes
-          (λ e has. subst (λ (f : NamedObject). IsSealedObject around heap f.object) (only_in e (named a (fresh c)) (named a (fresh c) ∷ []) refl has) fits);
+          (λ e has.
+          subst (λ (f : NamedObject). IsSealedObject around heap f.object) (only_in e (named a (fresh c)) (named a (fresh c) ∷ []) refl has) fits);
       grown = making_grows around.classes x.quota old.heap (named a (fresh c) ∷ []) heap makes;
       tasks = λ b n is. elim (nothing_else around.classes x.quota old.heap (named a (fresh c) ∷ []) heap makes b (Task n) is) [
         | inl before ↦ inl before

@@ -29,7 +29,6 @@ use Rattle.decided_lookups.specs.Decisions.{IsDecided}
 use Rattle.decided_lookups.proofs.DecidedParts.{both_decided}
 use Rattle.decided_lookups.proofs.ListsSearched.{first_or_none}
 use Rattle.grown_heaps.proofs.SealedStill.{state_sealed}
-use Rattle.grown_heaps.proofs.StillFits.{throwable}
 use Rattle.sealed_rows.specs.RaisableObjects.{IsThrowable, KeepsStates, MayBeRaised, MayMeetRaise}
 use Rattle.sealed_rows.specs.RunningFrames.{IsKnownSetting}
 use Rattle.typed_operands.proofs.InstancesDecided.{instance_decided}
@@ -68,7 +67,7 @@ stated_there c d s [] e found = absurd cc
 stated_there c d s (p ∷ ps) e found =
     stated_by c d s p e ps (p.class.0 == c.0) (p.class.0 == d.0) refl (stated_there c d s ps e) found
 
-state_stays : (own : OwnState) (c d : ClassId) (s : ClassState) → HasState own d → HasState (with_state own c s) d
+pub state_stays : (own : OwnState) (c d : ClassId) (s : ClassState) → HasState own d → HasState (with_state own c s) d
 state_stays own c d s (e, is) = stated_there c d s own.classes e is
 
 -- ---- Whether a frame catches.

@@ -1,7 +1,7 @@
 //! The laws. The functions have no bodies: each stands for its clauses.
 
 ghost use Rattle.unwinding_laws.specs.RaisedObjects.{RaisedObjectsAreThere, RaisedObjectsAreThrowables};
-ghost use Rattle.unwinding_laws.specs.UnwoundFrames.{CatchersHaveRoom, UnwindingKeepsAnswers, UnwindingReadsNoStack, WaysAreThere};
+ghost use Rattle.unwinding_laws.specs.UnwoundFrames.{CatchersHaveRoom, UnwindingKeeps, UnwindingKeepsAnswers, UnwindingReadsNoStack, WaysAreThere};
 
 /// What is on the stack of a segment's top frame is nothing to its unwinding.
 pub fn stacks_are_not_read()
@@ -23,4 +23,10 @@ pub fn raised_objects_are_throwables()
 pub fn ways_are_there()
     ensures ways { WaysAreThere }
     ensures room { CatchersHaveRoom }
+{}
+
+/// A segment that is unwound stays sealed with its domain: the frame that catches fits at its handler, over those that stood below it, or
+/// what left all frames is a throwable; each class is in progress as its frames say; and no more chunks are used.
+pub fn unwound_segments_stay_sealed()
+    ensures { UnwindingKeeps }
 {}

@@ -9,6 +9,7 @@ use Rattle.thread_segments.specs.ThreadEntries.{ThreadList}
 use Rattle.thread_segments.proofs.CountsAreKept.{below_with_stack, home_of, recounted, recounts_ended, some_started}
 use Rattle.thread_segments.proofs.SoundThreads.{sound_popped}
 use Rattle.thread_segments.proofs.StatesByPart.{popped_is}
+use Rattle.thread_segments.proofs.NamesAreCounted.{named_same}
 use Rattle.thread_segments.proofs.shared.Shared.pop.Goals as goal
 
 pub index_mut-entry-requires : goal.index_mut-entry-requires
@@ -45,16 +46,17 @@ invariant_of-self c =
     some_started s.domains.items s.caps s.threads c.pop-started.new.self c.pop-started.result.0 e c.self.invariant.counted at c.pop-started.ensures.counted in
     let threads = ap (λ (t : ThreadList). t.threads) c.pop-started.ensures.popped in
     let V : SharedState → Type 0 = λ x. AreSound x in
-    let now = state_of s.domains.items s.caps s.stubs.stubs s.threads in
+    let now = state_of s.domains.items s.caps s.stubs.stubs s.names s.threads in
     record {
       counted =
           recounted s.domains.items s.caps s.threads c.pop-started.new.self c.pop-started.result.0 e _ c.self.invariant.counted
           (recounts_ended s.domains.items s.caps s.threads c.pop-started.new.self c.pop-started.result.0 e _ c.self.invariant.counted at some refl
           (rw threads (below_with_stack c.args.t _ (length s.domains.items) s.threads.threads c.self.invariant.counted.homes))
           c.pop-started.ensures.counted c.pop-started.ensures.fewer (ap (λ (t : ThreadList). t.most) c.pop-started.ensures.popped));
+      named = named_same s.domains.items s.names c.pop-started.result.0 e _ c.self.invariant.named at refl refl;
       sound =
           subst V
-          (sym (popped_is s.domains.items s.caps s.stubs.stubs s.threads c.self.invariant.counted c.args.t c.pop-started.result.0 e _
+          (sym (popped_is s.domains.items s.caps s.stubs.stubs s.names s.threads c.self.invariant.counted c.args.t c.pop-started.result.0 e _
           c.pop-started.new.self at refl refl c.pop-started.ensures.popped))
           (sound_popped now c.self.invariant.sound c.args.t);
     }
@@ -70,5 +72,5 @@ returns c =
     let e = c.index_mut-entry.result.now in
     let at = item_read s.domains.items c.pop-started.result.0 e low c.index_mut-entry.ensures.value in
     rw (← c.self.view_is)
-    (popped_is s.domains.items s.caps s.stubs.stubs s.threads c.self.invariant.counted c.args.t c.pop-started.result.0 e _ c.pop-started.new.self at refl refl
+    (popped_is s.domains.items s.caps s.stubs.stubs s.names s.threads c.self.invariant.counted c.args.t c.pop-started.result.0 e _ c.pop-started.new.self at refl refl
     c.pop-started.ensures.popped)

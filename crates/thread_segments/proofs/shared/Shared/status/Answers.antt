@@ -6,4 +6,4 @@ use Rattle.thread_segments.proofs.shared.Shared.status.Goals as goal
 pub returns : goal.returns
 returns c =
     let s = c.self.inside in
-    rw (← c.self.view_is) (c.status.ensures ∙ status_here s.domains.items s.caps s.stubs.stubs s.threads c.self.invariant.counted c.args.k)
+    rw (← c.self.view_is) (c.status.ensures ∙ status_here s.domains.items s.caps s.stubs.stubs s.names s.threads c.self.invariant.counted c.args.k)

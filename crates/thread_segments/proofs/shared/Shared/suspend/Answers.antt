@@ -11,12 +11,13 @@ use Rattle.thread_segments.proofs.shared.Shared.suspend.Goals as goal
 pub invariant_of-self : goal.invariant_of-self
 invariant_of-self c =
     let s = c.self.inside in
-    let P : ThreadList → Type 0 = λ t. AreSound (state_of s.domains.items s.caps s.stubs.stubs t) in
-    let now = state_of s.domains.items s.caps s.stubs.stubs s.threads in
+    let P : ThreadList → Type 0 = λ t. AreSound (state_of s.domains.items s.caps s.stubs.stubs s.names t) in
+    let now = state_of s.domains.items s.caps s.stubs.stubs s.names s.threads in
     record {
       counted =
           recounts_same s.domains.items s.caps s.threads c.set_suspended.new.self _ c.self.invariant.counted
           (ap (λ (t : ThreadList). t.threads) c.set_suspended.ensures) (ap (λ (t : ThreadList). t.most) c.set_suspended.ensures);
+      named = c.self.invariant.named;
       sound = subst P (sym c.set_suspended.ensures) (sound_flags now c.self.invariant.sound c.args.s (with_suspended true) (λ x. (refl, refl)));
     }
 

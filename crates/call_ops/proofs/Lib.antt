@@ -1,0 +1,6 @@
+-- Lemmas on what a call finds, what it comes to and what follows it.
+pub mod CallFound
+pub mod CallsDone
+pub mod CallsFollow
+pub mod SelectedIsMethod
+pub mod TargetsByReceiver

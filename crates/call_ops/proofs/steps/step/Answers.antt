@@ -1,0 +1,96 @@
+-- The call finds what it asks for, and does what its row says.
+use Rattle.std.proofs.Common.{List, length, ap, ◌∙◌, refl, subst, sym, arith}
+use Rattle.jk_model_classes.specs.declared.records.ClassRecord.{ClassRecord}
+use Rattle.jk_model_classes.specs.Classes.{HasClass}
+use Rattle.jk_model_call_rows.specs.Targets.{Fails, Runs, Through}
+use Rattle.call_ops.proofs.CallFound.{few_params, has_method, has_own_class, leads_to_method}
+use Rattle.call_ops.proofs.CallsDone.{fails_at, has_entry, may_run_at, ran_at, refers, static_may_run, static_ran, through_at}
+use Rattle.call_ops.proofs.steps.step.Goals as goal
+
+-- ---- What it asks for.
+
+pub method_of-named-requires : goal.method_of-named-requires
+method_of-named-requires g c = leads_to_method c.requires.may.2 c.requires.kind
+
+pub unreachable-requires : goal.unreachable-requires
+unreachable-requires g c =
+    let there =
+    has_method c.requires.may.2 c.requires.kind c.classes-t.result.now c.classes-t.ensures c.method_of-named.result c.method_of-named.ensures in
+    c.in-None.ensures.none there.0 there.1
+
+pub overflow_cast-arguments : goal.overflow_cast-arguments
+overflow_cast-arguments g c =
+    omega (
+      arith,
+      c.len-arguments.ensures,
+      ap length c.get.ensures,
+      few_params c.requires.may.2 c.requires.kind c.classes-t.result.now c.classes-t.ensures c.method_of-named.result c.method_of-named.ensures
+          c.in-Some.method.now c.in-Some.ensures.some,
+    )
+
+pub run-requires : goal.run-requires
+run-requires g c =
+    static_may_run c.requires.may.2 c.requires.kind c.classes-t.result.now c.classes-t.ensures c.method_of-named.result c.method_of-named.ensures
+    c.in-Some.method.now c.in-Some.ensures.some c.len-arguments.result (c.len-arguments.ensures ∙ ap length c.get.ensures)
+    c.if-at.true
+
+pub peek-receiver-requires : goal.peek-receiver-requires
+peek-receiver-requires g c =
+    has_entry c.requires.may.2 c.requires.kind c.classes-t.result.now c.classes-t.ensures c.method_of-named.result c.method_of-named.ensures
+    c.in-Some.method.now c.in-Some.ensures.some c.len-arguments.result (c.len-arguments.ensures ∙ ap length c.get.ensures) c.if-at.false
+
+pub target_at-requires-clause-class : goal.target_at-requires-clause-class
+target_at-requires-clause-class g c =
+    subst (λ (l : List ClassRecord). HasClass l c.args.at.now.code.class) (sym c.classes-t.ensures)
+    (has_own_class c.requires.may.2 c.requires.kind)
+
+pub target_at-requires-clause-refers : goal.target_at-requires-clause-refers
+target_at-requires-clause-refers g c =
+    refers c.requires.may.2 c.requires.kind c.classes-t.result.now c.classes-t.ensures c.method_of-named.result c.method_of-named.ensures
+    c.in-Some.method.now c.in-Some.ensures.some c.len-arguments.result (c.len-arguments.ensures ∙ ap length c.get.ensures)
+    c.if-at.false c.peek-receiver.result c.peek-receiver.ensures
+
+pub overflow_add-arguments : goal.overflow_add-arguments
+overflow_add-arguments g c =
+    omega (
+      arith,
+      c.len-arguments.ensures,
+      ap length c.get.ensures,
+      few_params c.requires.may.2 c.requires.kind c.classes-t.result.now c.classes-t.ensures c.method_of-named.result c.method_of-named.ensures
+          c.in-Some.method.now c.in-Some.ensures.some,
+    )
+
+pub run-requires-in-Runs : goal.run-requires-in-Runs
+run-requires-in-Runs g c =
+    may_run_at c.requires.may.2 c.requires.kind c.classes-t.result.now c.classes-t.ensures c.method_of-named.result c.method_of-named.ensures
+    c.in-Some.method.now c.in-Some.ensures.some c.len-arguments.result (c.len-arguments.ensures ∙ ap length c.get.ensures)
+    c.if-at.false c.peek-receiver.result c.peek-receiver.ensures (Runs c.in-Runs.m) c.in-Runs.ensures c.in-Runs.m refl
+
+-- ---- What it does.
+
+pub returns-then-at : goal.returns-then-at
+returns-then-at g c = λ own shared x may is.
+    static_ran may c.requires.kind c.classes-t.result.now c.classes-t.ensures c.method_of-named.result c.method_of-named.ensures
+    c.in-Some.method.now c.in-Some.ensures.some c.len-arguments.result (c.len-arguments.ensures ∙ ap length c.get.ensures)
+    c.if-at.true x is (g.F.FrameStore.content c.run.new.frames) c.run.result c.run.ensures
+
+pub returns-in-Runs : goal.returns-in-Runs
+returns-in-Runs g c = λ own shared x may is.
+    ran_at may c.requires.kind c.classes-t.result.now c.classes-t.ensures c.method_of-named.result c.method_of-named.ensures
+    c.in-Some.method.now c.in-Some.ensures.some c.len-arguments.result (c.len-arguments.ensures ∙ ap length c.get.ensures)
+    c.if-at.false c.peek-receiver.result c.peek-receiver.ensures (Runs c.in-Runs.m) c.in-Runs.ensures c.in-Runs.m refl
+    x is (g.F.FrameStore.content c.run-in-Runs.new.frames) c.run-in-Runs.result c.run-in-Runs.ensures
+
+pub returns-in-Fails : goal.returns-in-Fails
+returns-in-Fails g c = λ own shared x may is.
+    fails_at may c.requires.kind c.classes-t.result.now c.classes-t.ensures c.method_of-named.result c.method_of-named.ensures
+    c.in-Some.method.now c.in-Some.ensures.some c.len-arguments.result (c.len-arguments.ensures ∙ ap length c.get.ensures)
+    c.if-at.false c.peek-receiver.result c.peek-receiver.ensures (Fails c.in-Fails.c) c.in-Fails.ensures c.in-Fails.c refl
+    x is
+
+pub returns-in-Crosses : goal.returns-in-Crosses
+returns-in-Crosses g c = λ own shared x may is.
+    through_at may c.requires.kind c.classes-t.result.now c.classes-t.ensures c.method_of-named.result c.method_of-named.ensures
+    c.in-Some.method.now c.in-Some.ensures.some c.len-arguments.result (c.len-arguments.ensures ∙ ap length c.get.ensures)
+    c.if-at.false c.peek-receiver.result c.peek-receiver.ensures (Through c.in-Crosses.k c.method_of-named.result) c.in-Crosses.ensures
+    c.in-Crosses.k c.method_of-named.result refl x is

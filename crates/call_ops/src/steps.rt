@@ -1,0 +1,59 @@
+//! What an instruction of call does.
+
+ghost use Rattle.jk_model_call_rows.specs.CallRows.{IsOfCalls};
+ghost use Rattle.jk_model_sharing.specs.SharedStates.{SharedState};
+ghost use Rattle.class_init.specs.KeptStates.{KeptState};
+ghost use Rattle.step_contents.specs.Conditions.{MayDo};
+ghost use Rattle.step_contents.specs.Contents.{contents_of, here_at};
+ghost use Rattle.code_places.specs.StandingFrames.{place_of};
+ghost use Rattle.call_ops.specs.CallSteps.{CallDone};
+
+use crate::running::run;
+use crate::targets::{Target, target_at};
+use code_places::{StandsAt, method_of};
+use domain_resolver::World;
+use frame_store::FrameStore;
+use jk_model::opcodes::INVOKESTATIC;
+use jk_model::{After, DomainId, Raise, SegmentNo};
+use member_lookup::method_record;
+use object_store::ObjectStore;
+
+/// Does the call at which the top frame of a segment of domain d stands, and answers what is done next. `at` is where that frame
+/// stands: at `invokevirtual`, `invokespecial`, `invokestatic` or `invokeinterface`, whose class is ready where it needs one.
+///
+/// A method with code has taken its receiver and arguments off the stack, and its new frame goes on at place 0: `Goto(0)`. Where
+/// that frame's chunks don't fit, the standing StackOverflowError is raised. A method m of the system answers `Call(m)`, and a
+/// method m that is called through a capability k `Crossing(k, m)`. After these, and after what is raised, the frame is as it was.
+/// Nothing here takes memory. A call takes time in proportion to the classes above the receiver's and to its arguments.
+pub fn step<H: ObjectStore, F: FrameStore>(
+    heap: &H,
+    frames: &mut F,
+    w: &World,
+    d: DomainId,
+    s: SegmentNo,
+    at: &StandsAt<'_>,
+) -> After
+    requires may { (own : KeptState) × (shared : SharedState)
+        × MayDo (contents_of (H.content heap.now) (F.content frames.old) own) (here_at w.now shared d s) (place_of at.now) }
+    requires kind { IsOfCalls at.now.instr.now }
+    ensures { (own : KeptState) (shared : SharedState)
+        → CallDone (contents_of (H.content heap.now) (F.content frames.old) own)
+        (contents_of (H.content heap.now) (F.content frames.new) own) (here_at w.now shared d s) (place_of at.now) result }
+{
+    let t = w.classes();
+    let named = method_of(at);
+    let method = match method_record(t, named) {
+        Some(method) => method,
+        None => unreachable!(),
+    };
+    let arguments = method.params.get().len() as u16;
+    if at.instr.op == INVOKESTATIC {
+        return run(frames, t, s, named, arguments);
+    }
+    let receiver = frames.peek(s, arguments);
+    match target_at(heap, t, d, at, named, method, receiver) {
+        Target::Runs(m) => run(frames, t, s, m, arguments + 1),
+        Target::Fails(c) => After::Raise(Raise::Fresh(c)),
+        Target::Crosses(k) => After::Crossing(k, named),
+    }
+}

@@ -1,0 +1,20 @@
+-- What is known of instructions on objects in the stores.
+mod ArrayLengths
+mod ArraysFound
+mod DoingHere
+mod ElementLoads
+mod EntriesTakenOff
+mod FieldGets
+mod FieldPlaces
+mod FieldsFound
+mod FoundByOpcode
+mod InstancesTold
+mod InstructionDone
+mod KnownHere
+mod ObjectsMade
+mod ObjectsNew
+mod RoomOnStack
+mod StaticsUsed
+mod TextsLoaded
+mod Throws
+mod ValuesOnTop

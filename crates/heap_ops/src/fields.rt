@@ -1,0 +1,48 @@
+//! Fields of objects.
+
+ghost use Rattle.std.specs.Prelude.{◌≡◌, ◌<◌, ◌^◌, ℕ, IsFalse};
+ghost use Rattle.jk_model.specs.Flags.{has, STATIC};
+ghost use Rattle.jk_model.specs.declared.opcodes.TheConstants.{GETFIELD};
+ghost use Rattle.jk_model_classes.specs.declared.records.FieldRecord.{FieldRecord as AField};
+ghost use Rattle.jk_model_classes.specs.Lookups.{FieldIs};
+ghost use Rattle.heap_ops.specs.HeapValues.{IsOwnPlace};
+ghost use Rattle.heap_ops.specs.OneInstruction.{MayStep, Steps, place_in};
+
+use crate::entries::{object_at, replace};
+use crate::here::Here;
+use class_table::ClassTable;
+use code_places::field_of;
+use frame_store::FrameStore;
+use jk_model::{MemberId, Raise};
+use object_store::ObjectStore;
+
+/// The place of an instance field in the objects of its class and of all classes below it.
+fn place_of(t: &ClassTable, m: MemberId) -> u32
+    requires field { (field : AField) × FieldIs t.now m field × IsFalse (has field.flags STATIC) }
+    requires small { (place : ℕ) → IsOwnPlace t.now m place → place < 2 ^ 32 }
+    ensures { IsOwnPlace t.now m result }
+{
+    match t.place_of(m) {
+        Some(place) => place as u32,
+        None => unreachable!(),
+    }
+}
+
+/// Takes an object, and pushes the value of the field that the instruction names. A NullPointerException is raised at null.
+pub(crate) fn get_field<H: ObjectStore, F: FrameStore>(
+    heap: &H,
+    frames: &mut F,
+    here: &Here<'_>,
+) -> Result<(), Raise>
+    requires op { (place_in here.now).instr.op ≡ GETFIELD }
+    requires may { MayStep (H.content heap.now) (F.content frames.old) here.now }
+    ensures { Steps (H.content heap.now) (H.content heap.now) (F.content frames.old) (F.content frames.new) here.now result }
+{
+    let a = object_at(frames, here.segment, 0)?;
+    let t = here.world.classes();
+    let field = field_of(here.at);
+    let place = place_of(t, field);
+    let v = heap.read(t, here.domain, a, place);
+    replace(frames, here.segment, 1, v);
+    Ok(())
+}
