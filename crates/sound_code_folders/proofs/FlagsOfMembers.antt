@@ -9,6 +9,7 @@ use Rattle.jk_model.specs.declared.identifiers.MemberId.{MemberId}
 use Rattle.jk_model_classes.specs.ClassFlags.{is_bad_field, is_bad_method, has_two_marks, is_abstract_and_more, is_final_and_volatile}
 use Rattle.jk_model_classes.specs.Classes.{IsInterface}
 use Rattle.jk_model_classes.specs.Items.{Member}
+use Rattle.jk_model_classes.specs.Lookups.{MethodIs}
 use Rattle.jk_model_classes.specs.Members.{CLINIT, IsClinit, TextAt}
 use Rattle.jk_model_classes.specs.Worlds.{NamedClass, WorldRecord}
 use Rattle.jk_model_classes.specs.declared.records.ClassRecord.{ClassRecord}
@@ -22,6 +23,12 @@ use Rattle.jk_model_folders.specs.Loads.{Loads}
 use Rattle.jk_model_folders.specs.declared.files.FolderFiles.{FolderFiles}
 use Rattle.sound_folders.proofs.NewClasses.{all}
 use Rattle.sound_code_folders.proofs.NewMembers.{IsNewField, IsNewMethod, good_flags}
+
+-- a private method is neither public nor protected
+abbrev pub HaveOneMark : List ClassRecord → Type 0
+HaveOneMark classes =
+    (m : MemberId) (method : MethodRecord) → MethodIs classes m method → IsTrue (has method.flags PRIVATE)
+    → IsFalse (has method.flags PUBLIC) × IsFalse (has method.flags PROTECTED)
 
 -- ---- Tests.
 

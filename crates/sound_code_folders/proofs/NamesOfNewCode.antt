@@ -25,7 +25,7 @@ use Rattle.sound_code_folders.proofs.InstructionsOfFiles.{own_class}
 use Rattle.sound_code_folders.proofs.MethodsNamedWell.{interface_named, class_named_there, static_called, object_called, concrete_called, constructor_called, no_initialiser_called, own_private_called}
 use Rattle.sound_code_folders.proofs.NewMembers.{IsNewMethod, method_of, new_class}
 use Rattle.sound_code_folders.proofs.ObjectsMadeWell.{may_be_made}
-use Rattle.sound_code_folders.specs.MarkedMethods.{HaveOneMark}
+use Rattle.sound_code_folders.proofs.FlagsOfMembers.{HaveOneMark}
 use Rattle.jk_model_classes.specs.declared.records.BaseRef.TheVariants as Base
 use Rattle.jk_model_classes.specs.declared.records.Link.TheVariants as To
 

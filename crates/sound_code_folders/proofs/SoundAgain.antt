@@ -46,14 +46,13 @@ use Rattle.sound_folders.proofs.SoundAgain.{AreTyped}
 use Rattle.sound_folders.specs.LinkedWorlds.{AreLinked}
 use Rattle.sound_code_folders.proofs.BodiesOfMethods.{runs, own_code, no_system_body, decoded}
 use Rattle.sound_code_folders.proofs.ConstantsOfFields.{constant_suits}
-use Rattle.sound_code_folders.proofs.FlagsOfMembers.{interface_field, interface_method, static_method, one_mark, clinit_flags}
+use Rattle.sound_code_folders.proofs.FlagsOfMembers.{HaveOneMark, interface_field, interface_method, static_method, one_mark, clinit_flags}
 use Rattle.sound_code_folders.proofs.LinkedAgain.{linked_new, sound_table}
 use Rattle.sound_code_folders.proofs.NamesOfNewCode.{new_names}
 use Rattle.sound_code_folders.proofs.NamesStay.{names_stay}
 use Rattle.sound_code_folders.proofs.NewMembers.{IsNew, IsNewMethod, class_cases, field_cases, method_cases, method_of, new_class}
 use Rattle.sound_code_folders.proofs.ParentsOfClasses.{has_parent, class_parent, open_parent, interface_parent, listed_interface}
 use Rattle.sound_code_folders.proofs.TypesOfMethods.{few_params, constructor_result, clinit_types}
-use Rattle.sound_code_folders.specs.MarkedMethods.{HaveOneMark}
 use Rattle.sound_code_folders.specs.SoundFolders.{AreSound, AcceptsFiles}
 use Rattle.jk_model_classes.specs.declared.records.Body.TheVariants as Does
 use Rattle.jk_model_classes.specs.declared.records.Link.TheVariants as To
@@ -72,7 +71,7 @@ module _ {f : FolderFiles} {w : WorldRecord} {into : List ℕ} {first : ClassId}
       let (units, at, is) = type-found (link_scope l.placed self) n.own.file r.links n.own.links place.0 t place.1 in
       dims_by self units t is
 
-  module _ (may : MayLoad w) (tables : List (List NamedClass)) (sound : AreSound w.classes tables) (marks : HaveOneMark w.classes)
+  module _ (may : MayLoad w) (tables : List (List NamedClass)) (sound : AreSound w.classes tables)
       (linked : AreLinked w.classes tables) (ordered : AreOrdered (all l)) where
     system_again : HaveSystemClasses (all l)
     system_again =
@@ -81,9 +80,9 @@ module _ {f : FolderFiles} {w : WorldRecord} {into : List ℕ} {first : ClassId}
     low_of : (c : ClassId) (r : ClassRecord) → record_of w.classes c ≡ Some r → c.0 < length w.classes
     low_of c r is = has_class-by_record w.classes c r is
 
-    pub marks_again : HaveOneMark (all l)
+    marks_again : HaveOneMark (all l)
     marks_again m method is private = elim (method_cases l m method is) [
-      | inl old ↦ marks m method old private
+      | inl old ↦ sound.codes.private_methods m method old private
       | inr n ↦ one_mark l m method n private
     ]
 
@@ -273,6 +272,7 @@ module _ {f : FolderFiles} {w : WorldRecord} {into : List ℕ} {first : ClassId}
           interface_methods = interface_methods_again;
           constants = constants_again;
           static_methods = static_methods_again;
+          private_methods = marks_again;
           bodies = bodies_again;
           system_bodies = system_bodies_again;
           initialisers = initialisers_again;
@@ -293,7 +293,7 @@ module _ {f : FolderFiles} {w : WorldRecord} {into : List ℕ} {first : ClassId}
 
 module _ {f : FolderFiles} {old : WorldRecord} {into : List ℕ} {first : ClassId} {table : List NamedClass} {offers : List Offer}
     {stubs : List Stub} {new : WorldRecord} (a : AcceptsFiles f old into first table offers stubs new) (tables : List (List NamedClass))
-    (sound : AreSound old.classes tables) (marks : HaveOneMark old.classes) (linked : AreLinked old.classes tables) where
+    (sound : AreSound old.classes tables) (linked : AreLinked old.classes tables) where
   same : new.classes ≡ all a.loads
   same = ap (λ (x : WorldRecord). x.classes) a.loads.world ∙ a.loads.is_placed.classes
 
@@ -303,10 +303,7 @@ module _ {f : FolderFiles} {old : WorldRecord} {into : List ℕ} {first : ClassI
   pub accepted_sound : AreSound new.classes (tables ++ table ∷ [])
   accepted_sound =
       subst (λ (xs : List ClassRecord). AreSound xs (tables ++ table ∷ [])) (sym same)
-      (sound_again a.loads a.may tables sound marks linked ordered_all (subst (λ (xs : List ClassRecord). AreTyped first xs) same a.typed))
-
-  pub accepted_marks : HaveOneMark new.classes
-  accepted_marks = subst HaveOneMark (sym same) (marks_again a.loads a.may tables sound marks linked ordered_all)
+      (sound_again a.loads a.may tables sound linked ordered_all (subst (λ (xs : List ClassRecord). AreTyped first xs) same a.typed))
 
   pub accepted_linked : AreLinked new.classes (tables ++ table ∷ [])
   accepted_linked =

@@ -31,7 +31,6 @@ use Rattle.system_facts.specs.DescriptorReader.{MethodTypes, method_types}
 use Rattle.sound_codes.specs.SoundCodes.{AreSoundCodes, SuitsType}
 use Rattle.sound_folders.proofs.FirstClasses.{first-sound, first-linked}
 use Rattle.sound_folders.specs.LinkedWorlds.{AreLinked}
-use Rattle.sound_code_folders.specs.MarkedMethods.{HaveOneMark}
 use Rattle.sound_code_folders.specs.SoundFolders.{AreSound}
 use Rattle.jk_model_classes.specs.declared.records.Link.TheVariants as To
 
@@ -222,9 +221,6 @@ module _ (classes : List ClassRecord) (system : AreSystemRecords classes) where
       let said = (method_entry m s.method (scope.class, scope.class_is, scope.method)).3 in
       system_has_none (method_number m.class.0 m.index) s.code (sym said.body ∙ scope.body)
 
-  pub system_marks : HaveOneMark classes
-  system_marks m method is private = absurd (no_private m method is private)
-
   system_codes : AreSoundCodes classes
   system_codes =
       record {
@@ -240,6 +236,7 @@ module _ (classes : List ClassRecord) (system : AreSystemRecords classes) where
         interface_methods = λ m method interface is other. abstract_there m method is interface;
         constants = no_constant;
         static_methods = λ m method is static. static_there m method is static;
+        private_methods = λ m method is private. absurd (no_private m method is private);
         bodies = λ m method is concrete. inr (method_number m.class.0 m.index, (method_entry m method is).3.body);
         system_bodies = λ m method r n is there body. (entry_of m.class r there).2.home;
         initialisers = λ m method is named. absurd (no_initialiser m method is named);

@@ -1,2 +1,1 @@
-pub mod MarkedMethods
 pub mod SoundFolders

@@ -35,7 +35,6 @@ pub record AcceptsFiles (f : FolderFiles) (old : WorldRecord) (name : List ℕ) 
 abbrev pub SystemClassesAreSound : Type 0
 SystemClassesAreSound = (classes : List ClassRecord) → AreSystemRecords classes → AreSound classes [] × AreLinked classes []
 
--- As it stands this doesn't follow: `MarkedMethods` says what lacks, and the law that is proved.
 abbrev pub AcceptedFoldersStaySound : Type 0
 AcceptedFoldersStaySound =
     (old new : WorldRecord) (tables : List (List NamedClass)) (f : FolderFiles) (name : List ℕ) (first : ClassId) (table : List NamedClass)
