@@ -1,5 +1,4 @@
 pub mod KnownMachines
 pub mod SealedOpenings
 pub mod SealedSteps
-pub mod SoundFolders
 pub mod StepProgress

@@ -1,6 +1,5 @@
-//! What is said of whole machines: that they stay sealed, that each thread has a step, and that accepted folders leave classes and names
-//! sound. Each module of `specs/` goes into the law crate of its name when that is proved over these machines: `sealed_steps`,
-//! `step_progress`, `sealed_openings` and `sound_folders`. There is no code here but
+//! What is said of whole machines: that they stay sealed, and that each thread has a step. Each module of `specs/` goes into the law crate
+//! of its name when that is proved over these machines: `sealed_steps`, `step_progress` and `sealed_openings`. There is no code here but
 //! that of laws: functions that do nothing, whose contracts are theorems on the definitions.
 //!
 //! `specs/` says more than is proved: the functions of `laws` have what is proved.

@@ -1,5 +1,4 @@
--- Accepted folders leave classes and names sound. Of the crate `sound_folders`, which takes its words `AgreeOnTypes`, `SuitsType` from
--- `sound_codes` then.
+-- Accepted folders leave classes and names sound.
 use Rattle.std.specs.Prelude.{◌≤◌, ℕ, List, [], ◌∷◌, ◌++◌, Contains, Option}
 use Rattle.jk_model.specs.declared.identifiers.ClassId.{ClassId}
 use Rattle.jk_model.specs.declared.identifiers.MemberId.{MemberId}

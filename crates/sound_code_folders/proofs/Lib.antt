@@ -1,0 +1,19 @@
+-- What an accepted folder adds keeps the records of all classes, their code and the names of domains sound.
+pub mod NewMembers
+pub mod FlagsOfMembers
+pub mod BodiesOfMethods
+pub mod TypesOfMethods
+pub mod FilesHaveClasses
+pub mod MeaningsOfNames
+pub mod ConstantsOfFields
+pub mod ParentsOfClasses
+pub mod InstructionsOfFiles
+pub mod OpcodesByTest
+pub mod FieldsNamedWell
+pub mod MethodsNamedWell
+pub mod ObjectsMadeWell
+pub mod NamesOfNewCode
+pub mod NamesStay
+pub mod LinkedAgain
+pub mod SoundAgain
+pub mod SystemClassesSound
