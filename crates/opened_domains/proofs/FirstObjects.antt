@@ -29,6 +29,10 @@ throwables =
     OUT_OF_MEMORY_ERROR ∷ STACK_OVERFLOW_ERROR ∷ REVOKED_EXCEPTION ∷ QUOTA_EXCEPTION ∷ NOT_COPIABLE_EXCEPTION ∷ REMOTE_EXCEPTION ∷ THREAD_DEATH
     ∷ SECURITY_EXCEPTION ∷ []
 
+-- the names that they get, in the same order: the PrintStream has the name 0
+abbrev pub throwable_names : List ℕ
+throwable_names = 1 ∷ 2 ∷ 3 ∷ 4 ∷ 5 ∷ 6 ∷ 7 ∷ 8 ∷ []
+
 module _ (classes : List ClassRecord) where
   -- new objects of these classes, under names in order from this one on
   abbrev pub objects_from : ℕ → List ClassId → List NamedObject
@@ -100,54 +104,49 @@ module _ (classes : List ClassRecord) where
         let stream : cost_of classes PRINT_STREAM ≡ 4 = cost_by 6 4 (omega (arith, many)) refl in
         let others : heap_words classes (objects_from 1 throwables) ≡ 40 = words_from 5 1 throwables each_throwable in
         let all = sum_by-cons (λ (e : NamedObject). object_words classes e.object) (named 0 (fresh_throwable classes PRINT_STREAM))
-            (objects_from 1 throwables) in
+        (objects_from 1 throwables) in
         all ∙ ap (λ (k : ℕ). k + heap_words classes (objects_from 1 throwables)) stream ∙ ap (λ (k : ℕ). 4 + k) others
 
   -- ---- Each is the PrintStream or stands.
 
-  module _ (own : OwnState) (out : own.out ≡ 0) (stand : own.standing ≡ 1 ∷ 2 ∷ 3 ∷ 4 ∷ 5 ∷ 6 ∷ 7 ∷ 8 ∷ []) where
-    stands_as : (s : Standing) (n i : ℕ) → slice_get (1 ∷ 2 ∷ 3 ∷ 4 ∷ 5 ∷ 6 ∷ 7 ∷ 8 ∷ []) i ≡ Some n → slice_get own.standing i ≡ Some n
-    stands_as s n i at = subst (λ (ns : List ℕ). slice_get ns i ≡ Some n) (sym stand) at
+  module _ (own : OwnState) (out : own.out ≡ 0) (stand : own.standing ≡ throwable_names) where
+    stands_as : (n i : ℕ) → slice_get throwable_names i ≡ Some n → slice_get own.standing i ≡ Some n
+    stands_as n i at = subst (λ (ns : List ℕ). slice_get ns i ≡ Some n) (sym stand) at
 
-    pub first_standing : (s : Standing) → (a : ℕ) × IsStanding own s a × (object_named first_objects a ≡ Some (fresh_throwable classes (standing_class s)))
-    first_standing Stands.OutOfMemoryError = (1, stands_as Stands.OutOfMemoryError 1 0 refl, refl)
-    first_standing Stands.StackOverflowError = (2, stands_as Stands.StackOverflowError 2 1 refl, refl)
-    first_standing Stands.Revoked = (3, stands_as Stands.Revoked 3 2 refl, refl)
-    first_standing Stands.Quota = (4, stands_as Stands.Quota 4 3 refl, refl)
-    first_standing Stands.NotCopiable = (5, stands_as Stands.NotCopiable 5 4 refl, refl)
-    first_standing Stands.Remote = (6, stands_as Stands.Remote 6 5 refl, refl)
-    first_standing Stands.ThreadDeath = (7, stands_as Stands.ThreadDeath 7 6 refl, refl)
-    first_standing Stands.Security = (8, stands_as Stands.Security 8 7 refl, refl)
+    pub first_standing : (s : Standing)
+        → (a : ℕ) × IsStanding own s a × (object_named first_objects a ≡ Some (fresh_throwable classes (standing_class s)))
+    first_standing Stands.OutOfMemoryError = (1, stands_as 1 0 refl, refl)
+    first_standing Stands.StackOverflowError = (2, stands_as 2 1 refl, refl)
+    first_standing Stands.Revoked = (3, stands_as 3 2 refl, refl)
+    first_standing Stands.Quota = (4, stands_as 4 3 refl, refl)
+    first_standing Stands.NotCopiable = (5, stands_as 5 4 refl, refl)
+    first_standing Stands.Remote = (6, stands_as 6 5 refl, refl)
+    first_standing Stands.ThreadDeath = (7, stands_as 7 6 refl, refl)
+    first_standing Stands.Security = (8, stands_as 8 7 refl, refl)
 
     abbrev HasName : NamedObject → Type 0
     HasName e = IsOpeningName own e.name
 
-    standing_name : (s : Standing) (n : ℕ) → IsStanding own s n → IsOpeningName own n
-    standing_name s n is = inr (s, is)
+    last_named : AllByRecursion HasName (objects_from 5 (NOT_COPIABLE_EXCEPTION ∷ REMOTE_EXCEPTION ∷ THREAD_DEATH ∷ SECURITY_EXCEPTION ∷ []))
+    last_named = (
+      inr (Stands.NotCopiable, stands_as 5 4 refl),
+      (
+        inr (Stands.Remote, stands_as 6 5 refl),
+        (inr (Stands.ThreadDeath, stands_as 7 6 refl), (inr (Stands.Security, stands_as 8 7 refl), tt)),
+      ),
+    )
 
-    pub first_nothing_else : (e : NamedObject) → Contains first_objects e → IsOpeningName own e.name
-    first_nothing_else e has = each-of HasName first_objects e (
+    all_named : AllByRecursion HasName first_objects
+    all_named = (
       inl (sym out),
       (
-        standing_name Stands.OutOfMemoryError 1 (stands_as Stands.OutOfMemoryError 1 0 refl),
+        inr (Stands.OutOfMemoryError, stands_as 1 0 refl),
         (
-          standing_name Stands.StackOverflowError 2 (stands_as Stands.StackOverflowError 2 1 refl),
-          (
-            standing_name Stands.Revoked 3 (stands_as Stands.Revoked 3 2 refl),
-            (
-              standing_name Stands.Quota 4 (stands_as Stands.Quota 4 3 refl),
-              (
-                standing_name Stands.NotCopiable 5 (stands_as Stands.NotCopiable 5 4 refl),
-                (
-                  standing_name Stands.Remote 6 (stands_as Stands.Remote 6 5 refl),
-                  (
-                    standing_name Stands.ThreadDeath 7 (stands_as Stands.ThreadDeath 7 6 refl),
-                    (standing_name Stands.Security 8 (stands_as Stands.Security 8 7 refl), tt),
-                  ),
-                ),
-              ),
-            ),
-          ),
+          inr (Stands.StackOverflowError, stands_as 2 1 refl),
+          (inr (Stands.Revoked, stands_as 3 2 refl), (inr (Stands.Quota, stands_as 4 3 refl), last_named)),
         ),
       ),
-    ) has
+    )
+
+    pub first_nothing_else : (e : NamedObject) → Contains first_objects e → IsOpeningName own e.name
+    first_nothing_else e has = each-of HasName first_objects e all_named has

@@ -12,6 +12,7 @@ use Rattle.jk_model_classes.specs.Worlds.{IsNamed, NamedClass}
 use Rattle.jk_model_domains.specs.declared.states.ClassState.TheVariants as State
 use Rattle.jk_model_domains.specs.OwnStates.{ClassPart, HasPart, HasState, IsOwnState, OwnState, StaticField, first_statics, part_of}
 use Rattle.jk_model_openings.specs.OpenedDomains.{IsFirstOwn}
+use Rattle.opened_domains.proofs.FirstObjects.{throwable_names}
 
 abbrev is_told : {X : Type 0} → Option X → Bool
 is_told None = false
@@ -27,10 +28,6 @@ not-none o e none = let at = told-some o e in none-some at.0 (sym none ∙ at.1)
 told-not_none : {X : Type 0} (o : Option X) → o ≢ None → is_told o ≡ true
 told-not_none None differ = absurd (differ refl)
 told-not_none (Some x) differ = refl
-
-both-true : (a b : Bool) → a ≡ true → b ≡ true → (a && b) ≡ true
-both-true true b x y = y
-both-true false b x y = absurd (false≢true x)
 
 abbrev indices : ClassPart → List ℕ
 indices e = map (λ (f : StaticField). f.index) e.statics
@@ -177,7 +174,7 @@ module _ (classes : List ClassRecord) (table : List NamedClass) where
   -- ---- The own state.
 
   abbrev pub first_own : OwnState
-  first_own = record { classes = parts_from 0 classes; literals = []; out = 0; standing = 1 ∷ 2 ∷ 3 ∷ 4 ∷ 5 ∷ 6 ∷ 7 ∷ 8 ∷ [] }
+  first_own = record { classes = parts_from 0 classes; literals = []; out = 0; standing = throwable_names }
 
   part_known : (e : ClassPart) → Contains first_own.classes e
       → (r : ClassRecord) × HasPart classes table e.class r × (e ≡ part_at e.class.0 r)
@@ -201,8 +198,9 @@ module _ (classes : List ClassRecord) (table : List NamedClass) where
   part_found : (c : ClassId) (r : ClassRecord) → HasPart classes table c r → HasState first_own c
   part_found c r (named, is, home) =
       let from_none : c.0 ≡ 0 + c.0 = omega arith in
-      let own : is_own c.0 r ≡ true =
-      both-true (is_told (find (means c.0) table)) (is_told r.home) (by-named c.0 named) (told-not_none r.home home) in
+      let meant : is_told (find (means c.0) table) ≡ true = by-named c.0 named in
+      let of_domain : is_told r.home ≡ true = told-not_none r.home home in
+      let own : is_own c.0 r ≡ true = rw (meant, of_domain) refl in
       let has = has_part 0 classes c.0 r is (subst (λ (k : ℕ). is_own k r ≡ true) from_none own) in
       told-some (part_of first_own c)
       (found-some (λ (e : ClassPart). e.class.0 == c.0) first_own.classes (part_at (0 + c.0) r) (part_of first_own c) has

@@ -1,6 +1,7 @@
 -- Lemmas on domains that were just opened, on more classes and capabilities behind those that a domain knows, and on the machine.
 pub mod CallsStayAnswered
 pub mod FieldsStay
+pub mod FirstMachines
 pub mod FirstObjects
 pub mod FirstParts
 pub mod FramesStaySealed

@@ -41,7 +41,7 @@ module _ {m : Machine} {w : WorldRecord} {a : Admission} {inside : Inside} (o : 
   -- what holds of the domains that were there and of the new one
   pub each_domain : (P : DomainState → Type 0) → ((e : DomainState) → Contains m.domains e → P e) → P d
       → (e : DomainState) → Contains new.domains e → P e
-  each_domain P old here e on = elim (Contains-push_cases m.domains d e on) [ | inl was ↦ old e was | inr same ↦ subst P same here ]
+  each_domain P old here e on = elim (Contains-push_cases m.domains d e on) [ inl was ↦ old e was | inr same ↦ subst P same here ]
 
   pub still_there : (e : DomainState) → Contains m.domains e → Contains new.domains e
   still_there e on = Contains-append_left m.domains (d ∷ []) e on

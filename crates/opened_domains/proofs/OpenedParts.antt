@@ -59,7 +59,7 @@ module _ {m : Machine} {w : WorldRecord} {a : Admission} {inside : Inside} (o : 
   few_domains =
       let short = filter_short (λ (e : DomainState). not (is_stand_in (new o).classes e)) (new o).domains in
       let many = length-append m.domains (d o ∷ []) in
-      elim (cases_lt (length m.domains) 65535) [ | inl below ↦ omega (arith, short, many, below) | inr over ↦ absurd (o.few over) ]
+      elim (cases_lt (length m.domains) 65535) [ inl below ↦ omega (arith, short, many, below) | inr over ↦ absurd (o.few over) ]
 
   names_apart : (i j : ℕ) (x y : DomainState) → slice_get (new o).domains i ≡ Some x → slice_get (new o).domains j ≡ Some y → IsLiveDomain x
       → IsLiveDomain y → x.name ≡ y.name → i ≡ j

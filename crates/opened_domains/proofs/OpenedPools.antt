@@ -83,7 +83,7 @@ module _ (m : Machine) (w : WorldRecord) (a : Admission) (inside : Inside) where
     of_by : (x : DomainId) (n : ℕ) (o : Option DomainState) → slice_get new.domains x.0 ≡ o → told o ≡ Some n
         → (x.0 < length m.domains) ⊎ (x.0 ≡ length m.domains)
     of_by x n None at is = absurd (none-some n is)
-    of_by x n (Some e) at is = elim (old_or_last m.domains d x.0 e at) [ | inl old ↦ inl old.0 | inr last ↦ inr last.0 ]
+    of_by x n (Some e) at is = elim (old_or_last m.domains d x.0 e at) [ inl old ↦ inl old.0 | inr last ↦ inr last.0 ]
 
     pub of_which : (x : DomainId) (n : ℕ) → of_live part new x ≡ Some n → (x.0 < length m.domains) ⊎ (x.0 ≡ length m.domains)
     of_which x n is = of_by x n (slice_get new.domains x.0) refl is
@@ -138,7 +138,8 @@ module _ (m : Machine) (w : WorldRecord) (a : Admission) (inside : Inside) where
 
       -- the new one, and another
       new_apart : (x y : DomainId) (p q first other : ℕ) → x.0 ≡ length m.domains → y.0 < length m.domains → (pool_in new).quota x ≡ Some p
-          → (pool_in new).quota y ≡ Some q → (pool_in new).first_page x ≡ Some first → (pool_in new).first_page y ≡ Some other → Apart p q first other
+          → (pool_in new).quota y ≡ Some q → (pool_in new).first_page x ≡ Some first
+          → (pool_in new).first_page y ≡ Some other → Apart p q first other
       new_apart x y p q first other last low quota quota_there from from_there =
           let is : need a.quotas ≡ p = same_Some (need a.quotas) p (sym (of_new quota_part x last) ∙ quota) in
           subst (λ (n : ℕ). Apart n q first other) is

@@ -68,7 +68,7 @@ module _ (own : OwnState) (untouched : (e : ClassPart) → Contains own.classes 
   calm = calm_by (part_of own c) refl
 
   no_progress : (t : ThreadNo) → progress_by t own c ≡ 0
-  no_progress t = elim calm [ | inl done ↦ ap (counted t) done | inr begins ↦ ap (counted t) begins ]
+  no_progress t = elim calm [ inl done ↦ ap (counted t) done | inr begins ↦ ap (counted t) begins ]
 
   not_in_progress : (t : ThreadNo) → state_of own c ≢ State.InProgress t
   not_in_progress t is = elim calm [
@@ -95,8 +95,11 @@ module _ {m : Machine} {w : WorldRecord} {a : Admission} {inside : Inside} (o : 
       inl (top_widened (surroundings m h.domain) (surroundings (new o) h.domain) (widens o h.domain) o.sound.codes
       (o.sound.tables h.domain (home_on o s.shared.domain h)) h.inside.heap f top)
   top_still s h f (inr (revoked, call)) =
-      inr (revoked, call_widened (surroundings m h.domain) (surroundings (new o) h.domain) (widens o h.domain) o.sound.codes
-      (o.sound.tables h.domain (home_on o s.shared.domain h)) h.inside.heap f call)
+      inr (
+        revoked,
+        call_widened (surroundings m h.domain) (surroundings (new o) h.domain) (widens o h.domain) o.sound.codes
+            (o.sound.tables h.domain (home_on o s.shared.domain h)) h.inside.heap f call,
+      )
 
   caller_still : (s : Segment) (h : LiveDomain m s.shared.domain) (f : FrameState) → CallerFits m h.inside f → CallerFits (new o) h.inside f
   caller_still s h f call =

@@ -73,7 +73,8 @@ one_later n g fields f h = record {
 
 begins_by : (n : ℕ) (g : FieldRecord) (fields : List FieldRecord) (f : StaticField) (b : Bool)
     → (Contains (statics_after (n + 1) fields) f → BeginsAs (n + 1) fields f)
-    → Contains (map begun (cond b ((n, g) ∷ filter is_static_field (enumerate_from (n + 1) fields)) (filter is_static_field (enumerate_from (n + 1) fields)))) f
+    → Contains
+    (map begun (cond b ((n, g) ∷ filter is_static_field (enumerate_from (n + 1) fields)) (filter is_static_field (enumerate_from (n + 1) fields)))) f
     → BeginsAs n (g ∷ fields) f
 begins_by n g fields f true rest has = elim (Contains-cases f (begun (n, g)) (statics_after (n + 1) fields) has) [
   | inl same ↦

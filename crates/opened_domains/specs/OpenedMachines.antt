@@ -1,5 +1,5 @@
 -- Machines in which a domain is opened: they stay whole where what holds of all machines of a run holds besides.
-use Rattle.std.specs.Prelude.{◌≡◌, ◌<◌, ℕ, List, length, Contains, Some}
+use Rattle.std.specs.Prelude.{◌≡◌, ◌<◌, ℕ, List, length, Contains, Option, Some}
 use Rattle.jk_model.specs.declared.identifiers.DomainId.{DomainId}
 use Rattle.jk_model.specs.declared.output.Line.{Line}
 use Rattle.jk_model.specs.declared.script.Quotas.{Quotas}
@@ -7,7 +7,7 @@ use Rattle.jk_model_classes.specs.Classes.{HasClass}
 use Rattle.jk_model_folders.specs.declared.files.FolderFiles.{FolderFiles}
 use Rattle.jk_model_frames.specs.Pools.{Pool}
 use Rattle.jk_model_heaps.specs.Capabilities.{Capability}
-use Rattle.jk_model_machine_state.specs.Machines.{DomainState, Machine, Thread}
+use Rattle.jk_model_machine_state.specs.Machines.{DomainState, IsFirstMachine, Machine, Thread}
 use Rattle.jk_model_openings.specs.Openings.{OpensWith}
 use Rattle.jk_model_openings.specs.PoolsOfMachines.{heap_pool, stack_pool}
 use Rattle.jk_model_runs.specs.Events.{IsWhole}
@@ -30,3 +30,7 @@ abbrev pub OpeningsStayWhole : Type 0
 OpeningsStayWhole =
     (f : FolderFiles) (m new : Machine) (name : List ℕ) (quotas : Quotas) (lines : List Line) → IsWhole m → HasSoundClasses m → MayGrow m
     → OpensWith f m name quotas lines new → HasSoundClasses new → IsWhole new × MayGrow new
+
+-- the machine without domains is such a one
+abbrev pub FirstMachinesMayGrow : Type 0
+FirstMachinesMayGrow = (heap_pages stack_pages : Option ℕ) (m : Machine) → IsFirstMachine heap_pages stack_pages m → MayGrow m

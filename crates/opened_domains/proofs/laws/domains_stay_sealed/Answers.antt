@@ -8,6 +8,6 @@ returns-clause-insides c = λ old new quota inside w codes then sound h. inside_
 
 pub returns-clause-frames : goal.returns-clause-frames
 returns-clause-frames c = λ old new heap frames w codes then sound. (
-    frames_widened old new w codes sound (FitsAsTop old.classes heap) (FitsAsTop new.classes heap) (top_widened old new w codes sound heap) heap frames,
-    frames_widened old new w codes sound (FitsAtCall old.classes heap) (FitsAtCall new.classes heap) (call_widened old new w codes sound heap) heap frames,
+  frames_widened old new w codes sound (FitsAsTop old.classes heap) (FitsAsTop new.classes heap) (top_widened old new w codes sound heap) heap frames,
+  frames_widened old new w codes sound (FitsAtCall old.classes heap) (FitsAtCall new.classes heap) (call_widened old new w codes sound heap) heap frames,
 )
