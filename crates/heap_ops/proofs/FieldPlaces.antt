@@ -6,7 +6,7 @@ use Rattle.std.specs.Option.{option_map_or}
 use Rattle.std.proofs.lemmas.Bool.{eqb-true}
 use Rattle.std.proofs.lemmas.Option.{same_Some, slice_get-get_or}
 use Rattle.std.proofs.lemmas.List.Quantifiers.{position-Some}
-use Rattle.list_lemmas.proofs.ItemsByPlace.{slice_get-longer}
+use Rattle.list_lemmas.proofs.ItemsByPlace.{comes_from, slice_get-longer}
 use Rattle.list_lemmas.proofs.ItemsOfLists.{Contains-here}
 use Rattle.model_lemmas.proofs.SameNumbers.{same_class, same_member}
 use Rattle.jk_model.specs.declared.identifiers.ClassId.{ClassId}
@@ -24,9 +24,6 @@ use Rattle.heap_ops.specs.HeapValues.{IsOwnPlace}
 -- ---- Numbered items of which some are left out.
 
 module _ {X : Type 0} (q : ℕ × X → Bool) where
-  kept : ℕ → List X → List (ℕ × X)
-  kept n xs = filter q (enumerate_from n xs)
-
   from_by : (n : ℕ) (x : X) (rest : List (ℕ × X)) (b : Bool) (k : ℕ) (p : ℕ × X) → slice_get (cond b ((n, x) ∷ rest) rest) k ≡ Some p
       → ((j : ℕ) → slice_get rest j ≡ Some p → n + 1 ≤ p.0) → n ≤ p.0
   from_by n x rest true zero p at more = let is : n ≡ p.0 = ap (λ (y : ℕ × X). y.0) (same_Some (n, x) p at) in omega arith
@@ -60,12 +57,6 @@ module _ {X : Type 0} (q : ℕ × X → Bool) where
       once_by n x (filter q (enumerate_from (n + 1) xs)) (q (n, x)) j k a e at there same (from_first (n + 1) xs)
       (λ i l p r. numbered_once (n + 1) xs i l a e p r same)
 
-mapped_from : {X Y : Type 0} (f : X → Y) (xs : List X) (k : ℕ) (y : Y) → slice_get (map f xs) k ≡ Some y
-    → (x : X) × (slice_get xs k ≡ Some x) × (f x ≡ y)
-mapped_from f [] k y at = absurd cc
-mapped_from f (x ∷ xs) zero y at = (x, refl, same_Some (f x) y at)
-mapped_from f (x ∷ xs) (suc k) y at = mapped_from f xs k y at
-
 -- ---- A class's own fields.
 
 abbrev own_field : ClassId → ℕ × FieldRecord → InstanceField
@@ -76,8 +67,8 @@ own_by : (c : ClassId) (r : Option ClassRecord) (k : ℕ) (g : InstanceField)
     → g.member.class ≡ c
 own_by c None k g at = absurd cc
 own_by c (Some e) k g at =
-    let from = mapped_from (own_field c) (filter is_instance_field (enumerate_from 0 e.fields)) k g at in
-    sym (ap (λ (f : InstanceField). f.member.class) from.2)
+    let from = comes_from (own_field c) (filter is_instance_field (enumerate_from 0 e.fields)) k g at in
+    sym (ap (λ (f : InstanceField). f.member.class) from.gives)
 
 own_once_by : (c : ClassId) (r : Option ClassRecord) (j k : ℕ) (g f : InstanceField)
     → slice_get (option_map_or (λ (e : ClassRecord). map (own_field c) (filter is_instance_field (enumerate_from 0 e.fields))) r []) j ≡ Some g
@@ -86,11 +77,11 @@ own_once_by : (c : ClassId) (r : Option ClassRecord) (j k : ℕ) (g f : Instance
 own_once_by c None j k g f at there same = absurd cc
 own_once_by c (Some e) j k g f at there same =
     let xs = filter is_instance_field (enumerate_from 0 e.fields) in
-    let first = mapped_from (own_field c) xs j g at in
-    let second = mapped_from (own_field c) xs k f there in
-    numbered_once is_instance_field 0 e.fields j k first.0 second.0 first.1 second.1
-    (ap (λ (x : InstanceField). x.member.index) first.2 ∙ ap (λ (m : MemberId). m.index) same
-    ∙ sym (ap (λ (x : InstanceField). x.member.index) second.2))
+    let first = comes_from (own_field c) xs j g at in
+    let second = comes_from (own_field c) xs k f there in
+    numbered_once is_instance_field 0 e.fields j k first.from second.from first.there second.there
+    (ap (λ (x : InstanceField). x.member.index) first.gives ∙ ap (λ (m : MemberId). m.index) same
+    ∙ sym (ap (λ (x : InstanceField). x.member.index) second.gives))
 
 module _ (classes : List ClassRecord) (ordered : AreOrdered classes) where
   own_of : (c : ClassId) (k : ℕ) (g : InstanceField) → slice_get (own_fields classes c) k ≡ Some g → g.member.class ≡ c

@@ -1,20 +1,17 @@
 -- Fields that instructions name, and objects that have them, as the store has these.
-use Rattle.std.proofs.Common.{◌≡◌, ℕ, ◌<◌, ◌^◌, pos, List, Contains, Some, slice_get, IsTrue, sym, ap, subst, ◌∙◌, arith}
+use Rattle.std.proofs.Common.{◌≡◌, ℕ, ◌<◌, ◌^◌, List, Contains, Some, slice_get, IsTrue, sym, ap, subst, ◌∙◌, arith}
 use Rattle.std.specs.Prelude.{IsFalse}
 use Rattle.std.proofs.lemmas.Option.{same_Some, slice_get_within}
 use Rattle.list_lemmas.proofs.ItemsOfLists.{Contains-at}
 use Rattle.jk_model.specs.Flags.{has, STATIC}
 use Rattle.jk_model.specs.declared.identifiers.ClassId.{ClassId}
 use Rattle.jk_model.specs.declared.identifiers.MemberId.{MemberId}
-use Rattle.jk_model.specs.declared.instructions.Instr.{Instr}
 use Rattle.jk_model.specs.declared.values.Value.{Value}
 use Rattle.jk_model.specs.declared.values.Value.TheVariants as Held
 use Rattle.jk_model_classes.specs.declared.records.ClassRecord.{ClassRecord}
 use Rattle.jk_model_classes.specs.declared.records.FieldRecord.{FieldRecord}
-use Rattle.jk_model_classes.specs.declared.records.Link.{Link}
 use Rattle.jk_model_classes.specs.declared.records.Link.TheVariants as To
 use Rattle.jk_model_classes.specs.Lookups.{FieldIs}
-use Rattle.jk_model_typing.specs.Scopes.{CodeScope, LeadsToLink}
 use Rattle.jk_model_domains.specs.Objects.{Object, Plain, object_named}
 use Rattle.jk_model_heaps.specs.Heaps.{named}
 use Rattle.jk_model_heaps.specs.RunningCode.{NamesField}
@@ -28,21 +25,13 @@ use Rattle.object_store.proofs.ObjectsWritten.{is_short}
 use Rattle.sound_codes.specs.NamedWell.{NamesWell, uses_object_field}
 use Rattle.step_contents.specs.Conditions.{around}
 use Rattle.stored_objects.proofs.LaidOut.{sealed_laid_out}
+use Rattle.typing_lemmas.proofs.OneScope.{one_link}
 use Rattle.heap_ops.specs.declared.here.Here.{Here}
 use Rattle.heap_ops.specs.HeapValues.{IsOwnPlace}
 use Rattle.heap_ops.specs.OneInstruction.{place_in}
 use Rattle.heap_ops.proofs.ArraysFound.{same_name}
 use Rattle.heap_ops.proofs.DoingHere.{Doing, i, live, s, same_classes, w}
 use Rattle.heap_ops.proofs.FieldPlaces.{place_is_own}
-
--- an operand leads to one link
-pub one_link : (s : CodeScope) (i : Instr) (a b : Link) → LeadsToLink s i a → LeadsToLink s i b → a ≡ b
-one_link s i a b (m, at, there) (n, too, here) =
-    let same : m ≡ n = number (sym at ∙ too) in
-    same_Some a b (sym (subst (λ (k : ℕ). slice_get s.links k ≡ Some a) same there) ∙ here)
-  where
-    number : {j k : ℕ} → pos j ≡ pos k → j ≡ k
-    number e = cc
 
 module _ (heaps : HeapContent) (frames : FrameContent) (h : Here) (k : Doing heaps frames h) where
   -- the classes of the code are those of the world

@@ -23,10 +23,11 @@ use Rattle.frame_store.specs.FrameContents.{FrameContent, SetsTop, TopFrame}
 use Rattle.object_store.specs.HeapContents.{HeapContent, IsHeapContent, IsSame, MakesObject, shape_words, words_left}
 use Rattle.number_laws.proofs.FrameParts.{with_stack}
 use Rattle.jk_model_frames.specs.Frames.{FrameState}
+use Rattle.typing_lemmas.proofs.OneScope.{one_link}
 use Rattle.heap_ops.specs.declared.here.Here.{Here}
 use Rattle.heap_ops.specs.OneInstruction.{place_in}
 use Rattle.heap_ops.proofs.DoingHere.{Doing, Done, found, i, s, top, w}
-use Rattle.heap_ops.proofs.FieldsFound.{code_classes, names_well, one_link}
+use Rattle.heap_ops.proofs.FieldsFound.{code_classes, names_well}
 use Rattle.heap_ops.proofs.FoundByOpcode.{NewFound, found_at}
 use Rattle.heap_ops.proofs.ObjectsMade.{fails_new, pushed_new}
 

@@ -2,11 +2,12 @@
 use Rattle.std.proofs.Common.{◌≡◌, ℕ, ◌+◌, List, [], ◌∷◌, ◌++◌, Some, slice_get, sym, ap, subst, ◌∙◌, arith}
 use Rattle.std.specs.Prelude.{slice_set}
 use Rattle.std.specs.List.{AllByRecursion}
-use Rattle.std.proofs.lemmas.Option.{same_Some, slice_get_within}
+use Rattle.std.proofs.lemmas.Option.{slice_get_within}
 use Rattle.list_lemmas.proofs.ItemsByPlace.{item_there, slice_get-set_same}
 use Rattle.jk_model.specs.declared.identifiers.ClassId.{ClassId}
 use Rattle.jk_model.specs.declared.values.Value.{Value}
 use Rattle.jk_model.specs.declared.values.Value.TheVariants as Held
+use Rattle.jk_model.proofs.EachItem.{all_at}
 use Rattle.jk_model_classes.specs.declared.records.ClassRecord.{ClassRecord}
 use Rattle.jk_model_classes.specs.declared.records.TypeRef.{TypeRef}
 use Rattle.jk_model_domains.specs.NumberRows.{IsOnTop}
@@ -38,11 +39,6 @@ use Rattle.heap_ops.proofs.InstructionDone.{heap_words_used}
 last_known : (P : Value → Type 0) (below taken : List Value) → AllByRecursion P (below ++ taken) → AllByRecursion P taken
 last_known P [] taken h = h
 last_known P (v ∷ below) taken h = last_known P below taken h.1
-
-item_known : {X : Type 0} (P : X → Type 0) (xs : List X) (k : ℕ) (x : X) → AllByRecursion P xs → slice_get xs k ≡ Some x → P x
-item_known P [] k x h e = absurd cc
-item_known P (y ∷ xs) ℕ.zero x h e = subst P (same_Some y x e) h.0
-item_known P (y ∷ xs) (ℕ.suc k) x h e = item_known P xs k x h.1 e
 
 -- ---- Values.
 
@@ -112,8 +108,8 @@ module _ (heaps : HeapContent) (frames : FrameContent) (h : Here) (k : Doing hea
       → IsSealedObject (around k.may.domain) new (Array element (slice_set items place u)) → slice_get items place ≡ Some v → AreOfKind v u
   item_kind_kept element items place v u new before after at =
       let low = slice_get_within items place v at in
-      let first = item_known _ items place v before.2 at in
-      let second = item_known _ (slice_set items place u) place u after.2 (slice_get-set_same items place u low) in
+      let first = all_at _ items place v before.2 at in
+      let second = all_at _ (slice_set items place u) place u after.2 (slice_get-set_same items place u low) in
       one_type_kind heap new element v u first.0 second.0
 
   -- ---- The heap that is left.
