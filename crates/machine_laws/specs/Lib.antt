@@ -1,4 +1,3 @@
 pub mod KnownMachines
-pub mod SealedOpenings
 pub mod SealedSteps
 pub mod StepProgress
