@@ -98,7 +98,7 @@ module _ (around : Surroundings) (x : Setting) (t : ThreadNo) (old : Run) (acts 
         one_of : (d : ClassId) → one_if (is_for d top.frame.head.initialises) ≡ one_if (is_for d (Some c))
         one_of d = ap (λ (o : Option ClassId). one_if (is_for d o)) initialises
 
-        in_progress : 1 ≤ progress_by t set.own c
+        pub in_progress : 1 ≤ progress_by t set.own c
         in_progress =
             let one : one_if (is_for c (Some c)) ≡ 1 = ap one_if (eq-eqb c.0 c.0 refl) in
             omega (arith, acts.progress c, counts c, count_push c top.callers top.frame, one_of c, one, same t c)

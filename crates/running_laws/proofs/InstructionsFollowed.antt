@@ -63,7 +63,7 @@ module _ (around : Surroundings) (x : Setting) (t : ThreadNo) (old : Run) (acts 
   abbrev A : FrameState → Type 0
   A = FitsAsTop around.classes w.inside.heap
 
-  same : (u : ThreadNo) (c : ClassId) → progress_by u w.inside.own c ≡ progress_by u old.inside.own c
+  pub same : (u : ThreadNo) (c : ClassId) → progress_by u w.inside.own c ≡ progress_by u old.inside.own c
   same u c = ap (taken_by u) (kept.states c)
 
   need : w.frame.head.need ≡ None
@@ -75,7 +75,7 @@ module _ (around : Surroundings) (x : Setting) (t : ThreadNo) (old : Run) (acts 
   size : head_chunks w.frame.head ≡ head_chunks top.frame.head
   size = ap head_chunks kept.head
 
-  was : (o : Option ClassId) → w.frame.head.initialises ≡ o → top.frame.head.initialises ≡ o
+  pub was : (o : Option ClassId) → w.frame.head.initialises ≡ o → top.frame.head.initialises ≡ o
   was o e = sym alike.0 ∙ e
 
   known : KnownFrame around w.inside.heap w.frame

@@ -9,6 +9,7 @@ mod InitialisersFit
 mod InitialisersFound
 mod InstructionsFollowed
 mod InstructionsKept
+mod InstructionsThere
 mod KindsOfInstructions
 mod LiteralsAdded
 mod NeededClassesKnown
@@ -19,6 +20,8 @@ pub mod NumberRowsThere
 mod NumbersGoOn
 mod OpcodesByKind
 mod RaisesKept
+mod RaisesThere
 mod StatesOfFrames
 pub mod StepsKept
+pub mod StepsThere
 mod TextsOfLiterals

@@ -9,7 +9,7 @@ use Rattle.jk_model_classes.specs.Worlds.{NamedClass}
 use Rattle.jk_model_heaps.specs.Capabilities.{CapRange}
 use Rattle.jk_model_heaps.specs.SystemClasses.{NO_CLASS_DEF_FOUND_ERROR}
 use Rattle.jk_model_heaps.specs.Workings.{Inside, Run, Setting, Working}
-use Rattle.jk_model_running.specs.LocalSteps.{Continues, DoesInstr, LocalStep, does, lacks_constants, meets_broken, need_falls, overflows, sets_constants, touches}
+use Rattle.jk_model_running.specs.LocalSteps.{Continues, DoesInstr, LocalStep, TopFrame, does, lacks_constants, meets_broken, need_falls, overflows, sets_constants, touches}
 use Rattle.jk_model_running.specs.Ways.{Went, GoesOn}
 use Rattle.jk_model_sealing.specs.FittingFrames.{FitsAsTop, FitsHere}
 use Rattle.jk_model_sealing.specs.SealedInsides.{Surroundings}
@@ -32,18 +32,21 @@ module _ (rows : HeapRowsKeep) (x : Setting) (table : List NamedClass) (caps : L
   module _ (acts : ActsWell around x t old) where
     -- ---- An instruction.
 
-    here_of : (at : DoesInstr x t old) → FitsAsTop x.classes old.inside.heap at.top.frame → FitsHere x.classes old.inside.heap at.top.frame
-    here_of at (inl empty) = absurd (empty.need at.no_need)
-    here_of at (inr (well, here)) = here
+    pub here_of : (top : TopFrame old) → top.frame.head.need ≡ None → FitsHere x.classes old.inside.heap top.frame
+    here_of top no_need = by_case (fits_top around x t old acts top)
+      where
+        by_case : FitsAsTop x.classes old.inside.heap top.frame → FitsHere x.classes old.inside.heap top.frame
+        by_case (inl empty) = absurd (empty.need no_need)
+        by_case (inr (well, here)) = here
 
-    runs : (at : DoesInstr x t old) → RunsWell around x (record { inside = old.inside; frame = at.top.frame })
-    runs at =
-        let known = known_top around x t old acts at.top in
+    pub runs_well : (top : TopFrame old) → top.frame.head.need ≡ None → RunsWell around x (record { inside = old.inside; frame = top.frame })
+    runs_well top no_need =
+        let known = known_top around x t old acts top in
         record {
           setting = acts.setting;
           inside = acts.sealed.inside;
-          no_need = at.no_need;
-          fits = here_of at (fits_top around x t old acts at.top);
+          no_need = no_need;
+          fits = here_of top no_need;
           at_home = known.at_home;
           known = known.known;
         }
@@ -51,7 +54,8 @@ module _ (rows : HeapRowsKeep) (x : Setting) (table : List NamedClass) (caps : L
     instr_done : (at : DoesInstr x t old) (new : Run) (went : Went) → Continues x at.top.callers at.working at.outcome new went
         → KeepsRun around x t old new went
     instr_done at new went continues =
-        let both = instruction_kept rows around x (record { inside = old.inside; frame = at.top.frame }) at.working at.outcome (runs at) at.code
+        let both = instruction_kept rows around x (record { inside = old.inside; frame = at.top.frame }) at.working at.outcome
+        (runs_well at.top at.no_need) at.code
         at.executes in
         followed around x t old acts at.top at.code at.no_need at.working both.0 at.outcome new went continues both.1
 
