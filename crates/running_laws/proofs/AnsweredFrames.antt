@@ -24,7 +24,7 @@ use Rattle.sound_codes.specs.SoundCodes.{AreSoundCodes}
 use Rattle.typed_operands.proofs.CallersResume.{resumes}
 use Rattle.running_laws.specs.KeptRuns.{ActsWell, AwaitOn, RunOn}
 use Rattle.running_laws.specs.LocalStepLaws.{HasMoreCapabilities}
-use Rattle.running_laws.proofs.FramesInARow.{KnownFrame, Stand, top_known, top_replaced}
+use Rattle.running_laws.proofs.FramesInARow.{Stand, top_known, top_replaced}
 use Rattle.running_laws.proofs.InstructionsFollowed.{value_known}
 use Rattle.running_laws.proofs.StepsKept.{step_kept}
 

@@ -97,9 +97,6 @@ state_begun own c s untouched =
     by_part None e = absurd cc
     by_part (Some p) e = refl
 
-same_number : (c d : ClassId) → d.0 == c.0 ≡ true → c ≡ d
-same_number c d e = same_class c d (sym (eqb-true d.0 c.0 e))
-
 turned : (c d : ClassId) (b : Bool) → d.0 == c.0 ≡ b → c.0 == d.0 ≡ b
 turned c d true e = eq-eqb c.0 d.0 (sym (eqb-true d.0 c.0 e))
 turned c d false e = ne_eqb c.0 d.0 (λ same. eqb-false d.0 c.0 e (sym same))
@@ -109,7 +106,7 @@ module _ (t : ThreadNo) (own : OwnState) (c : ClassId) (some : 1 ≤ progress_by
   pub ended_others : (u : ThreadNo) (d : ClassId) → u ≢ t → progress_by u (with_state own c State.Done) d ≡ progress_by u own d
   ended_others u d apart = elim (cases_Bool (d.0 == c.0)) [
     | inl same ↦
-        subst (λ (x : ClassId). progress_by u (with_state own c State.Done) x ≡ progress_by u own x) (same_number c d same)
+        subst (λ (x : ClassId). progress_by u (with_state own c State.Done) x ≡ progress_by u own x) (same_class c d (sym (eqb-true d.0 c.0 same)))
         (done_rests u own c ∙ sym (taken_alone t u (state_of own c) apart some))
     | inr other ↦ progress_elsewhere u own c d State.Done other
   ]
@@ -122,7 +119,7 @@ module _ (t : ThreadNo) (own : OwnState) (c : ClassId) (some : 1 ≤ progress_by
         let here : progress_by t (with_state own c State.Done) c + one_if (c.0 == c.0) ≡ progress_by t own c =
         rw (eq-eqb c.0 c.0 refl) (omega (arith, now, once, some)) in
         subst (λ (x : ClassId). progress_by t (with_state own c State.Done) x + one_if (c.0 == x.0) ≡ progress_by t own x)
-        (same_number c d same) here
+        (same_class c d (sym (eqb-true d.0 c.0 same))) here
     | inr other ↦
         let now = progress_elsewhere t own c d State.Done other in
         rw (turned c d false other) (omega (arith, now))
@@ -141,7 +138,7 @@ module _ (t : ThreadNo) (own : OwnState) (c : ClassId) (untouched : state_of own
   begun_others u d apart = elim (cases_Bool (d.0 == c.0)) [
     | inl same ↦
         let none : taken_by u (State.InProgress t) ≡ 0 = rw (ne_eqb t.0 u.0 (λ e. apart (same_thread u t (sym e)))) refl in
-        subst (λ (x : ClassId). progress_by u (with_state own c (State.InProgress t)) x ≡ progress_by u own x) (same_number c d same)
+        subst (λ (x : ClassId). progress_by u (with_state own c (State.InProgress t)) x ≡ progress_by u own x) (same_class c d (sym (eqb-true d.0 c.0 same)))
         (now_by u ∙ none ∙ sym (none_before u))
     | inr other ↦ progress_elsewhere u own c d (State.InProgress t) other
   ]
@@ -154,7 +151,7 @@ module _ (t : ThreadNo) (own : OwnState) (c : ClassId) (untouched : state_of own
         let here : progress_by t (with_state own c (State.InProgress t)) c ≡ progress_by t own c + one_if (c.0 == c.0) =
         rw (eq-eqb c.0 c.0 refl) (omega (arith, now_by t, one, none_before t)) in
         subst (λ (x : ClassId). progress_by t (with_state own c (State.InProgress t)) x ≡ progress_by t own x + one_if (c.0 == x.0))
-        (same_number c d same) here
+        (same_class c d (sym (eqb-true d.0 c.0 same))) here
     | inr other ↦
         let now = progress_elsewhere t own c d (State.InProgress t) other in
         rw (turned c d false other) (omega (arith, now))

@@ -1,5 +1,5 @@
 -- Frames in a row: what holds of them where the top one is replaced or taken off, or where one is put on top.
-use Rattle.std.proofs.Common.{inl, inr, ◌≡◌, ◌≢◌, ◌⊎◌, ℕ, ◌+◌, ◌==◌, Bool, false, cond, List, [], ◌∷◌, ◌++◌, Option, Some, None, sym, ap, subst, ◌∙◌}
+use Rattle.std.proofs.Common.{inl, inr, ◌≡◌, ◌≢◌, ◌⊎◌, ℕ, ◌+◌, ◌==◌, Bool, false, cond, List, [], ◌∷◌, ◌++◌, Option, Some, None, sym, ap, ◌∙◌}
 use Rattle.std.specs.List.{AllByRecursion}
 use Rattle.std.proofs.lemmas.List.Sums.{sum_by_push}
 use Rattle.list_lemmas.proofs.LastItems.{each-append}
@@ -13,22 +13,19 @@ use Rattle.jk_model_sealing.specs.FittingFrames.{FitsAsCaller, FramesFit, Initia
 use Rattle.jk_model_sealing.specs.SealedInsides.{Surroundings}
 use Rattle.jk_model_sealing.specs.SealedRuns.{AreSealedFrames, IsAtHome, NamesKnown}
 use Rattle.sealed_rows.specs.ClassesInProgress.{count_initialisers}
+use Rattle.typed_operands.proofs.NamesStayKnown.{known-parts}
 
 -- ---- What holds of each.
 
 module _ {X : Type 0} (P : X → Type 0) where
-  all_parts : (xs ys : List X) → AllByRecursion P (xs ++ ys) → AllByRecursion P xs × AllByRecursion P ys
-  all_parts [] ys h = (tt, h)
-  all_parts (x ∷ xs) ys h = let more = all_parts xs ys h.1 in ((h.0, more.0), more.1)
-
   pub all_push : (xs : List X) (y : X) → AllByRecursion P xs → P y → AllByRecursion P (xs ++ y ∷ [])
   all_push xs y h k = each-append P xs (y ∷ []) h (k, tt)
 
   all_below : (xs : List X) (y : X) → AllByRecursion P (xs ++ y ∷ []) → AllByRecursion P xs
-  all_below xs y h = (all_parts xs (y ∷ []) h).0
+  all_below xs y h = (known-parts P xs (y ∷ []) h).0
 
   all_top : (xs : List X) (y : X) → AllByRecursion P (xs ++ y ∷ []) → P y
-  all_top xs y h = (all_parts xs (y ∷ []) h).1.0
+  all_top xs y h = (known-parts P xs (y ∷ []) h).1.0
 
 -- ---- That they fit.
 

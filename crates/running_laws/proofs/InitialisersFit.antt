@@ -1,5 +1,5 @@
 -- The frame that initialises a class fits on top as it is begun, and the domain knows what it speaks of.
-use Rattle.std.proofs.Common.{inl, inr, ◌≡◌, ◌≢◌, ◌⊎◌, ℕ, zero, suc, ◌-◌, IsTrue, List, [], length, replicate, Option, Some, None, refl, sym, ap, subst, ◌∙◌, arith}
+use Rattle.std.proofs.Common.{inl, inr, ◌≡◌, ◌≢◌, ◌⊎◌, ℕ, zero, suc, ◌-◌, IsTrue, List, [], length, replicate, Some, None, refl, sym, ap, subst, ◌∙◌, arith}
 use Rattle.std.specs.List.{AllByRecursion}
 use Rattle.std.proofs.lemmas.Option.{none-some}
 use Rattle.class_lemmas.proofs.OneRecord.{one_method}
@@ -26,7 +26,7 @@ use Rattle.jk_model_heaps.specs.RunningCode.{HasNoClinit, IsClinitOf}
 use Rattle.jk_model_running.specs.Initialising.{IsInitialiserHead}
 use Rattle.jk_model_sealing.specs.FittingFrames.{FitsAsTop, FitsHere, InitialisesWell}
 use Rattle.jk_model_sealing.specs.SealedInsides.{IsKnownValue, Surroundings}
-use Rattle.jk_model_sealing.specs.SealedRuns.{IsAtHome, IsKnownClass, KnowsClassOf}
+use Rattle.jk_model_sealing.specs.SealedRuns.{IsKnownClass, KnowsClassOf}
 use Rattle.sealed_rows.specs.FittingOutcomes.{AreOfTypes}
 use Rattle.sound_codes.specs.SoundCodes.{AreSoundCodes}
 use Rattle.sound_codes.specs.SoundTables.{IsSoundTable}

@@ -1,11 +1,10 @@
 -- A class that is untouched has an initialiser frame: it runs the class's `<clinit>`, or has no code.
-use Rattle.std.proofs.Common.{inl, inr, ◌≡◌, ◌≢◌, ◌⊎◌, ℕ, ◌<◌, ◌==◌, Bool, true, List, find, Option, Some, None, slice_get, refl, sym, ap, subst, ◌∙◌}
+use Rattle.std.proofs.Common.{inl, inr, ◌≡◌, ◌⊎◌, ℕ, ◌==◌, List, Option, Some, None, slice_get, refl, sym, subst, ◌∙◌}
 use Rattle.std.specs.Option.{option_map_or}
 use Rattle.std.proofs.lemmas.Bool.{eqb-true}
-use Rattle.std.proofs.lemmas.Option.{none-some, same_Some}
+use Rattle.std.proofs.lemmas.Option.{same_Some}
 use Rattle.list_lemmas.proofs.FoundItems.{Finds, finds}
 use Rattle.list_lemmas.proofs.ItemsOfLists.{Contains-at}
-use Rattle.class_lemmas.proofs.OneRecord.{one_method}
 use Rattle.decided_lookups.proofs.DecidedParts.{text_decided}
 use Rattle.decided_lookups.proofs.ListsSearched.{first_or_none}
 use Rattle.jk_model.specs.declared.frames.FrameHead.{FrameHead}
@@ -18,10 +17,9 @@ use Rattle.jk_model_classes.specs.Classes.{record_of}
 use Rattle.jk_model_classes.specs.Lookups.{MethodIs}
 use Rattle.jk_model_classes.specs.Members.{CLINIT}
 use Rattle.jk_model_classes.specs.Worlds.{NamedClass}
-use Rattle.jk_model_domains.specs.declared.states.ClassState.{ClassState}
 use Rattle.jk_model_domains.specs.declared.states.ClassState.TheVariants as State
 use Rattle.jk_model_domains.specs.OwnStates.{ClassPart, HasState, IsOwnState, OwnState, part_of, state_of}
-use Rattle.jk_model_heaps.specs.RunningCode.{HasNoClinit, IsClinit, IsClinitOf}
+use Rattle.jk_model_heaps.specs.RunningCode.{HasNoClinit, IsClinitOf}
 use Rattle.jk_model_running.specs.Initialising.{IsInitialiserHead}
 use Rattle.model_lemmas.proofs.SameNumbers.{same_class}
 use Rattle.sound_codes.specs.SoundCodes.{AreSoundCodes}

@@ -5,7 +5,6 @@ use Rattle.std.proofs.lemmas.Option.{none-some, same_Some}
 use Rattle.list_lemmas.proofs.LastItems.{each-append}
 use Rattle.class_lemmas.proofs.OneRecord.{one_method}
 use Rattle.jk_model.specs.declared.frames.FrameHead.{FrameHead}
-use Rattle.jk_model.specs.declared.identifiers.CapId.{CapId}
 use Rattle.jk_model.specs.declared.identifiers.ClassId.{ClassId}
 use Rattle.jk_model.specs.declared.identifiers.MemberId.{MemberId}
 use Rattle.jk_model.specs.declared.identifiers.ThreadNo.{ThreadNo}
@@ -14,16 +13,14 @@ use Rattle.jk_model.specs.declared.values.Value.{Value}
 use Rattle.jk_model_classes.specs.declared.records.MethodRecord.{MethodRecord}
 use Rattle.jk_model_classes.specs.declared.records.TypeRef.{TypeRef}
 use Rattle.jk_model_classes.specs.Lookups.{MethodIs}
-use Rattle.jk_model_domains.specs.declared.states.ClassState.{ClassState}
-use Rattle.jk_model_domains.specs.declared.states.ClassState.TheVariants as State
 use Rattle.jk_model_domains.specs.Objects.{NamedObject}
 use Rattle.jk_model_frames.specs.Frames.{FrameState, frames_chunks, head_chunks}
 use Rattle.jk_model_heaps.specs.CalledFrames.{as_entries, at_place, resumed}
 use Rattle.jk_model_heaps.specs.RunningCode.{RunsCode}
-use Rattle.jk_model_heaps.specs.Workings.{Asks, Calls, Crosses, GoesOn, Inside, Outcome, Raises, Request, Returns, Run, Says, Setting, Terminates, Working}
+use Rattle.jk_model_heaps.specs.Workings.{Outcome, Run, Setting, Working}
 use Rattle.jk_model_heaps.specs.declared.shapes.Unwound.{Unwound}
 use Rattle.jk_model_heaps.specs.declared.shapes.Unwound.TheVariants as Unwinding
-use Rattle.jk_model_running.specs.LocalSteps.{Continues, TopFrame, with_class, with_top, asks, calls, crosses, ends, ends_initialiser, goes_on, raises, returns, says, terminates}
+use Rattle.jk_model_running.specs.LocalSteps.{Continues, TopFrame, with_top, asks, calls, crosses, ends, ends_initialiser, goes_on, raises, returns, says, terminates}
 use Rattle.jk_model_running.specs.Raising.{RaisesIn, after_raising}
 use Rattle.jk_model_running.specs.Ways.{Went}
 use Rattle.jk_model_running.specs.Ways.{Asks as WentAsking, Crosses as WentAcross, Ended as WentOut, GoesOn as WentOn, Says as WentSaying, Terminates as WentDown}
@@ -31,15 +28,15 @@ use Rattle.jk_model_sealing.specs.AnsweringFrames.{AwaitsResult, GivesResult}
 use Rattle.jk_model_sealing.specs.ClassesInProgress.{progress_by}
 use Rattle.jk_model_sealing.specs.FittingFrames.{FitsAsCaller, FitsAsTop, FitsAtCall, FitsHere, InitialisesWell}
 use Rattle.jk_model_sealing.specs.SealedInsides.{IsKnownValue, Surroundings}
-use Rattle.jk_model_sealing.specs.SealedRuns.{IsAtHome, NamesKnown}
+use Rattle.jk_model_sealing.specs.SealedRuns.{IsAtHome}
 use Rattle.sealed_rows.specs.ClassesInProgress.{KeepsProgress, count_initialisers}
-use Rattle.sealed_rows.specs.FittingOutcomes.{AwaitsAnswer, FitsOutcome, IsCalledWell, IsResult, StandsAtCrossing}
+use Rattle.sealed_rows.specs.FittingOutcomes.{FitsOutcome, IsCalledWell, IsResult}
 use Rattle.sealed_rows.specs.KeptInsides.{IsKept}
 use Rattle.sealed_rows.specs.RaisableObjects.{MayBeRaised, MayMeetRaise}
 use Rattle.typed_operands.proofs.CallersResume.{resumes}
 use Rattle.unwinding_laws.proofs.FramesLeft.{keeps_after}
 use Rattle.running_laws.specs.KeptRuns.{ActsWell, FitsWent, KeepsRun, LowestGives, RunOn}
-use Rattle.running_laws.proofs.ActingSegments.{class_done, cost, counts, fits_top, known_top, replaced, replaced_keeps, stand_in}
+use Rattle.running_laws.proofs.ActingSegments.{class_done, cost, counts, known_top, replaced, replaced_keeps, stand_in}
 use Rattle.running_laws.proofs.ClassesBegunAndEnded.{taken_by}
 use Rattle.running_laws.proofs.FramesInARow.{IsAnswered, KnownFrame, LooksAlike, Stand, below_answered, below_fits, chunks_push, count_push, count_same, is_for, one_if, top_covered, top_known, top_replaced, top_taken}
 use Rattle.running_laws.proofs.RaisesKept.{MayRaise, raise_kept}

@@ -1,5 +1,5 @@
 -- What an instruction leaves, whichever group of rows it is of.
-use Rattle.std.proofs.Common.{◌≡◌, sym, subst}
+use Rattle.std.proofs.Common.{sym, subst}
 use Rattle.jk_model_heaps.specs.RunningCode.{RunsCode}
 use Rattle.jk_model_heaps.specs.Workings.{Inside, Outcome, Setting, Working}
 use Rattle.jk_model_running.specs.Executions.{Executes, calls, heap, numbers, system}

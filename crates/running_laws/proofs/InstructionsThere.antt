@@ -1,5 +1,5 @@
 -- Where a frame runs, its instruction is done: there is a row of it, and what comes next.
-use Rattle.std.proofs.Common.{inl, inr, ◌≡◌, ◌≢◌, ℕ, ◌⊎◌, List, [], ◌∷◌, ◌++◌, Option, Some, None, refl, sym, ap, subst, ◌∙◌, arith}
+use Rattle.std.proofs.Common.{inl, inr, ◌≡◌, ◌≢◌, ℕ, List, [], ◌∷◌, ◌++◌, Option, Some, None, refl, sym, ◌∙◌}
 use Rattle.std.proofs.lemmas.Option.{none-some}
 use Rattle.list_lemmas.proofs.LastItems.{last_of}
 use Rattle.jk_model.specs.declared.identifiers.ClassId.{ClassId}
@@ -17,7 +17,6 @@ use Rattle.jk_model_running.specs.Executions.{Executes, IsOutcome, calls as by_c
 use Rattle.jk_model_running.specs.LocalSteps.{Continues, TopFrame, asks, calls, crosses, ends, ends_initialiser, goes_on, raises, returns, says, terminates}
 use Rattle.jk_model_running.specs.Raising.{after_raising}
 use Rattle.jk_model_running.specs.Ways.{Went}
-use Rattle.jk_model_running.specs.Ways.{Asks as WentAsking, Crosses as WentAcross, Ended as WentOut, GoesOn as WentOn, Says as WentSaying, Terminates as WentDown}
 use Rattle.jk_model_sealing.specs.AnsweringFrames.{FramesAnswer}
 use Rattle.jk_model_sealing.specs.SealedInsides.{Surroundings}
 use Rattle.jk_model_typing.specs.Scopes.{CodeScope}

@@ -1,5 +1,5 @@
 -- A frame that runs needs one class first, or none: by its need, or else by its instruction.
-use Rattle.std.proofs.Common.{inl, inr, ◌≡◌, ℕ, zero, suc, ℤ, pos, negsuc, ◌⊎◌, ◌==◌, ◌||◌, Bool, true, false, cond, List, Option, Some, None, slice_get, refl, sym, ap, subst, ◌∙◌}
+use Rattle.std.proofs.Common.{inl, inr, ◌≡◌, ℕ, zero, ℤ, pos, negsuc, ◌⊎◌, ◌==◌, ◌||◌, Bool, true, false, cond, List, Option, Some, None, slice_get, refl, sym, ap, subst, ◌∙◌}
 use Rattle.std.proofs.lemmas.Bool.{eqb-true}
 use Rattle.std.proofs.lemmas.Option.{none-some, same_Some}
 use Rattle.jk_model.specs.declared.identifiers.ClassId.{ClassId}

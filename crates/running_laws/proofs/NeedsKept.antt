@@ -1,5 +1,5 @@
 -- A class that is needed: what is kept where a step touches it, meets it broken, or where the need falls.
-use Rattle.std.proofs.Common.{inl, inr, ◌≡◌, ◌≢◌, ◌⊎◌, ℕ, ◌+◌, ◌≤◌, List, [], ◌∷◌, ◌++◌, Option, Some, None, refl, sym, ap, subst, ◌∙◌, arith}
+use Rattle.std.proofs.Common.{inl, inr, ◌≡◌, ◌≢◌, ◌≤◌, List, [], ◌∷◌, ◌++◌, Option, Some, None, refl, sym, ap, subst, ◌∙◌, arith}
 use Rattle.std.proofs.lemmas.Option.{none-some}
 use Rattle.jk_model.specs.declared.frames.FrameHead.{FrameHead}
 use Rattle.jk_model.specs.declared.identifiers.ClassId.{ClassId}
@@ -22,7 +22,7 @@ use Rattle.sealed_rows.specs.KeptInsides.{KeepsInside}
 use Rattle.running_laws.specs.KeptRuns.{ActsWell, KeepsRun, RunOn}
 use Rattle.running_laws.proofs.ActingSegments.{fits_top, known_top, replaced, replaced_keeps, stand, stand_in}
 use Rattle.running_laws.proofs.ClassesBegunAndEnded.{begun_others, begun_own}
-use Rattle.running_laws.proofs.FramesInARow.{KnownFrame, Stand, chunks_push, count_push, is_for, one_if, top_covered, top_fits}
+use Rattle.running_laws.proofs.FramesInARow.{Stand, chunks_push, count_push, is_for, one_if, top_covered, top_fits}
 use Rattle.running_laws.proofs.InitialisersFit.{initialiser_fits, initialiser_known}
 use Rattle.running_laws.proofs.NeededClassesKnown.{needs_known}
 

@@ -13,7 +13,7 @@ use Rattle.jk_model_sealing.specs.ClassesInProgress.{progress_by}
 use Rattle.jk_model_sealing.specs.SealedInsides.{IsSealedInside, Surroundings}
 use Rattle.jk_model_unwinding.specs.Unwinding.{Unwinds}
 use Rattle.grown_heaps.proofs.StillFits.{frames_sealed, meets_raise}
-use Rattle.sealed_rows.specs.ClassesInProgress.{AreInProgress, KeepsProgress}
+use Rattle.sealed_rows.specs.ClassesInProgress.{AreInProgress}
 use Rattle.sealed_rows.specs.KeptInsides.{KeepsInside}
 use Rattle.sealed_rows.specs.RaisableObjects.{IsThrowable, MayBeRaised, MayMeetRaise}
 use Rattle.sealed_rows.specs.RunningFrames.{IsKnownSetting}

@@ -1,5 +1,5 @@
 -- Each class that a frame of a segment initialises has a state in the domain, since it is in progress.
-use Rattle.std.proofs.Common.{inl, inr, ◌≡◌, ℕ, true, ◌+◌, ◌≤◌, List, [], ◌∷◌, Contains, Option, Some, None, refl, sym, ap, ◌∙◌, arith}
+use Rattle.std.proofs.Common.{inl, inr, ◌≡◌, ◌+◌, ◌≤◌, List, [], ◌∷◌, Contains, Option, Some, None, refl, ap, ◌∙◌, arith}
 use Rattle.std.specs.Option.{option_map_or}
 use Rattle.std.proofs.lemmas.Bool.{eq-eqb}
 use Rattle.std.proofs.lemmas.List.Sums.{sum_by-cons}
@@ -22,22 +22,21 @@ in_progress_there t own c some = by_part (part_of own c) refl some
     by_part (Some e) is h = (e, is)
     by_part None is h = absurd (omega (arith, h))
 
-count_cons : (c : ClassId) (f : FrameState) (frames : List FrameState)
-    → count_initialisers c (f ∷ frames) ≡ one_if (is_for c f.head.initialises) + count_initialisers c frames
-count_cons c f frames = sum_by-cons (λ (x : FrameState). one_if (initialises c x)) f frames
-
 one_of : (c : ClassId) (f : FrameState) → f.head.initialises ≡ Some c → one_if (is_for c f.head.initialises) ≡ 1
 one_of c f e = ap (λ (o : Option ClassId). one_if (is_for c o)) e ∙ ap one_if (eq-eqb c.0 c.0 refl)
 
 pub counted : (c : ClassId) (frames : List FrameState) (f : FrameState) → Contains frames f → f.head.initialises ≡ Some c
     → 1 ≤ count_initialisers c frames
 counted c [] f has e = absurd (Contains-none f has)
-counted c (g ∷ frames) f has e = elim (Contains-cases f g frames has) [
-  | inl same ↦
-      let here : g.head.initialises ≡ Some c = ap (λ (x : FrameState). x.head.initialises) same ∙ e in
-      omega (arith, count_cons c g frames, one_of c g here)
-  | inr later ↦ let more = counted c frames f later e in omega (arith, count_cons c g frames, more)
-]
+counted c (g ∷ frames) f has e =
+    let first : count_initialisers c (g ∷ frames) ≡ one_if (is_for c g.head.initialises) + count_initialisers c frames =
+    sum_by-cons (λ (x : FrameState). one_if (initialises c x)) g frames in
+    elim (Contains-cases f g frames has) [
+      | inl same ↦
+          let here : g.head.initialises ≡ Some c = ap (λ (x : FrameState). x.head.initialises) same ∙ e in
+          omega (arith, first, one_of c g here)
+      | inr later ↦ let more = counted c frames f later e in omega (arith, first, more)
+    ]
 
 pub states_there : (t : ThreadNo) (own : OwnState) (frames : List FrameState)
     → ((c : ClassId) → count_initialisers c frames ≤ progress_by t own c) → KeepsStates own frames

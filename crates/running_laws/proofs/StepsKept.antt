@@ -1,6 +1,5 @@
 -- Each step of a segment keeps what is kept, by its case.
-use Rattle.std.proofs.Common.{inl, inr, ◌≡◌, ◌≢◌, ℕ, ◌+◌, ◌++◌, List, Option, Some, None, refl, sym, ap, subst, arith}
-use Rattle.jk_model.specs.declared.identifiers.ClassId.{ClassId}
+use Rattle.std.proofs.Common.{inl, inr, ◌≡◌, List, None, refl, sym, subst, arith}
 use Rattle.jk_model.specs.declared.identifiers.ThreadNo.{ThreadNo}
 use Rattle.jk_model.specs.declared.steps.Raise.TheVariants as Raised
 use Rattle.jk_model.specs.declared.steps.Standing.TheVariants as Stands
@@ -8,7 +7,7 @@ use Rattle.jk_model_classes.specs.declared.records.ClassRecord.{ClassRecord}
 use Rattle.jk_model_classes.specs.Worlds.{NamedClass}
 use Rattle.jk_model_heaps.specs.Capabilities.{CapRange}
 use Rattle.jk_model_heaps.specs.SystemClasses.{NO_CLASS_DEF_FOUND_ERROR}
-use Rattle.jk_model_heaps.specs.Workings.{Inside, Run, Setting, Working}
+use Rattle.jk_model_heaps.specs.Workings.{Run, Setting}
 use Rattle.jk_model_running.specs.LocalSteps.{Continues, DoesInstr, LocalStep, TopFrame, does, lacks_constants, meets_broken, need_falls, overflows, sets_constants, touches}
 use Rattle.jk_model_running.specs.Ways.{Went, GoesOn}
 use Rattle.jk_model_sealing.specs.FittingFrames.{FitsAsTop, FitsHere}

@@ -1,5 +1,5 @@
 -- A segment that acts has a step, unless it must wait for a class that another thread initialises.
-use Rattle.std.proofs.Common.{inl, inr, ◌≡◌, ◌≢◌, ◌⊎◌, ℕ, ◌++◌, List, [], ◌∷◌, Option, Some, None, refl, sym, ap, subst, ◌∙◌, arith}
+use Rattle.std.proofs.Common.{inl, inr, ◌≡◌, ◌⊎◌, ℕ, List, [], ◌∷◌, Option, Some, None, refl, sym, ap, subst, ◌∙◌, arith}
 use Rattle.std.proofs.lemmas.Bool.{cases_lt}
 use Rattle.std.proofs.lemmas.Option.{none-some}
 use Rattle.decided_lookups.proofs.DecidedParts.{number_decided}
@@ -7,7 +7,6 @@ use Rattle.list_lemmas.proofs.LastItems.{last_of}
 use Rattle.jk_model.specs.declared.identifiers.ClassId.{ClassId}
 use Rattle.jk_model.specs.declared.identifiers.MemberId.{MemberId}
 use Rattle.jk_model.specs.declared.identifiers.ThreadNo.{ThreadNo}
-use Rattle.jk_model.specs.declared.steps.Raise.{Raise}
 use Rattle.jk_model.specs.declared.steps.Raise.TheVariants as Raised
 use Rattle.jk_model.specs.declared.steps.Standing.TheVariants as Stands
 use Rattle.jk_model_classes.specs.declared.records.ClassRecord.{ClassRecord}
@@ -94,9 +93,12 @@ module _ (rows : HeapRowsKeep) (x : Setting) (table : List NamedClass) (caps : L
       set_falls : (of : Initialises x top.frame) (set : Inside) → SetsConstants x of.class of.of_class run.inside set → (o : Option MemberId)
           → top.frame.head.method ≡ o → Step
       set_falls of set sets (Some m) is = (_, _, sets_constants at of set sets (inl (λ none. none-some m (sym none ∙ is), refl)))
-      set_falls of set sets None is =
-          (_, _, sets_constants at of set sets
-          (inr (is, lowest_plain x.classes top.callers top.frame of.class (stand around x t run acts top).1 of.initialises, refl)))
+      set_falls of set sets None is = (
+        _,
+        _,
+        sets_constants at of set sets
+            (inr (is, lowest_plain x.classes top.callers top.frame of.class (stand around x t run acts top).1 of.initialises, refl)),
+      )
 
       constants : (of : Initialises x top.frame) → Step
       constants of =
