@@ -1,10 +1,11 @@
 -- The constant texts of a class are set, where they fit, and the domain's inside keeps what is kept.
-use Rattle.std.proofs.Common.{inl, inr, ◌≡◌, ◌⊎◌, ℕ, ◌+◌, ◌≤◌, List, ◌++◌, map, Contains, Some, refl, sym, subst, arith}
+use Rattle.std.proofs.Common.{inl, inr, ◌≡◌, ◌⊎◌, ℕ, ◌+◌, ◌≤◌, List, ◌++◌, map, Contains, Some, refl, sym, ap, subst, ◌∙◌, arith}
 use Rattle.std.specs.Prelude.{sum_by}
 use Rattle.std.proofs.lemmas.Bool.{cases_lt}
 use Rattle.list_lemmas.proofs.ItemsByPlace.{comes_from, mapped_at}
 use Rattle.list_lemmas.proofs.ItemsOfLists.{Contains-at, place_of, stands_at}
 use Rattle.jk_model.specs.declared.identifiers.ClassId.{ClassId}
+use Rattle.jk_model.specs.declared.identifiers.ThreadNo.{ThreadNo}
 use Rattle.jk_model_classes.specs.declared.records.ClassRecord.{ClassRecord}
 use Rattle.jk_model_classes.specs.Classes.{record_of}
 use Rattle.jk_model_typing.specs.FrameTypes.{STRING}
@@ -13,13 +14,15 @@ use Rattle.jk_model_domains.specs.OwnStates.{HasState, Literal}
 use Rattle.jk_model_heaps.specs.Heaps.{Makes, heap_words}
 use Rattle.jk_model_heaps.specs.Workings.{Inside, Setting, with_heap}
 use Rattle.jk_model_heap_rows.specs.Constants.{LacksConstants, SetsConstants, new_texts, text_object, with_constants}
+use Rattle.jk_model_sealing.specs.ClassesInProgress.{progress_by}
 use Rattle.jk_model_sealing.specs.SealedInsides.{IsSealedInside, IsSealedObject, Surroundings}
 use Rattle.grown_heaps.proofs.FreshNames.{above_names, none_above}
 use Rattle.grown_heaps.proofs.ObjectsAfterChanges.{made_there}
 use Rattle.heap_row_laws.proofs.InsidesMade.{IsNoTask, made_keeps}
 use Rattle.sealed_rows.specs.KeptInsides.{KeepsInside}
 use Rattle.sealed_rows.specs.RunningFrames.{IsKnownSetting}
-use Rattle.running_laws.proofs.ConstantsWritten.{constants_sealed}
+use Rattle.running_laws.proofs.ClassesBegunAndEnded.{taken_by}
+use Rattle.running_laws.proofs.ConstantsWritten.{constants_sealed, states_stay}
 use Rattle.running_laws.proofs.LiteralsAdded.{literals_sealed}
 use Rattle.running_laws.proofs.TextsOfLiterals.{AreNewTexts, literals_from, name_at, text_words, texts_are_new, texts_from, words_from}
 
@@ -103,3 +106,9 @@ module _ (around : Surroundings) (x : Setting) (c : ClassId) (r : ClassRecord) (
   constants_keep =
       subst (KeepsInside around x old) (sym sets.rest)
       (record { sealed = all_sealed; grown = kept_made.grown; tasks = kept_made.tasks; pages = (refl, refl) })
+
+  -- classes are in progress as before
+  pub constants_progress : (u : ThreadNo) (d : ClassId) → progress_by u new.own d ≡ progress_by u old.own d
+  constants_progress u d =
+      ap (λ (i : Inside). progress_by u i.own d) sets.rest
+      ∙ ap (taken_by u) (states_stay (record old.own { literals = old.own.literals ++ sets.more }) c r d)

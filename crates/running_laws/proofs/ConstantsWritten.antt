@@ -21,8 +21,9 @@ use Rattle.jk_model_classes.specs.Classes.{record_of}
 use Rattle.jk_model_classes.specs.Lookups.{FieldIs}
 use Rattle.jk_model_classes.specs.Worlds.{NamedClass}
 use Rattle.jk_model_typing.specs.FrameTypes.{STRING}
+use Rattle.jk_model_domains.specs.declared.states.ClassState.TheVariants as State
 use Rattle.jk_model_domains.specs.Objects.{Text, class_type}
-use Rattle.jk_model_domains.specs.OwnStates.{ClassPart, HasPart, IsOwnState, OwnState, StaticField, literal_named, static_in, static_of}
+use Rattle.jk_model_domains.specs.OwnStates.{ClassPart, HasPart, IsOwnState, OwnState, StaticField, literal_named, state_of, static_in, static_of}
 use Rattle.jk_model_heaps.specs.Workings.{Inside, with_own}
 use Rattle.jk_model_heap_rows.specs.Constants.{constant_text, with_constant, with_constants}
 use Rattle.jk_model_sealing.specs.SealedInsides.{IsSealedInside, Surroundings}
@@ -104,6 +105,10 @@ module _ (own : OwnState) (c : ClassId) (r : ClassRecord) where
   class_by e true = refl
   class_by e false = refl
 
+  state_by : (e : ClassPart) (b : Bool) → (part_then b e).state ≡ e.state
+  state_by e true = refl
+  state_by e false = refl
+
   places_by : (e : ClassPart) (b : Bool) → indices (part_then b e).statics ≡ indices e.statics
   places_by e true = indices_stay e.statics
   places_by e false = refl
@@ -112,6 +117,18 @@ module _ (own : OwnState) (c : ClassId) (r : ClassRecord) where
       → IsOwnState classes table (with_constants c r own)
   constants_own classes table h =
       own_mapped changed (λ e. class_by e (e.class.0 == c.0)) (λ e. places_by e (e.class.0 == c.0)) classes table own h
+
+  -- each class stays as far initialised as it was
+  pub states_stay : (d : ClassId) → state_of (with_constants c r own) d ≡ state_of own d
+  states_stay d =
+      ap (λ (o : Option ClassPart). option_map_or (λ (e : ClassPart). e.state) o State.Done)
+      (part_mapped changed (λ e. class_by e (e.class.0 == c.0)) (λ e. places_by e (e.class.0 == c.0)) own.classes d)
+      ∙ by_part (find (λ (e : ClassPart). e.class.0 == d.0) own.classes)
+    where
+      by_part : (o : Option ClassPart) → option_map_or (λ (e : ClassPart). e.state) (option_map changed o) State.Done
+          ≡ option_map_or (λ (e : ClassPart). e.state) o State.Done
+      by_part None = refl
+      by_part (Some e) = state_by e (e.class.0 == c.0)
 
   -- ---- What a static field holds then: what it held, or the object of its text.
 

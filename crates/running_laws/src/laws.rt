@@ -1,7 +1,9 @@
-//! The laws. The functions have no bodies: each stands for its clauses.
+//! The laws. The functions have no bodies but for calls of the laws on which they rest: each stands for its clauses.
 
-ghost use Rattle.running_laws.specs.LocalStepLaws.{ConstantsAreSetOrLack, ConstantsKeep};
+ghost use Rattle.running_laws.specs.LocalStepLaws.{AnsweredFramesRunOn, ConstantsAreSetOrLack, ConstantsKeep, LocalStepsAreThere, LocalStepsKeep};
 ghost use Rattle.running_laws.specs.NumberRowLaws.{NumberRowsAreThere, NumberRowsKeep};
+
+use heap_row_laws::laws::heap_rows_keep;
 
 /// An instruction on numbers keeps what is kept, and what it leaves fits.
 pub fn number_rows_keep()
@@ -18,3 +20,25 @@ pub fn constants_are_set()
     ensures there { ConstantsAreSetOrLack }
     ensures keep { ConstantsKeep }
 {}
+
+/// A segment that acts has a step, unless it must wait for a class that another thread initialises.
+pub fn local_steps_are_there()
+    ensures { LocalStepsAreThere }
+{
+    heap_rows_keep();
+}
+
+/// Each step of a segment that acts keeps the domain sealed, the frames fitting, and the classes in progress as the frames say; and it uses
+/// no more chunks than are free.
+pub fn local_steps_keep()
+    ensures { LocalStepsKeep }
+{
+    heap_rows_keep();
+}
+
+/// A frame that waits for an answer from outside of its domain goes on with it.
+pub fn answered_frames_run_on()
+    ensures { AnsweredFramesRunOn }
+{
+    heap_rows_keep();
+}
