@@ -121,8 +121,22 @@ module _ (c : HeapContent) (classes : List ClassRecord) (d : DomainId) (f h : Fo
 
     abbrev pair : ArrayPair inside.heap wanted
     pair = record {
-      source = record { name = f.name; refers = refl; element = f.element; items = items; object = ap (λ (hs : List NamedObject). object_named hs f.name) is.heap ∙ live };
-      target = record { name = h.name; refers = refl; element = h.element; items = others; object = ap (λ (hs : List NamedObject). object_named hs h.name) is.heap ∙ there };
+      source = record {
+        name = f.name;
+        refers = refl;
+        element = f.element;
+        items = items;
+        object = ap (λ (hs : List NamedObject). object_named hs
+            f.name) is.heap ∙ live;
+      };
+      target = record {
+        name = h.name;
+        refers = refl;
+        element = h.element;
+        items = others;
+        object = ap (λ (hs : List NamedObject). object_named hs
+            h.name) is.heap ∙ there;
+      };
       one_kind = kind;
     }
 
@@ -132,7 +146,8 @@ module _ (c : HeapContent) (classes : List ClassRecord) (d : DomainId) (f h : Fo
     range_fails none = (
       wanted,
       refl,
-      out_of_range pair (λ r. refuses none r) (ap (λ (i : Inside). with_answer i (fails_by ARRAY_INDEX_EXCEPTION)) (same_inside inside (c.heap d) (c.heap d) is.heap refl)),
+      out_of_range pair (λ r. refuses none r) (ap (λ (i : Inside). with_answer i (fails_by ARRAY_INDEX_EXCEPTION)) (same_inside inside (c.heap d)
+          (c.heap d) is.heap refl)),
     )
       where
         refuses : (IsRange from count f.len → ⊥) ⊎ (IsRange to count h.len → ⊥) → CopyRange pair → ⊥
@@ -187,7 +202,8 @@ module _ (c : HeapContent) (classes : List ClassRecord) (d : DomainId) (f h : Fo
         becomes = refl;
         others = writes.others;
         uses = writes.uses ∙ ready.used
-            ∙ sym (written_words classes h.name (Array h.element (copied items first others place front)) (Array h.element others) (c.heap d) (holds.differ d) alike there)
+            ∙ sym (written_words classes h.name (Array h.element (copied items first others place front)) (Array h.element others) (c.heap d)
+            (holds.differ d) alike there)
             ∙ sym (ap (heap_words classes) writes.becomes);
         other_uses = writes.other_uses;
         mark = writes.mark;

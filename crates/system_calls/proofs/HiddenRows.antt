@@ -146,7 +146,8 @@ module _ (c new : HeapContent) (classes : List ClassRecord) (d : DomainId) (read
   }
 
   pub set_row : (x : Setting) (inside : Inside) → IsFor c classes d x inside → (answer : Answer)
-      → (k : TextHolder inside.heap receiver) × (with_answer (with_heap inside (new.heap d)) answer ≡ with_answer (with_heap inside (with_text k v inside.heap)) answer)
+      → (k : TextHolder inside.heap receiver) × (with_answer (with_heap inside (new.heap d)) answer ≡ with_answer (with_heap inside (with_text k v
+      inside.heap)) answer)
   set_row x inside is answer = (
     moved (c.heap d) inside.heap receiver (λ b o live. ap (λ (heap : List NamedObject). object_named heap b) is.heap ∙ live) h,
     ap (λ (heap : List NamedObject). with_answer (with_heap inside heap) answer)

@@ -4,6 +4,7 @@ mod ClassesOfMeanings
 mod CopiedArrays
 mod DigitsInTurn
 mod HiddenRows
+mod LinesSaid
 mod NumbersRead
 mod RowsOfNewObjects
 mod TextRows

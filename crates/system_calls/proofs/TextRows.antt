@@ -251,7 +251,8 @@ pub text_of_object : (heap : List NamedObject) (v : Value) (b : ℕ) → v ≡ H
 text_of_object heap v b is (inl null) = let other : Held.Obj b ≡ Held.Null = sym is ∙ null in absurd cc
 text_of_object heap v b is (inr (more, text)) = (more, subst (λ (w : Value). IsText heap w more) is text)
 
-pub text_name : (heap : List NamedObject) (v : Value) → IsTextOrNull heap v → (v ≡ Held.Null) ⊎ ((a : ℕ) × (v ≡ Held.Obj a) × ((o : Object) × (object_named heap a ≡ Some o)))
+pub text_name : (heap : List NamedObject) (v : Value) → IsTextOrNull heap v → (v ≡ Held.Null) ⊎ ((a : ℕ) × (v ≡ Held.Obj a) × ((o : Object) ×
+    (object_named heap a ≡ Some o)))
 text_name heap v (inl null) = inl null
 text_name heap (Held.Obj a) (inr (units, text)) = inr (a, refl, (Text units, text))
 text_name heap (Held.Int n) (inr (units, text)) = absurd text

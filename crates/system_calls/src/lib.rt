@@ -9,6 +9,7 @@ mod int_texts;
 mod meanings;
 mod messages;
 mod new_texts;
+mod printing;
 mod references;
 mod short_texts;
 mod texts;

@@ -34,7 +34,14 @@ returns-then-not-are_of_one_kind-clause-row g c = λ x inside is caps.
     let b = c.in-Some-array_at.ensures in
     kinds_fail (g.H.ObjectStore.content c.args.heap.now) c.args.t.now c.args.d x inside is c.args.source c.args.from c.args.target c.args.to c.args.count
     (no_null (is_null c.args.source) (is_null c.args.target) c.if-is_null.ensures c.if-is_null-2.ensures)
-    (no_pair (g.H.ObjectStore.content c.args.heap.now) c.args.d (record { source = c.args.source; from = c.args.from; target = c.args.target; to = c.args.to; count = c.args.count })
+    (no_pair (g.H.ObjectStore.content c.args.heap.now) c.args.d (record {
+      source = c.args.source;
+      from = c.args.from;
+      target = c.args.target;
+      to =
+          c.args.to;
+      count = c.args.count;
+    })
     c.in-Some.a c.in-Some-array_at.b a.0 b.0 a.1 b.1 (λ same. let wrong : false ≡ true = c.if-not-are_of_one_kind.ensures.1 same in absurd cc))
 
 pub returns-clause-row : goal.returns-clause-row

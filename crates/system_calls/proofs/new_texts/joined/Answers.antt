@@ -13,7 +13,8 @@ begin_text-requires-clause-front g c =
     let back = c.wording_len-back_len.ensures.len c.requires.back.0 c.requires.back.1 in
     let many : c.len_of-front_len.result + c.wording_len-back_len.result ≡ length c.requires.front.0 + length c.requires.back.0 = omega (arith, front, back) in
     front_given (g.H.ObjectStore.content c.args.heap.now) (g.H.ObjectStore.content c.make.new.self) c.args.t.now c.args.d c.in_ok-text.text
-    (c.len_of-front_len.result + c.wording_len-back_len.result) c.in_ok-text.ensures.ok c.args.front c.requires.front.0 c.requires.front.1 c.args.back.now c.requires.back.0 c.requires.back.1 many
+    (c.len_of-front_len.result + c.wording_len-back_len.result) c.in_ok-text.ensures.ok c.args.front c.requires.front.0 c.requires.front.1
+    c.args.back.now c.requires.back.0 c.requires.back.1 many
 
 pub write_wording-requires-clause-words : goal.write_wording-requires-clause-words
 write_wording-requires-clause-words g c =
@@ -21,9 +22,11 @@ write_wording-requires-clause-words g c =
     let back = c.wording_len-back_len.ensures.len c.requires.back.0 c.requires.back.1 in
     let many : c.len_of-front_len.result + c.wording_len-back_len.result ≡ length c.requires.front.0 + length c.requires.back.0 = omega (arith, front, back) in
     let still = still_front (g.H.ObjectStore.content c.args.heap.now) (g.H.ObjectStore.content c.make.new.self) c.args.t.now c.args.d c.in_ok-text.text
-    (Text (replicate (c.len_of-front_len.result + c.wording_len-back_len.result) 0)) c.in_ok-text.ensures.ok c.args.front c.requires.front.0 c.requires.front.1 in
+    (Text (replicate (c.len_of-front_len.result + c.wording_len-back_len.result) 0)) c.in_ok-text.ensures.ok c.args.front c.requires.front.0
+    c.requires.front.1 in
     words_given (g.H.ObjectStore.content c.args.heap.now) (g.H.ObjectStore.content c.make.new.self) c.args.t.now c.args.d c.in_ok-text.text
-    (c.len_of-front_len.result + c.wording_len-back_len.result) c.in_ok-text.ensures.ok c.args.front c.requires.front.0 c.requires.front.1 c.args.back.now c.requires.back.0 c.requires.back.1 many
+    (c.len_of-front_len.result + c.wording_len-back_len.result) c.in_ok-text.ensures.ok c.args.front c.requires.front.0 c.requires.front.1
+    c.args.back.now c.requires.back.0 c.requires.back.1 many
     (g.H.ObjectStore.content c.begin_text.new.heap) (c.begin_text.ensures c.requires.front.0 still) c.len_of-front_len.result front
 
 pub returns-clause-ok : goal.returns-clause-ok

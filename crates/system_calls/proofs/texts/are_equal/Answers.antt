@@ -26,7 +26,8 @@ pub returns-else-len-text_len : goal.returns-else-len-text_len
 returns-else-len-text_len g c = λ units live.
     let found = shown_text c.requires.name.0 c.in-Text.len (c.in-Text.ensures c.requires.name.0 c.requires.name.1) in
     let there = c.requires.name.1 ∙ ap Some found.1 in
-    unequal_lengths ((g.H.ObjectStore.content c.args.heap.now).heap c.args.d) c.args.other units found.0 c.in-Text.len c.text_len.result there found.2 (c.text_len.ensures units live)
+    unequal_lengths ((g.H.ObjectStore.content c.args.heap.now).heap c.args.d) c.args.other units found.0 c.in-Text.len c.text_len.result there
+    found.2 (c.text_len.ensures units live)
     c.if-len-text_len.false
 
 pub returns-in_default : goal.returns-in_default

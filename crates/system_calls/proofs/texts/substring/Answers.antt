@@ -8,7 +8,8 @@ pub returns-in_default : goal.returns-in_default
 returns-in_default g c =
     let begin : to_z w32 (of_z w32 c.args.begin) ≡ c.args.begin = search rules in
     let end : to_z w32 (of_z w32 c.args.end) ≡ c.args.end = search rules in
-    cut_outside (g.H.ObjectStore.content c.args.heap.now) c.args.t.now c.args.d c.requires.ready c.args.text c.requires.given.0.0 c.requires.given.0.1 c.args.begin c.args.end
+    cut_outside (g.H.ObjectStore.content c.args.heap.now) c.args.t.now c.args.d c.requires.ready c.args.text c.requires.given.0.0
+    c.requires.given.0.1 c.args.begin c.args.end
     c.text_len-len.result (c.text_len-len.ensures c.requires.given.0.0 c.requires.given.0.1)
     (λ i j b e low. c.in_default.ensures i j (begin ∙ b) (end ∙ e) low)
 
@@ -44,4 +45,8 @@ returns-in-Ok g c =
     part_is_cut (g.H.ObjectStore.content c.args.heap.now) c.args.t.now c.args.d c.requires.ready c.args.text c.requires.given.0.0 c.requires.given.0.1
     c.args.begin c.args.end (g.H.ObjectStore.content c.make.new.self) c.in-Ok.a c.in-Some.first c.in-Some.count c.in-Ok.ensures.ok
     (sym begin ∙ places.0) (sym end ∙ places.1) within
-    (g.H.ObjectStore.content c.copy_units.new.heap) c.copy_units.ensures (g.met.H.ObjectStore.holds c.args.heap.now) (omega (arith, c.in-Ok.ensures.room, length-replicate {A = ℕ} c.in-Some.count 0))
+    (g.H.ObjectStore.content c.copy_units.new.heap) c.copy_units.ensures (g.met.H.ObjectStore.holds c.args.heap.now) (omega (
+      arith,
+      c.in-Ok.ensures.room,
+      length-replicate {A = ℕ} c.in-Some.count 0,
+    ))
