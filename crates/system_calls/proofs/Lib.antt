@@ -6,6 +6,7 @@ mod DigitsInTurn
 mod HiddenRows
 mod LinesSaid
 mod NumbersRead
+mod OwnDomain
 mod RowsOfNewObjects
 mod TextRows
 mod TextsJoined

@@ -1,18 +1,17 @@
 -- The line of what a domain says: its name, a colon and the units of a text, put one after the other.
-use Rattle.std.proofs.Common.{◌≡◌, ℕ, ◌+◌, ◌-◌, ◌<◌, ◌≤◌, ◌^◌, List, [], ◌∷◌, ◌++◌, Option, Result, Ok, Err, length, take, drop, codes, refl, sym, ap, ◌∙◌, subst, append_assoc, arith}
+use Rattle.std.proofs.Common.{◌≡◌, ℕ, ◌+◌, ◌<◌, ◌^◌, List, [], ◌∷◌, ◌++◌, Option, Result, Ok, Err, take, drop, codes, refl, sym, ap, ◌∙◌, subst, append_assoc, arith}
 use Rattle.std.specs.Prelude.{flat_map, OnErr, OnOk}
 use Rattle.std.proofs.lemmas.Grind.{flat_map-append}
 use Rattle.std.proofs.lemmas.List.{append-nil, drop-take, take-append-drop, take-take}
-use Rattle.jk_model.specs.declared.output.Line.{Line}
 use Rattle.jk_model.specs.declared.output.Line.TheVariants.{Said}
-use Rattle.jk_model.specs.Outside.{Appends, AppendsPart, HasRisen, NeverFalls}
+use Rattle.jk_model.specs.Outside.{HasRisen, NeverFalls}
 use Rattle.jk_model.specs.Output.{text_of}
 use Rattle.jk_model.specs.Text.{shown, shown_unit}
 use Rattle.jk_model.proofs.AppendsInTurn.{Appends-nil}
 use Rattle.jk_model.proofs.CountsNeverFall.{NeverFalls-refl}
 use Rattle.jk_outside.specs.declared.parts.Part.{Part}
 use Rattle.jk_outside.specs.declared.parts.Part.TheVariants.{Bytes, Escaped}
-use Rattle.jk_outside.specs.CutTexts.{BreaksOff, Sends, rest_of_pieces, whole_pieces}
+use Rattle.jk_outside.specs.CutTexts.{BreaksOff, Sends, whole_pieces}
 use Rattle.jk_outside.specs.Lines.{Prints, part_text, parts_text}
 use Rattle.jk_outside.specs.SeveralLines.{PrintsLines}
 use Rattle.jk_outside.proofs.LineTexts.{said_text}

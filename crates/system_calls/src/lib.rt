@@ -9,6 +9,7 @@ mod int_texts;
 mod meanings;
 mod messages;
 mod new_texts;
+mod own_domain;
 mod printing;
 mod references;
 mod short_texts;

@@ -1,5 +1,5 @@
 -- The name, the colon, the text and the end of the line follow one another.
-use Rattle.std.proofs.Common.{◌≡◌, ◌++◌, ℕ, List, [], codes, sym, subst, arith}
+use Rattle.std.proofs.Common.{◌++◌, ℕ, List, [], codes, sym, subst, arith}
 use Rattle.std.proofs.lemmas.Result.{err_from_is_err_and}
 use Rattle.jk_model.specs.Text.{shown}
 use Rattle.jk_outside.proofs.SentInOrder.{SoFar, SoFar-append, SoFar-nil}
