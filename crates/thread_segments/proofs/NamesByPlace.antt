@@ -59,10 +59,12 @@ found_of (e ∷ entries) text = elim (cases_Bool (bytes_eq e.text.items text)) [
 pub place_told : (entries : List NameEntry) (text : List ℕ) (o : Option ℕ) → o ≡ position (λ (e : NameEntry). bytes_eq e.text.items text) entries
     → IsPlaceOfName (names_of entries) text o
 place_told entries text None e =
-    let none = position_none (λ (x : NameEntry). bytes_eq x.text.items text) 0 entries (from_start (λ (x : NameEntry). bytes_eq x.text.items text) entries ∙ sym e) in
+    let none = position_none (λ (x : NameEntry). bytes_eq x.text.items text) 0 entries
+    (from_start (λ (x : NameEntry). bytes_eq x.text.items text) entries ∙ sym e) in
     found_of entries text ∙ ap (option_map name_of) none
 place_told entries text (Some k) e =
-    let r = position_some (λ (x : NameEntry). bytes_eq x.text.items text) 0 entries k (from_start (λ (x : NameEntry). bytes_eq x.text.items text) entries ∙ sym e) in
+    let r = position_some (λ (x : NameEntry). bytes_eq x.text.items text) 0 entries k
+    (from_start (λ (x : NameEntry). bytes_eq x.text.items text) entries ∙ sym e) in
     let P : ℕ → Type 0 = λ i. slice_get entries i ≡ Some r.item in
     let place : r.place ≡ k = omega (arith, r.is) in (
       name_of r.item,

@@ -128,7 +128,8 @@ length-revoked (c ∷ made) place = elim (cases_Bool (place == 0)) [
 ]
 
 -- what one was before
-was_before : (made : List Capability) (place : ℕ) (c : Capability) → Contains (revoked_at made place) c → (b : Capability) × Contains made b × (b.class ≡ c.class)
+was_before : (made : List Capability) (place : ℕ) (c : Capability) → Contains (revoked_at made place) c → (b : Capability) × Contains made b
+    × (b.class ≡ c.class)
 was_before [] place c there = absurd (Contains-none c there)
 was_before (x ∷ made) place c there = elim (cases_Bool (place == 0)) [
   | inl hit ↦

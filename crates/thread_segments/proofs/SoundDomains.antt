@@ -103,7 +103,8 @@ module _ (g : SharedDomain → SharedDomain) (r : Refits g) where
 
   -- ---- What was given out stays so.
 
-  given_in : (k : CapId) (e : SharedDomain) (c : OwnedCapability) → capability_in k e.caps ≡ Some c → (b : OwnedCapability) × (capability_in k (g e).caps ≡ Some b)
+  given_in : (k : CapId) (e : SharedDomain) (c : OwnedCapability) → capability_in k e.caps ≡ Some c → (b : OwnedCapability)
+      × (capability_in k (g e).caps ≡ Some b)
   given_in k e c is = by_item (slice_get e.caps.made (k.0 - e.caps.first)) refl is
     where
       by_item : (o : Option Capability) → slice_get e.caps.made (k.0 - e.caps.first) ≡ o
@@ -179,7 +180,8 @@ module _ (g : SharedDomain → SharedDomain) (r : Refits g) where
       have_stubs =
           λ e c there.
           let w = was_mapped g s.domains e there in
-          subst (λ (x : SharedDomain). Contains x.caps.made c → (stub : Stub) × (stub_for s c.class ≡ Some stub)) w.2 (λ made. (right w.0 w.1).have_stubs c made);
+          subst (λ (x : SharedDomain). Contains x.caps.made c → (stub : Stub) × (stub_for s c.class ≡ Some stub)) w.2
+          (λ made. (right w.0 w.1).have_stubs c made);
     };
     names = record {
       short = h.names.short;

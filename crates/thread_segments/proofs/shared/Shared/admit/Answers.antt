@@ -33,7 +33,8 @@ returns-in_err-reserve-clause-only_numbers c =
     λ lacks.
     let s = c.self.inside in
     let P : SharedState → Type 0 = λ x. LacksNumbers (caps_of x) c.args.q.now.caps in
-    let many = here_lacks s.domains.items s.caps s.stubs.stubs s.names s.threads c.self.invariant.counted c.args.q.now.caps (subst P (sym c.self.view_is) lacks) in
+    let many = here_lacks s.domains.items s.caps s.stubs.stubs s.names s.threads c.self.invariant.counted c.args.q.now.caps
+    (subst P (sym c.self.view_is) lacks) in
     absurd (omega (arith, many, c.numbers_left.ensures.left, c.numbers_left.ensures.few, c.if-q-numbers_left.false))
 
 pub returns-in_err-reserve-2-clause-only_numbers : goal.returns-in_err-reserve-2-clause-only_numbers
@@ -41,7 +42,8 @@ returns-in_err-reserve-2-clause-only_numbers c =
     λ lacks.
     let s = c.self.inside in
     let P : SharedState → Type 0 = λ x. LacksNumbers (caps_of x) c.args.q.now.caps in
-    let many = here_lacks s.domains.items s.caps s.stubs.stubs s.names s.threads c.self.invariant.counted c.args.q.now.caps (subst P (sym c.self.view_is) lacks) in
+    let many = here_lacks s.domains.items s.caps s.stubs.stubs s.names s.threads c.self.invariant.counted c.args.q.now.caps
+    (subst P (sym c.self.view_is) lacks) in
     absurd (omega (arith, many, c.numbers_left.ensures.left, c.numbers_left.ensures.few, c.if-q-numbers_left.false))
 
 pub returns-in_err-reserve-3-clause-only_numbers : goal.returns-in_err-reserve-3-clause-only_numbers
@@ -49,7 +51,8 @@ returns-in_err-reserve-3-clause-only_numbers c =
     λ lacks.
     let s = c.self.inside in
     let P : SharedState → Type 0 = λ x. LacksNumbers (caps_of x) c.args.q.now.caps in
-    let many = here_lacks s.domains.items s.caps s.stubs.stubs s.names s.threads c.self.invariant.counted c.args.q.now.caps (subst P (sym c.self.view_is) lacks) in
+    let many = here_lacks s.domains.items s.caps s.stubs.stubs s.names s.threads c.self.invariant.counted c.args.q.now.caps
+    (subst P (sym c.self.view_is) lacks) in
     absurd (omega (arith, many, c.numbers_left.ensures.left, c.numbers_left.ensures.few, c.if-q-numbers_left.false))
 
 pub returns-in_err-reserve-4-clause-only_numbers : goal.returns-in_err-reserve-4-clause-only_numbers
@@ -57,7 +60,8 @@ returns-in_err-reserve-4-clause-only_numbers c =
     λ lacks.
     let s = c.self.inside in
     let P : SharedState → Type 0 = λ x. LacksNumbers (caps_of x) c.args.q.now.caps in
-    let many = here_lacks s.domains.items s.caps s.stubs.stubs s.names s.threads c.self.invariant.counted c.args.q.now.caps (subst P (sym c.self.view_is) lacks) in
+    let many = here_lacks s.domains.items s.caps s.stubs.stubs s.names s.threads c.self.invariant.counted c.args.q.now.caps
+    (subst P (sym c.self.view_is) lacks) in
     absurd (omega (arith, many, c.numbers_left.ensures.left, c.numbers_left.ensures.few, c.if-q-numbers_left.false))
 
 pub returns-in_err-admit-clause-only_numbers : goal.returns-in_err-admit-clause-only_numbers
@@ -65,7 +69,8 @@ returns-in_err-admit-clause-only_numbers c =
     λ lacks.
     let s = c.self.inside in
     let P : SharedState → Type 0 = λ x. LacksNumbers (caps_of x) c.args.q.now.caps in
-    let many = here_lacks s.domains.items s.caps s.stubs.stubs s.names s.threads c.self.invariant.counted c.args.q.now.caps (subst P (sym c.self.view_is) lacks) in
+    let many = here_lacks s.domains.items s.caps s.stubs.stubs s.names s.threads c.self.invariant.counted c.args.q.now.caps
+    (subst P (sym c.self.view_is) lacks) in
     absurd (omega (arith, many, c.numbers_left.ensures.left, c.numbers_left.ensures.few, c.if-q-numbers_left.false))
 
 pub returns-clause-only_numbers : goal.returns-clause-only_numbers
@@ -73,7 +78,8 @@ returns-clause-only_numbers c =
     λ lacks.
     let s = c.self.inside in
     let P : SharedState → Type 0 = λ x. LacksNumbers (caps_of x) c.args.q.now.caps in
-    let many = here_lacks s.domains.items s.caps s.stubs.stubs s.names s.threads c.self.invariant.counted c.args.q.now.caps (subst P (sym c.self.view_is) lacks) in
+    let many = here_lacks s.domains.items s.caps s.stubs.stubs s.names s.threads c.self.invariant.counted c.args.q.now.caps
+    (subst P (sym c.self.view_is) lacks) in
     absurd (omega (arith, many, c.numbers_left.ensures.left, c.numbers_left.ensures.few, c.if-q-numbers_left.false))
 
 pub admit-requires : goal.admit-requires
@@ -89,7 +95,8 @@ pub invariant_of-self-2 : goal.invariant_of-self-2
 invariant_of-self-2 c =
     let s = c.self.inside in
     let P : SharedState → Type 0 = λ x. IsNext x c.args.d in
-    let next = next_is s.domains.items s.caps s.stubs.stubs s.names s.threads c.self.invariant.counted c.args.d (subst P (sym c.self.view_is) c.requires.next) in
+    let next = next_is s.domains.items s.caps s.stubs.stubs s.names s.threads c.self.invariant.counted c.args.d
+    (subst P (sym c.self.view_is) c.requires.next) in
     let V : SharedState → Type 0 = λ x. AreSound x in
     let L : SharedState → Type 0 = λ x. LacksNumbers (caps_of x) c.args.q.now.caps in
     let now = state_of s.domains.items s.caps s.stubs.stubs s.names s.threads in
@@ -112,7 +119,8 @@ invariant_of-self-2 c =
           c.requires.quotas.names c.in_ok-reserve-4.ensures.ok;
       sound =
           rw (c.in_ok-reserve-3.ensures.ok, c.in_ok-reserve-4.ensures.ok)
-          (subst V (admitted_is s.domains.items s.caps s.stubs.stubs s.names s.threads c.self.invariant.counted c.args.d c.args.q.now c.args.stubs _ next refl refl)
+          (subst V (admitted_is s.domains.items s.caps s.stubs.stubs s.names s.threads c.self.invariant.counted c.args.d c.args.q.now c.args.stubs _
+          next refl refl)
           (sound_admitted now c.args.d c.args.q.now c.args.stubs (subst P (sym c.self.view_is) c.requires.next) fits c.self.invariant.sound));
     })
 
@@ -120,7 +128,8 @@ pub returns-clause-ok : goal.returns-clause-ok
 returns-clause-ok c =
     let s = c.self.inside in
     let P : SharedState → Type 0 = λ x. IsNext x c.args.d in
-    let next = next_is s.domains.items s.caps s.stubs.stubs s.names s.threads c.self.invariant.counted c.args.d (subst P (sym c.self.view_is) c.requires.next) in
+    let next = next_is s.domains.items s.caps s.stubs.stubs s.names s.threads c.self.invariant.counted c.args.d
+    (subst P (sym c.self.view_is) c.requires.next) in
     rw (
       ← c.self.view_is,
       c.push_reserved.ensures.items,

@@ -91,7 +91,8 @@ returns c =
     let Q : SharedState → Type 0 = λ x. MayBegin x c.args.d in
     let read = c.index_mut-entry.ensures.value ∙ get_or_from_slice_get s.domains.items c.args.d.0 a.entry c.index_mut-entry.result.now a.there in
     rw (← c.self.view_is, c.begin-t.ensures.number)
-    (subst (λ (x : SharedState). Begins (state_of s.domains.items s.caps s.stubs.stubs s.names s.threads) c.args.d (Some (record { 0 = s.threads.next_thread })) x)
+    (subst (λ (x : SharedState). Begins (state_of s.domains.items s.caps s.stubs.stubs s.names s.threads) c.args.d
+    (Some (record { 0 = s.threads.next_thread })) x)
     (sym (begun_is s.domains.items s.caps s.stubs.stubs s.names s.threads c.self.invariant.counted c.args.d a _ c.begin-t.new.self
     (ap (λ (e : DomainEntry). e.quotas) read) (ap (λ (e : DomainEntry). e.steps_left) read) c.begin-t.ensures.begun))
     (begins (subst Q (sym c.self.view_is) (c.may_begin.ensures.0 (search rules)))))

@@ -48,7 +48,8 @@ invariant_of-self c =
       sound =
           sound_bound now c.self.invariant.sound asked (Ok tt) (state_of s.domains.items s.caps s.stubs.stubs c.set_cap.new.self s.threads)
           (e, is, c.requires.live.2) (subst G (sym c.self.view_is) c.requires.given)
-          (subst Q (sym (names_alone s.domains.items s.caps s.stubs.stubs s.names s.threads c.self.invariant.counted c.set_cap.new.self (set s.names.names c.args.place (record n { cap = c.args.k })) becomes))
+          (subst Q (sym (names_alone s.domains.items s.caps s.stubs.stubs s.names s.threads c.self.invariant.counted c.set_cap.new.self
+          (set s.names.names c.args.place (record n { cap = c.args.k })) becomes))
           (binds_anew now c.self.invariant.sound c.args.place n item.1 c.args.d c.args.k e is told));
     }
 
@@ -67,5 +68,6 @@ returns c =
     let asked : BoundName = record { text = n.text; cap = c.args.k; binder = c.args.d } in
     let Q : SharedState → Type 0 = λ x. BindsFor now asked (Ok tt) x in
     rw (← c.self.view_is)
-    (subst Q (sym (names_alone s.domains.items s.caps s.stubs.stubs s.names s.threads c.self.invariant.counted c.set_cap.new.self (set s.names.names c.args.place (record n { cap = c.args.k })) becomes))
+    (subst Q (sym (names_alone s.domains.items s.caps s.stubs.stubs s.names s.threads c.self.invariant.counted c.set_cap.new.self
+    (set s.names.names c.args.place (record n { cap = c.args.k })) becomes))
     (binds_anew now c.self.invariant.sound c.args.place n there c.args.d c.args.k e is told))

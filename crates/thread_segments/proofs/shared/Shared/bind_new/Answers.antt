@@ -95,7 +95,8 @@ invariant_of-self c =
           sound_bound now c.self.invariant.sound asked (Ok tt) _ (subst P (sym c.self.view_is) c.requires.live)
           (subst G (sym c.self.view_is) c.requires.given)
           (subst Q
-          (sym (names_are s.domains.items s.caps s.stubs.stubs s.names s.threads c.self.invariant.counted c.args.d.0 a.entry _ c.add.new.self (s.names.names ++ asked ∷ []) a.there
+          (sym (names_are s.domains.items s.caps s.stubs.stubs s.names s.threads c.self.invariant.counted c.args.d.0 a.entry _ c.add.new.self
+          (s.names.names ++ asked ∷ []) a.there
           (ap (λ (e : DomainEntry). e.quotas) same) (ap (λ (e : DomainEntry). e.steps_left) same) c.add.ensures))
           (binds_new now asked (domain_with c.args.d.0 a.entry a.range) a.is c.requires.short (subst N (sym c.self.view_is) c.requires.new)
           (omega (arith, c.self.invariant.named.bound c.args.d.0 a.entry a.there, few))));
@@ -117,7 +118,8 @@ returns c =
     let Q : SharedState → Type 0 = λ x. BindsFor now asked (Ok tt) x in
     rw (← c.self.view_is)
     (subst Q
-    (sym (names_are s.domains.items s.caps s.stubs.stubs s.names s.threads c.self.invariant.counted c.args.d.0 a.entry _ c.add.new.self (s.names.names ++ asked ∷ []) a.there
+    (sym (names_are s.domains.items s.caps s.stubs.stubs s.names s.threads c.self.invariant.counted c.args.d.0 a.entry _ c.add.new.self
+    (s.names.names ++ asked ∷ []) a.there
     (ap (λ (e : DomainEntry). e.quotas) same) (ap (λ (e : DomainEntry). e.steps_left) same) c.add.ensures))
     (binds_new now asked (domain_with c.args.d.0 a.entry a.range) a.is c.requires.short (subst N (sym c.self.view_is) c.requires.new)
     (omega (arith, c.self.invariant.named.bound c.args.d.0 a.entry a.there, few))))

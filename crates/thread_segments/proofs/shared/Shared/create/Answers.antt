@@ -45,5 +45,7 @@ returns-in-Some c =
     let P : SharedState → Type 0 = λ x. IsLiveDomain x c.args.d in
     let a = live_at s.domains.items s.caps s.stubs.stubs s.names s.threads c.self.invariant.counted c.args.d (subst P (sym c.self.view_is) c.requires) in
     rw (← c.self.view_is)
-    (create_is s.domains.items s.caps s.stubs.stubs s.names s.threads c.self.invariant.counted c.args.d a c.args.class c.args.target c.create.result c.create.new.self
-    (c.create.ensures a.range (range_found s.domains.items s.caps s.stubs.stubs s.names s.threads c.self.invariant.counted c.args.d a)) _ (sym c.in-Some.ensures))
+    (create_is s.domains.items s.caps s.stubs.stubs s.names s.threads c.self.invariant.counted c.args.d a c.args.class c.args.target c.create.result
+    c.create.new.self
+    (c.create.ensures a.range (range_found s.domains.items s.caps s.stubs.stubs s.names s.threads c.self.invariant.counted c.args.d a)) _
+    (sym c.in-Some.ensures))

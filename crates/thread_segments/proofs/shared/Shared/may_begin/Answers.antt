@@ -19,4 +19,5 @@ returns c =
     let P : SharedState → Type 0 = λ x. IsLiveDomain x c.args.d in
     let a = live_at s.domains.items s.caps s.stubs.stubs s.names s.threads c.self.invariant.counted c.args.d (subst P (sym c.self.view_is) c.requires) in
     let read = c.index-entry.ensures ∙ get_or_from_slice_get s.domains.items c.args.d.0 a.entry c.index-entry.result.now a.there in
-    rw (← c.self.view_is) (may_begin_told s.domains.items s.caps s.stubs.stubs s.names s.threads c.self.invariant.counted c.args.d a c.index-entry.result.now read)
+    rw (← c.self.view_is) (may_begin_told s.domains.items s.caps s.stubs.stubs s.names s.threads c.self.invariant.counted c.args.d a
+    c.index-entry.result.now read)

@@ -72,5 +72,6 @@ returns c =
     let e = c.index_mut-entry.result.now in
     let at = item_read s.domains.items c.pop-started.result.0 e low c.index_mut-entry.ensures.value in
     rw (← c.self.view_is)
-    (popped_is s.domains.items s.caps s.stubs.stubs s.names s.threads c.self.invariant.counted c.args.t c.pop-started.result.0 e _ c.pop-started.new.self at refl refl
+    (popped_is s.domains.items s.caps s.stubs.stubs s.names s.threads c.self.invariant.counted c.args.t c.pop-started.result.0 e _
+    c.pop-started.new.self at refl refl
     c.pop-started.ensures.popped)

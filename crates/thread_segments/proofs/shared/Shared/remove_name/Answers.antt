@@ -74,7 +74,8 @@ invariant_of-self c =
       sound =
           sound_unbound now c.self.invariant.sound c.args.d n.text (Ok tt) _
           (subst Q
-          (sym (names_are s.domains.items s.caps s.stubs.stubs s.names s.threads c.self.invariant.counted c.args.d.0 a.entry _ c.remove.new.self (remove s.names.names c.args.place) a.there
+          (sym (names_are s.domains.items s.caps s.stubs.stubs s.names s.threads c.self.invariant.counted c.args.d.0 a.entry _ c.remove.new.self
+          (remove s.names.names c.args.place) a.there
           (ap (λ (e : DomainEntry). e.quotas) same) (ap (λ (e : DomainEntry). e.steps_left) same) c.remove.ensures))
           (unbinds_own now c.self.invariant.sound c.args.place n item.1 c.args.d told));
     }
@@ -93,6 +94,7 @@ returns c =
     let Q : SharedState → Type 0 = λ x. UnbindsFor now c.args.d n.text (Ok tt) x in
     rw (← c.self.view_is)
     (subst Q
-    (sym (names_are s.domains.items s.caps s.stubs.stubs s.names s.threads c.self.invariant.counted c.args.d.0 a.entry _ c.remove.new.self (remove s.names.names c.args.place) a.there
+    (sym (names_are s.domains.items s.caps s.stubs.stubs s.names s.threads c.self.invariant.counted c.args.d.0 a.entry _ c.remove.new.self
+    (remove s.names.names c.args.place) a.there
     (ap (λ (e : DomainEntry). e.quotas) same) (ap (λ (e : DomainEntry). e.steps_left) same) c.remove.ensures))
     (unbinds_own now c.self.invariant.sound c.args.place n there c.args.d told))

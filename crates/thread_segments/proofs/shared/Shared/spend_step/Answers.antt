@@ -26,7 +26,8 @@ one_less-entry-requires c =
     let Q : SharedState → Type 0 = λ x. MaySpend x c.args.d in
     let a = live_at s.domains.items s.caps s.stubs.stubs s.names s.threads c.self.invariant.counted c.args.d (subst P (sym c.self.view_is) c.requires.live) in
     let read = c.index_mut-entry.ensures.value ∙ get_or_from_slice_get s.domains.items c.args.d.0 a.entry c.index_mut-entry.result.now a.there in
-    let may = may_spend s.domains.items s.caps s.stubs.stubs s.names s.threads c.self.invariant.counted c.args.d a (subst Q (sym c.self.view_is) c.requires.budget) in
+    let may = may_spend s.domains.items s.caps s.stubs.stubs s.names s.threads c.self.invariant.counted c.args.d a
+    (subst Q (sym c.self.view_is) c.requires.budget) in
     λ none. may (sym (ap (λ (e : DomainEntry). e.steps_left) read) ∙ none)
 
 pub invariant_of-self : goal.invariant_of-self
