@@ -1,4 +1,5 @@
 pub mod KnownMachines
+pub mod RunsInMachines
 pub mod SealedOpenings
 pub mod SealedSteps
 pub mod SoundFolders
