@@ -40,7 +40,7 @@ module _ {X : Type 0} (g : X → X) where
 
   -- ---- One item alone is changed.
 
-  none_changed : (xs : List X) → ((i : ℕ) (x : X) → slice_get xs i ≡ Some x → g x ≡ x) → map g xs ≡ xs
+  pub none_changed : (xs : List X) → ((i : ℕ) (x : X) → slice_get xs i ≡ Some x → g x ≡ x) → map g xs ≡ xs
   none_changed [] h = refl
   none_changed (x ∷ xs) h = λ i. h 0 x refl i ∷ none_changed xs (λ j y at. h (suc j) y at) i
 

@@ -13,3 +13,4 @@ pub mod SegmentsStillFit
 pub mod SegmentsThatRan
 pub mod TasksAfterRuns
 pub mod ThreadsAfterRuns
+pub mod WaitingRuns

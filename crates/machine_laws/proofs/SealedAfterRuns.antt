@@ -35,9 +35,9 @@ sealed_after m t r = record {
 
 module _ (m : Machine) (t : ThreadNo) (p : RunningSegment m t) (run : Run) (went : Went) (sealed : IsSealed m)
     (keeps : KeepsRun (surroundings m p.home.domain) (setting_of p) t (run_of p) run went) where
-  -- what its frames come to fits as the top of a thread may
-  has_run : AreSealedFrames (surroundings m p.home.domain) (TopFits m run.inside p.segment) run.inside.heap run.frames → HasRun m t
-  has_run frames = record {
+  -- it goes on
+  abbrev pub goes_on : AreSealedFrames (surroundings m p.home.domain) (FitsAsTop m.classes run.inside.heap) run.inside.heap run.frames → HasRun m t
+  goes_on frames = record {
     place = p;
     sealed = sealed;
     segment = record p.segment { frames = run.frames };
@@ -45,18 +45,15 @@ module _ (m : Machine) (t : ThreadNo) (p : RunningSegment m t) (run : Run) (went
     number = refl;
     domain = refl;
     keeps = keeps.inside;
-    frames = frames;
+    frames = frames_weaker (surroundings m p.home.domain) run.inside.heap (FitsAsTop m.classes run.inside.heap) (TopFits m run.inside p.segment)
+        (λ f top. inl top) run.frames frames;
     progress = keeps.progress;
     chunks = keeps.chunks;
   }
 
   pub running_sealed : AreSealedFrames (surroundings m p.home.domain) (FitsAsTop m.classes run.inside.heap) run.inside.heap run.frames
       → IsSealed (with_run p run)
-  unfolding has_run
-  running_sealed frames =
-      sealed_after m t (has_run
-      (frames_weaker (surroundings m p.home.domain) run.inside.heap (FitsAsTop m.classes run.inside.heap) (TopFits m run.inside p.segment)
-      (λ f top. inl top) run.frames frames))
+  running_sealed frames = sealed_after m t (goes_on frames)
 
   pub left_sealed : run.frames ≡ [] → IsSealed (with_run p run)
   left_sealed none =

@@ -1,6 +1,8 @@
 //! The laws. The functions have no bodies: each stands for its clauses.
 
 ghost use Rattle.machine_laws.specs.KnownMachines.{IsKnownMachine, IsKnownWithoutJk};
+ghost use Rattle.machine_laws.specs.RunsInMachines.{AnsweringRunsStayWhole, FirstMachinesAreSound, FirstMachinesAreWhole, KeptRunsStaySealed};
+ghost use Rattle.machine_laws.specs.SealedSteps.{LeftRunsStaySealed, RunningSegmentsActWell, WaitingRunsStaySealed};
 ghost use Rattle.machine_laws.specs.StepProgress.{GoingIsThere, RoundsAreThere, TurnsAreThere};
 
 /// Where each thread of such a machine has a step, and steps lead to such machines, there are whole turns and rounds.
@@ -15,4 +17,24 @@ pub fn turns_are_there_without_jk()
     ensures turns { TurnsAreThere IsKnownWithoutJk }
     ensures goes { GoingIsThere IsKnownWithoutJk }
     ensures rounds { RoundsAreThere IsKnownWithoutJk }
+{}
+
+/// The first machine is whole, and all is known of it where the system classes are sound.
+pub fn first_machines_are_known()
+    ensures whole { FirstMachinesAreWhole }
+    ensures sound { FirstMachinesAreSound }
+{}
+
+/// Of the running segment of a known machine is known what a segment that acts rests on, where no RevokedException is pending for it.
+pub fn running_segments_act_well()
+    ensures { RunningSegmentsActWell }
+{}
+
+/// Where a segment of a known machine has run, the machine is sealed where it goes on, where no frame of it is left, and, but for its thread, where
+/// it waits for an answer. Where it goes on and its lowest frame gives what it gave, the machine is whole.
+pub fn kept_runs_stay_sealed()
+    ensures goes_on { KeptRunsStaySealed }
+    ensures answers { AnsweringRunsStayWhole }
+    ensures left { LeftRunsStaySealed }
+    ensures waits { WaitingRunsStaySealed }
 {}
