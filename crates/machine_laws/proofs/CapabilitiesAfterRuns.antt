@@ -1,20 +1,19 @@
 -- Where a segment has run, capabilities and bound names are sealed as before: no range is changed, and each target keeps its class.
-use Rattle.std.proofs.Common.{◌≡◌, ◌≢◌, ℕ, ◌+◌, ◌≤◌, ◌&&◌, inl, inr, Bool, true, false, not, List, length, Contains, Option, Some, slice_get, refl, sym, ap, subst, ◌∙◌, arith}
+use Rattle.std.proofs.Common.{◌≡◌, ℕ, ◌+◌, ◌≤◌, inl, inr, true, false, List, length, Contains, Option, Some, slice_get, refl, sym, ap, subst, ◌∙◌}
 use Rattle.std.proofs.lemmas.Option.{same_Some}
 use Rattle.jk_model.specs.Capabilities.{last_number}
-use Rattle.jk_model.specs.declared.identifiers.DomainId.{DomainId}
 use Rattle.jk_model.specs.declared.identifiers.ThreadNo.{ThreadNo}
 use Rattle.jk_model_classes.specs.Stubs.{ImplementsRemote}
 use Rattle.jk_model_heaps.specs.Capabilities.{CapRange, Capability, IsGivenOut}
 use Rattle.jk_model_heaps.specs.Workings.{Inside}
 use Rattle.jk_model_sealing.specs.SealedInsides.{IsOfClass}
-use Rattle.jk_model_sharing.specs.BoundNames.{BoundName, count_bound_by}
-use Rattle.jk_model_machine_state.specs.Machines.{DomainState, Machine, caps_of, is_live_domain}
+use Rattle.jk_model_sharing.specs.BoundNames.{count_bound_by}
+use Rattle.jk_model_machine_state.specs.Machines.{DomainState, Machine, is_live_domain}
 use Rattle.jk_model_runs.specs.Sealed.{AreSealedCapabilities, AreSealedNames, is_stand_in, numbers_before}
 use Rattle.list_lemmas.proofs.ItemsOfLists.{Contains-at}
 use Rattle.grown_heaps.proofs.StillFits.{of_class}
 use Rattle.machine_laws.proofs.ChangedItems.{as_many, front_sums_stay}
-use Rattle.machine_laws.proofs.SegmentsThatRan.{HasRun, after, caps_stay, changed, domain_cases, each_domain, here, home_at, home_there, number_here, part_stays}
+use Rattle.machine_laws.proofs.SegmentsThatRan.{HasRun, after, caps_stay, changed, domain_cases, each_domain, home_at, home_there, part_stays}
 use Rattle.machine_laws.proofs.SegmentsStillFit.{live_stays}
 
 module _ (m : Machine) (t : ThreadNo) (r : HasRun m t) where

@@ -1,13 +1,12 @@
 -- Where a segment has run, each domain is sealed: it keeps its number, its name and its quotas, and uses no more than these.
-use Rattle.std.proofs.Common.{◌≡◌, ◌≢◌, ℕ, ◌+◌, ◌-◌, ◌≤◌, ◌==◌, ◌⊎◌, inl, inr, Bool, true, false, cond, not, List, [], ◌∷◌, ◌++◌, length, filter, sum_by, Contains, Some, None, slice_get, set, refl, sym, ap, subst, ◌∙◌, arith, eq-eqb, ne_eqb}
-use Rattle.std.proofs.lemmas.Bool.{cases_eq}
+use Rattle.std.proofs.Common.{◌≡◌, ◌≢◌, ℕ, ◌+◌, ◌-◌, ◌≤◌, ◌==◌, ◌⊎◌, inl, inr, Bool, true, false, cond, not, List, length, filter, sum_by, Contains, Some, None, slice_get, set, refl, sym, ap, subst, ◌∙◌, arith, eq-eqb, ne_eqb}
 use Rattle.std.proofs.lemmas.List.Sums.{sum_by_push}
 use Rattle.jk_model.specs.declared.identifiers.DomainId.{DomainId}
 use Rattle.jk_model.specs.declared.identifiers.ThreadNo.{ThreadNo}
 use Rattle.jk_model_frames.specs.Frames.{frames_chunks, segment_chunks}
 use Rattle.jk_model_heaps.specs.Workings.{Inside}
 use Rattle.jk_model_sealing.specs.SealedInsides.{IsSealedInside, Surroundings}
-use Rattle.jk_model_machine_state.specs.Machines.{DomainState, IsLiveDomain, Machine, Segment, Thread, chunks_of, chunks_used, is_live_domain, started_in}
+use Rattle.jk_model_machine_state.specs.Machines.{DomainState, IsLiveDomain, Machine, Segment, Thread, chunks_of, chunks_used, started_in}
 use Rattle.jk_model_runs.specs.Sealed.{AreSealedDomains, is_stand_in, surroundings}
 use Rattle.list_lemmas.proofs.ItemsOfLists.{Contains-at}
 use Rattle.machine_laws.proofs.CapabilitiesAfterRuns.{home_lives, no_stand_in}

@@ -1,13 +1,8 @@
 -- The machine without domains is sealed, and no call is open in it.
-use Rattle.std.proofs.Common.{◌≡◌, ℕ, ◌≤◌, List, [], length, Contains, Option, Some, slice_get, sym, subst, arith}
+use Rattle.std.proofs.Common.{◌≡◌, ℕ, List, [], Option, Some, slice_get, sym, subst, arith}
 use Rattle.std.proofs.lemmas.Option.{none-some}
-use Rattle.jk_model_heaps.specs.Workings.{Inside}
-use Rattle.jk_model_frames.specs.Pools.{Pool}
-use Rattle.jk_model_sharing.specs.BoundNames.{BoundName}
-use Rattle.jk_model_machine_state.specs.Machines.{DomainState, IsFirstMachine, Machine, Thread}
-use Rattle.jk_model_openings.specs.PoolsOfMachines.{of_live}
+use Rattle.jk_model_machine_state.specs.Machines.{IsFirstMachine, Machine}
 use Rattle.jk_model_runs.specs.Events.{IsWhole}
-use Rattle.jk_model_runs.specs.Sealed.{IsSealed, IsSealedPool}
 use Rattle.list_lemmas.proofs.ItemsOfLists.{none_in}
 
 nowhere : {X : Type 0} (xs : List X) → xs ≡ [] → (i : ℕ) (x : X) → slice_get xs i ≡ Some x → ⊥

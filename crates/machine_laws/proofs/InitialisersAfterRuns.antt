@@ -1,5 +1,5 @@
 -- Where a segment has run, classes in progress have their initialiser frames: they come and go with frames of the running segment.
-use Rattle.std.proofs.Common.{◌≡◌, ◌≢◌, ℕ, ◌+◌, ◌≤◌, ◌==◌, ◌⊎◌, inl, inr, Bool, true, false, cond, List, [], ◌∷◌, ◌++◌, map, find, sum_by, Contains, Option, Some, None, slice_get, refl, sym, ap, subst, ◌∙◌, arith, eq-eqb, ne_eqb}
+use Rattle.std.proofs.Common.{◌≡◌, ◌≢◌, ℕ, ◌+◌, ◌==◌, ◌⊎◌, inl, inr, Bool, true, false, cond, List, [], ◌∷◌, map, find, sum_by, Contains, Option, Some, slice_get, refl, sym, ap, subst, ◌∙◌, arith, eq-eqb, ne_eqb}
 use Rattle.std.specs.Prelude.{count_by}
 use Rattle.std.specs.Option.{option_map}
 use Rattle.std.proofs.lemmas.Bool.{cases_eq, eqb-true}
@@ -12,11 +12,11 @@ use Rattle.jk_model_domains.specs.declared.states.ClassState.TheVariants as Stat
 use Rattle.jk_model_domains.specs.OwnStates.{OwnState, state_of}
 use Rattle.jk_model_heaps.specs.Workings.{Inside}
 use Rattle.jk_model_sealing.specs.ClassesInProgress.{initialises, progress_by}
-use Rattle.jk_model_machine_state.specs.Machines.{DomainState, IsLiveThread, Machine, Segment, Thread, thread_numbered}
+use Rattle.jk_model_machine_state.specs.Machines.{DomainState, IsLiveThread, Machine, Segment, Thread}
 use Rattle.jk_model_runs.specs.Sealed.{AreSealedInitialisers, initialisers_of, segment_initialisers}
 use Rattle.list_lemmas.proofs.ItemsOfLists.{Contains-at}
 use Rattle.machine_laws.proofs.RunningSegmentsFit.{counted_here, same_thread_number}
-use Rattle.machine_laws.proofs.SegmentsThatRan.{HasRun, after, changed_thread, each_inside, here, home_number, home_there, number_here, one_place, stood, thread_here, thread_part, thread_there}
+use Rattle.machine_laws.proofs.SegmentsThatRan.{HasRun, after, changed_thread, each_inside, home_number, home_there, number_here, one_place, stood, thread_here, thread_part, thread_there}
 use Rattle.machine_laws.proofs.ThreadsAfterRuns.{each_thread}
 
 -- ---- By one thread.

@@ -14,13 +14,13 @@ use Rattle.jk_model_frames.specs.Frames.{FrameState}
 use Rattle.jk_model_heaps.specs.Workings.{Inside}
 use Rattle.jk_model_sealing.specs.AnsweringFrames.{FramesAnswer}
 use Rattle.jk_model_sealing.specs.ClassesInProgress.{initialises, progress_by}
-use Rattle.jk_model_sealing.specs.FittingFrames.{FitsAsTop, FitsAtCall, FramesFit}
+use Rattle.jk_model_sealing.specs.FittingFrames.{FitsAsTop, FramesFit}
 use Rattle.jk_model_sealing.specs.SealedInsides.{Surroundings}
 use Rattle.jk_model_sealing.specs.SealedRuns.{AreSealedFrames}
 use Rattle.jk_model_machine_state.specs.Machines.{DomainState, Machine, Segment, Thread}
 use Rattle.jk_model_machine_state.specs.Places.{LiveDomain, RunningSegment, run_of, setting_of}
 use Rattle.jk_model_runs.specs.AnsweredCalls.{SegmentsAnswer}
-use Rattle.jk_model_runs.specs.Sealed.{CallerFits, IsSealed, IsSealedSegment, SegmentsFit, TopFits, initialisers_of, segment_initialisers, surroundings}
+use Rattle.jk_model_runs.specs.Sealed.{IsSealed, IsSealedSegment, SegmentsFit, TopFits, initialisers_of, segment_initialisers, surroundings}
 use Rattle.list_lemmas.proofs.FoundItems.{Finds, finds}
 use Rattle.list_lemmas.proofs.ItemsOfLists.{Contains-at, Contains-none}
 use Rattle.running_laws.specs.KeptRuns.{ActsWell}

@@ -1,13 +1,10 @@
 -- Where a segment has run and its lowest frame gives what it gave, all calls are answered.
-use Rattle.std.proofs.Common.{◌≡◌, ◌⊎◌, inl, inr, true, List, [], ◌∷◌, ◌++◌, Contains, Option, Some, slice_get, sym, subst}
+use Rattle.std.proofs.Common.{◌≡◌, ◌⊎◌, inl, inr, true, List, [], ◌∷◌, ◌++◌, sym, subst}
 use Rattle.jk_model.specs.declared.identifiers.ThreadNo.{ThreadNo}
 use Rattle.jk_model_classes.specs.declared.records.ClassRecord.{ClassRecord}
-use Rattle.jk_model_classes.specs.declared.records.TypeRef.{TypeRef}
-use Rattle.jk_model_frames.specs.Frames.{FrameState}
-use Rattle.jk_model_heaps.specs.Workings.{Run}
-use Rattle.jk_model_sealing.specs.AnsweringFrames.{FramesAnswer, GivesResult}
+use Rattle.jk_model_sealing.specs.AnsweringFrames.{FramesAnswer}
 use Rattle.jk_model_sharing.specs.Segments.{SharedSegment}
-use Rattle.jk_model_machine_state.specs.Machines.{Machine, Segment, Thread}
+use Rattle.jk_model_machine_state.specs.Machines.{Machine, Segment}
 use Rattle.jk_model_runs.specs.AnsweredCalls.{AreCallsAnswered, SegmentAnswers, SegmentsAnswer}
 use Rattle.list_lemmas.proofs.ItemsOfLists.{Contains-at}
 use Rattle.machine_laws.specs.RunsInMachines.{GivesStill}

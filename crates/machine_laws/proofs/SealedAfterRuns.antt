@@ -1,14 +1,13 @@
 -- Where a segment has run, the machine is sealed: where it goes on, where no frame of it is left, and, but for its thread, where it waits for an
 -- answer.
-use Rattle.std.proofs.Common.{◌≡◌, ◌+◌, ◌≤◌, inl, inr, true, List, [], ◌∷◌, ◌++◌, Some, slice_get, refl, sym, ap, subst, ◌∙◌}
-use Rattle.std.proofs.lemmas.Option.{same_Some}
+use Rattle.std.proofs.Common.{◌≡◌, inl, List, [], refl, sym, subst}
 use Rattle.jk_model.specs.declared.identifiers.ThreadNo.{ThreadNo}
 use Rattle.jk_model_frames.specs.Frames.{FrameState}
-use Rattle.jk_model_heaps.specs.Workings.{Inside, Run}
+use Rattle.jk_model_heaps.specs.Workings.{Run}
 use Rattle.jk_model_running.specs.Ways.{Went}
-use Rattle.jk_model_sealing.specs.FittingFrames.{FitsAsTop, FitsAtCall}
+use Rattle.jk_model_sealing.specs.FittingFrames.{FitsAsTop}
 use Rattle.jk_model_sealing.specs.SealedRuns.{AreSealedFrames}
-use Rattle.jk_model_machine_state.specs.Machines.{DomainState, Machine, Segment, Thread}
+use Rattle.jk_model_machine_state.specs.Machines.{Machine}
 use Rattle.jk_model_machine_state.specs.Places.{RunningSegment, run_of, setting_of, with_run}
 use Rattle.jk_model_runs.specs.Sealed.{IsSealed, TopFits, surroundings}
 use Rattle.running_laws.specs.KeptRuns.{KeepsRun}

@@ -1,19 +1,17 @@
 -- A sealed machine in which the running segment has run: what its domain has inside, and its frames, are others that are sealed again. The machine
 -- after that, and which domain and which thread stand where in it.
-use Rattle.std.proofs.Common.{◌≡◌, ◌≢◌, ℕ, ◌+◌, ◌≤◌, ◌==◌, ◌⊎◌, inl, inr, Bool, true, false, cond, List, [], ◌∷◌, ◌++◌, map, set, Option, Some, None, slice_get, Contains, refl, sym, ap, subst, ◌∙◌, arith, eq-eqb, ne_eqb}
-use Rattle.std.proofs.lemmas.Bool.{cases_eq, cases_lt, eqb-true}
+use Rattle.std.proofs.Common.{◌≡◌, ◌≢◌, ℕ, ◌+◌, ◌≤◌, ◌==◌, ◌⊎◌, inl, inr, Bool, true, false, cond, List, [], ◌∷◌, ◌++◌, set, Option, Some, None, slice_get, Contains, refl, sym, ap, subst, ◌∙◌, arith, eq-eqb, ne_eqb}
+use Rattle.std.proofs.lemmas.Bool.{cases_eq, cases_lt}
 use Rattle.std.proofs.lemmas.Option.{same_Some}
 use Rattle.jk_model.specs.declared.identifiers.DomainId.{DomainId}
 use Rattle.jk_model.specs.declared.identifiers.ThreadNo.{ThreadNo}
-use Rattle.jk_model_frames.specs.Frames.{FrameState, frames_chunks}
-use Rattle.jk_model_heaps.specs.Capabilities.{CapRange}
-use Rattle.jk_model_heaps.specs.Workings.{Inside, Run}
-use Rattle.jk_model_sealing.specs.SealedInsides.{Surroundings}
+use Rattle.jk_model_frames.specs.Frames.{frames_chunks}
+use Rattle.jk_model_heaps.specs.Workings.{Inside}
 use Rattle.jk_model_sealing.specs.SealedRuns.{AreSealedFrames}
 use Rattle.jk_model_machine_state.specs.Machines.{DomainState, Machine, Segment, Thread, caps_of}
-use Rattle.jk_model_machine_state.specs.Places.{LiveDomain, RunningSegment, run_of, setting_of, with_running}
+use Rattle.jk_model_machine_state.specs.Places.{RunningSegment, run_of, setting_of, with_running}
 use Rattle.jk_model_runs.specs.Sealed.{IsSealed, TopFits, surroundings}
-use Rattle.list_lemmas.proofs.ItemsByPlace.{comes_from, mapped_at, slice_get-set_other, slice_get-set_same}
+use Rattle.list_lemmas.proofs.ItemsByPlace.{comes_from, mapped_at}
 use Rattle.list_lemmas.proofs.ItemsOfLists.{Contains-at, place_of}
 use Rattle.sealed_rows.specs.ClassesInProgress.{KeepsProgress}
 use Rattle.sealed_rows.specs.KeptInsides.{KeepsInside}

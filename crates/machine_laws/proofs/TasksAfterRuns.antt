@@ -1,10 +1,9 @@
 -- Where a segment has run, tasks are sealed: a new Task is one of the running segment, which is of its domain.
-use Rattle.std.proofs.Common.{◌≡◌, ◌≢◌, ℕ, ◌<◌, ◌≤◌, ◌⊎◌, inl, inr, List, length, Contains, Option, Some, slice_get, refl, sym, ap, subst, ◌∙◌}
+use Rattle.std.proofs.Common.{◌≡◌, ℕ, ◌<◌, ◌≤◌, ◌⊎◌, inl, inr, length, Contains, Some, slice_get, sym, ap, subst, ◌∙◌}
 use Rattle.std.proofs.lemmas.Option.{same_Some}
-use Rattle.jk_model.specs.declared.identifiers.DomainId.{DomainId}
 use Rattle.jk_model.specs.declared.identifiers.SegmentNo.{SegmentNo}
 use Rattle.jk_model.specs.declared.identifiers.ThreadNo.{ThreadNo}
-use Rattle.jk_model_domains.specs.Objects.{NamedObject, Object, Task, object_named}
+use Rattle.jk_model_domains.specs.Objects.{NamedObject, Task}
 use Rattle.jk_model_heaps.specs.Workings.{Inside}
 use Rattle.jk_model_machine_state.specs.Machines.{DomainState, Machine, Segment, Thread}
 use Rattle.jk_model_runs.specs.Sealed.{AreSealedTasks}

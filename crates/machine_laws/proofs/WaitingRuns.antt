@@ -1,11 +1,10 @@
 -- Where a segment has run and waits for an answer, the machine is sealed but for that: it is so with a RevokedException pending for the segment.
-use Rattle.std.proofs.Common.{◌≡◌, ℕ, ◌==◌, inr, Bool, true, false, cond, List, [], ◌∷◌, ◌++◌, map, find, Option, Some, slice_get, refl, sym, ap, subst, ◌∙◌, eq-eqb}
+use Rattle.std.proofs.Common.{◌≡◌, ℕ, ◌==◌, inr, Bool, true, false, cond, List, [], ◌∷◌, ◌++◌, map, Some, slice_get, refl, sym, ap, subst, ◌∙◌, eq-eqb}
 use Rattle.std.specs.Option.{option_map}
 use Rattle.std.proofs.lemmas.Bool.{eqb-true}
 use Rattle.std.proofs.lemmas.Option.{same_Some}
 use Rattle.jk_model.specs.declared.identifiers.DomainId.{DomainId}
 use Rattle.jk_model.specs.declared.identifiers.ThreadNo.{ThreadNo}
-use Rattle.jk_model_frames.specs.Frames.{FrameState}
 use Rattle.jk_model_heaps.specs.Workings.{Inside, Run}
 use Rattle.jk_model_running.specs.Ways.{Went}
 use Rattle.jk_model_sealing.specs.FittingFrames.{FitsAtCall}

@@ -1,5 +1,5 @@
 -- By the lemma on the machine without domains; of its classes nothing is left to show.
-use Rattle.std.proofs.Common.{List, [], map, sym, subst, ap}
+use Rattle.std.proofs.Common.{List, map, sym, subst, ap}
 use Rattle.jk_model_classes.specs.Worlds.{NamedClass}
 use Rattle.jk_model_machine_state.specs.Machines.{DomainState}
 use Rattle.list_lemmas.proofs.ItemsOfLists.{none_in}
