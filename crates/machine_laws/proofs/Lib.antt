@@ -5,6 +5,7 @@ pub mod DomainsAfterRuns
 pub mod EventsGoOn
 pub mod FirstMachineWhole
 pub mod InitialisersAfterRuns
+pub mod PaidSteps
 pub mod PoolsAfterRuns
 pub mod RunningSegmentsFit
 pub mod RunsAnswered

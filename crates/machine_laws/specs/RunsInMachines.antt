@@ -1,6 +1,7 @@
 -- One segment of a machine has run, and the machine around it is sealed. Where it goes on, the machine is whole if the lowest frame still gives
 -- what it gave: a call of the segment below it awaits that.
 use Rattle.std.specs.Prelude.{◌≡◌, ℕ, List, ◌∷◌, Option}
+use Rattle.jk_model.specs.declared.identifiers.DomainId.{DomainId}
 use Rattle.jk_model.specs.declared.identifiers.ThreadNo.{ThreadNo}
 use Rattle.jk_model_classes.specs.declared.records.ClassRecord.{ClassRecord}
 use Rattle.jk_model_classes.specs.declared.records.TypeRef.{TypeRef}
@@ -8,7 +9,7 @@ use Rattle.jk_model_frames.specs.Frames.{FrameState}
 use Rattle.jk_model_heaps.specs.Workings.{Run}
 use Rattle.jk_model_running.specs.Ways.{Went}
 use Rattle.jk_model_sealing.specs.AnsweringFrames.{GivesResult}
-use Rattle.jk_model_machine_state.specs.Machines.{IsFirstMachine, Machine}
+use Rattle.jk_model_machine_state.specs.Machines.{IsFirstMachine, Machine, paid}
 use Rattle.jk_model_machine_state.specs.Places.{RunningSegment, run_of, setting_of, with_run}
 use Rattle.jk_model_runs.specs.Events.{IsWhole}
 use Rattle.jk_model_runs.specs.Sealed.{IsSealed, surroundings}
@@ -42,3 +43,7 @@ FirstMachinesAreWhole = (heap_pages stack_pages : Option ℕ) (m : Machine) → 
 abbrev pub FirstMachinesAreSound : Type 0
 FirstMachinesAreSound =
     SystemClassesAreSound → (heap_pages stack_pages : Option ℕ) (m : Machine) → IsFirstMachine heap_pages stack_pages m → IsKnownMachine m
+
+-- a step is paid
+abbrev pub PaidMachinesStayKnown : Type 0
+PaidMachinesStayKnown = (m : Machine) (d : DomainId) → IsKnownMachine m → IsKnownMachine (paid d m)

@@ -1,7 +1,7 @@
 //! The laws. The functions have no bodies: each stands for its clauses.
 
 ghost use Rattle.machine_laws.specs.KnownMachines.{IsKnownMachine, IsKnownWithoutJk};
-ghost use Rattle.machine_laws.specs.RunsInMachines.{AnsweringRunsStayWhole, FirstMachinesAreSound, FirstMachinesAreWhole, KeptRunsStaySealed};
+ghost use Rattle.machine_laws.specs.RunsInMachines.{AnsweringRunsStayWhole, FirstMachinesAreSound, FirstMachinesAreWhole, KeptRunsStaySealed, PaidMachinesStayKnown};
 ghost use Rattle.machine_laws.specs.SealedSteps.{LeftRunsStaySealed, RunningSegmentsActWell, WaitingRunsStaySealed};
 ghost use Rattle.machine_laws.specs.StepProgress.{GoingIsThere, RoundsAreThere, TurnsAreThere};
 
@@ -37,4 +37,9 @@ pub fn kept_runs_stay_sealed()
     ensures answers { AnsweringRunsStayWhole }
     ensures left { LeftRunsStaySealed }
     ensures waits { WaitingRunsStaySealed }
+{}
+
+/// Where a step is paid, all is known of the machine that was known.
+pub fn paid_machines_stay_known()
+    ensures { PaidMachinesStayKnown }
 {}
