@@ -74,10 +74,11 @@ counted_elsewhere d c s differ = counts_nothing (s.shared.domain.0 == d.0) (coun
 
 module _ (m : Machine) (t : ThreadNo) (r : HasRun m t) where
   pub lives_still : (u : ThreadNo) → IsLiveThread m u → IsLiveThread (after r) u
-  lives_still u (e, is) =
-      (changed_thread m t r e,
-      found_still (changed_thread m t r) (λ (x : Thread). x.number.0 == u.0) (thread_part m t r (λ (x : Thread). x.number.0 == u.0) (λ x s. refl)) m.threads
-      ∙ ap (option_map (changed_thread m t r)) is)
+  lives_still u (e, is) = (
+    changed_thread m t r e,
+    found_still (changed_thread m t r) (λ (x : Thread). x.number.0 == u.0) (thread_part m t r (λ (x : Thread). x.number.0 == u.0) (λ x s. refl)) m.threads
+        ∙ ap (option_map (changed_thread m t r)) is,
+  )
 
   is_t : r.place.thread.number ≡ t
   is_t = same_thread_number r.place.thread.number t (stood m t r).2

@@ -24,10 +24,13 @@ module _ (m : Machine) (t : ThreadNo) (r : HasRun m t) where
       by : (i ≡ (stood m t r).0) ⊎ (i ≢ (stood m t r).0)
           → ((i ≡ (stood m t r).0) × (thread_here r ≡ e)) ⊎ ((i ≢ (stood m t r).0) × (slice_get m.threads i ≡ Some e))
       by (inl same) =
-          inl (same, same_Some (thread_here r) e
-          (sym (slice_get-set_same m.threads (stood m t r).0 (thread_here r)
-          (slice_get_within m.threads (stood m t r).0 r.place.thread (stood m t r).1))
-          ∙ ap (slice_get (set m.threads (stood m t r).0 (thread_here r))) (sym same) ∙ now))
+          inl (
+            same,
+            same_Some (thread_here r) e
+                (sym (slice_get-set_same m.threads (stood m t r).0 (thread_here r)
+                (slice_get_within m.threads (stood m t r).0 r.place.thread (stood m t r).1))
+                ∙ ap (slice_get (set m.threads (stood m t r).0 (thread_here r))) (sym same) ∙ now),
+          )
       by (inr differ) =
           inr (differ, sym (slice_get-set_other m.threads (stood m t r).0 i (thread_here r) (λ same. differ (sym same))) ∙ now)
 

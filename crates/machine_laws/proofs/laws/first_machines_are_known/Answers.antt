@@ -12,8 +12,7 @@ returns-clause-whole c = first_whole
 
 pub returns-clause-sound : goal.returns-clause-sound
 returns-clause-sound c = λ sound heap_pages stack_pages m first.
-    let classes = sound m.classes first.system in
-    (
+    let classes = sound m.classes first.system in (
       first_whole heap_pages stack_pages m first,
       record {
         linked = subst (λ (tables : List (List NamedClass)). AreLinked m.classes tables)
