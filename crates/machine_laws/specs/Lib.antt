@@ -1,3 +1,4 @@
 pub mod KnownMachines
+pub mod RunsInMachines
 pub mod SealedSteps
 pub mod StepProgress

@@ -25,12 +25,7 @@ RunningSegmentsActWell =
     (m : Machine) (t : ThreadNo) (p : RunningSegment m t) → IsKnownMachine m → p.segment.shared.revoked ≡ false
     → ActsWell (surroundings m p.home.domain) (setting_of p) t (run_of p)
 
--- where the segment has run and goes on, the machine is whole
-abbrev pub KeptRunsStayWhole : Type 0
-KeptRunsStayWhole =
-    (m : Machine) (t : ThreadNo) (p : RunningSegment m t) (run : Run) (went : Went) → IsKnownMachine m
-    → KeepsRun (surroundings m p.home.domain) (setting_of p) t (run_of p) run went → RunOn (surroundings m p.home.domain) run
-    → IsWhole (with_run p run)
+-- (where the segment has run and goes on: `KeptRunsStaySealed` and `AnsweringRunsStayWhole` of RunsInMachines)
 
 -- where no frame of it is left, the machine is sealed
 abbrev pub LeftRunsStaySealed : Type 0
