@@ -56,8 +56,12 @@ module _ (classes : List ClassRecord) (shared : SharedState) (a b : KnownCapabil
       above_too class (inr (inl h)) = inr (inl h)
       above_too class (inr (inr (inl h))) = inr (inr (inl h))
       above_too class (inr (inr (inr (c, numbered, inl shows)))) =
-          inr (inr (inr (c, subst (λ (ranges : List CapRange). capability_numbered ranges k ≡ Some c) (first.ranges ∙ sym second.ranges) numbered, inl
-          shows)))
+          inr (inr (inr (
+            c,
+            subst (λ (ranges : List CapRange). capability_numbered ranges k ≡ Some c) (first.ranges ∙ sym second.ranges) numbered,
+            inl
+                shows,
+          )))
       above_too class (inr (inr (inr (c, numbered, inr stands)))) =
           inr (inr (inr (
             c,

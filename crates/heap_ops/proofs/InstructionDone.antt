@@ -44,8 +44,12 @@ inside_becomes old new here before heap own is heaps kept page = record {
       ∙ ap (λ (p : Option ℕ). let i : Inside = record { own = new.own.state; heap = new.heaps.heap here.domain; heap_at = p; stack_at = before.stack_at } in
       i)
       (ap (λ (i : Inside). i.heap_at) is ∙ sym (heaps.domains.first_page here.domain))
-      ∙ ap (λ (p : Option ℕ). let i : Inside = record { own = new.own.state; heap = new.heaps.heap here.domain; heap_at = new.heaps.first_page here.domain;
-      stack_at = p } in i)
+      ∙ ap (λ (p : Option ℕ). let i : Inside = record {
+        own = new.own.state;
+        heap = new.heaps.heap here.domain;
+        heap_at = new.heaps.first_page here.domain;
+        stack_at = p;
+      } in i)
       (ap (λ (i : Inside). i.stack_at) is ∙ sym page);
   heaps = heaps;
   rooms = ap (λ (k : KeptState). k.rooms) kept;

@@ -6,13 +6,13 @@ use Rattle.jk_model_heaps.specs.Workings.{Run}
 use Rattle.jk_model_machine_state.specs.Machines.{IsFirstMachine, Machine}
 use Rattle.jk_model_machine_state.specs.Places.{RunningSegment, run_of, setting_of, with_run}
 use Rattle.jk_model_running.specs.Ways.{Went}
-use Rattle.jk_model_runs.specs.Events.{IsWhole, Kills}
+use Rattle.jk_model_runs.specs.Events.{Kills}
 use Rattle.jk_model_runs.specs.Sealed.{IsSealed, surroundings}
 use Rattle.jk_model_runs.specs.Starts.{Starts, StartWords}
 use Rattle.jk_model_runs.specs.Steps.{Steps}
 use Rattle.crossing_premises.specs.SoundMachines.{IsSealedAtCall}
 use Rattle.machine_laws.specs.KnownMachines.{IsKnownMachine, RunsNoPackageJk}
-use Rattle.running_laws.specs.KeptRuns.{ActsWell, AwaitOn, KeepsRun, RunOn}
+use Rattle.running_laws.specs.KeptRuns.{ActsWell, AwaitOn, KeepsRun}
 
 abbrev pub FirstMachinesAreKnown : Type 0
 FirstMachinesAreKnown = (heap_pages stack_pages : Option ℕ) (m : Machine) → IsFirstMachine heap_pages stack_pages m → IsKnownMachine m
