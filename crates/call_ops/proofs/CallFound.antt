@@ -23,9 +23,9 @@ use Rattle.step_contents.specs.Conditions.{MayDo, around, working}
 use Rattle.step_contents.specs.Contents.{Contents, Here}
 use Rattle.step_contents.specs.PlacesInCode.{PlaceInCode}
 use Rattle.step_contents.specs.Settings.{IsSetting}
-use Rattle.code_places.specs.Operands.{LeadsToMethod}
-use Rattle.code_places.proofs.InstructionsBegin.{is_some_setting, runs_code, runs_well, some_setting}
-use Rattle.call_row_laws.proofs.CallsFound.{call_found}
+use Rattle.step_contents.specs.Operands.{LeadsToMethod}
+use Rattle.step_contents.proofs.InstructionsBegin.{is_some_setting, runs_code, runs_well, some_setting}
+use Rattle.row_laws.proofs.CallsFound.{call_found}
 use Rattle.call_ops.specs.CodeTargets.{ComesTo}
 
 -- ---- How many values are given, and where the receiver stands.

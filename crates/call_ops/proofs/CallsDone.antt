@@ -23,8 +23,8 @@ use Rattle.step_contents.specs.Conditions.{MayDo, working}
 use Rattle.step_contents.specs.Contents.{Contents, Here}
 use Rattle.step_contents.specs.PlacesInCode.{PlaceInCode}
 use Rattle.step_contents.specs.Settings.{IsSetting}
-use Rattle.code_places.specs.Operands.{LeadsToMethod}
-use Rattle.code_places.proofs.InstructionsBegin.{is_some_setting, some_setting, top_frame}
+use Rattle.step_contents.specs.Operands.{LeadsToMethod}
+use Rattle.step_contents.proofs.InstructionsBegin.{is_some_setting, some_setting, top_frame}
 use Rattle.call_ops.specs.CallSteps.{CallFollows}
 use Rattle.call_ops.specs.CodeTargets.{ComesTo}
 use Rattle.call_ops.specs.FramesRun.{MayRun, Ran}

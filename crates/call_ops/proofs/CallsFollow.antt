@@ -34,9 +34,9 @@ use Rattle.step_contents.specs.Conditions.{MayDo, around, working}
 use Rattle.step_contents.specs.Contents.{Contents, Here, InsideBecomes, inside_in}
 use Rattle.step_contents.specs.PlacesInCode.{PlaceInCode}
 use Rattle.step_contents.specs.Settings.{IsSetting}
-use Rattle.code_places.proofs.InstructionsBegin.{runs_code, runs_well, top_frame}
-use Rattle.call_row_laws.specs.CallRowLaws.{RunsKnownMethod}
-use Rattle.call_row_laws.proofs.RowsOfCalls.{runs_known}
+use Rattle.step_contents.proofs.InstructionsBegin.{runs_code, runs_well, top_frame}
+use Rattle.row_laws.specs.CallRowLaws.{RunsKnownMethod}
+use Rattle.row_laws.proofs.RowsOfCalls.{runs_known}
 use Rattle.call_ops.specs.CallSteps.{CallFollows, calls, calls_system, crosses, raises}
 use Rattle.call_ops.specs.FramesRun.{HasNoCode, LacksChunks, MayRun, PutsFrame, Ran}
 

@@ -5,18 +5,18 @@ ghost use Rattle.jk_model_sharing.specs.SharedStates.{SharedState};
 ghost use Rattle.class_init.specs.KeptStates.{KeptState};
 ghost use Rattle.step_contents.specs.Conditions.{MayDo};
 ghost use Rattle.step_contents.specs.Contents.{contents_of, here_at};
-ghost use Rattle.code_places.specs.StandingFrames.{place_of};
+ghost use Rattle.step_contents.specs.StandingFrames.{place_of};
 ghost use Rattle.call_ops.specs.CallSteps.{CallDone};
 
 use crate::running::run;
 use crate::targets::{Target, target_at};
-use code_places::{StandsAt, method_of};
 use domain_resolver::World;
 use frame_store::FrameStore;
 use jk_model::opcodes::INVOKESTATIC;
 use jk_model::{After, DomainId, Raise, SegmentNo};
 use member_lookup::method_record;
 use object_store::ObjectStore;
+use step_contents::{StandsAt, method_of};
 
 /// Does the call at which the top frame of a segment of domain d stands, and answers what is done next. `at` is where that frame
 /// stands: at `invokevirtual`, `invokespecial`, `invokestatic` or `invokeinterface`, whose class is ready where it needs one.

@@ -9,7 +9,6 @@ ghost use Rattle.instance_tests.specs.Tested.{Refers};
 ghost use Rattle.call_ops.specs.CodeTargets.{ComesTo, IsOfReceiver, target_of};
 
 use class_table::ClassTable;
-use code_places::StandsAt;
 use instance_tests::run_class;
 use jk_model::opcodes::{INVOKEINTERFACE, INVOKESPECIAL, INVOKEVIRTUAL};
 use jk_model::{AccessFlags, CapId, ClassId, DomainId, MemberId, Value, has};
@@ -20,6 +19,7 @@ use jk_model_heaps::system_classes::{
 };
 use member_lookup::{method_record, select};
 use object_store::ObjectStore;
+use step_contents::StandsAt;
 
 /// What a constructor is named: `<init>`.
 const INIT: [u16; 6] = [0x3c, 0x69, 0x6e, 0x69, 0x74, 0x3e];

@@ -27,11 +27,11 @@ use Rattle.object_store.specs.HeapContents.{AreOfFields, AreOfKind, HasBase, Has
 use Rattle.sound_folders.specs.NamesAndTypes.{HasOwnNames}
 use Rattle.list_lemmas.proofs.FoundItems.{Finds, finds}
 use Rattle.list_lemmas.proofs.ItemsOfLists.{Contains-at, place_of}
-use Rattle.heap_graphs.proofs.MappedLists.{mapped}
-use Rattle.heap_graphs.proofs.ReachIsListed.{stands}
-use Rattle.heap_graphs.proofs.SealedGraphs.{led_is_known}
+use Rattle.heap_laws.proofs.MappedLists.{mapped}
+use Rattle.heap_laws.proofs.ReachIsListed.{stands}
+use Rattle.heap_laws.proofs.SealedGraphs.{led_is_known}
 use Rattle.graph_copy.specs.AskedOfCopies.{AgreeOnNames, HasDomain, IsSoundHeap, MayBeGiven, MayCopy}
-use Rattle.crossing_premises.specs.SoundMachines.{tables_of}
+use Rattle.machine_laws.specs.SoundMachines.{tables_of}
 use Rattle.machine_parts.specs.MachineParts.{MachineParts, machine_of}
 use Rattle.machine_parts.proofs.DomainsOfParts.{live_domain_is_of_parts}
 use Rattle.domain_crossing.specs.AskedOfCrossings.{MayCross}

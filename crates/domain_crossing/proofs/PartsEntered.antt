@@ -15,14 +15,14 @@ use Rattle.jk_model_machine_state.specs.Places.{LiveDomain}
 use Rattle.jk_model_crossings.specs.RemoteCalls.{RemoteCall, arrived, departed, with_segment_on_top}
 use Rattle.jk_model_runs.specs.Sealed.{IsSealed}
 use Rattle.frame_store.specs.FrameContents.{StoredSegment}
-use Rattle.heap_graphs.proofs.MappedLists.{mapped, mapped_from}
+use Rattle.heap_laws.proofs.MappedLists.{mapped, mapped_from}
 use Rattle.machine_parts.specs.ChangedParts.{AreSegmentsApart}
 use Rattle.machine_parts.specs.FittingParts.{HaveOneList}
 use Rattle.machine_parts.specs.MachineParts.{MachineParts, frames_in, machine_of, segment_with_frames, thread_with_frames}
 use Rattle.machine_parts.proofs.DomainsChanged.{heaps_change_machines}
 use Rattle.machine_parts.proofs.SegmentsChanged.{frames_change_machines}
 use Rattle.machine_parts.proofs.SharedChanged.{gone_frames, pushes_change_machines}
-use Rattle.running_parts.proofs.RunningChanged.{frames_run}
+use Rattle.machine_parts.proofs.RunningChanged.{frames_run}
 use Rattle.domain_crossing.specs.EnteredParts.{EntersInParts}
 
 -- ---- Numbers of a sealed machine.

@@ -21,8 +21,8 @@ use Rattle.machine_parts.specs.MachineParts.{MachineParts, machine_of}
 use Rattle.machine_parts.specs.SharedInMachines.{HaveAllSegments}
 use Rattle.machine_parts.proofs.DomainsChanged.{heaps_change_machines}
 use Rattle.machine_parts.proofs.SegmentsChanged.{frames_change_machines, running_frames_change}
-use Rattle.running_parts.proofs.RunningChanged.{thread_is}
-use Rattle.running_parts.proofs.TopsGone.{higher_goes_off}
+use Rattle.machine_parts.proofs.RunningChanged.{thread_is}
+use Rattle.machine_parts.proofs.TopsGone.{higher_goes_off}
 use Rattle.domain_crossing.specs.LeftParts.{LeavesInParts}
 use Rattle.domain_crossing.proofs.PartsEntered.{sealed_apart}
 

@@ -8,8 +8,8 @@ use Rattle.jk_model.specs.declared.values.Value.{Value}
 use Rattle.jk_model_machine_state.specs.Places.{RunningSegment}
 use Rattle.jk_model_crossings.specs.RemoteCalls.{RemoteCall}
 use Rattle.jk_model_runs.specs.Sealed.{IsSealed}
-use Rattle.crossing_premises.specs.CallsAndAnswers.{IsLeft, IsTaken, IsThrown, StandsAtCall}
-use Rattle.crossing_premises.specs.SoundMachines.{HasSoundClasses}
+use Rattle.machine_laws.specs.CallsAndAnswers.{IsLeft, IsTaken, IsThrown, StandsAtCall}
+use Rattle.machine_laws.specs.SoundMachines.{HasSoundClasses}
 use Rattle.machine_parts.specs.FittingParts.{AreFittingParts}
 use Rattle.machine_parts.specs.MachineParts.{MachineParts, machine_of}
 

@@ -16,7 +16,7 @@ use Rattle.jk_model_unwinding.specs.Unwinding.{IsError}
 use Rattle.class_init.specs.KeptStates.{KeptState}
 use Rattle.frame_store.specs.FrameContents.{FrameContent}
 use Rattle.object_store.specs.HeapContents.{HeapContent}
-use Rattle.grown_heaps.proofs.SealedStill.{state_sealed}
+use Rattle.heap_laws.proofs.SealedStill.{state_sealed}
 use Rattle.step_contents.specs.Conditions.{MayChange, around}
 use Rattle.step_contents.specs.Contents.{Contents, Here, InsideBecomes, contents_of, inside_in}
 use Rattle.step_contents.specs.Settings.{IsSetting}

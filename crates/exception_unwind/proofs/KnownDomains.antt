@@ -15,7 +15,7 @@ use Rattle.jk_model_sharing.specs.SharedStates.{caps_of}
 use Rattle.class_init.specs.KeptStates.{HasRooms, KeptState}
 use Rattle.frame_store.specs.FrameContents.{free_chunks}
 use Rattle.object_store.specs.HeapContents.{HeapContent}
-use Rattle.sealed_rows.specs.RunningFrames.{IsKnownSetting}
+use Rattle.heap_laws.specs.RunningFrames.{IsKnownSetting}
 use Rattle.step_contents.specs.Conditions.{KnowsDomain, MayChange, around}
 use Rattle.step_contents.specs.Contents.{Contents, Here, InsideBecomes, contents_of}
 use Rattle.step_contents.specs.Settings.{IsSetting}

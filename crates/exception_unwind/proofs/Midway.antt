@@ -18,14 +18,14 @@ use Rattle.jk_model_unwinding.specs.Unwinding.{Catches, CatchesNot, LeavesFrame,
 use Rattle.class_init.specs.KeptStates.{KeptState}
 use Rattle.frame_store.specs.FrameContents.{IsContent, Pops, SetsTop, TopFrame}
 use Rattle.object_store.specs.HeapContents.{HeapContent, IsName}
-use Rattle.sealed_rows.specs.RaisableObjects.{IsThrowable, MayMeetRaise}
+use Rattle.heap_laws.specs.RaisableObjects.{IsThrowable, MayMeetRaise}
 use Rattle.step_contents.specs.Conditions.{MayChange, MayRaise, around}
 use Rattle.step_contents.specs.Contents.{Becomes, Contents, FramesBecome, Here, InsideBecomes, contents_of}
 use Rattle.step_contents.specs.Settings.{IsSetting}
-use Rattle.typed_operands.proofs.StandsHere.{code_here}
-use Rattle.unwinding_laws.proofs.FramesLeft.{LeftSealed, frames_left}
-use Rattle.unwinding_laws.proofs.HandlersFit.{MayCatch, frame_may}
-use Rattle.unwinding_laws.proofs.RoomToCatch.{room_to_catch}
+use Rattle.row_laws.proofs.StandsHere.{code_here}
+use Rattle.row_laws.proofs.UnwindingFramesLeft.{LeftSealed, frames_left}
+use Rattle.row_laws.proofs.HandlersFit.{MayCatch, frame_may}
+use Rattle.row_laws.proofs.RoomToCatch.{room_to_catch}
 use Rattle.exception_unwind.specs.LeftFrames.{FrameIsLeft}
 use Rattle.exception_unwind.specs.Trials.{HasPlace}
 use Rattle.exception_unwind.proofs.FramesChanged.{frames_popped, frames_set, same_frames, top_there}

@@ -16,7 +16,7 @@ use Rattle.jk_model_heaps.specs.Workings.{Inside, Setting}
 use Rattle.jk_model_sharing.specs.SharedStates.{SharedState}
 use Rattle.frame_store.specs.FrameContents.{HasTop, IsContent, IsThere, Pops, SetsTop, StoredSegment, TopFrame}
 use Rattle.object_store.specs.HeapContents.{IsName}
-use Rattle.sealed_rows.specs.RaisableObjects.{IsThrowable}
+use Rattle.heap_laws.specs.RaisableObjects.{IsThrowable}
 use Rattle.step_contents.specs.Conditions.{MayChange, MayRaise}
 use Rattle.step_contents.specs.Contents.{Contents, Here, contents_of, here_at}
 use Rattle.step_contents.specs.Settings.{IsSetting}

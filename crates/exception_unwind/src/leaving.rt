@@ -10,7 +10,7 @@ ghost use Rattle.jk_model_heaps.specs.SystemClasses as named;
 ghost use Rattle.jk_model_sharing.specs.SharedStates.{SharedState};
 ghost use Rattle.frame_store.specs.FrameContents.{FrameContent};
 ghost use Rattle.object_store.specs.HeapContents.{IsLive, IsName};
-ghost use Rattle.sealed_rows.specs.RaisableObjects.{IsThrowable};
+ghost use Rattle.heap_laws.specs.RaisableObjects.{IsThrowable};
 ghost use Rattle.step_contents.specs.Conditions.{MayChange};
 ghost use Rattle.step_contents.specs.Contents.{contents_of, here_at};
 ghost use Rattle.exception_unwind.specs.LeftFrames.{FrameIsLeft, InitialiserIsLeft};

@@ -4,7 +4,7 @@ ghost use Rattle.std.specs.Prelude.{ℕ};
 ghost use Rattle.jk_model.specs.declared.identifiers.SegmentNo.{SegmentNo as ASegment};
 ghost use Rattle.jk_model_sharing.specs.SharedStates.{SharedState};
 ghost use Rattle.frame_store.specs.FrameContents.{FrameContent};
-ghost use Rattle.sealed_rows.specs.RaisableObjects.{MayBeRaised};
+ghost use Rattle.heap_laws.specs.RaisableObjects.{MayBeRaised};
 ghost use Rattle.step_contents.specs.Conditions.{MayChange};
 ghost use Rattle.step_contents.specs.Contents.{contents_of, here_at};
 ghost use Rattle.exception_unwind.specs.RaisedObjects.{IsRaisedIn};

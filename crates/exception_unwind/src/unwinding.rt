@@ -3,7 +3,7 @@
 ghost use Rattle.std.specs.Prelude.{◌≡◌, ℕ, None, IsTrue, IfNone};
 ghost use Rattle.jk_model.specs.declared.frames.FrameHead.{FrameHead as AHead};
 ghost use Rattle.jk_model_sharing.specs.SharedStates.{SharedState};
-ghost use Rattle.sealed_rows.specs.RaisableObjects.{IsThrowable};
+ghost use Rattle.heap_laws.specs.RaisableObjects.{IsThrowable};
 ghost use Rattle.step_contents.specs.Conditions.{MayRaise};
 ghost use Rattle.step_contents.specs.Contents.{contents_of, here_at};
 ghost use Rattle.exception_unwind.specs.Trials.{place_afterwards};

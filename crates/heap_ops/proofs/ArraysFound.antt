@@ -13,7 +13,7 @@ use Rattle.jk_model_heaps.specs.References.{IsHeapArray}
 use Rattle.jk_model_heap_rows.specs.ElementRows.{place_at}
 use Rattle.frame_store.specs.FrameContents.{FrameContent}
 use Rattle.object_store.specs.HeapContents.{HeapContent, IsLive}
-use Rattle.heap_row_laws.specs.HeapOperands.{IsArrayOrNull, IsObjectOrNull}
+use Rattle.row_laws.specs.HeapOperands.{IsArrayOrNull, IsObjectOrNull}
 use Rattle.heap_ops.specs.declared.here.Here.{Here}
 use Rattle.heap_ops.specs.HeapValues.{HasNoPlace, IsArrayAt}
 use Rattle.heap_ops.specs.TopEntries.{IsNullOrName}

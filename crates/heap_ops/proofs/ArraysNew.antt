@@ -17,13 +17,13 @@ use Rattle.jk_model_heaps.specs.Heaps.{zero_object}
 use Rattle.jk_model_heaps.specs.SystemClasses.{NEGATIVE_ARRAY_SIZE_EXCEPTION}
 use Rattle.jk_model_heap_rows.specs.HeapRows.{makes_array}
 use Rattle.jk_model_heap_rows.specs.NewObjectRows.{MakesArrayOf, count_of}
-use Rattle.code_places.specs.Operands.{LeadsToType}
+use Rattle.step_contents.specs.Operands.{LeadsToType}
 use Rattle.frame_store.specs.FrameContents.{FrameContent}
 use Rattle.object_store.specs.HeapContents.{HasBase, HeapContent, IsHeapContent, IsSame, MakesObject, shape_words, words_left}
-use Rattle.heap_row_laws.proofs.ClassesToMake.{type_known}
-use Rattle.stored_objects.proofs.LaidOut.{shape_has_classes}
+use Rattle.row_laws.proofs.ClassesToMake.{type_known}
+use Rattle.heap_laws.proofs.LaidOut.{shape_has_classes}
 use Rattle.step_contents.specs.Conditions.{around}
-use Rattle.code_places.proofs.InstructionsBegin.{runs_code, runs_well}
+use Rattle.step_contents.proofs.InstructionsBegin.{runs_code, runs_well}
 use Rattle.heap_ops.specs.declared.here.Here.{Here}
 use Rattle.heap_ops.specs.OneInstruction.{place_in}
 use Rattle.heap_ops.specs.TopEntries.{HasEntries, PutsFor, StandsBelow}

@@ -16,14 +16,14 @@ use Rattle.jk_model_sharing.specs.SharedStates.{SharedState}
 use Rattle.class_init.specs.KeptStates.{KeptState}
 use Rattle.frame_store.specs.FrameContents.{FrameContent, SetsTop, TopFrame}
 use Rattle.object_store.specs.HeapContents.{HeapContent, IsLive}
-use Rattle.heap_row_laws.specs.HeapOperands.{HeapOperands}
-use Rattle.heap_row_laws.proofs.OperandsFound.{operands_found}
+use Rattle.row_laws.specs.HeapOperands.{HeapOperands}
+use Rattle.row_laws.proofs.OperandsFound.{operands_found}
 use Rattle.number_laws.proofs.FrameParts.{with_stack}
 use Rattle.step_contents.specs.Conditions.{MayDo, around, working}
 use Rattle.step_contents.specs.Contents.{Contents, contents_of}
 use Rattle.step_contents.specs.Contents.{Here as Within}
 use Rattle.step_contents.specs.Settings.{IsSetting}
-use Rattle.code_places.proofs.InstructionsBegin.{is_some_setting, runs_code, runs_well, some_setting, top_frame}
+use Rattle.step_contents.proofs.InstructionsBegin.{is_some_setting, runs_code, runs_well, some_setting, top_frame}
 use Rattle.heap_ops.specs.declared.here.Here.{Here}
 use Rattle.heap_ops.specs.OneInstruction.{MayStep, MayStepAmong, MayStepWith, among, answer, place_in}
 use Rattle.heap_ops.specs.TopEntries.{HasEntries, PutsFor, StandsBelow, TakesOff}

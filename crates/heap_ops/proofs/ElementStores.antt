@@ -19,9 +19,9 @@ use Rattle.jk_model_heap_rows.specs.ElementRows.{is_element_store, place_at}
 use Rattle.jk_model_heap_rows.specs.HeapRows.{HeapRow, stores_element}
 use Rattle.frame_store.specs.FrameContents.{FrameContent, SetsTop}
 use Rattle.object_store.specs.HeapContents.{HeapContent, IsHeapContent, IsLive, IsPut, IsWritten, TakesItem, WritesObject}
-use Rattle.heap_row_laws.specs.HeapRowLaws.{HeapRowsKeep}
+use Rattle.row_laws.specs.HeapRowLaws.{HeapRowsKeep}
 use Rattle.number_laws.proofs.FrameParts.{with_stack}
-use Rattle.stored_objects.proofs.LaidOut.{written_alike}
+use Rattle.heap_laws.proofs.LaidOut.{written_alike}
 use Rattle.heap_ops.specs.declared.here.Here.{Here}
 use Rattle.heap_ops.specs.HeapValues.{HasNoPlace, IsArrayAt}
 use Rattle.heap_ops.specs.OneInstruction.{place_in}

@@ -14,11 +14,11 @@ use Rattle.jk_model_domains.specs.Objects.{Object}
 use Rattle.jk_model_heaps.specs.SystemClasses.{NULL_POINTER_EXCEPTION}
 use Rattle.jk_model_heap_rows.specs.FieldRows.{HasField}
 use Rattle.jk_model_heap_rows.specs.HeapRows.{gets_field}
-use Rattle.code_places.specs.Operands.{LeadsToField}
+use Rattle.step_contents.specs.Operands.{LeadsToField}
 use Rattle.frame_store.specs.FrameContents.{FrameContent}
 use Rattle.object_store.specs.HeapContents.{HasItem, HeapContent, IsHeapContent, IsLive, item_of}
-use Rattle.heap_row_laws.specs.HeapOperands.{HasFieldOrIsNull}
-use Rattle.sound_codes.specs.NamedWell.{uses_object_field}
+use Rattle.row_laws.specs.HeapOperands.{HasFieldOrIsNull}
+use Rattle.heap_laws.specs.NamedWell.{uses_object_field}
 use Rattle.heap_ops.specs.declared.here.Here.{Here}
 use Rattle.heap_ops.specs.HeapValues.{IsOwnPlace}
 use Rattle.heap_ops.specs.OneInstruction.{place_in}

@@ -17,14 +17,14 @@ use Rattle.jk_model_heaps.specs.SystemClasses.{NULL_POINTER_EXCEPTION}
 use Rattle.jk_model_heaps.specs.Workings.{GoesOn, GoesOnWith, Working, with_heap}
 use Rattle.jk_model_heap_rows.specs.FieldRows.{HasField}
 use Rattle.jk_model_heap_rows.specs.HeapRows.{HeapRow, puts_field}
-use Rattle.code_places.specs.Operands.{LeadsToField}
+use Rattle.step_contents.specs.Operands.{LeadsToField}
 use Rattle.frame_store.specs.FrameContents.{FrameContent, SetsTop}
 use Rattle.object_store.specs.HeapContents.{HeapContent, IsHeapContent, IsLive, IsPut, IsWritten, TakesItem, WritesObject}
-use Rattle.heap_row_laws.specs.HeapOperands.{HasFieldOrIsNull}
-use Rattle.heap_row_laws.specs.HeapRowLaws.{HeapRowsKeep}
+use Rattle.row_laws.specs.HeapOperands.{HasFieldOrIsNull}
+use Rattle.row_laws.specs.HeapRowLaws.{HeapRowsKeep}
 use Rattle.number_laws.proofs.FrameParts.{with_stack}
-use Rattle.sound_codes.specs.NamedWell.{uses_object_field}
-use Rattle.stored_objects.proofs.LaidOut.{written_alike}
+use Rattle.heap_laws.specs.NamedWell.{uses_object_field}
+use Rattle.heap_laws.proofs.LaidOut.{written_alike}
 use Rattle.heap_ops.specs.declared.here.Here.{Here}
 use Rattle.heap_ops.specs.HeapValues.{IsOwnPlace}
 use Rattle.heap_ops.specs.OneInstruction.{place_in}

@@ -17,14 +17,14 @@ use Rattle.jk_model_heaps.specs.Heaps.{named}
 use Rattle.jk_model_heaps.specs.RunningCode.{NamesField}
 use Rattle.jk_model_heap_rows.specs.FieldRows.{HasField, field_place}
 use Rattle.jk_model_sealing.specs.SealedInsides.{IsSealedObject}
-use Rattle.code_places.specs.Operands.{LeadsToField}
+use Rattle.step_contents.specs.Operands.{LeadsToField}
 use Rattle.frame_store.specs.FrameContents.{FrameContent}
-use Rattle.grown_heaps.proofs.ObjectsAfterChanges.{found_stands}
+use Rattle.heap_laws.proofs.ObjectsAfterChanges.{found_stands}
 use Rattle.object_store.specs.HeapContents.{HasItem, HeapContent, IsHeapContent, IsLaidOut, IsLive, item_of}
 use Rattle.object_store.proofs.ObjectsWritten.{is_short}
-use Rattle.sound_codes.specs.NamedWell.{NamesWell, uses_object_field}
+use Rattle.heap_laws.specs.NamedWell.{NamesWell, uses_object_field}
 use Rattle.step_contents.specs.Conditions.{around}
-use Rattle.stored_objects.proofs.LaidOut.{sealed_laid_out}
+use Rattle.heap_laws.proofs.LaidOut.{sealed_laid_out}
 use Rattle.typing_lemmas.proofs.OneScope.{one_link}
 use Rattle.heap_ops.specs.declared.here.Here.{Here}
 use Rattle.heap_ops.specs.HeapValues.{IsOwnPlace}

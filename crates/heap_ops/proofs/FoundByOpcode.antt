@@ -18,7 +18,7 @@ use Rattle.jk_model_heaps.specs.Workings.{Setting, Working}
 use Rattle.jk_model_heap_rows.specs.ElementRows.{is_element_load, is_element_store}
 use Rattle.jk_model_heap_rows.specs.FieldRows.{IsStaticValue}
 use Rattle.jk_model_heap_rows.specs.NewObjectRows.{MakesArrayOf}
-use Rattle.heap_row_laws.specs.HeapOperands.{HasFieldOrIsNull, HeapOperands, IsArrayOrNull, IsObjectOrNull, IsReferenceOrNull, of_cast, of_get_field, of_get_static, of_length, of_load, of_new, of_new_array, of_new_arrays, of_put_field, of_put_static, of_store, of_test, of_text, of_throw}
+use Rattle.row_laws.specs.HeapOperands.{HasFieldOrIsNull, HeapOperands, IsArrayOrNull, IsObjectOrNull, IsReferenceOrNull, of_cast, of_get_field, of_get_static, of_length, of_load, of_new, of_new_array, of_new_arrays, of_put_field, of_put_static, of_store, of_test, of_text, of_throw}
 
 abbrev choose : Bool → Type 0 → Type 0 → Type 0
 choose true A B = A

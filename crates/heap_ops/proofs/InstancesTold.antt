@@ -19,10 +19,10 @@ use Rattle.jk_model_heaps.specs.SystemClasses.{CLASS_CAST_EXCEPTION, REMOTE}
 use Rattle.jk_model_heap_rows.specs.HeapRows.{casts, tests}
 use Rattle.jk_model_sealing.specs.SealedInsides.{IsKnownValue}
 use Rattle.jk_model_sharing.specs.SharedStates.{SharedState}
-use Rattle.code_places.specs.Operands.{LeadsToType}
+use Rattle.step_contents.specs.Operands.{LeadsToType}
 use Rattle.frame_store.specs.FrameContents.{FrameContent, SetsTop}
 use Rattle.object_store.specs.HeapContents.{HeapContent, IsReference}
-use Rattle.heap_row_laws.specs.HeapOperands.{IsReferenceOrNull}
+use Rattle.row_laws.specs.HeapOperands.{IsReferenceOrNull}
 use Rattle.number_laws.proofs.FrameParts.{with_stack}
 use Rattle.step_contents.specs.Settings.{AreKnown}
 use Rattle.heap_ops.specs.declared.here.Here.{Here}

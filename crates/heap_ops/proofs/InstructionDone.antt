@@ -25,7 +25,7 @@ use Rattle.step_contents.specs.AnsweredSteps.{IsAnswered}
 use Rattle.step_contents.specs.Conditions.{MayDo, working}
 use Rattle.step_contents.specs.Contents.{Becomes, Contents, FramesBecome, Here, InsideBecomes, inside_in, with_frame}
 use Rattle.step_contents.specs.PlacesInCode.{PlaceInCode}
-use Rattle.code_places.proofs.InstructionsBegin.{top_frame}
+use Rattle.step_contents.proofs.InstructionsBegin.{top_frame}
 
 -- ---- The inside.
 

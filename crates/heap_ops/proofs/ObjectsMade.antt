@@ -21,7 +21,7 @@ use Rattle.jk_model_heap_rows.specs.HeapRows.{HeapRow}
 use Rattle.jk_model_heap_rows.specs.NewObjectRows.{LacksWords, PushesNew}
 use Rattle.class_init.specs.KeptStates.{KeptState}
 use Rattle.frame_store.specs.FrameContents.{FrameContent, SetsTop}
-use Rattle.grown_heaps.proofs.ObjectsAfterChanges.{costs_together}
+use Rattle.heap_laws.proofs.ObjectsAfterChanges.{costs_together}
 use Rattle.object_store.specs.HeapContents.{HeapBecomes, HeapContent, IsHeapContent, IsSame, MakesObject, shape_words, words_left}
 use Rattle.number_laws.proofs.FrameParts.{with_stack}
 use Rattle.step_contents.specs.Contents.{InsideBecomes, contents_of}

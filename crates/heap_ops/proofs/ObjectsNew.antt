@@ -18,7 +18,7 @@ use Rattle.jk_model_domains.specs.NumberRows.{IsOnTop}
 use Rattle.jk_model_heaps.specs.declared.shapes.Shape.TheVariants as Of
 use Rattle.jk_model_heaps.specs.Heaps.{zero_object}
 use Rattle.jk_model_heap_rows.specs.HeapRows.{makes_object}
-use Rattle.code_places.specs.Operands.{LeadsToType}
+use Rattle.step_contents.specs.Operands.{LeadsToType}
 use Rattle.frame_store.specs.FrameContents.{FrameContent, SetsTop, TopFrame}
 use Rattle.object_store.specs.HeapContents.{HeapContent, IsHeapContent, IsSame, MakesObject, shape_words, words_left}
 use Rattle.number_laws.proofs.FrameParts.{with_stack}

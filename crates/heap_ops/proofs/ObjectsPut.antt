@@ -22,13 +22,13 @@ use Rattle.jk_model_heap_rows.specs.HeapRows.{HeapRow}
 use Rattle.jk_model_sealing.specs.SealedInsides.{IsKnownValue, IsSealedInside, IsSealedObject}
 use Rattle.jk_model_sharing.specs.SharedStates.{caps_of}
 use Rattle.frame_store.specs.FrameContents.{FrameContent}
-use Rattle.grown_heaps.proofs.ObjectsAfterChanges.{found_stands, written_there, written_words}
-use Rattle.heap_row_laws.specs.HeapRowLaws.{HeapRowsKeep}
+use Rattle.heap_laws.proofs.ObjectsAfterChanges.{found_stands, written_there, written_words}
+use Rattle.row_laws.specs.HeapRowLaws.{HeapRowsKeep}
 use Rattle.object_store.specs.HeapContents.{AreOfKind, HeapBecomes, HeapContent, IsHeapContent, IsSmall, WritesObject}
 use Rattle.step_contents.specs.Conditions.{around}
-use Rattle.stored_objects.proofs.KindsOfTypes.{kind_of_zero, one_kind}
-use Rattle.stored_objects.proofs.LaidOut.{known_small}
-use Rattle.code_places.proofs.InstructionsBegin.{runs_code, runs_well}
+use Rattle.heap_laws.proofs.KindsOfTypes.{kind_of_zero, one_kind}
+use Rattle.heap_laws.proofs.LaidOut.{known_small}
+use Rattle.step_contents.proofs.InstructionsBegin.{runs_code, runs_well}
 use Rattle.heap_ops.specs.declared.here.Here.{Here}
 use Rattle.heap_ops.specs.OneInstruction.{place_in}
 use Rattle.heap_ops.proofs.DoingHere.{Doing, c, here, i, s, same_heap, w}

@@ -19,11 +19,11 @@ use Rattle.jk_model_sealing.specs.SealedInsides.{IsKnownValue}
 use Rattle.jk_model_sharing.specs.SharedStates.{caps_of}
 use Rattle.frame_store.specs.FrameContents.{FrameContent}
 use Rattle.object_store.specs.HeapContents.{HeapContent, IsReference}
-use Rattle.heap_row_laws.specs.HeapOperands.{IsObjectOrNull, IsReferenceOrNull}
-use Rattle.heap_row_laws.proofs.ValuesMet.{reference_met, three_taken}
+use Rattle.row_laws.specs.HeapOperands.{IsObjectOrNull, IsReferenceOrNull}
+use Rattle.row_laws.proofs.ValuesMet.{reference_met, three_taken}
 use Rattle.step_contents.specs.Settings.{AreKnown}
-use Rattle.typed_operands.specs.Operands.{ValueMeets}
-use Rattle.typed_operands.proofs.OperandsOnTop.{taken_meet}
+use Rattle.row_laws.specs.Operands.{ValueMeets}
+use Rattle.row_laws.proofs.OperandsOnTop.{taken_meet}
 use Rattle.heap_ops.specs.declared.here.Here.{Here}
 use Rattle.heap_ops.specs.OneInstruction.{place_in}
 use Rattle.heap_ops.specs.TopEntries.{StandsBelow}

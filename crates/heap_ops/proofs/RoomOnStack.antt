@@ -10,12 +10,12 @@ use Rattle.jk_model_typing.specs.Rows.{AllMeet, HasShape}
 use Rattle.frame_store.specs.FrameContents.{FrameContent, HasFreeEntry}
 use Rattle.object_store.specs.HeapContents.{HeapContent}
 use Rattle.number_laws.proofs.ValuesFit.{fits-length, long_slots}
-use Rattle.sealed_rows.specs.RunningFrames.{RunsWell}
+use Rattle.heap_laws.specs.RunningFrames.{RunsWell}
 use Rattle.step_contents.specs.Conditions.{around}
-use Rattle.typed_operands.specs.StandingFrames.{StandsTyped}
-use Rattle.typed_operands.proofs.OperandsOnTop.{does_shape}
-use Rattle.typed_operands.proofs.StandsHere.{room, stands_typed}
-use Rattle.code_places.proofs.InstructionsBegin.{runs_code, runs_well}
+use Rattle.row_laws.specs.StandingFrames.{StandsTyped}
+use Rattle.row_laws.proofs.OperandsOnTop.{does_shape}
+use Rattle.row_laws.proofs.StandsHere.{room, stands_typed}
+use Rattle.step_contents.proofs.InstructionsBegin.{runs_code, runs_well}
 use Rattle.heap_ops.specs.declared.here.Here.{Here}
 use Rattle.heap_ops.specs.OneInstruction.{place_in}
 use Rattle.heap_ops.proofs.DoingHere.{Doing, c, here, i, s, top, w}

@@ -17,7 +17,7 @@ use Rattle.jk_model_heaps.specs.Workings.{with_own}
 use Rattle.jk_model_heap_rows.specs.FieldRows.{IsStaticValue, IsSystemOut}
 use Rattle.jk_model_heap_rows.specs.HeapRows.{gets_static, puts_static}
 use Rattle.class_init.specs.KeptStates.{KeptState}
-use Rattle.code_places.specs.Operands.{LeadsToField}
+use Rattle.step_contents.specs.Operands.{LeadsToField}
 use Rattle.frame_store.specs.FrameContents.{FrameContent, SetsTop, TopFrame}
 use Rattle.object_store.specs.HeapContents.{HeapBecomes, HeapContent}
 use Rattle.number_laws.proofs.FrameParts.{with_stack}

@@ -20,12 +20,12 @@ use Rattle.jk_model_heap_rows.specs.HeapRows.{loads_text}
 use Rattle.jk_model_heap_rows.specs.NewObjectRows.{LacksWords, with_literal}
 use Rattle.jk_model_sealing.specs.SealedRuns.{KnowsClassOf}
 use Rattle.class_init.specs.KeptStates.{KeptState}
-use Rattle.code_places.specs.Operands.{LeadsToText}
+use Rattle.step_contents.specs.Operands.{LeadsToText}
 use Rattle.frame_store.specs.FrameContents.{FrameContent, SetsTop, TopFrame}
 use Rattle.object_store.specs.HeapContents.{HeapContent, IsHeapContent, IsSame, MakesObject, words_left}
 use Rattle.number_laws.proofs.FrameParts.{with_stack}
 use Rattle.step_contents.specs.Contents.{InsideBecomes, contents_of}
-use Rattle.code_places.proofs.InstructionsBegin.{runs_well}
+use Rattle.step_contents.proofs.InstructionsBegin.{runs_well}
 use Rattle.heap_ops.specs.declared.here.Here.{Here}
 use Rattle.heap_ops.specs.LiteralObjects.{HasObject, LacksObject, LiteralCall, with_text}
 use Rattle.heap_ops.specs.OneInstruction.{place_in}

@@ -19,13 +19,13 @@ use Rattle.jk_model_heap_rows.specs.ArrayTrees.{IsTree, Made, MakesTree, tree_wo
 use Rattle.jk_model_heap_rows.specs.HeapRows.{makes_arrays}
 use Rattle.jk_model_heap_rows.specs.NewObjectRows.{LacksWords, count_of, counts_of}
 use Rattle.jk_model_heap_rows.proofs.TreesCost.{trees_cost}
-use Rattle.code_places.specs.Operands.{LeadsToType}
+use Rattle.step_contents.specs.Operands.{LeadsToType}
 use Rattle.frame_store.specs.FrameContents.{FrameContent}
 use Rattle.heap_loops.specs.ObjectsMade.{MakesObjects}
 use Rattle.object_store.specs.HeapContents.{HeapContent, IsHeapContent, words_left}
-use Rattle.heap_row_laws.proofs.ClassesToMake.{type_short}
+use Rattle.row_laws.proofs.ClassesToMake.{type_short}
 use Rattle.step_contents.specs.Conditions.{around}
-use Rattle.code_places.proofs.InstructionsBegin.{runs_code, runs_well}
+use Rattle.step_contents.proofs.InstructionsBegin.{runs_code, runs_well}
 use Rattle.heap_ops.specs.declared.here.Here.{Here}
 use Rattle.heap_ops.specs.ArrayCounts.{AreIntsOnTop}
 use Rattle.heap_ops.specs.OneInstruction.{place_in}

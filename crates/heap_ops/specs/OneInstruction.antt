@@ -7,7 +7,7 @@ use Rattle.jk_model_heaps.specs.Capabilities.{KnownCapabilities}
 use Rattle.jk_model_heap_rows.specs.HeapRows.{IsOfHeaps}
 use Rattle.jk_model_sharing.specs.SharedStates.{SharedState}
 use Rattle.class_init.specs.KeptStates.{KeptState}
-use Rattle.code_places.specs.StandingFrames.{place_of}
+use Rattle.step_contents.specs.StandingFrames.{place_of}
 use Rattle.frame_store.specs.FrameContents.{FrameContent}
 use Rattle.object_store.specs.HeapContents.{HeapContent}
 use Rattle.step_contents.specs.Conditions.{MayDo}

@@ -5,18 +5,18 @@ ghost use Rattle.jk_model.specs.declared.opcodes.TheConstants.{MULTIANEWARRAY};
 ghost use Rattle.jk_model.specs.declared.steps.Raise.TheVariants as Raised;
 ghost use Rattle.jk_model_heaps.specs.SystemClasses.{NEGATIVE_ARRAY_SIZE_EXCEPTION};
 ghost use Rattle.jk_model_heap_rows.specs.NewObjectRows.{counts_of};
-ghost use Rattle.code_places.specs.StandingFrames.{place_of};
+ghost use Rattle.step_contents.specs.StandingFrames.{place_of};
 ghost use Rattle.heap_ops.specs.ArrayCounts.{AreIntsOnTop};
 ghost use Rattle.heap_ops.specs.OneInstruction.{MayStep, Steps, place_in};
 
 use crate::entries::replace;
 use crate::here::Here;
 use crate::making::count_at;
-use code_places::{StandsAt, type_named};
 use frame_store::FrameStore;
 use heap_loops::{arrays_words, make_arrays};
 use jk_model::{Raise, SegmentNo, Standing, Value};
 use object_store::ObjectStore;
+use step_contents::{StandsAt, type_named};
 
 /// How many counts an instruction takes at most.
 const MOST_COUNTS: usize = 255;

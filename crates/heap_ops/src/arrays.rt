@@ -14,13 +14,13 @@ use crate::entries::{drop_entries, int_at, object_at, replace, value_at};
 use crate::here::Here;
 use crate::stored::stored;
 use frame_store::FrameStore;
-use heap_row_laws::laws::heap_rows_keep;
 use instance_tests::CapabilityTests;
 use jk_model::{DomainId, Raise, Value};
 use jk_model_classes::TypeRef;
 use jk_model_heaps::Shape;
 use jk_model_heaps::system_classes::{ARRAY_INDEX_EXCEPTION, ARRAY_STORE_EXCEPTION};
 use object_store::ObjectStore;
+use row_laws::heap_rows::heap_rows_keep;
 
 /// The element type and the length of an array.
 fn array_at<H: ObjectStore>(heap: &H, d: DomainId, a: u32) -> (TypeRef, u32)

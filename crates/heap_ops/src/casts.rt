@@ -10,13 +10,13 @@ ghost use Rattle.heap_ops.specs.OneInstruction.{MayStep, MayStepAmong, Steps, St
 
 use crate::entries::{object_at, replace, value_at};
 use crate::here::Here;
-use code_places::type_named;
 use frame_store::FrameStore;
 use instance_tests::{CapabilityTests, is_instance, is_null_or_instance};
 use jk_model::{Raise, Value};
 use jk_model_classes::TypeRef;
 use jk_model_heaps::system_classes::CLASS_CAST_EXCEPTION;
 use object_store::ObjectStore;
+use step_contents::type_named;
 
 /// Raises the object on top, or a NullPointerException where that is null.
 pub(crate) fn throw<F: FrameStore>(frames: &F, here: &Here<'_>) -> Result<(), Raise>

@@ -13,11 +13,11 @@ use crate::here::Here;
 use crate::statics::field_kind;
 use crate::stored::stored;
 use class_table::ClassTable;
-use code_places::field_of;
 use frame_store::FrameStore;
-use heap_row_laws::laws::heap_rows_keep;
 use jk_model::{MemberId, Raise};
 use object_store::ObjectStore;
+use row_laws::heap_rows::heap_rows_keep;
+use step_contents::field_of;
 
 /// The place of an instance field in the objects of its class and of all classes below it.
 fn place_of(t: &ClassTable, m: MemberId) -> u32

@@ -1,8 +1,8 @@
 //! Where an instruction runs.
 
-use code_places::StandsAt;
 use domain_resolver::World;
 use jk_model::{DomainId, SegmentNo};
+use step_contents::StandsAt;
 
 /// Where an instruction runs: in which world, domain and segment, and at which place of its method's code.
 #[derive(Clone, Copy)]

@@ -9,12 +9,12 @@ ghost use Rattle.heap_ops.specs.OneInstruction.{MayStepWith, StepsWith, place_in
 use crate::here::Here;
 use class_init::Own;
 use class_table::ClassTable;
-use code_places::text_of;
 use frame_store::FrameStore;
 use heap_loops::make_text;
 use jk_model::{DomainId, NoRoom, Raise, Standing, Value};
 use object_store::ObjectStore;
 use shared_values::Text;
+use step_contents::text_of;
 
 /// The most words that a heap has.
 const MOST_WORDS: usize = 16_777_216;

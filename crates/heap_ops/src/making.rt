@@ -8,20 +8,20 @@ ghost use Rattle.jk_model_classes.specs.declared.records.BaseRef.{BaseRef as ABa
 ghost use Rattle.jk_model_typing.specs.Rows.{IsCodeOf};
 ghost use Rattle.jk_model_heaps.specs.SystemClasses.{NEGATIVE_ARRAY_SIZE_EXCEPTION};
 ghost use Rattle.jk_model_heap_rows.specs.NewObjectRows.{MakesArrayOf, count_of};
-ghost use Rattle.code_places.specs.StandingFrames.{place_of};
+ghost use Rattle.step_contents.specs.StandingFrames.{place_of};
 ghost use Rattle.object_store.specs.HeapContents.{HasBase};
 ghost use Rattle.heap_ops.specs.OneInstruction.{MayStep, Steps, place_in};
 ghost use Rattle.heap_ops.specs.TopEntries.{StandsBelow};
 
 use crate::entries::{int_at, replace};
 use crate::here::Here;
-use code_places::{StandsAt, type_named};
 use frame_store::FrameStore;
 use jk_model::{Raise, SegmentNo, Standing, Value};
 use jk_model_classes::{BaseRef, TypeRef};
 use jk_model_heaps::Shape;
 use jk_model_heaps::system_classes::NEGATIVE_ARRAY_SIZE_EXCEPTION;
 use object_store::ObjectStore;
+use step_contents::{StandsAt, type_named};
 
 /// Pushes a new object of the class that the instruction names.
 pub(crate) fn make_object<H: ObjectStore, F: FrameStore>(

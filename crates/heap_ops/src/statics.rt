@@ -13,11 +13,11 @@ use crate::here::Here;
 use crate::stored::stored;
 use class_init::Own;
 use class_table::ClassTable;
-use code_places::field_of;
 use frame_store::FrameStore;
 use jk_model::{MemberId, Raise, Value};
 use jk_model_classes::TypeRef;
 use member_lookup::field_record;
+use step_contents::field_of;
 
 /// The declared type of a field.
 pub(crate) fn field_kind(t: &ClassTable, m: MemberId) -> &TypeRef

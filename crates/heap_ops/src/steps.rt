@@ -2,7 +2,7 @@
 
 ghost use Rattle.jk_model_heap_rows.specs.HeapRows.{IsOfHeaps};
 ghost use Rattle.type_rows.specs.CodeViews.{scope_of};
-ghost use Rattle.code_places.specs.StandingFrames.{place_of};
+ghost use Rattle.step_contents.specs.StandingFrames.{place_of};
 ghost use Rattle.step_contents.specs.Conditions.{MayDo};
 ghost use Rattle.step_contents.specs.Contents.{contents_of, here_at};
 ghost use Rattle.heap_ops.specs.HeapSteps.{HeapDone};
@@ -17,7 +17,6 @@ use crate::literals::load_text;
 use crate::making::{make_array, make_object, make_reference_array};
 use crate::statics::{get_static, put_static};
 use class_init::Own;
-use code_places::StandsAt;
 use domain_resolver::World;
 use frame_store::FrameStore;
 use instance_tests::CapabilityTests;
@@ -28,6 +27,7 @@ use jk_model::opcodes::{
 };
 use jk_model::{After, DomainId, Raise, SegmentNo};
 use object_store::ObjectStore;
+use step_contents::StandsAt;
 use thread_segments::Shared;
 
 /// Does the instruction at which the top frame of a segment stands, one that works on objects, static fields or literals, and

@@ -8,9 +8,9 @@ use Rattle.jk_model_machine_state.specs.Machines.{Machine}
 use Rattle.jk_model_runs.specs.Confined.{drawn_by}
 use Rattle.jk_model_runs.specs.Events.{Goes, Kills, Rounds, Turns}
 use Rattle.jk_model_runs.specs.Steps.{Deed, EndedDomain, Entered, Flagged, LeftSegments, Rested, Steps, Worked}
-use Rattle.sealed_crossings.specs.KeptWorlds.{KeepsWorld, lasting}
-use Rattle.sealed_crossings.proofs.NumbersDrawn.{kills_same, steps_draw}
-use Rattle.sealed_crossings.proofs.WorldsKept.{kills_keep, steps_keep}
+use Rattle.machine_laws.specs.KeptWorlds.{KeepsWorld, lasting}
+use Rattle.machine_laws.proofs.NumbersDrawn.{kills_same, steps_draw}
+use Rattle.machine_laws.proofs.WorldsKept.{kills_keep, steps_keep}
 use Rattle.kernel_events.specs.KernelCalls.{steps_of}
 use Rattle.kernel_events.specs.RisingNumbers.{Rises}
 use Rattle.kernel_events.specs.StepsInTurn.{GoesSoFar, RoundsSoFar, TurnsApart, TurnsSoFar}

@@ -23,7 +23,7 @@ use Rattle.jk_model_runs.specs.Sealed.{IsSealed}
 use Rattle.class_init.specs.KeptStates.{HasRooms, KeptState}
 use Rattle.object_store.specs.HeapContents.{HeapContent}
 use Rattle.frame_store.specs.FrameContents.{FrameContent}
-use Rattle.crossing_premises.specs.SoundMachines.{HasSoundClasses}
+use Rattle.machine_laws.specs.SoundMachines.{HasSoundClasses}
 use Rattle.machine_parts.specs.FittingParts.{AreFittingParts}
 use Rattle.machine_parts.specs.MachineParts.{MachineParts, machine_of}
 

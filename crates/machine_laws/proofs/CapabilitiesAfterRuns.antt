@@ -11,7 +11,7 @@ use Rattle.jk_model_sharing.specs.BoundNames.{count_bound_by}
 use Rattle.jk_model_machine_state.specs.Machines.{DomainState, Machine, is_live_domain}
 use Rattle.jk_model_runs.specs.Sealed.{AreSealedCapabilities, AreSealedNames, is_stand_in, numbers_before}
 use Rattle.list_lemmas.proofs.ItemsOfLists.{Contains-at}
-use Rattle.grown_heaps.proofs.StillFits.{of_class}
+use Rattle.heap_laws.proofs.StillFits.{of_class}
 use Rattle.machine_laws.proofs.ChangedItems.{as_many, front_sums_stay}
 use Rattle.machine_laws.proofs.SegmentsThatRan.{HasRun, after, caps_stay, changed, domain_cases, each_domain, home_at, home_there, part_stays}
 use Rattle.machine_laws.proofs.SegmentsStillFit.{live_stays}

@@ -6,7 +6,7 @@ use Rattle.jk_model.specs.declared.output.Line.{Line}
 use Rattle.jk_model_machine_state.specs.Machines.{Machine}
 use Rattle.jk_model_runs.specs.Events.{Goes, Rounds, Turns, on, over}
 use Rattle.jk_model_runs.specs.Steps.{Steps}
-use Rattle.sealed_crossings.proofs.WorldsKept.{steps_keep}
+use Rattle.machine_laws.proofs.WorldsKept.{steps_keep}
 use Rattle.machine_laws.specs.StepProgress.{KeepsOn}
 
 -- What a machine leads to.

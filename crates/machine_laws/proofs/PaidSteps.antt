@@ -18,8 +18,8 @@ use Rattle.jk_model_runs.specs.Sealed.{AreSealedCapabilities, AreSealedDomains, 
 use Rattle.jk_model_sealing.specs.ClassesInProgress.{progress_by}
 use Rattle.list_lemmas.proofs.ItemsByPlace.{comes_from, mapped_at}
 use Rattle.list_lemmas.proofs.ItemsOfLists.{Contains-at, place_of}
-use Rattle.sealed_crossings.specs.KeptWorlds.{KeepsWorld, lasting}
-use Rattle.sealed_crossings.proofs.WorldsKept.{sound_classes_stay}
+use Rattle.machine_laws.specs.KeptWorlds.{KeepsWorld, lasting}
+use Rattle.machine_laws.proofs.WorldsKept.{sound_classes_stay}
 use Rattle.machine_laws.specs.KnownMachines.{IsKnownMachine}
 use Rattle.machine_laws.proofs.ChangedItems.{as_many, as_many_pass, front_sums_stay, parts_stay}
 

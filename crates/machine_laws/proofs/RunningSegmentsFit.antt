@@ -23,7 +23,7 @@ use Rattle.jk_model_runs.specs.AnsweredCalls.{SegmentsAnswer}
 use Rattle.jk_model_runs.specs.Sealed.{IsSealed, IsSealedSegment, SegmentsFit, TopFits, initialisers_of, segment_initialisers, surroundings}
 use Rattle.list_lemmas.proofs.FoundItems.{Finds, finds}
 use Rattle.list_lemmas.proofs.ItemsOfLists.{Contains-at, Contains-none}
-use Rattle.running_laws.specs.KeptRuns.{ActsWell}
+use Rattle.row_laws.specs.KeptRuns.{ActsWell}
 use Rattle.machine_laws.specs.KnownMachines.{IsKnownMachine}
 
 -- ---- The thread of a number.

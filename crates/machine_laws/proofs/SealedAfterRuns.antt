@@ -10,7 +10,7 @@ use Rattle.jk_model_sealing.specs.SealedRuns.{AreSealedFrames}
 use Rattle.jk_model_machine_state.specs.Machines.{Machine}
 use Rattle.jk_model_machine_state.specs.Places.{RunningSegment, run_of, setting_of, with_run}
 use Rattle.jk_model_runs.specs.Sealed.{IsSealed, TopFits, surroundings}
-use Rattle.running_laws.specs.KeptRuns.{KeepsRun}
+use Rattle.row_laws.specs.KeptRuns.{KeepsRun}
 use Rattle.machine_laws.proofs.CapabilitiesAfterRuns.{capabilities_sealed, names_sealed}
 use Rattle.machine_laws.proofs.DomainsAfterRuns.{domains_sealed}
 use Rattle.machine_laws.proofs.InitialisersAfterRuns.{initialisers_sealed}

@@ -12,8 +12,8 @@ use Rattle.jk_model_sealing.specs.SealedRuns.{AreSealedFrames}
 use Rattle.jk_model_machine_state.specs.Machines.{DomainState, Machine, Segment}
 use Rattle.jk_model_machine_state.specs.Places.{LiveDomain}
 use Rattle.jk_model_runs.specs.Sealed.{CallerFits, IsSealedSegment, SegmentsFit, TopFits, surroundings}
-use Rattle.grown_heaps.proofs.GrownHeaps.{grown_self}
-use Rattle.grown_heaps.proofs.StillFits.{fits_as_top, fits_at_call, frames_sealed}
+use Rattle.heap_laws.proofs.GrownHeaps.{grown_self}
+use Rattle.heap_laws.proofs.StillFits.{fits_as_top, fits_at_call, frames_sealed}
 use Rattle.machine_laws.proofs.SegmentsThatRan.{HasRun, after, here, here_at, home_at, number_here, others_at, surroundings_stay}
 
 same_domain : (a b : DomainId) → a.0 ≡ b.0 → a ≡ b

@@ -13,8 +13,8 @@ use Rattle.jk_model_machine_state.specs.Places.{RunningSegment, run_of, setting_
 use Rattle.jk_model_runs.specs.Sealed.{IsSealed, TopFits, surroundings}
 use Rattle.list_lemmas.proofs.ItemsByPlace.{comes_from, mapped_at}
 use Rattle.list_lemmas.proofs.ItemsOfLists.{Contains-at, place_of}
-use Rattle.sealed_rows.specs.ClassesInProgress.{KeepsProgress}
-use Rattle.sealed_rows.specs.KeptInsides.{KeepsInside}
+use Rattle.heap_laws.specs.ClassesInProgress.{KeepsProgress}
+use Rattle.heap_laws.specs.KeptInsides.{KeepsInside}
 use Rattle.machine_laws.proofs.ChangedItems.{one_changed, parts_stay}
 use Rattle.machine_laws.proofs.RunningSegmentsFit.{thread_place}
 

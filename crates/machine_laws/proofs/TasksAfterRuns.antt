@@ -8,7 +8,7 @@ use Rattle.jk_model_heaps.specs.Workings.{Inside}
 use Rattle.jk_model_machine_state.specs.Machines.{DomainState, Machine, Segment, Thread}
 use Rattle.jk_model_runs.specs.Sealed.{AreSealedTasks}
 use Rattle.list_lemmas.proofs.ItemsOfLists.{Contains-at, place_of}
-use Rattle.grown_heaps.proofs.ObjectsAfterChanges.{found_stands, stands_found}
+use Rattle.heap_laws.proofs.ObjectsAfterChanges.{found_stands, stands_found}
 use Rattle.machine_laws.proofs.SegmentsThatRan.{HasRun, after, each_inside, home_there, stood, thread_there}
 use Rattle.machine_laws.proofs.ThreadsAfterRuns.{running_at, was_segment}
 

@@ -14,8 +14,8 @@ use Rattle.jk_model_machine_state.specs.Machines.{DomainState, Machine, Segment,
 use Rattle.jk_model_machine_state.specs.Places.{LiveDomain, RunningSegment, run_of, setting_of, with_flags, with_run}
 use Rattle.jk_model_runs.specs.Sealed.{IsSealed, TopFits, surroundings}
 use Rattle.list_lemmas.proofs.LastItems.{one_last}
-use Rattle.running_laws.specs.KeptRuns.{KeepsRun}
-use Rattle.crossing_premises.specs.SoundMachines.{IsSealedAtCall}
+use Rattle.row_laws.specs.KeptRuns.{KeepsRun}
+use Rattle.machine_laws.specs.SoundMachines.{IsSealedAtCall}
 use Rattle.machine_laws.proofs.ChangedItems.{none_changed}
 use Rattle.machine_laws.proofs.DomainsAfterRuns.{numbers_stay}
 use Rattle.machine_laws.proofs.InitialisersAfterRuns.{found_still}

@@ -7,7 +7,7 @@ use Rattle.jk_model_classes.specs.declared.records.Link.TheVariants as To
 use Rattle.jk_model_classes.specs.Classes.{record_of}
 use Rattle.jk_model_machine_state.specs.Machines.{DomainState, Machine, Segment, Thread}
 use Rattle.jk_model_runs.specs.Events.{IsWhole}
-use Rattle.crossing_premises.specs.SoundMachines.{HasSoundClasses}
+use Rattle.machine_laws.specs.SoundMachines.{HasSoundClasses}
 
 -- it is sealed, its calls are answered, and its classes and names are sound
 abbrev pub IsKnownMachine : Machine → Type 0

@@ -1,4 +1,12 @@
+pub mod CallsAndAnswers
+pub mod GoingOn
+pub mod KeptWorlds
 pub mod KnownMachines
+pub mod OpenedMachines
 pub mod RunsInMachines
+pub mod SealedCrossings
+pub mod SealedOpenings
 pub mod SealedSteps
+pub mod SoundFolders
+pub mod SoundMachines
 pub mod StepProgress

@@ -14,7 +14,7 @@ use Rattle.jk_model_machine_state.specs.Places.{RunningSegment, run_of, setting_
 use Rattle.jk_model_runs.specs.Events.{IsWhole}
 use Rattle.jk_model_runs.specs.Sealed.{IsSealed, surroundings}
 use Rattle.machine_laws.specs.KnownMachines.{IsKnownMachine}
-use Rattle.running_laws.specs.KeptRuns.{KeepsRun, RunOn}
+use Rattle.row_laws.specs.KeptRuns.{KeepsRun, RunOn}
 
 -- what the lowest of these frames gave, the lowest of those gives
 abbrev pub GivesStill : List ClassRecord → List FrameState → List FrameState → Type 0

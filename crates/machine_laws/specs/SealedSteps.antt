@@ -10,9 +10,9 @@ use Rattle.jk_model_runs.specs.Events.{Kills}
 use Rattle.jk_model_runs.specs.Sealed.{IsSealed, surroundings}
 use Rattle.jk_model_runs.specs.Starts.{Starts, StartWords}
 use Rattle.jk_model_runs.specs.Steps.{Steps}
-use Rattle.crossing_premises.specs.SoundMachines.{IsSealedAtCall}
+use Rattle.machine_laws.specs.SoundMachines.{IsSealedAtCall}
 use Rattle.machine_laws.specs.KnownMachines.{IsKnownMachine, RunsNoPackageJk}
-use Rattle.running_laws.specs.KeptRuns.{ActsWell, AwaitOn, KeepsRun}
+use Rattle.row_laws.specs.KeptRuns.{ActsWell, AwaitOn, KeepsRun}
 
 abbrev pub FirstMachinesAreKnown : Type 0
 FirstMachinesAreKnown = (heap_pages stack_pages : Option ℕ) (m : Machine) → IsFirstMachine heap_pages stack_pages m → IsKnownMachine m

@@ -1,8 +1,14 @@
-//! What is said of whole machines: that they stay sealed, and that each thread has a step. Each module of `specs/` goes into the law crate
-//! of its name when that is proved over these machines: `sealed_steps`, `step_progress` and `sealed_openings`. There is no code here but
-//! that of laws: functions that do nothing, whose contracts are theorems on the definitions.
+//! The laws of whole machines. `folders`: with the classes and names of an accepted folder behind them, classes and names stay sound.
+//! `openings`: there is an opened domain wherever 44 words fit, and with it the machine stays sealed. `crossings` and `progress`: calls from one
+//! domain to another, what comes back from them, requests of package jk and ends of domains. `machines`: the first machine, a segment that
+//! has run, and whole steps. There is no code here but that of laws: functions that do nothing, whose contracts are theorems on the
+//! definitions.
 //!
-//! `specs/` says more than is proved: the functions of `laws` have what is proved.
+//! `specs/` says more than is proved: the functions of these modules have what is proved.
 #![tactic(auto)]
 
-pub mod laws;
+pub mod crossings;
+pub mod folders;
+pub mod machines;
+pub mod openings;
+pub mod progress;

@@ -1,5 +1,10 @@
--- The derivations of the laws.
+pub mod DomainEnded
+pub mod DomainOpened
 pub mod DomainsChanged
 pub mod DomainsOfParts
+pub mod PoolsSame
+pub mod RunningChanged
 pub mod SegmentsChanged
 pub mod SharedChanged
+pub mod TopsGone
+pub mod TopsOfThreads

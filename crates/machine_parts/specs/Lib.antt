@@ -1,4 +1,9 @@
 pub mod ChangedParts
+pub mod EndedParts
 pub mod FittingParts
 pub mod MachineParts
+pub mod OpenedParts
+pub mod PoolsOfParts
+pub mod RunningParts
+pub mod RunsChanged
 pub mod SharedInMachines

@@ -17,7 +17,7 @@ use Rattle.jk_model_running.specs.Ways.{GoesOn, Says, Ended, Left, Crosses, Asks
 use Rattle.jk_model_sealing.specs.AnsweringFrames.{FramesAnswer}
 use Rattle.jk_model_sealing.specs.FittingFrames.{FitsAsTop}
 use Rattle.jk_model_sealing.specs.SealedRuns.{IsSealedRun}
-use Rattle.sealed_rows.specs.RaisableObjects.{KeepsStates}
+use Rattle.heap_laws.specs.RaisableObjects.{KeepsStates}
 use Rattle.step_contents.specs.Conditions.{KnowsDomain, around}
 use Rattle.step_contents.specs.Contents.{Becomes, Contents, Here, Holds, LeftBehind, with_frame}
 use Rattle.step_contents.specs.Settings.{IsSetting}

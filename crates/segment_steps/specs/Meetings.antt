@@ -6,7 +6,7 @@ use Rattle.jk_model_frames.specs.Frames.{FrameState}
 use Rattle.jk_model_domains.specs.declared.states.Look.TheVariants as Sees
 use Rattle.jk_model_domains.specs.OwnStates.{IsLook, OwnState, state_of}
 use Rattle.jk_model_running.specs.Initialising.{FrameNeeds}
-use Rattle.code_places.specs.StandingFrames.{IsPlaceOf, place_of}
+use Rattle.step_contents.specs.StandingFrames.{IsPlaceOf, place_of}
 use Rattle.segment_steps.specs.declared.meeting.Meeting.{Meeting}
 use Rattle.segment_steps.specs.declared.meeting.Runs.{Runs}
 

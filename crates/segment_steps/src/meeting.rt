@@ -1,8 +1,8 @@
 //! What a thread meets before its top segment acts.
 
-use code_places::StandsAt;
 use jk_model::{ClassId, DomainId, FrameHead, SegmentNo, ThreadNo};
 use jk_model_domains::Look;
+use step_contents::StandsAt;
 
 /// Which thread steps, and where: its top segment, and that segment's domain.
 #[derive(Clone, Copy, Debug, PartialEq, Eq)]

@@ -18,9 +18,9 @@ use Rattle.jk_model_sealing.specs.SealedRuns.{IsSealedRun}
 use Rattle.jk_model_sharing.specs.KnownStubs.{AreKnownStubs}
 use Rattle.jk_model_sharing.specs.SharedStates.{SharedDomain, SharedState, caps_of, domain_numbered, stub_for, stub_of}
 use Rattle.class_init.specs.KeptStates.{HasRooms}
-use Rattle.sealed_rows.specs.RaisableObjects.{KeepsStates, MayMeetRaise}
-use Rattle.sound_codes.specs.SoundCodes.{AreSoundCodes}
-use Rattle.sound_codes.specs.SoundTables.{IsSoundTable}
+use Rattle.heap_laws.specs.RaisableObjects.{KeepsStates, MayMeetRaise}
+use Rattle.heap_laws.specs.SoundCodes.{AreSoundCodes}
+use Rattle.heap_laws.specs.SoundTables.{IsSoundTable}
 use Rattle.step_contents.specs.Contents.{Contents, Here, Holds, inside_in}
 use Rattle.step_contents.specs.PlacesInCode.{IsPlaceIn, PlaceInCode}
 

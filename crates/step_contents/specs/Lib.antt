@@ -1,5 +1,9 @@
 pub mod AnsweredSteps
 pub mod Conditions
 pub mod Contents
+pub mod InstructionKinds
+pub mod OpcodeTests
+pub mod Operands
 pub mod PlacesInCode
 pub mod Settings
+pub mod StandingFrames

@@ -17,7 +17,7 @@ use Rattle.jk_model_heaps.specs.SystemClasses.{ARRAY_INDEX_EXCEPTION, ARRAY_STOR
 use Rattle.jk_model_heaps.specs.Workings.{Inside, Setting, with_heap}
 use Rattle.jk_model_system_rows.specs.Answers.{Answer, Answered, Answers, fails_by, gives_nothing, with_answer}
 use Rattle.jk_model_system_rows.specs.ArrayCopies.{ArrayCopy, ArrayPair, CopiesArray, CopyRange, HasNoNull, HasNull, IsFittingFront, IsFront, at_null, copied, copies, copy_answer, number_kind, of_other_kinds, out_of_range}
-use Rattle.grown_heaps.proofs.ObjectsAfterChanges.{written_words}
+use Rattle.heap_laws.proofs.ObjectsAfterChanges.{written_words}
 use Rattle.heap_loops.specs.ItemChanges.{AreOfOneKind, HasItems}
 use Rattle.heap_loops.specs.KnownItems.{HasKnownItems}
 use Rattle.object_store.specs.HeapContents.{HeapBecomes, HeapContent, IsHeapContent, IsLive, WritesObject}

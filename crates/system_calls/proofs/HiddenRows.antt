@@ -12,12 +12,12 @@ use Rattle.jk_model_heaps.specs.Workings.{Inside, Setting, with_heap}
 use Rattle.jk_model_heaps.proofs.NamesInHeaps.{behind, in_front}
 use Rattle.jk_model_system_rows.specs.Answers.{Answer, with_answer}
 use Rattle.jk_model_system_rows.specs.HiddenTexts.{HidesUnits, SetsNewText, TextHolder, with_text}
-use Rattle.grown_heaps.proofs.ObjectsAfterChanges.{written_words}
+use Rattle.heap_laws.proofs.ObjectsAfterChanges.{written_words}
 use Rattle.object_store.specs.HeapContents.{AreOfKind, HasItem, HeapBecomes, HeapContent, IsHeapContent, IsLaidOut, IsLive, IsName, IsSmall, IsWritten, MakesObject, TakesItem, WritesObject, item_of, words_left}
 use Rattle.object_store.proofs.ObjectsWritten.{both_keep, live_made}
 use Rattle.system_calls.specs.DoneRows.{IsFor, IsReady}
 use Rattle.system_calls.specs.HiddenNames.{IsHidden}
-use Rattle.system_row_laws.specs.GivenValues.{HoldsText}
+use Rattle.row_laws.specs.GivenValues.{HoldsText}
 use Rattle.system_calls.specs.Wordings.{IsFrontOf}
 use Rattle.system_calls.proofs.RowsOfNewObjects.{counted_after, makes_one}
 

@@ -23,7 +23,7 @@ use Rattle.object_store.specs.HeapContents.{HeapContent, IsHeapContent, IsLive, 
 use Rattle.object_store.proofs.ObjectsWritten.{live_made, made_with}
 use Rattle.heap_loops.specs.TextChanges.{CopiesUnits, HasUnits, with_units}
 use Rattle.system_calls.specs.DoneRows.{Does, Finds, IsReady}
-use Rattle.system_row_laws.specs.GivenValues.{IsTextOrNull}
+use Rattle.row_laws.specs.GivenValues.{IsTextOrNull}
 use Rattle.system_calls.proofs.RowsOfNewObjects.{answers_lack, answers_new, counted_after, counted_still, done_still}
 use Rattle.system_calls.proofs.TextsJoined.{still_live}
 use Rattle.system_calls.proofs.UnitsRead.{unequal}

@@ -5,7 +5,7 @@ ghost use Rattle.std.specs.Prelude.{[], ◌∷◌};
 ghost use Rattle.jk_model.specs.declared.values.Value.TheVariants as Held;
 ghost use Rattle.jk_model_system_rows.specs.declared.meanings.SystemMeaning.TheVariants as Means;
 ghost use Rattle.system_calls.specs.DoneRows.{Does, Finds, IsReady, answer_of};
-ghost use Rattle.system_row_laws.specs.GivenValues.{GivenFor};
+ghost use Rattle.row_laws.specs.GivenValues.{GivenFor};
 
 use crate::answers::{Answer, NO_MEMORY};
 use crate::hidden_texts::{hidden, set_hidden};

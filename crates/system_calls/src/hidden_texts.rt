@@ -5,7 +5,7 @@ ghost use Rattle.jk_model.specs.declared.values.Value.TheVariants as Held;
 ghost use Rattle.jk_model_system_rows.specs.HiddenTexts.{TextHolder, with_text};
 ghost use Rattle.object_store.specs.HeapContents.{HeapBecomes, IsName};
 ghost use Rattle.system_calls.specs.DoneRows.{IsReady};
-ghost use Rattle.system_row_laws.specs.GivenValues.{HoldsText};
+ghost use Rattle.row_laws.specs.GivenValues.{HoldsText};
 ghost use Rattle.system_calls.specs.HiddenNames.{IsHidden};
 
 use class_table::ClassTable;

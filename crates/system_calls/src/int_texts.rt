@@ -9,7 +9,7 @@ ghost use Rattle.jk_model_system_rows.specs.ParsedNumbers.{parsed, int_above, in
 ghost use Rattle.heap_loops.specs.TextChanges.{HasUnits};
 ghost use Rattle.object_store.specs.HeapContents.{IsLive};
 ghost use Rattle.system_calls.specs.DoneRows.{Finds, answer_of};
-ghost use Rattle.system_row_laws.specs.GivenValues.{GivenFor};
+ghost use Rattle.row_laws.specs.GivenValues.{GivenFor};
 ghost use Rattle.system_calls.specs.Magnitudes.{capped_value, int_of_sign};
 
 use crate::answers::Answer;

@@ -9,7 +9,7 @@ ghost use Rattle.heap_loops.specs.TextChanges.{HasUnits};
 ghost use Rattle.jk_model_domains.specs.Objects.{Text};
 ghost use Rattle.object_store.specs.HeapContents.{IsLive};
 ghost use Rattle.system_calls.specs.DoneRows.{Does, Finds, IsReady, answer_of};
-ghost use Rattle.system_row_laws.specs.GivenValues.{GivenFor};
+ghost use Rattle.row_laws.specs.GivenValues.{GivenFor};
 
 use crate::answers::{Answer, NO_MEMORY};
 use crate::new_texts::joined;

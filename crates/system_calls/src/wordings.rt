@@ -5,7 +5,7 @@ ghost use Rattle.jk_model_domains.specs.Objects.{NamedObject};
 ghost use Rattle.jk_model_system_rows.specs.Texts.{ReadsAs};
 ghost use Rattle.heap_loops.specs.TextChanges.{HasUnits, WritesUnits};
 ghost use Rattle.object_store.specs.HeapContents.{HeapContent};
-ghost use Rattle.system_row_laws.specs.GivenValues.{HasWording};
+ghost use Rattle.row_laws.specs.GivenValues.{HasWording};
 ghost use Rattle.system_calls.specs.Wordings.{IsBeside, IsWorded};
 
 use crate::short_texts::{ShortText, null_text, number_text, truth_text, unit_text};

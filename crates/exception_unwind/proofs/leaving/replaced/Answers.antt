@@ -2,7 +2,7 @@
 use Rattle.std.proofs.Common.{inr, refl, arith}
 use Rattle.jk_model_domains.specs.Objects.{Object, Plain}
 use Rattle.step_contents.specs.Contents.{contents_of, here_at}
-use Rattle.typed_operands.proofs.SystemParents.{below_listed}
+use Rattle.row_laws.proofs.SystemParents.{below_listed}
 use Rattle.exception_unwind.proofs.InitialisersLeft.{error_left, is_error, no_error}
 use Rattle.exception_unwind.proofs.leaving.replaced.Goals as goal
 

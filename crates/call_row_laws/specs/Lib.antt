@@ -1,2 +1,0 @@
--- What is said of rows of instructions of call.
-pub mod CallRowLaws

@@ -1,2 +1,0 @@
-pub mod CallsAndAnswers
-pub mod SoundMachines

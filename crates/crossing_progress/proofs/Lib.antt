@@ -1,4 +1,0 @@
--- The derivations of the laws.
-pub mod CallsDecided
-pub mod PassagesDecided
-pub mod RequestsGranted

@@ -1,2 +1,0 @@
--- The derivations of the laws.
-pub mod DomainEnded

@@ -1,6 +1,0 @@
--- By the lemma of this name.
-use Rattle.heap_graphs.proofs.CopiesCostTheSame.{copies_cost_their_reach}
-use Rattle.heap_graphs.proofs.laws.copies_cost_their_reach.Goals as goal
-
-pub returns : goal.returns
-returns c = copies_cost_their_reach

@@ -1,6 +1,0 @@
--- By the lemma of this name.
-use Rattle.heap_graphs.proofs.CopiesAreSealed.{copies_keep_domains}
-use Rattle.heap_graphs.proofs.laws.copies_keep_domains.Goals as goal
-
-pub returns : goal.returns
-returns c = copies_keep_domains

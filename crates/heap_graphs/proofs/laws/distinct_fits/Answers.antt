@@ -1,6 +1,0 @@
--- By the lemma of this name.
-use Rattle.heap_graphs.proofs.DistinctNumbers.{distinct_fits}
-use Rattle.heap_graphs.proofs.laws.distinct_fits.Goals as goal
-
-pub returns : goal.returns
-returns c = distinct_fits

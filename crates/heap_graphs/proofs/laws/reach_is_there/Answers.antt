@@ -1,6 +1,0 @@
--- By the lemma of this name.
-use Rattle.heap_graphs.proofs.ReachIsListed.{reach_is_there}
-use Rattle.heap_graphs.proofs.laws.reach_is_there.Goals as goal
-
-pub returns : goal.returns
-returns c = reach_is_there

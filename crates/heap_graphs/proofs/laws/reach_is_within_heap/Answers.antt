@@ -1,6 +1,0 @@
--- By the lemma of this name.
-use Rattle.heap_graphs.proofs.CostsWithinHeaps.{reach_is_within_heap}
-use Rattle.heap_graphs.proofs.laws.reach_is_within_heap.Goals as goal
-
-pub returns : goal.returns
-returns c = reach_is_within_heap

@@ -1,6 +1,0 @@
--- By the lemma of this name.
-use Rattle.heap_graphs.proofs.SealedGraphs.{sealed_is_wholly_there}
-use Rattle.heap_graphs.proofs.laws.sealed_is_wholly_there.Goals as goal
-
-pub returns : goal.returns
-returns c = sealed_is_wholly_there

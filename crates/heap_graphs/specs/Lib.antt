@@ -1,2 +1,0 @@
-pub mod CopiedGraphs
-pub mod ReachedNames

@@ -1,0 +1,17 @@
+pub mod ClassesInProgress
+pub mod CopiedGraphs
+pub mod CostsOfHeaps
+pub mod FittingOutcomes
+pub mod FreshNames
+pub mod Growth
+pub mod KeptInsides
+pub mod LaidOutObjects
+pub mod NamedObjects
+pub mod NamedWell
+pub mod RaisableObjects
+pub mod ReachedNames
+pub mod RunningFrames
+pub mod SealedChanges
+pub mod SoundCodes
+pub mod SoundTables
+pub mod StillFitting

@@ -1,6 +1,0 @@
--- By rising names.
-use Rattle.heap_row_laws.proofs.TreesOfArrays.{tree_made}
-use Rattle.heap_row_laws.proofs.laws.fitting_trees_are_made.Goals as goal
-
-pub returns : goal.returns
-returns c = λ x t n counts heap fits. tree_made x t n counts heap fits

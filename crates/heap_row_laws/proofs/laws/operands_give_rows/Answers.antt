@@ -1,6 +1,0 @@
--- By the group of the instruction.
-use Rattle.heap_row_laws.proofs.RowsFromOperands.{row_there}
-use Rattle.heap_row_laws.proofs.laws.operands_give_rows.Goals as goal
-
-pub returns : goal.returns
-returns c = λ x s i w operands. row_there x w s i operands

@@ -1,6 +1,0 @@
--- By the lemma on it.
-use Rattle.machine_laws.proofs.RunningSegmentsFit.{acts_well}
-use Rattle.machine_laws.proofs.laws.running_segments_act_well.Goals as goal
-
-pub returns : goal.returns
-returns c = acts_well

@@ -1,0 +1,13 @@
+//! The laws. The functions have no bodies: each stands for its clause.
+
+ghost use Rattle.machine_laws.specs.KeptWorlds.{StepsDrawNumbers, StepsKeepWorlds};
+
+/// No step and no end of a domain changes the pools, the classes, what domains are opened with, or the number of the next thread.
+pub fn steps_keep_worlds()
+    ensures { StepsKeepWorlds }
+{}
+
+/// A step draws one number of a segment where it enters another domain, and none elsewhere.
+pub fn steps_draw_numbers()
+    ensures { StepsDrawNumbers }
+{}

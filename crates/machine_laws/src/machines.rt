@@ -1,0 +1,49 @@
+//! The laws. The functions have no bodies: each stands for its clauses.
+
+ghost use Rattle.machine_laws.specs.KnownMachines.{IsKnownMachine, IsKnownWithoutJk};
+ghost use Rattle.machine_laws.specs.RunsInMachines.{AnsweringRunsStayWhole, FirstMachinesAreWhole, KeptRunsStaySealed, PaidMachinesStayKnown};
+ghost use Rattle.machine_laws.specs.SealedSteps.{FirstMachinesAreKnown, LeftRunsStaySealed, RunningSegmentsActWell, WaitingRunsStaySealed};
+ghost use Rattle.machine_laws.specs.StepProgress.{GoingIsThere, RoundsAreThere, TurnsAreThere};
+
+use crate::folders::system_classes_are_sound;
+
+/// Where each thread of such a machine has a step, and steps lead to such machines, there are whole turns and rounds.
+pub fn turns_are_there()
+    ensures turns { TurnsAreThere IsKnownMachine }
+    ensures goes { GoingIsThere IsKnownMachine }
+    ensures rounds { RoundsAreThere IsKnownMachine }
+{}
+
+/// The same of machines of which no class refers to package jk.
+pub fn turns_are_there_without_jk()
+    ensures turns { TurnsAreThere IsKnownWithoutJk }
+    ensures goes { GoingIsThere IsKnownWithoutJk }
+    ensures rounds { RoundsAreThere IsKnownWithoutJk }
+{}
+
+/// The first machine is whole, and all is known of it.
+pub fn first_machines_are_known()
+    ensures whole { FirstMachinesAreWhole }
+    ensures known { FirstMachinesAreKnown }
+{
+    system_classes_are_sound();
+}
+
+/// Of the running segment of a known machine is known what a segment that acts rests on, where no RevokedException is pending for it.
+pub fn running_segments_act_well()
+    ensures { RunningSegmentsActWell }
+{}
+
+/// Where a segment of a known machine has run, the machine is sealed where it goes on, where no frame of it is left, and, but for its thread, where
+/// it waits for an answer. Where it goes on and its lowest frame gives what it gave, the machine is whole.
+pub fn kept_runs_stay_sealed()
+    ensures goes_on { KeptRunsStaySealed }
+    ensures answers { AnsweringRunsStayWhole }
+    ensures left { LeftRunsStaySealed }
+    ensures waits { WaitingRunsStaySealed }
+{}
+
+/// Where a step is paid, all is known of the machine that was known.
+pub fn paid_machines_stay_known()
+    ensures { PaidMachinesStayKnown }
+{}

@@ -1,0 +1,24 @@
+//! The laws. The functions have no bodies: each stands for its clauses.
+
+ghost use Rattle.machine_laws.specs.OpenedMachines.{FirstMachinesMayGrow, OpeningsStayWhole};
+ghost use Rattle.machine_laws.specs.SealedOpenings.{FramesStaySealed, InsidesStaySealed, OpeningsAreSealed, OpeningsAreThere};
+
+/// A domain can be opened wherever 44 words fit, and is sealed inside.
+pub fn domains_open()
+    ensures there { OpeningsAreThere }
+    ensures sealed { OpeningsAreSealed }
+{}
+
+/// Domains that were there stay sealed inside with more classes behind closed ones and with more capabilities, and so do the frames of
+/// their segments.
+pub fn domains_stay_sealed()
+    ensures insides { InsidesStaySealed }
+    ensures frames { FramesStaySealed }
+{}
+
+/// A whole machine in which a folder is accepted and a domain is opened is whole, where its classes and names are sound then: no name
+/// crosses between domains, and all calls are answered. It rests on what each machine of a run has, the first one to begin with.
+pub fn machines_stay_whole()
+    ensures opened { OpeningsStayWhole }
+    ensures first { FirstMachinesMayGrow }
+{}

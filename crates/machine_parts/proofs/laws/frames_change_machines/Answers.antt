@@ -1,6 +1,0 @@
--- By the lemma on it.
-use Rattle.machine_parts.proofs.SegmentsChanged.{frames_change_machines}
-use Rattle.machine_parts.proofs.laws.frames_change_machines.Goals as goal
-
-pub returns : goal.returns
-returns c = frames_change_machines

@@ -1,6 +1,0 @@
--- By the lemma of this name.
-use Rattle.machine_parts.proofs.SharedChanged.{pushes_change_machines}
-use Rattle.machine_parts.proofs.laws.pushes_change_machines.Goals as goal
-
-pub returns : goal.returns
-returns c = pushes_change_machines

@@ -1,2 +1,0 @@
-pub mod OpenedParts
-pub mod PoolsOfParts

@@ -1,6 +1,0 @@
--- By the lemmas on the running segment.
-use Rattle.running_parts.proofs.RunningChanged.{flags_alone, flags_run, frames_run, inside_stays}
-use Rattle.running_parts.proofs.laws.runs_change_machines.Goals as goal
-
-pub returns : goal.returns
-returns c = record { stays = inside_stays; alone = flags_alone; frames = frames_run; flags = flags_run }

@@ -1,2 +1,0 @@
-pub mod RunningParts
-pub mod RunsChanged

@@ -1,3 +1,0 @@
--- The derivations of the laws.
-pub mod NumbersDrawn
-pub mod WorldsKept

@@ -1,6 +1,0 @@
--- By the lemmas on what is drawn.
-use Rattle.sealed_crossings.proofs.NumbersDrawn.{kills_same, steps_draw, terminates_same}
-use Rattle.sealed_crossings.proofs.laws.steps_draw_numbers.Goals as goal
-
-pub returns : goal.returns
-returns c = record { steps = steps_draw; ends = terminates_same; kills = kills_same }

@@ -1,2 +1,0 @@
-pub mod KeptWorlds
-pub mod SealedCrossings

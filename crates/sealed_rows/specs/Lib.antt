@@ -1,5 +1,0 @@
-pub mod ClassesInProgress
-pub mod FittingOutcomes
-pub mod KeptInsides
-pub mod RaisableObjects
-pub mod RunningFrames

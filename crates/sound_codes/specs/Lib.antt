@@ -1,3 +1,0 @@
-pub mod NamedWell
-pub mod SoundCodes
-pub mod SoundTables

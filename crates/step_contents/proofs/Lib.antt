@@ -1,0 +1,4 @@
+pub mod InstructionsBegin
+pub mod KindsByOpcode
+pub mod NeededClasses
+pub mod OnePlace

@@ -1,0 +1,19 @@
+-- Which of the step crates does an instruction.
+use Rattle.jk_model_typing.specs.declared.frames.FrameType.{FrameType}
+use Rattle.jk_model_typing.specs.Rows.{Row}
+use Rattle.jk_model_domains.specs.NumberRows.{IsOfNumbers}
+use Rattle.jk_model_call_rows.specs.CallRows.{IsOfCalls}
+use Rattle.jk_model_heap_rows.specs.HeapRows.{IsOfHeaps}
+use Rattle.step_contents.specs.PlacesInCode.{PlaceInCode}
+use Rattle.step_contents.specs.declared.kinds.Kind.{Kind}
+use Rattle.step_contents.specs.declared.kinds.Kind.TheVariants as Of
+
+-- typing has a row for the instruction there
+abbrev pub HasRow : PlaceInCode → Type 0
+HasRow at = (before : FrameType) × (after : FrameType) × Row at.scope at.head.at at.instr before after
+
+-- the instruction is of these rows, and of no other's
+abbrev pub IsOfKind : PlaceInCode → Kind → Type 0
+IsOfKind at Of.Numbers = IsOfNumbers at.scope at.instr
+IsOfKind at Of.Heap = IsOfHeaps at.scope at.instr
+IsOfKind at Of.Call = IsOfCalls at.instr

@@ -1,3 +1,0 @@
--- Lemmas on objects in stores.
-pub mod KindsOfTypes
-pub mod LaidOut

@@ -1,2 +1,0 @@
--- What is said of objects in stores.
-pub mod LaidOutObjects

@@ -1,6 +1,0 @@
--- By the numbers of classes, from parent to parent.
-use Rattle.typed_operands.proofs.BelowObject.{below_object}
-use Rattle.typed_operands.proofs.laws.classes_are_below_object.Goals as goal
-
-pub returns : goal.returns
-returns c = λ classes class sound there. below_object classes sound class there

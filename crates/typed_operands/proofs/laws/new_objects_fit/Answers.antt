@@ -1,7 +1,0 @@
--- By the frame that `new` leaves.
-use Rattle.typed_operands.proofs.FreshObjects.{made_fit}
-use Rattle.typed_operands.proofs.laws.new_objects_fit.Goals as goal
-
-pub returns : goal.returns
-returns c = λ s heap new place i f g before after class a typed shape makes grown of replaces.
-    made_fit s heap new place i f g before after class a typed shape makes grown of replaces

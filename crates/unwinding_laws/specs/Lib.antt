@@ -1,3 +1,0 @@
--- What is said of raising and unwinding.
-pub mod RaisedObjects
-pub mod UnwoundFrames
