@@ -4,7 +4,9 @@
 #![tactic(auto)]
 
 mod meeting;
+mod raising;
 mod went;
 
-pub use meeting::{Meeting, Runs};
+pub use meeting::{Meeting, Runs, meet};
+pub use raising::raise_here;
 pub use went::Went;

@@ -1,0 +1,3 @@
+-- Lemmas on the steps of a segment.
+pub mod NeedsOfFrames
+pub mod RaisedInSegments
