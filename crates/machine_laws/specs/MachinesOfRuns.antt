@@ -13,7 +13,7 @@ use Rattle.jk_model_heaps.specs.Workings.{Inside}
 use Rattle.jk_model_machine_state.specs.Machines.{IsFirstMachine, Machine, caps_of, world_of}
 use Rattle.jk_model_openings.specs.OpenedDomains.{IsOpening, IsPlacedIn, with_new_domain}
 use Rattle.jk_model_openings.specs.Openings.{HasManyDomains, IsAccepted, LacksPages, admission}
-use Rattle.jk_model_runs.specs.Events.{Kills}
+use Rattle.jk_model_runs.specs.Events.{Goes, Kills, Rounds, Turns}
 use Rattle.jk_model_runs.specs.Starts.{Starts, StartWords}
 use Rattle.jk_model_runs.specs.Steps.{Steps}
 use Rattle.jk_model_sharing.specs.CapabilityCalls.{LacksNumbers}
@@ -83,3 +83,19 @@ abbrev pub OpeningsStayOfRuns : Type 0
 OpeningsStayOfRuns =
     (f : FolderFiles) (m new : Machine) (name : List ℕ) (quotas : Quotas) → IsOfRunWithoutJk m → (o : OpensFrom f m name quotas new)
     → FolderRefersToNoPackageJk o.accepted.world.classes o.accepted.first → IsOfRunWithoutJk new
+
+-- so does each step
+abbrev pub StepsStayOfRuns : Type 0
+StepsStayOfRuns = (m new : Machine) (t : ThreadNo) (lines : List Line) → IsOfRunWithoutJk m → Steps m t lines new → IsOfRunWithoutJk new
+
+-- ---- Where something is kept from step to step, and is enough for a next step, there are whole turns and rounds.
+
+abbrev pub TurnsGoOn : (Machine → Type 0) → Type 0
+TurnsGoOn Kept = (n : ℕ) (t : ThreadNo) (m : Machine) → Kept m → (lines : List Line) × (new : Machine) × Turns n t m lines new × Kept new
+
+abbrev pub ThreadsGoOn : (Machine → Type 0) → Type 0
+ThreadsGoOn Kept =
+    (steps thread : ℕ) (m : Machine) → Kept m → (lines : List Line) × (new : Machine) × Goes steps thread m lines new × Kept new
+
+abbrev pub RoundsGoOn : (Machine → Type 0) → Type 0
+RoundsGoOn Kept = (n steps : ℕ) (m : Machine) → Kept m → (lines : List Line) × (new : Machine) × Rounds n steps m lines new × Kept new
