@@ -80,3 +80,5 @@ pub mod WaitingRuns
 pub mod WaitsDecided
 pub mod WidenedSurroundings
 pub mod WorldsKept
+pub mod WorldsOpened
+pub mod WorldsStay
