@@ -4,6 +4,7 @@ pub mod CallsStayAnswered
 pub mod CapabilitiesAfterRuns
 pub mod ChangedItems
 pub mod ConstantsOfFields
+pub mod CopiesTaken
 pub mod DomainsAfterRuns
 pub mod EventsGoOn
 pub mod FieldsNamedWell
@@ -52,6 +53,7 @@ pub mod RunningSegmentsFit
 pub mod RunsAgain
 pub mod RunsAnswered
 pub mod SealedAfterRuns
+pub mod SegmentsAnswered
 pub mod SegmentsStillFit
 pub mod SegmentsThatRan
 pub mod SoundAgain
@@ -62,6 +64,9 @@ pub mod SystemClassesSound
 pub mod TasksAfterRuns
 pub mod ThreadsAfterRuns
 pub mod ThreadsEnded
+pub mod ThreadsThinned
+pub mod ThrowablesSealed
+pub mod TopSegmentsTaken
 pub mod TypesOfMethods
 pub mod WaitingRuns
 pub mod WidenedSurroundings
