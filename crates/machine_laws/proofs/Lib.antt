@@ -4,6 +4,7 @@ pub mod CallsStayAnswered
 pub mod CapabilitiesAfterRuns
 pub mod ChangedItems
 pub mod ConstantsOfFields
+pub mod CopiesTaken
 pub mod DomainsAfterRuns
 pub mod EventsGoOn
 pub mod FieldsNamedWell
@@ -59,6 +60,7 @@ pub mod RunsAgain
 pub mod RunsAnswered
 pub mod RunsGoOn
 pub mod SealedAfterRuns
+pub mod SegmentsAnswered
 pub mod SegmentsRunAgain
 pub mod SegmentsStillFit
 pub mod SegmentsThatRan
@@ -75,8 +77,13 @@ pub mod TasksAfterRuns
 pub mod ThreadsAfterRuns
 pub mod ThreadsBegun
 pub mod ThreadsEnded
+pub mod ThreadsThinned
+pub mod ThrowablesSealed
+pub mod TopSegmentsTaken
 pub mod TypesOfMethods
 pub mod WaitingRuns
 pub mod WaitsDecided
 pub mod WidenedSurroundings
 pub mod WorldsKept
+pub mod WorldsOpened
+pub mod WorldsStay

@@ -18,8 +18,8 @@ use Rattle.jk_model_sealing.specs.FittingFrames.{FitsAsTop}
 use Rattle.jk_model_sealing.specs.SealedInsides.{IsSealedInside}
 use Rattle.jk_model_machine_state.specs.Machines.{DomainState, Machine, Segment, Thread, free_chunks, is_live_domain, started_in, with_inside}
 use Rattle.jk_model_machine_state.specs.Places.{RunningSegment}
-use Rattle.jk_model_runs.specs.Events.{IsWhole}
-use Rattle.jk_model_runs.specs.Sealed.{TopFits, surroundings}
+use Rattle.jk_model_runs.specs.AnsweredCalls.{AreCallsAnswered}
+use Rattle.jk_model_runs.specs.Sealed.{IsSealed, TopFits, surroundings}
 use Rattle.jk_model_runs.specs.Starts.{HasMain, HasManyThreads, LacksChunks, MakesWords, StartWords, Starts, begins, few_chunks, many_threads, many_words, no_class, no_domain, no_main, with_new_thread}
 use Rattle.list_lemmas.proofs.FoundItems.{Finds, finds}
 use Rattle.list_lemmas.proofs.EndsOfLists.{head_is}
@@ -47,7 +47,7 @@ lives_by e (Some x) is live = (x, is)
 lives_by e None is live =
     let dead : is_live_domain e ≡ false = ap (λ (o : Option Inside). is_live_domain (record e { inside = o })) is in absurd cc
 
-module _ (m : Machine) (start : StartWords) (known : IsKnownMachine m) (h : HasMain m start)
+module _ (m : Machine) (start : StartWords) (sealed : IsSealed m) (sound : HasSoundClasses m) (h : HasMain m start)
     (few : HasManyThreads m h.in_class.in_domain.domain → ⊥) (room : LacksChunks m h.in_class.in_domain.domain h.main h.code → ⊥)
     (heap : List NamedObject) (words : MakesWords m h.in_class.in_domain.domain h.in_class.in_domain.inside.heap start.words heap)
     (fits : length (locals_of (Held.Obj words.array ∷ [])) ≤ h.code.max_locals) where
@@ -66,7 +66,7 @@ module _ (m : Machine) (start : StartWords) (known : IsKnownMachine m) (h : HasM
   there = Contains-at m.domains stands.0 d stands.1
 
   at_number : slice_get m.domains d.number.0 ≡ Some d
-  at_number = ap (slice_get m.domains) (known.0.0.domains.numbered stands.0 d stands.1) ∙ stands.1
+  at_number = ap (slice_get m.domains) (sealed.domains.numbered stands.0 d stands.1) ∙ stands.1
 
   class_named : IsNamed d.table h.in_class.class
   class_named = means_named d.table start.class h.in_class.class h.in_class.is_named
@@ -84,13 +84,13 @@ module _ (m : Machine) (start : StartWords) (known : IsKnownMachine m) (h : HasM
 
   abbrev may_begin : MayBegin m
   may_begin = record {
-    sealed = known.0.0;
+    sealed = sealed;
     domain = d;
     at = at_number;
     inside = inside;
     lives = h.in_class.in_domain.is_inside;
     frame = frame_with Held.Null;
-    frames = main_frames m d known.1 there h.in_class.class h.main h.code h.is_main class_named inside.heap Held.Null (tt, tt) fits;
+    frames = main_frames m d sound there h.in_class.class h.main h.code h.is_main class_named inside.heap Held.Null (tt, tt) fits;
     initialises = refl;
     threads = fewer (started_in m d.number) d.quotas.threads few;
     chunks = at_most (free_chunks m d) (1 + head_chunks (call_head h.main h.code)) room;
@@ -104,7 +104,7 @@ module _ (m : Machine) (start : StartWords) (known : IsKnownMachine m) (h : HasM
 
   earlier : (k : ℕ) (e : Thread) → slice_get m.threads k ≡ Some e → (e.number.0 == t.0) ≡ false
   earlier k e at =
-      let low = (known.0.0.threads.before e (Contains-at m.threads k e at)).1 in
+      let low = (sealed.threads.before e (Contains-at m.threads k e at)).1 in
       ne_eqb e.number.0 t.0 (λ same. omega (arith, low, same))
 
   abbrev place : RunningSegment mid t
@@ -126,7 +126,7 @@ module _ (m : Machine) (start : StartWords) (known : IsKnownMachine m) (h : HasM
   segment = record (first may_begin) { frames = frame_with (Held.Obj words.array) ∷ [] }
 
   inside_sealed : IsSealedInside (surroundings m d) d.quotas.heap inside
-  inside_sealed = known.0.0.domains.insides d inside there h.in_class.in_domain.is_inside
+  inside_sealed = sealed.domains.insides d inside there h.in_class.in_domain.is_inside
 
   abbrev ran : HasRun mid t
   ran = record {
@@ -136,18 +136,18 @@ module _ (m : Machine) (start : StartWords) (known : IsKnownMachine m) (h : HasM
     inside = words_made;
     number = refl;
     domain = refl;
-    keeps = words_keep m d known.1 there inside inside_sealed start.words heap words (record { 0 = m.next_segment }) (free_chunks mid d);
+    keeps = words_keep m d sound there inside inside_sealed start.words heap words (record { 0 = m.next_segment }) (free_chunks mid d);
     frames = frames_weaker (surroundings m d) heap (FitsAsTop m.classes heap) (TopFits m words_made segment) (λ f top. inl top)
         (frame_with (Held.Obj words.array) ∷ [])
-        (main_frames m d known.1 there h.in_class.class h.main h.code h.is_main class_named heap (Held.Obj words.array)
-        (array_held m d known.1 there inside inside_sealed start.words heap words) fits);
+        (main_frames m d sound there h.in_class.class h.main h.code h.is_main class_named heap (Held.Obj words.array)
+        (array_held m d sound there inside inside_sealed start.words heap words) fits);
     progress = record { own = λ c. refl; others = λ u c differ. refl };
     chunks = omega arith;
   }
 
   -- ---- That is what the start leads to.
 
-  abbrev then : Machine
+  abbrev pub then : Machine
   then = with_new_thread d.number (frame_with (Held.Obj words.array)) (with_inside d.number words_made m)
 
   abbrev with_words : Thread → Thread
@@ -169,12 +169,12 @@ module _ (m : Machine) (start : StartWords) (known : IsKnownMachine m) (h : HasM
   leads : after ran ≡ then
   leads = ap (λ (threads : List Thread). record then { threads = threads }) threads_are
 
-  begins_whole : IsWhole then
-  begins_whole =
-      subst IsWhole leads (
-        sealed_after mid t ran,
-        calls_answered mid t ran refl gives (refl, tt) (begun_answered may_begin known.0.1),
-      )
+  pub begins_sealed : IsSealed then
+  begins_sealed = subst IsSealed leads (sealed_after mid t ran)
+
+  pub begins_answered : AreCallsAnswered m → AreCallsAnswered then
+  begins_answered answered =
+      subst AreCallsAnswered leads (calls_answered mid t ran refl gives (refl, tt) (begun_answered may_begin answered))
     where
       gives : GivesStill m.classes (frame_with Held.Null ∷ []) (frame_with (Held.Obj words.array) ∷ [])
       gives result (lowest, others, are, (method, record_is, of, is, same)) = (
@@ -184,17 +184,17 @@ module _ (m : Machine) (start : StartWords) (known : IsKnownMachine m) (h : HasM
         (method, record_is, ap (λ (f : FrameState). f.head.method) (head_is (frame_with Held.Null) lowest [] others are) ∙ of, is, same),
       )
 
-  begins_sound : HasSoundClasses then
+  pub begins_sound : HasSoundClasses then
   begins_sound =
-      let sound =
+      let stays =
       sound_classes_stay m (with_inside d.number words_made m)
       (record {
         pools = (refl, refl);
         classes = refl;
         domains = parts_stay (λ (e : DomainState). cond (e.number.0 == d.number.0) (record e { inside = Some words_made }) e) lasting lasts m.domains;
         next_thread = refl;
-      }) known.1 in
-      record { linked = sound.linked; codes = sound.codes; tables = sound.tables }
+      }) sound in
+      record { linked = stays.linked; codes = stays.codes; tables = stays.tables }
     where
       lasts_by : (b : Bool) (e : DomainState) → lasting (cond b (record e { inside = Some words_made }) e) ≡ lasting e
       lasts_by true e = refl
@@ -202,9 +202,6 @@ module _ (m : Machine) (start : StartWords) (known : IsKnownMachine m) (h : HasM
 
       lasts : (e : DomainState) → lasting (cond (e.number.0 == d.number.0) (record e { inside = Some words_made }) e) ≡ lasting e
       lasts e = lasts_by (e.number.0 == d.number.0) e
-
-  pub begins_known : IsKnownMachine then
-  begins_known = (begins_whole, begins_sound)
 
   -- ---- Without package jk.
 
@@ -229,34 +226,47 @@ module _ (m : Machine) (start : StartWords) (known : IsKnownMachine m) (h : HasM
 
 -- ---- All starts.
 
-pub start_stays_known : (m : Machine) (start : StartWords) (lines : List Line) (new : Machine) → IsKnownMachine m
-    → Starts m start lines new → IsKnownMachine new
-start_stays_known m start lines new known (no_domain none) = known
-start_stays_known m start lines new known (no_class h none) = known
-start_stays_known m start lines new known (no_main h none) = known
-start_stays_known m start lines new known (many_threads h many) = known
-start_stays_known m start lines new known (many_words h few lacks) = known
-start_stays_known m start lines new known (few_chunks h few fit lacks) = known
-start_stays_known m start lines new known (begins h few room heap words frame called) =
-    subst
-    (λ (f : FrameState).
-    IsKnownMachine
-    (with_new_thread h.in_class.in_domain.domain.number (needing h.in_class.class f)
-    (with_inside h.in_class.in_domain.domain.number (with_heap h.in_class.in_domain.inside heap) m))) (sym called.1)
-    (begins_known m start known h few room heap words called.0)
+-- What is so of a machine, and of each to which a start leads where a thread begins, is so of each to which a start leads.
+module _ (m : Machine) (start : StartWords) (sealed : IsSealed m) (sound : HasSoundClasses m) (P : Machine → Type 0) (same : P m)
+    (begun_so : (h : HasMain m start) (few : HasManyThreads m h.in_class.in_domain.domain → ⊥)
+    (room : LacksChunks m h.in_class.in_domain.domain h.main h.code → ⊥) (heap : List NamedObject)
+    (words : MakesWords m h.in_class.in_domain.domain h.in_class.in_domain.inside.heap start.words heap)
+    (fits : length (locals_of (Held.Obj words.array ∷ [])) ≤ h.code.max_locals) → P (then m start sealed sound h few room heap words fits)) where
+  pub each_start : (lines : List Line) (new : Machine) → Starts m start lines new → P new
+  each_start lines new (no_domain none) = same
+  each_start lines new (no_class h none) = same
+  each_start lines new (no_main h none) = same
+  each_start lines new (many_threads h many) = same
+  each_start lines new (many_words h few lacks) = same
+  each_start lines new (few_chunks h few fit lacks) = same
+  each_start lines new (begins h few room heap words frame called) =
+      subst
+      (λ (f : FrameState).
+      P (with_new_thread h.in_class.in_domain.domain.number (needing h.in_class.class f)
+      (with_inside h.in_class.in_domain.domain.number (with_heap h.in_class.in_domain.inside heap) m))) (sym called.1)
+      (begun_so h few room heap words called.0)
+
+pub start_stays_sealed : (m : Machine) (start : StartWords) (lines : List Line) (new : Machine) → IsSealed m → HasSoundClasses m
+    → Starts m start lines new → IsSealed new × HasSoundClasses new
+start_stays_sealed m start lines new sealed sound =
+    each_start m start sealed sound (λ x. IsSealed x × HasSoundClasses x) (sealed, sound)
+    (λ h few room heap words fits.
+    (begins_sealed m start sealed sound h few room heap words fits, begins_sound m start sealed sound h few room heap words fits)) lines new
+
+pub start_stays_answered : (m : Machine) (start : StartWords) (lines : List Line) (new : Machine) → IsKnownMachine m → Starts m start lines new
+    → AreCallsAnswered new
+start_stays_answered m start lines new known =
+    each_start m start known.0.0 known.1 AreCallsAnswered known.0.1
+    (λ h few room heap words fits. begins_answered m start known.0.0 known.1 h few room heap words fits known.0.1) lines new
+
+pub start_stays_known : (m : Machine) (start : StartWords) (lines : List Line) (new : Machine) → IsKnownMachine m → Starts m start lines new
+    → IsKnownMachine new
+start_stays_known m start lines new known starts =
+    let both = start_stays_sealed m start lines new known.0.0 known.1 starts in
+    ((both.0, start_stays_answered m start lines new known starts), both.1)
 
 pub start_stays_without_jk : (m : Machine) (start : StartWords) (lines : List Line) (new : Machine) → IsKnownMachine m → RunsNoPackageJk m
     → Starts m start lines new → RunsNoPackageJk new
-start_stays_without_jk m start lines new known apart (no_domain none) = apart
-start_stays_without_jk m start lines new known apart (no_class h none) = apart
-start_stays_without_jk m start lines new known apart (no_main h none) = apart
-start_stays_without_jk m start lines new known apart (many_threads h many) = apart
-start_stays_without_jk m start lines new known apart (many_words h few lacks) = apart
-start_stays_without_jk m start lines new known apart (few_chunks h few fit lacks) = apart
-start_stays_without_jk m start lines new known apart (begins h few room heap words frame called) =
-    subst
-    (λ (f : FrameState).
-    RunsNoPackageJk
-    (with_new_thread h.in_class.in_domain.domain.number (needing h.in_class.class f)
-    (with_inside h.in_class.in_domain.domain.number (with_heap h.in_class.in_domain.inside heap) m))) (sym called.1)
-    (begins_without_jk m start known h few room heap words called.0 apart)
+start_stays_without_jk m start lines new known apart =
+    each_start m start known.0.0 known.1 RunsNoPackageJk apart
+    (λ h few room heap words fits. begins_without_jk m start known.0.0 known.1 h few room heap words fits apart) lines new

@@ -103,7 +103,7 @@ raises_placed x old r new ended h =
 
 -- ---- The top segment.
 
-abbrev Grown : Machine → Machine → Type 0
+abbrev pub Grown : Machine → Machine → Type 0
 Grown m new = GrowsOn m new
 
 run_grows : {m : Machine} {t : ThreadNo} → AreNumbered m → (p : RunningSegment m t) (run : Run) → StaysPlaced p.home.inside run.inside
@@ -389,7 +389,7 @@ terminates_grow m new d lines h =
         mapped_started ended (λ (e : Thread). record e { segments = segments_left segment_form d.number e.segments }) (λ e. refl) thread
         (from_filter has_segments cut.threads thread on))
 
-kills_grow : (m new : Machine) (name : List ℕ) (lines : List Line) → Kills m name lines new → Grown m new
+pub kills_grow : (m new : Machine) (name : List ℕ) (lines : List Line) → Kills m name lines new → Grown m new
 kills_grow m new name lines (Kills.no_domain none) = grows_self m
 kills_grow m new name lines (Kills.kills d said end found ends) = terminates_grow m end d said ends
 
@@ -458,7 +458,7 @@ module _ (steps : LocalStepsKeep) where
         made = λ c on. inl (c, on, refl);
       })
 
-  step_grows : (m new : Machine) (t : ThreadNo) (deed : Deed) (lines : List Line) → IsKnownMachine m → StepsBy m t deed lines new → Grown m new
+  pub step_grows : (m new : Machine) (t : ThreadNo) (deed : Deed) (lines : List Line) → IsKnownMachine m → StepsBy m t deed lines new → Grown m new
   step_grows m new t deed lines known (StepsBy.not_live gone) = grows_self m
   step_grows m new t deed lines known (StepsBy.is_held p held) = grows_self m
   step_grows m new t deed lines known (StepsBy.is_spent p free spent) = grows_self m
@@ -504,20 +504,22 @@ module _ (m : Machine) (numbered : AreNumbered m) (d : DomainState) (k : ℕ) (a
             (subst (λ (n : ℕ). k < n) (sym first.as_many) (slice_get_within m.domains k d at))))
       ]))
 
-pub starts_may_grow : (m : Machine) (start : StartWords) (lines : List Line) (new : Machine) → IsKnownMachine m → MayGrow m
-    → Starts m start lines new → MayGrow new
-starts_may_grow m start lines new known may (Starts.no_domain none) = may
-starts_may_grow m start lines new known may (Starts.no_class h none) = may
-starts_may_grow m start lines new known may (Starts.no_main h none) = may
-starts_may_grow m start lines new known may (Starts.many_threads h many) = may
-starts_may_grow m start lines new known may (Starts.many_words h few lacks) = may
-starts_may_grow m start lines new known may (Starts.few_chunks h few fit lacks) = may
-starts_may_grow m start lines new known may (Starts.begins h few room heap words frame called) =
+pub start_grows : (m : Machine) (start : StartWords) (lines : List Line) (new : Machine) → IsKnownMachine m → Starts m start lines new → Grown m new
+start_grows m start lines new known (Starts.no_domain none) = grows_self m
+start_grows m start lines new known (Starts.no_class h none) = grows_self m
+start_grows m start lines new known (Starts.no_main h none) = grows_self m
+start_grows m start lines new known (Starts.many_threads h many) = grows_self m
+start_grows m start lines new known (Starts.many_words h few lacks) = grows_self m
+start_grows m start lines new known (Starts.few_chunks h few fit lacks) = grows_self m
+start_grows m start lines new known (Starts.begins h few room heap words frame called) =
     let d : DomainState = h.in_class.in_domain.domain in
     let inside : Inside = h.in_class.in_domain.inside in
     let at =
     subst (Finds (λ (e : DomainState). is_live_domain e && bytes_eq e.name start.domain) m.domains) h.in_class.in_domain.found
     (finds (λ (e : DomainState). is_live_domain e && bytes_eq e.name start.domain) m.domains) in
-    still_grows m new
-    (begun_grows m known.0.0.domains.numbered d at.0 at.1 inside h.in_class.in_domain.is_inside (with_heap inside heap) (refl, refl)
-    (record frame { head = record frame.head { need = Some h.in_class.class } })) may
+    begun_grows m known.0.0.domains.numbered d at.0 at.1 inside h.in_class.in_domain.is_inside (with_heap inside heap) (refl, refl)
+    (record frame { head = record frame.head { need = Some h.in_class.class } })
+
+pub starts_may_grow : (m : Machine) (start : StartWords) (lines : List Line) (new : Machine) → IsKnownMachine m → MayGrow m
+    → Starts m start lines new → MayGrow new
+starts_may_grow m start lines new known may starts = still_grows m new (start_grows m start lines new known starts) may

@@ -2,6 +2,7 @@ pub mod CallsAndAnswers
 pub mod GoingOn
 pub mod KeptWorlds
 pub mod KnownMachines
+pub mod LoadingNext
 pub mod LowestFrames
 pub mod MachinesOfRuns
 pub mod OpenedMachines

@@ -1,6 +1,7 @@
 //! The laws. The functions have no bodies: each stands for its clause.
 
 ghost use Rattle.machine_laws.specs.KeptWorlds.{StepsDrawNumbers, StepsKeepWorlds};
+ghost use Rattle.machine_laws.specs.SealedCrossings.{ThrowablesStaySealed};
 
 /// No step and no end of a domain changes the pools, the classes, what domains are opened with, or the number of the next thread.
 pub fn steps_keep_worlds()
@@ -10,4 +11,9 @@ pub fn steps_keep_worlds()
 /// A step draws one number of a segment where it enters another domain, and none elsewhere.
 pub fn steps_draw_numbers()
     ensures { StepsDrawNumbers }
+{}
+
+/// Where a throwable has left the top segment of a thread, the machine is sealed after its way down, and calls are answered.
+pub fn throwables_stay_sealed()
+    ensures { ThrowablesStaySealed }
 {}

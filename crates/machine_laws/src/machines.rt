@@ -4,7 +4,7 @@ ghost use Rattle.machine_laws.specs.KnownMachines.{IsKnownMachine, IsKnownWithou
 ghost use Rattle.machine_laws.specs.LowestFrames.{LowestFramesGiveStill};
 ghost use Rattle.machine_laws.specs.MachinesOfRuns.{FirstMachinesAreWithoutJk, IsOfRunWithoutJk, KillsMayGrow, RoundsGoOn, StartsMayGrow, StartsStayOfRuns, StepsMayGrow, StepsStayOfRuns, ThreadsGoOn, TurnsGoOn};
 ghost use Rattle.machine_laws.specs.RunsInMachines.{AnsweringRunsStayWhole, FirstMachinesAreWhole, KeptRunsStaySealed, PaidMachinesStayKnown};
-ghost use Rattle.machine_laws.specs.SealedSteps.{FirstMachinesAreKnown, LeftRunsStaySealed, RunningSegmentsActWell, StartsStayKnown, StartsStayWithoutJk, StepsStayWithoutJk, WaitingRunsStaySealed};
+ghost use Rattle.machine_laws.specs.SealedSteps.{FirstMachinesAreKnown, LeftRunsStaySealed, RunningSegmentsActWell, StartsStayKnown, StartsStaySealed, StartsStayWithoutJk, StepsStayWithoutJk, WaitingRunsStaySealed};
 ghost use Rattle.machine_laws.specs.StepProgress.{GoingIsThere, RoundsAreThere, StepsAreThereWithoutJk, TurnsAreThere};
 
 use crate::folders::system_classes_are_sound;
@@ -67,9 +67,11 @@ pub fn steps_stay_known_without_jk()
     heap_rows_keep();
 }
 
-/// A start leads from a machine of which all is known to such a machine, and from one without package jk to one without it.
+/// A start leads from a machine of which all is known to such a machine, from a sealed one to a sealed one where classes and names are sound, and
+/// from one without package jk to one without it.
 pub fn starts_stay_known()
     ensures known { StartsStayKnown }
+    ensures sealed { StartsStaySealed }
     ensures without_jk { StartsStayWithoutJk }
 {}
 
