@@ -19,6 +19,9 @@ pub mod InitialisersAfterRuns
 pub mod InsidesStaySealed
 pub mod InstructionsOfFiles
 pub mod LinkedAgain
+pub mod MachinesOfRuns
+pub mod MachinesThatGrow
+pub mod MainsTakeTexts
 pub mod MeaningsOfNames
 pub mod MethodsNamedWell
 pub mod NamesOfNewCode
@@ -34,10 +37,12 @@ pub mod OpenedThreads
 pub mod OpeningsSealed
 pub mod OpeningsStayWhole
 pub mod OpeningsThere
+pub mod PackageJkApart
 pub mod PaidSteps
 pub mod ParentsOfClasses
 pub mod PassagesDecided
 pub mod PoolsAfterRuns
+pub mod PushedItems
 pub mod RequestsGranted
 pub mod RunningSegmentsFit
 pub mod RunsAnswered
@@ -45,10 +50,14 @@ pub mod SealedAfterRuns
 pub mod SegmentsStillFit
 pub mod SegmentsThatRan
 pub mod SoundAgain
+pub mod StartWordsMade
+pub mod StartsStayKnown
 pub mod StaticsBegin
+pub mod StepsGrow
 pub mod SystemClassesSound
 pub mod TasksAfterRuns
 pub mod ThreadsAfterRuns
+pub mod ThreadsBegun
 pub mod TypesOfMethods
 pub mod WaitingRuns
 pub mod WidenedSurroundings

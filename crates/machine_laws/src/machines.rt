@@ -1,11 +1,13 @@
 //! The laws. The functions have no bodies: each stands for its clauses.
 
 ghost use Rattle.machine_laws.specs.KnownMachines.{IsKnownMachine, IsKnownWithoutJk};
+ghost use Rattle.machine_laws.specs.MachinesOfRuns.{FirstMachinesAreWithoutJk, KillsMayGrow, StartsMayGrow, StartsStayOfRuns, StepsMayGrow};
 ghost use Rattle.machine_laws.specs.RunsInMachines.{AnsweringRunsStayWhole, FirstMachinesAreWhole, KeptRunsStaySealed, PaidMachinesStayKnown};
-ghost use Rattle.machine_laws.specs.SealedSteps.{FirstMachinesAreKnown, LeftRunsStaySealed, RunningSegmentsActWell, WaitingRunsStaySealed};
+ghost use Rattle.machine_laws.specs.SealedSteps.{FirstMachinesAreKnown, LeftRunsStaySealed, RunningSegmentsActWell, StartsStayKnown, StartsStayWithoutJk, WaitingRunsStaySealed};
 ghost use Rattle.machine_laws.specs.StepProgress.{GoingIsThere, RoundsAreThere, TurnsAreThere};
 
 use crate::folders::system_classes_are_sound;
+use row_laws::running::local_steps_keep;
 
 /// Where each thread of such a machine has a step, and steps lead to such machines, there are whole turns and rounds.
 pub fn turns_are_there()
@@ -47,3 +49,26 @@ pub fn kept_runs_stay_sealed()
 pub fn paid_machines_stay_known()
     ensures { PaidMachinesStayKnown }
 {}
+
+/// A start leads from a machine of which all is known to such a machine, and from one without package jk to one without it.
+pub fn starts_stay_known()
+    ensures known { StartsStayKnown }
+    ensures without_jk { StartsStayWithoutJk }
+{}
+
+/// Where another domain may be opened, it may be opened after each start, step and kill.
+pub fn machines_may_grow()
+    ensures starts { StartsMayGrow }
+    ensures steps { StepsMayGrow }
+    ensures kills { KillsMayGrow }
+{
+    local_steps_keep();
+}
+
+/// The first machine has all that a run without package jk keeps, and a start keeps it.
+pub fn runs_begin_without_jk()
+    ensures first { FirstMachinesAreWithoutJk }
+    ensures starts { StartsStayOfRuns }
+{
+    first_machines_are_known();
+}
