@@ -47,6 +47,7 @@ pub mod ParentsOfClasses
 pub mod PassagesDecided
 pub mod PoolsAfterRuns
 pub mod RaisesKeep
+pub mod RaisesSealed
 pub mod RaisesWhereMet
 pub mod RequestsGranted
 pub mod RunningSegmentsFit
