@@ -1,3 +1,4 @@
+pub mod AnswersSealed
 pub mod BodiesOfMethods
 pub mod CallsDecided
 pub mod CallsStayAnswered
@@ -67,6 +68,7 @@ pub mod ThreadsAfterRuns
 pub mod ThreadsEnded
 pub mod ThreadsThinned
 pub mod ThrowablesSealed
+pub mod TopFramesReplaced
 pub mod TopSegmentsTaken
 pub mod TypesOfMethods
 pub mod WaitingRuns
