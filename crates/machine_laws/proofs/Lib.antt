@@ -1,3 +1,4 @@
+pub mod AnswersSealed
 pub mod BodiesOfMethods
 pub mod CallsDecided
 pub mod CallsStayAnswered
@@ -53,6 +54,7 @@ pub mod PassagesDecided
 pub mod PoolsAfterRuns
 pub mod PushedItems
 pub mod RaisesKeep
+pub mod RaisesSealed
 pub mod RaisesWhereMet
 pub mod RequestsGranted
 pub mod RunningSegmentsFit
@@ -79,6 +81,7 @@ pub mod ThreadsBegun
 pub mod ThreadsEnded
 pub mod ThreadsThinned
 pub mod ThrowablesSealed
+pub mod TopFramesReplaced
 pub mod TopSegmentsTaken
 pub mod TypesOfMethods
 pub mod WaitingRuns

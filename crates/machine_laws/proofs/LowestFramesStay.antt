@@ -35,7 +35,7 @@ LowestStays old new = (new ≡ []) ⊎ (lowest_method new ≡ lowest_method old)
 
 -- ---- Lists of frames.
 
-same_lowest : (callers : List FrameState) (f g : FrameState) (xs ys : List FrameState) → g.head.method ≡ f.head.method
+pub same_lowest : (callers : List FrameState) (f g : FrameState) (xs ys : List FrameState) → g.head.method ≡ f.head.method
     → lowest_method (callers ++ g ∷ ys) ≡ lowest_method (callers ++ f ∷ xs)
 same_lowest [] f g xs ys same = ap (λ (m : Option MemberId). Some m) same
 same_lowest (c ∷ callers) f g xs ys same = refl

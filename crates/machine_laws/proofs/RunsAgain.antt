@@ -63,6 +63,12 @@ set_if : {X : Type 0} (b : Bool) (x y : X) → b ≡ true → cond b x y ≡ x
 set_if true x y e = refl
 set_if false x y e = absurd cc
 
+pub domain_number : (d : DomainId) (inside : Inside) (e : DomainState) → (set_inside d inside e).number.0 ≡ e.number.0
+domain_number d inside e = ap (λ (n : DomainId). n.0) (domain_number_by (e.number.0 == d.0) inside e)
+
+pub thread_number : (t : ThreadNo) (segments : List Segment) (e : Thread) → (set_segments t segments e).number.0 ≡ e.number.0
+thread_number t segments e = ap (λ (n : ThreadNo). n.0) (thread_number_by (e.number.0 == t.0) segments e)
+
 -- the thread of a number, where its segments have become these
 pub thread_set : (m : Machine) (t : ThreadNo) (segments : List Segment) (p : RunningSegment m t)
     → thread_numbered (with_segments t segments m) t ≡ Some (record p.thread { segments = segments })
@@ -84,6 +90,14 @@ module _ (m : Machine) (t : ThreadNo) (p : RunningSegment m t) (segment : Segmen
   abbrev home : DomainId
   home = p.segment.shared.domain
 
+  pub home_set_there : domain_at ran segment.shared.domain ≡ Some (record p.home.domain { inside = Some inside })
+  home_set_there =
+      ap (domain_at ran) same
+      ∙ mapped_at (set_inside home inside) m.domains home.0 p.home.domain p.home.is_domain
+      ∙ ap (λ (e : DomainState). Some e)
+      (set_if (p.home.domain.number.0 == home.0) (record p.home.domain { inside = Some inside }) p.home.domain
+      (eq-eqb p.home.domain.number.0 home.0 (ap (λ (n : DomainId). n.0) p.home.numbered)))
+
   module _ (q : RunningSegment ran t) where
     one_thread : q.thread ≡ record p.thread { segments = p.lower ++ segment ∷ [] }
     one_thread =
@@ -96,17 +110,10 @@ module _ (m : Machine) (t : ThreadNo) (p : RunningSegment m t) (segment : Segmen
     pub of_home : q.segment.shared.domain ≡ home
     of_home = ap (λ (s : Segment). s.shared.domain) runs_there.1 ∙ same
 
-    home_set : domain_at ran home ≡ Some (record p.home.domain { inside = Some inside })
-    home_set =
-        mapped_at (set_inside home inside) m.domains home.0 p.home.domain p.home.is_domain
-        ∙ ap (λ (e : DomainState). Some e)
-        (set_if (p.home.domain.number.0 == home.0) (record p.home.domain { inside = Some inside }) p.home.domain
-        (eq-eqb p.home.domain.number.0 home.0 (ap (λ (n : DomainId). n.0) p.home.numbered)))
-
     pub home_there : q.home.domain ≡ record p.home.domain { inside = Some inside }
     home_there =
         same_Some q.home.domain (record p.home.domain { inside = Some inside })
-        (sym q.home.is_domain ∙ ap (domain_at ran) of_home ∙ home_set)
+        (sym q.home.is_domain ∙ ap (domain_at ran) (of_home ∙ sym same) ∙ home_set_there)
 
     pub inside_there : q.home.inside ≡ inside
     inside_there = same_Some q.home.inside inside (sym q.home.is_inside ∙ ap (λ (e : DomainState). e.inside) home_there)
@@ -118,3 +125,19 @@ module _ (m : Machine) (t : ThreadNo) (p : RunningSegment m t) (segment : Segmen
       threads = (ap (λ (lower : List Segment). map (set_segments t (lower ++ next ∷ [])) ran.threads) runs_there.0
           ∙ segments_twice t (p.lower ++ segment ∷ []) (p.lower ++ next ∷ []) m.threads) i;
     }
+
+  abbrev pub running_then : RunningSegment ran t
+  running_then = record {
+    thread = record p.thread { segments = p.lower ++ segment ∷ [] };
+    is_thread = thread_set m t (p.lower ++ segment ∷ []) p;
+    lower = p.lower;
+    segment = segment;
+    are_segments = refl;
+    home = record {
+      domain = record p.home.domain { inside = Some inside };
+      is_domain = home_set_there;
+      numbered = p.home.numbered ∙ sym same;
+      inside = inside;
+      is_inside = refl;
+    };
+  }

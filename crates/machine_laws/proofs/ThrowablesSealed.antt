@@ -197,7 +197,7 @@ throws_sealed t n m a lines new (Throws.goes_on k w mid end b c said s r orphan 
 
 -- ---- Calls are answered after it.
 
-below_answered : (m : Machine) (t : ThreadNo) (s : TopTwo m t) → AreOthersAnswered m t → FramesAnswer m.classes s.below.segment.frames
+pub below_answered : (m : Machine) (t : ThreadNo) (s : TopTwo m t) → AreOthersAnswered m t → FramesAnswer m.classes s.below.segment.frames
 below_answered m t s h =
     top_answers m.classes s.below.lower s.below.segment (own_answered (without_top s.left) t s.below (h s.left))
 
@@ -226,7 +226,7 @@ throws_answered t n m a lines new (Throws.goes_on k w mid end b c said s r orpha
 -- ---- The law.
 
 -- the running segment of a thread is one
-one_running : (m : Machine) (t : ThreadNo) (p q : RunningSegment m t) → (q.segment ≡ p.segment) × (q.home.inside ≡ p.home.inside)
+pub one_running : (m : Machine) (t : ThreadNo) (p q : RunningSegment m t) → (q.segment ≡ p.segment) × (q.home.inside ≡ p.home.inside)
 one_running m t p q = (segments, same_Some q.home.inside p.home.inside (sym q.home.is_inside ∙ ap (λ (d : DomainState). d.inside) domains ∙ p.home.is_inside))
   where
     threads : q.thread ≡ p.thread

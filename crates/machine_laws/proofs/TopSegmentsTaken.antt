@@ -1,6 +1,6 @@
 -- The top segment of a thread, of which no frame is left, is taken off: the machine is sealed but for the segment below it, whose top frame has
 -- made a call, and sealed where a RevokedException is pending for that one.
-use Rattle.std.proofs.Common.{◌≡◌, ◌≢◌, ℕ, ◌+◌, ◌≤◌, ◌==◌, ◌⊎◌, inl, inr, Bool, true, false, cond, List, [], ◌∷◌, ◌++◌, map, sum_by, append_assoc, Contains, Some, slice_get, refl, sym, ap, subst, ◌∙◌, arith}
+use Rattle.std.proofs.Common.{◌≡◌, ◌≢◌, ℕ, ◌+◌, ◌<◌, ◌≤◌, ◌==◌, ◌⊎◌, inl, inr, Bool, true, false, cond, List, [], ◌∷◌, ◌++◌, map, sum_by, append_assoc, Contains, Some, slice_get, refl, sym, ap, subst, ◌∙◌, arith}
 use Rattle.std.proofs.lemmas.Bool.{cases_eq, cases_lt, eqb-true}
 use Rattle.std.proofs.lemmas.List.Sums.{sum_by_push}
 use Rattle.std.proofs.lemmas.Option.{same_Some}
@@ -25,9 +25,10 @@ use Rattle.machine_laws.proofs.ThreadsThinned.{Thins, WasIn, lives_thinned, seal
 -- ---- In a sealed machine.
 
 -- threads of one number are one
-pub one_thread : (m : Machine) (t : ThreadNo) → IsSealed m → (p : RunningSegment m t) → (e : Thread) → Contains m.threads e → e.number.0 ≡ t.0
-    → e ≡ p.thread
-one_thread m t sealed p e on same = by (cases_eq at.0 place.0)
+pub thread_is : (m : Machine) (t : ThreadNo)
+    → ((i j : ℕ) (a b : Thread) → i < j → slice_get m.threads i ≡ Some a → slice_get m.threads j ≡ Some b → a.number.0 < b.number.0)
+    → (p : RunningSegment m t) → (e : Thread) → Contains m.threads e → e.number.0 ≡ t.0 → e ≡ p.thread
+thread_is m t rise p e on same = by (cases_eq at.0 place.0)
   where
     at : (i : ℕ) × (slice_get m.threads i ≡ Some e)
     at = place_of m.threads e on
@@ -39,28 +40,49 @@ one_thread m t sealed p e on same = by (cases_eq at.0 place.0)
     by (inl one) = same_Some e p.thread (sym at.1 ∙ ap (slice_get m.threads) one ∙ place.1)
     by (inr differ) = elim (cases_lt at.0 place.0) [
       | inl below ↦
-          let less = sealed.threads.rise at.0 place.0 e p.thread below at.1 place.1 in
+          let less = rise at.0 place.0 e p.thread below at.1 place.1 in
           let number = place.2 in
           absurd (omega (arith, less, same, number))
       | inr above ↦
-          let less = sealed.threads.rise place.0 at.0 p.thread e (omega (arith, above, differ)) place.1 at.1 in
+          let less = rise place.0 at.0 p.thread e (omega (arith, above, differ)) place.1 at.1 in
           let number = place.2 in
           absurd (omega (arith, less, same, number))
     ]
+
+pub one_thread : (m : Machine) (t : ThreadNo) → IsSealed m → (p : RunningSegment m t) → (e : Thread) → Contains m.threads e → e.number.0 ≡ t.0
+    → e ≡ p.thread
+one_thread m t sealed p e on same = thread_is m t sealed.threads.rise p e on same
+
+set_segments_by : (b : Bool) (e : Thread) (segments : List Segment) → (b ≡ true → e.segments ≡ segments)
+    → cond b (record e { segments = segments }) e ≡ e
+set_segments_by true e segments has = λ i. record e { segments = sym (has refl) i }
+set_segments_by false e segments has = refl
+
+-- a thread that is set to what it has is as it was
+pub segments_stay : (m : Machine) (t : ThreadNo)
+    → ((i j : ℕ) (a b : Thread) → i < j → slice_get m.threads i ≡ Some a → slice_get m.threads j ≡ Some b → a.number.0 < b.number.0)
+    → (p : RunningSegment m t) → map (set_segments t (p.lower ++ p.segment ∷ [])) m.threads ≡ m.threads
+segments_stay m t rise p =
+    none_changed (set_segments t (p.lower ++ p.segment ∷ [])) m.threads
+    (λ i e there.
+    set_segments_by (e.number.0 == t.0) e (p.lower ++ p.segment ∷ [])
+    (λ same.
+    ap (λ (x : Thread). x.segments) (thread_is m t rise p e (Contains-at m.threads i e there) (eqb-true e.number.0 t.0 same)) ∙ p.are_segments))
 
 set_by : (b : Bool) (e : DomainState) (inside : Inside) → (b ≡ true → e.inside ≡ Some inside) → cond b (record e { inside = Some inside }) e ≡ e
 set_by true e inside has = λ i. record e { inside = sym (has refl) i }
 set_by false e inside has = refl
 
 -- a domain that is set to what it has is as it was
-pub inside_stays : (m : Machine) (d : DomainId) → IsSealed m → (domain : DomainState) (inside : Inside) → slice_get m.domains d.0 ≡ Some domain
+pub inside_stays : (m : Machine) (d : DomainId) → ((i : ℕ) (e : DomainState) → slice_get m.domains i ≡ Some e → e.number.0 ≡ i)
+    → (domain : DomainState) (inside : Inside) → slice_get m.domains d.0 ≡ Some domain
     → domain.inside ≡ Some inside → map (set_inside d inside) m.domains ≡ m.domains
-inside_stays m d sealed domain inside at is =
+inside_stays m d numbered domain inside at is =
     none_changed (set_inside d inside) m.domains (λ i e there. set_by (e.number.0 == d.0) e inside (has i e there))
   where
     has : (i : ℕ) (e : DomainState) → slice_get m.domains i ≡ Some e → (e.number.0 == d.0) ≡ true → e.inside ≡ Some inside
     has i e there same =
-        let place = sym (sealed.domains.numbered i e there) ∙ eqb-true e.number.0 d.0 same in
+        let place = sym (numbered i e there) ∙ eqb-true e.number.0 d.0 same in
         ap (λ (x : DomainState). x.inside) (same_Some e domain (sym there ∙ ap (slice_get m.domains) place ∙ at)) ∙ is
 
 -- ---- One thread's segments are others.
@@ -220,7 +242,7 @@ module _ (m : Machine) (t : ThreadNo) (sealed : IsSealed m) (s : TopTwo m t) (le
 
   is_taken : with_revoked_below s ≡ thinned m g
   is_taken = λ i. record m {
-    domains = inside_stays m below.shared.domain sealed s.below.home.domain s.below.home.inside s.below.home.is_domain s.below.home.is_inside i;
+    domains = inside_stays m below.shared.domain sealed.domains.numbered s.below.home.domain s.below.home.inside s.below.home.is_domain s.below.home.is_inside i;
     threads = segments_twice t s.left.lower next m.threads i;
   }
 
@@ -261,7 +283,7 @@ module _ (m : Machine) (t : ThreadNo) (sealed : IsSealed m) (s : TopTwo m t) (le
 
   pub stands_there : without_top s.left ≡ with_running below_there below s.below.home.inside
   stands_there = λ i. record m {
-    domains = sym (inside_stays m below.shared.domain sealed s.below.home.domain s.below.home.inside s.below.home.is_domain s.below.home.is_inside) i;
+    domains = sym (inside_stays m below.shared.domain sealed.domains.numbered s.below.home.domain s.below.home.inside s.below.home.is_domain s.below.home.is_inside) i;
     threads = (ap (λ (ss : List Segment). map (set_segments t ss) m.threads) lower_is
         ∙ sym (segments_twice t next (lower ++ below ∷ []) m.threads)) i;
   }
