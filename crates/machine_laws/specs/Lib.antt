@@ -2,6 +2,7 @@ pub mod CallsAndAnswers
 pub mod GoingOn
 pub mod KeptWorlds
 pub mod KnownMachines
+pub mod LowestFrames
 pub mod OpenedMachines
 pub mod RunsInMachines
 pub mod SealedCrossings

@@ -1,11 +1,13 @@
 //! The laws. The functions have no bodies: each stands for its clauses.
 
 ghost use Rattle.machine_laws.specs.KnownMachines.{IsKnownMachine, IsKnownWithoutJk};
+ghost use Rattle.machine_laws.specs.LowestFrames.{LowestFramesGiveStill};
 ghost use Rattle.machine_laws.specs.RunsInMachines.{AnsweringRunsStayWhole, FirstMachinesAreWhole, KeptRunsStaySealed, PaidMachinesStayKnown};
-ghost use Rattle.machine_laws.specs.SealedSteps.{FirstMachinesAreKnown, LeftRunsStaySealed, RunningSegmentsActWell, WaitingRunsStaySealed};
+ghost use Rattle.machine_laws.specs.SealedSteps.{FirstMachinesAreKnown, LeftRunsStaySealed, RunningSegmentsActWell, StepsStayWithoutJk, WaitingRunsStaySealed};
 ghost use Rattle.machine_laws.specs.StepProgress.{GoingIsThere, RoundsAreThere, TurnsAreThere};
 
 use crate::folders::system_classes_are_sound;
+use row_laws::heap_rows::heap_rows_keep;
 
 /// Where each thread of such a machine has a step, and steps lead to such machines, there are whole turns and rounds.
 pub fn turns_are_there()
@@ -47,3 +49,18 @@ pub fn kept_runs_stay_sealed()
 pub fn paid_machines_stay_known()
     ensures { PaidMachinesStayKnown }
 {}
+
+/// Where a step of a segment leaves frames of it, its lowest frame gives what it gave.
+pub fn lowest_frames_give_still()
+    ensures { LowestFramesGiveStill }
+{
+    heap_rows_keep();
+}
+
+/// Where no class refers to package jk, no capability was created and each thread has one segment, a step leads to such a machine, and all is
+/// known of it that was known.
+pub fn steps_stay_known_without_jk()
+    ensures { StepsStayWithoutJk }
+{
+    heap_rows_keep();
+}
