@@ -3,8 +3,12 @@
 //! that is left, and the end of the domain. The contracts stand in `specs/`; the code comes under them.
 #![tactic(auto)]
 
+mod in_frame;
 mod meeting;
+mod raising;
 mod went;
 
-pub use meeting::{Meeting, Runs};
+pub use in_frame::run_in_frame;
+pub use meeting::{Meeting, Runs, meet};
+pub use raising::raise_here;
 pub use went::Went;
