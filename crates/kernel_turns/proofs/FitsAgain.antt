@@ -94,7 +94,8 @@ module _ (p : MachineParts) (fit : AreFittingParts p) (owns : List (Option OwnSt
       let item = item_there owns d.0 (omega (arith, low, many)) in
       let from = kept.each d.0 item.0 item.1 in
       let same : from.0 ≡ Some was.0 = same_Some from.0 (Some was.0) (sym from.1 ∙ was.1) in
-      let there = there_is item.0 (from.2 ∙ ap is_some same) in
+      let on : is_some item.0 ≡ true = from.2 ∙ ap is_some same in
+      let there = there_is item.0 on in
       home_of new one_list d there.0 (item.1 ∙ ap (λ (o : Option OwnState). Some o) there.1)
 
   -- with the same quotas

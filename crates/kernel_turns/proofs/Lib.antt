@@ -2,6 +2,7 @@ mod DomainsByPlace
 mod EndedThreads
 mod FitsAgain
 mod FittingRuns
+mod FlaggedParts
 mod KeptParts
 mod PaidParts
 mod PlacedThreads
@@ -12,4 +13,5 @@ mod SegmentsThatRan
 mod SettingsOfPlaces
 mod StatesOfFrames
 mod StepsOfActs
+mod StepsOfRaises
 mod ThrownObjects

@@ -1,6 +1,6 @@
 -- What one step of a thread's top segment over the contents of the stores is to the machine, as long as no class refers to package jk: each
 -- thread has one segment, and no step leaves its domain.
-use Rattle.std.specs.Prelude.{◌≡◌, ℕ, ⊤, false, true, List, [], ◌∷◌, ◌++◌, Contains, Option, Some, slice_set}
+use Rattle.std.specs.Prelude.{◌≡◌, ℕ, ⊤, false, true, List, [], ◌∷◌, ◌++◌, Contains, Some, slice_set}
 use Rattle.jk_model.specs.declared.identifiers.ClassId.{ClassId}
 use Rattle.jk_model.specs.declared.identifiers.DomainId.{DomainId}
 use Rattle.jk_model.specs.declared.identifiers.ThreadNo.{ThreadNo}
@@ -24,6 +24,7 @@ use Rattle.jk_model_machine_state.specs.Places.{RunningSegment, run_of, setting_
 use Rattle.jk_model_runs.specs.Steps.{Steps}
 use Rattle.class_init.specs.KeptStates.{KeptState}
 use Rattle.frame_store.specs.FrameContents.{Ends}
+use Rattle.step_contents.specs.Conditions.{MayRaise}
 use Rattle.step_contents.specs.Contents.{LeftBehind}
 use Rattle.step_contents.specs.Settings.{IsSetting}
 use Rattle.machine_laws.specs.KnownMachines.{IsKnownMachine, IsKnownWithoutJk, RunsNoPackageJk}
@@ -137,15 +138,19 @@ pub data IsPending (s : SharedSegment) : Raise → (SharedSegment → SharedSegm
 abbrev pub flagged : SharedSegment → (SharedSegment → SharedSegment) → KernelContent → KernelContent
 flagged s change k = record k { shared = with_flags s.number change k.shared }
 
-pub record RaisesAreSteps : Type 0 where
-  pub may : (k : KernelContent) (t : ThreadNo) (at : RunsAt k t) (raise : Raise) (change : SharedSegment → SharedSegment) (left : LeftBehind)
-      (went : Went) → StaysWithoutJk → MayStep k at → IsPending at.segment raise change
+-- what is raised there leads on
+pub record RaisesAs (k : KernelContent) {t : ThreadNo} (at : RunsAt k t) (raise : Raise) (change : SharedSegment → SharedSegment) : Type 0 where
+  pub may : MayRaise (contents_at at) (here_in (flagged at.segment change (paying at.segment.domain k)) at.segment)
+  pub follows : (left : LeftBehind) (went : Went)
       → RaisedHere (contents_at at) left.contents (here_in (flagged at.segment change (paying at.segment.domain k)) at.segment) raise went
-      → left.shared ≡ (flagged at.segment change (paying at.segment.domain k)).shared
       → MayFollow (with_left at.segment.domain left k) (runs t at.segment) went
-  pub steps : (k new : KernelContent) (t : ThreadNo) (at : RunsAt k t) (raise : Raise) (change : SharedSegment → SharedSegment)
-      (left : LeftBehind) (went : Went) (after : List Line) → StaysWithoutJk → MayStep k at → IsPending at.segment raise change
+  pub steps : (left : LeftBehind) (went : Went) (after : List Line) (new : KernelContent)
       → RaisedHere (contents_at at) left.contents (here_in (flagged at.segment change (paying at.segment.domain k)) at.segment) raise went
       → left.shared ≡ (flagged at.segment change (paying at.segment.domain k)).shared → HasRoomsForLiterals left.contents.own
       → Follows (with_left at.segment.domain left k) (runs t at.segment) at.segment went after new
       → Steps (kernel_machine k) t after (kernel_machine new) × AreKernelParts new
+
+abbrev pub RaisesAreSteps : Type 0
+RaisesAreSteps =
+    (k : KernelContent) (t : ThreadNo) (at : RunsAt k t) (raise : Raise) (change : SharedSegment → SharedSegment) → StaysWithoutJk → MayStep k at
+    → IsPending at.segment raise change → RaisesAs k at raise change
