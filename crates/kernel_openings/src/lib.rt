@@ -1,6 +1,14 @@
-//! Domains that are opened, and threads that start, over the parts of a kernel. So far what the calls promise stands here, and no code.
+//! Domains that are opened, and threads that start, over the parts of a kernel.
 #![tactic(auto)]
 
 mod answers;
+mod class_names;
+mod first_segments;
+mod main_methods;
+mod standing_objects;
+mod start_words;
+mod starting;
+mod store_rooms;
 
 pub use answers::{AddAnswer, Beginning};
+pub use starting::start;

@@ -1,13 +1,25 @@
--- Lemmas on the table of meanings, on numbers as text, and on texts in a store.
+-- Lemmas on the table of meanings, on numbers as text, on texts in a store, and on calls of methods.
 mod BufferRows
+mod CallsBegin
+mod CallsDone
+mod CallsFound
 mod ClassesOfMeanings
 mod CopiedArrays
 mod DigitsInTurn
+mod DoneAsGiven
+mod GivenByKind
+mod GivenRead
+mod GivenTaken
 mod HiddenRows
 mod LinesSaid
+mod MethodsAreDone
+mod MethodsMayBeDone
 mod NumbersRead
 mod OwnDomain
+mod PackageOfMeanings
+mod RoomForAnswers
 mod RowsOfNewObjects
+mod StoresBecome
 mod TextRows
 mod TextsJoined
 mod UnitsRead

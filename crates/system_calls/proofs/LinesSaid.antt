@@ -3,6 +3,7 @@ use Rattle.std.proofs.Common.{◌≡◌, ℕ, ◌+◌, ◌<◌, ◌^◌, List, [
 use Rattle.std.specs.Prelude.{flat_map, OnErr, OnOk}
 use Rattle.std.proofs.lemmas.Grind.{flat_map-append}
 use Rattle.std.proofs.lemmas.List.{append-nil, drop-take, take-append-drop, take-take}
+use Rattle.jk_model.specs.declared.output.Line.{Line}
 use Rattle.jk_model.specs.declared.output.Line.TheVariants.{Said}
 use Rattle.jk_model.specs.Outside.{HasRisen, NeverFalls}
 use Rattle.jk_model.specs.Output.{text_of}
@@ -68,8 +69,8 @@ module _ (name text : List ℕ) where
         (append_assoc name (codes ": ") (shown text) ∙ ap (λ (t : List ℕ). name ++ (codes ": " ++ t)) (sym (append-nil (shown text)))) so_far
 
   module _ {E : Type 0} (a : Option (List ℕ)) (p : List (List ℕ)) (fa : ℕ) (fits : fa < 2 ^ 64) where
-    none : PrintsLines {E = E} a a p p fa fa (Ok tt) []
-    none = record {
+    pub none_printed : PrintsLines {E = E} a a p p fa fa (Ok tt) []
+    none_printed = record {
       ok = Appends-nil a;
       pieces = sym (append-nil p);
       part = tt;
@@ -83,7 +84,7 @@ module _ (name text : List ℕ) where
         → PrintsLines a c p r fa fc result (Said name text ∷ [])
     as_lines c r fc result prints =
         let e : Prints a c p r fa fc result (text_of (Said name text ∷ [])) = Prints-as (said_text name text) prints in
-        prints_next a a c p p r fa fa fc [] (Said name text) result none e.ok e.pieces e.part e.pieces_part e.cause e.calm e.faults
+        prints_next a a c p p r fa fa fc [] (Said name text) result none_printed e.ok e.pieces e.part e.pieces_part e.cause e.calm e.faults
 
     module _ (b : Option (List ℕ)) (q : List (List ℕ)) (fb : ℕ) (held : List ℕ) where
       module _ (c : Option (List ℕ)) (r : List (List ℕ)) (fc : ℕ) (faults : NeverFalls fb fc) where
@@ -109,3 +110,14 @@ module _ (name text : List ℕ) where
         ended result so_far sent broken cause calm =
             as_lines c r fc result (Prints-ended a b c p q r fa fb fc held result parts 3 (omega arith) (after_text a b p q fa fb held so_far) sent
             broken cause calm faults)
+
+-- ---- What came of a line, where the answer says more.
+
+module _ {E : Type 0} (a c : Option (List ℕ)) (p r : List (List ℕ)) (fa fc : ℕ) (result : Result (Unit {0}) E) where
+  pub ok_printed : (u : Unit {0}) (lines : List Line) → result ≡ Ok u → PrintsLines a c p r fa fc result lines
+      → PrintsLines {E = E} a c p r fa fc (Ok tt) lines
+  ok_printed u lines is prints = subst (λ (o : Result (Unit {0}) E). PrintsLines a c p r fa fc o lines) is prints
+
+  pub err_printed : (e : E) (lines : List Line) → result ≡ Err e → PrintsLines a c p r fa fc result lines
+      → PrintsLines a c p r fa fc (Err e) lines
+  err_printed e lines is prints = subst (λ (o : Result (Unit {0}) E). PrintsLines a c p r fa fc o lines) is prints

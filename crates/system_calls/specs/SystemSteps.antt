@@ -18,26 +18,6 @@ use Rattle.step_contents.specs.Contents.{Becomes, Contents, Here, LeftBehind, wi
 use Rattle.step_contents.specs.PlacesInCode.{PlaceInCode}
 use Rattle.step_contents.specs.Settings.{IsSetting}
 
--- pub fn call<H: ObjectStore, F: FrameStore, S: Sink>(heap: &mut H, frames: &mut F, shared: &mut Shared, w: &World, d: DomainId,
---     s: SegmentNo, at: &StandsAt<'_>, m: MemberId, out: &mut S) -> Result<After, SinkFailed>
---   requires { (own : KeptState) × MayCall (contents_of (H.content heap.old) (F.content frames.old) own)
---       (call_site (here_at w.now shared.old d s) (place_of at.now) m) }
---   ensures ok { IfOk result (λ after. (own : KeptState)
---       → SystemDone (contents_of (H.content heap.old) (F.content frames.old) own) (call_site (here_at w.now shared.old d s) (place_of at.now) m)
---       (left_behind (contents_of (H.content heap.new) (F.content frames.new) own) shared.new) after
---       (λ lines. PrintsLines (S.bytes out.old) (S.bytes out.new) (S.pieces out.old) (S.pieces out.new) (S.faults out.old) (S.faults out.new)
---       (printed result) lines)) }
---   ensures err { OnErr result ((own : KeptState)
---       → SystemDone (contents_of (H.content heap.old) (F.content frames.old) own) (call_site (here_at w.now shared.old d s) (place_of at.now) m)
---       (left_behind (contents_of (H.content heap.new) (F.content frames.new) own) shared.new) (Next.Goto (at.now.head.at + 1))
---       (λ lines. PrintsLines (S.bytes out.old) (S.bytes out.new) (S.pieces out.old) (S.pieces out.new) (S.faults out.old) (S.faults out.new)
---       (printed result) lines)) }
---   ensures cause { OnErr result (HasRisen (S.faults out.old) (S.faults out.new)) }
---   ensures calm { OnOk result (S.faults out.new ≡ S.faults out.old) }
---   ensures faults { NeverFalls (S.faults out.old) (S.faults out.new) }
--- Where the sink fails, all else is done, as after `Goto` of the next place, and the text went out in part. It takes no memory. The own state
--- isn't asked for and doesn't change. `PrintsLines` is that of `jk_outside`: which pieces the sink was handed is said, too.
-
 -- whether the sink failed, of an answer that says more
 abbrev pub printed : {X E : Type 0} → Result X E → Result (Unit {0}) E
 printed (Ok answer) = Ok tt

@@ -92,6 +92,13 @@ pub(crate) fn null_text() -> ShortText
     known_text(&NULL)
 }
 
+/// No unit at all.
+pub(crate) fn no_text() -> ShortText
+    ensures { drop result.from result.units ≡ [] }
+{
+    known_text(&[])
+}
+
 /// A text of these units.
 fn known_text(text: &[u16]) -> ShortText
     requires { length text.now ≤ 20 }

@@ -1,0 +1,15 @@
+mod DomainsByPlace
+mod EndedThreads
+mod FitsAgain
+mod FittingRuns
+mod KeptParts
+mod PaidParts
+mod PlacedThreads
+mod RanParts
+mod SegmentsApart
+mod SegmentsMayAct
+mod SegmentsThatRan
+mod SettingsOfPlaces
+mod StatesOfFrames
+mod StepsOfActs
+mod ThrownObjects
