@@ -3,9 +3,13 @@
 //! that is left, and the end of the domain. The contracts stand in `specs/`; the code comes under them.
 #![tactic(auto)]
 
+mod falling_needs;
 mod in_frame;
+mod instructions;
 mod meeting;
+mod needed_classes;
 mod raising;
+mod returning;
 mod went;
 
 pub use in_frame::run_in_frame;
