@@ -4,9 +4,11 @@ pub mod CallsDecided
 pub mod CallsStayAnswered
 pub mod CapabilitiesAfterRuns
 pub mod ChangedItems
+pub mod ConfinedWithoutJk
 pub mod ConstantsOfFields
 pub mod CopiesTaken
 pub mod DomainsAfterRuns
+pub mod ElsewhereSame
 pub mod EventsGoOn
 pub mod FieldsNamedWell
 pub mod FieldsStay

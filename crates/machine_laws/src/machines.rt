@@ -1,5 +1,6 @@
 //! The laws. The functions have no bodies: each stands for its clauses.
 
+ghost use Rattle.machine_laws.specs.ConfinedSteps.{StepsAreConfinedWithoutJk};
 ghost use Rattle.machine_laws.specs.KnownMachines.{IsKnownMachine, IsKnownWithoutJk};
 ghost use Rattle.machine_laws.specs.LowestFrames.{LowestFramesGiveStill};
 ghost use Rattle.machine_laws.specs.MachinesOfRuns.{FirstMachinesAreWithoutJk, IsOfRunWithoutJk, KillsMayGrow, RoundsGoOn, StartsMayGrow, StartsStayOfRuns, StepsMayGrow, StepsStayOfRuns, ThreadsGoOn, TurnsGoOn};
@@ -63,6 +64,13 @@ pub fn lowest_frames_give_still()
 /// known of it that was known.
 pub fn steps_stay_known_without_jk()
     ensures { StepsStayWithoutJk }
+{
+    heap_rows_keep();
+}
+
+/// Where no class refers to package jk, a step changes its own thread and the inside of the domain in which that runs, and nothing elsewhere.
+pub fn steps_are_confined_without_jk()
+    ensures { StepsAreConfinedWithoutJk }
 {
     heap_rows_keep();
 }
