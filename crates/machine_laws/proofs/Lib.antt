@@ -7,6 +7,8 @@ pub mod ChangedItems
 pub mod ConstantsOfFields
 pub mod CopiesTaken
 pub mod DomainsAfterRuns
+pub mod DomainsChanged
+pub mod EndsSealed
 pub mod EventsGoOn
 pub mod FieldsNamedWell
 pub mod FieldsStay
@@ -23,6 +25,7 @@ pub mod InsidesStaySealed
 pub mod InstructionsKeepHeads
 pub mod InstructionsOfFiles
 pub mod InstructionsThatAsk
+pub mod KillsKnown
 pub mod LinkedAgain
 pub mod LowestFramesStay
 pub mod LowestSegmentsLeft
@@ -56,6 +59,8 @@ pub mod RunsAgain
 pub mod RunsAnswered
 pub mod SealedAfterRuns
 pub mod SegmentsAnswered
+pub mod SegmentsCut
+pub mod SegmentsCutFit
 pub mod SegmentsStillFit
 pub mod SegmentsThatRan
 pub mod SoundAgain

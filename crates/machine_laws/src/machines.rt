@@ -3,7 +3,7 @@
 ghost use Rattle.machine_laws.specs.KnownMachines.{IsKnownMachine, IsKnownWithoutJk};
 ghost use Rattle.machine_laws.specs.LowestFrames.{LowestFramesGiveStill};
 ghost use Rattle.machine_laws.specs.RunsInMachines.{AnsweringRunsStayWhole, FirstMachinesAreWhole, KeptRunsStaySealed, PaidMachinesStayKnown};
-ghost use Rattle.machine_laws.specs.SealedSteps.{FirstMachinesAreKnown, LeftRunsStaySealed, RunningSegmentsActWell, StepsStayWithoutJk, WaitingRunsStaySealed};
+ghost use Rattle.machine_laws.specs.SealedSteps.{FirstMachinesAreKnown, LeftRunsStaySealed, KillsStayKnown, RunningSegmentsActWell, StepsStayWithoutJk, WaitingRunsStaySealed};
 ghost use Rattle.machine_laws.specs.StepProgress.{GoingIsThere, RoundsAreThere, TurnsAreThere};
 
 use crate::folders::system_classes_are_sound;
@@ -64,3 +64,8 @@ pub fn steps_stay_known_without_jk()
 {
     heap_rows_keep();
 }
+
+/// Where a domain is killed, all is known of the machine that was known.
+pub fn kills_stay_known()
+    ensures { KillsStayKnown }
+{}
