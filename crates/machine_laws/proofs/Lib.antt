@@ -9,6 +9,8 @@ pub mod ConstantsOfFields
 pub mod CopiesTaken
 pub mod DomainsAfterRuns
 pub mod ElsewhereSame
+pub mod DomainsChanged
+pub mod EndsSealed
 pub mod EventsGoOn
 pub mod FieldsNamedWell
 pub mod FieldsStay
@@ -25,6 +27,7 @@ pub mod InsidesStaySealed
 pub mod InstructionsKeepHeads
 pub mod InstructionsOfFiles
 pub mod InstructionsThatAsk
+pub mod KillsKnown
 pub mod LinkedAgain
 pub mod LowestFramesStay
 pub mod LowestSegmentsLeft
@@ -66,6 +69,8 @@ pub mod RunsGoOn
 pub mod SealedAfterRuns
 pub mod SegmentsAnswered
 pub mod SegmentsRunAgain
+pub mod SegmentsCut
+pub mod SegmentsCutFit
 pub mod SegmentsStillFit
 pub mod SegmentsThatRan
 pub mod SoundAgain
