@@ -12,6 +12,7 @@ mod SegmentsMayAct
 mod SegmentsThatRan
 mod SettingsOfPlaces
 mod StatesOfFrames
+mod StaysWithoutJk
 mod StepsOfActs
 mod StepsOfRaises
 mod ThrownObjects

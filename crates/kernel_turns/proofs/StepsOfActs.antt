@@ -20,6 +20,7 @@ use Rattle.jk_model_runs.specs.Steps.{Acts, Deed, Ensues, IsHeld, LeftSegments, 
 use Rattle.jk_model_runs.specs.Steps as Ran
 use Rattle.frame_store.specs.FrameContents.{Ends, FrameContent}
 use Rattle.heap_laws.specs.RaisableObjects.{IsThrowable}
+use Rattle.machine_laws.proofs.StepsWithinDomains.{StaysWithin}
 use Rattle.machine_laws.specs.KnownMachines.{IsKnownMachine, RunsNoPackageJk}
 use Rattle.machine_parts.specs.ChangedParts.{AreSegmentsApart}
 use Rattle.machine_parts.specs.FittingParts.{AreFittingParts}
@@ -32,7 +33,7 @@ use Rattle.segment_steps.specs.declared.went.Went.{Went}
 use Rattle.segment_steps.specs.declared.went.Went.TheVariants as Goes
 use Rattle.kernel_parts.specs.SoundKernels.{AreKernelParts, AreSoundParts, KernelContent, kernel_machine, parts_of}
 use Rattle.kernel_turns.specs.RunningPlaces.{HasNothingPending, RunsAt, contents_at, here_in, paying, runs}
-use Rattle.kernel_turns.specs.SteppedParts.{ActsAs, EndsByThrow, Follows, HasRoomsForLiterals, IsEmptied, IsThrownIn, MayFollow, MayStep, StaysInside, StaysWithoutJk, with_left}
+use Rattle.kernel_turns.specs.SteppedParts.{ActsAs, EndsByThrow, Follows, HasRoomsForLiterals, IsEmptied, IsThrownIn, MayFollow, MayStep, with_left}
 use Rattle.kernel_turns.proofs.DomainsByPlace.{names_there, shared_found, shared_there}
 use Rattle.kernel_turns.proofs.EndedThreads.{AreSingle}
 use Rattle.kernel_turns.proofs.KeptParts.{becoming, kept_parts, single_threads}
@@ -42,6 +43,7 @@ use Rattle.kernel_turns.proofs.SegmentsApart.{sealed_apart}
 use Rattle.kernel_turns.proofs.SegmentsMayAct.{acts as acts_well, may_act}
 use Rattle.kernel_turns.proofs.SegmentsThatRan.{emptied_by, fit_left_off, fit_ran, gone, is_ran, left_off, only, place_ran, ran, same_name, throws}
 use Rattle.kernel_turns.proofs.SettingsOfPlaces.{is_setting}
+use Rattle.kernel_turns.proofs.StaysWithoutJk.{StaysWithoutJk}
 use Rattle.kernel_turns.proofs.ThrownObjects.{thrown_in}
 
 never_both : (b : Bool) → b ≡ false → b ≡ true → ⊥
@@ -136,7 +138,7 @@ module _ (k : KernelContent) (t : ThreadNo) (at : RunsAt k t) (ms : MayStep k at
       (run_of (place_paid k t at ms)) run went
       (acts_well (paying at.segment.domain k) t (at_paid k t at ms) (sound_paid k t at ms) (without_jk k t at ms) (known_paid k t at ms) calm.1) step
 
-  inside : StaysInside went
+  inside : StaysWithin went
   inside =
       sw.inside (kernel_machine (paying at.segment.domain k)) t (place_paid k t at ms) run went (known_paid k t at ms) (without_jk k t at ms) calm.1 step
 
@@ -223,7 +225,7 @@ module _ (k : KernelContent) (t : ThreadNo) (at : RunsAt k t) (ms : MayStep k at
   may_do = may_act (paying at.segment.domain k) t (at_paid k t at ms) (sound_paid k t at ms) (without_jk k t at ms) (known_paid k t at ms) calm.1
 
   stays_inside : (run : Run) (went : Way.Went) → LocalStep (setting_of (place_paid k t at ms)) t (run_of (place_paid k t at ms)) run went
-      → StaysInside went
+      → StaysWithin went
   stays_inside run went step =
       sw.inside (kernel_machine (paying at.segment.domain k)) t (place_paid k t at ms) run went (known_paid k t at ms) (without_jk k t at ms) calm.1 step
 
@@ -299,9 +301,9 @@ module _ (k : KernelContent) (t : ThreadNo) (at : RunsAt k t) (ms : MayStep k at
   is_step went lines after new (is_denied run other request r unwound step answers raises becomes) rooms follows =
       absurd (stays_inside run (Way.Asks request) step)
 
-pub acts_as : LocalStepsKeep → (k : KernelContent) (t : ThreadNo) (at : RunsAt k t) (left : LeftBehind) (went : Went) → StaysWithoutJk → MayStep k at
+pub acts_as : LocalStepsKeep → StaysWithoutJk → (k : KernelContent) (t : ThreadNo) (at : RunsAt k t) (left : LeftBehind) (went : Went) → MayStep k at
     → HasNothingPending at.segment → ActsAs k at left went
-acts_as keep k t at left went sw ms calm = record {
+acts_as keep sw k t at left went ms calm = record {
   setting = setting_of (place_paid k t at ms);
   may = may_do k t at ms calm sw keep left;
   is_setting = is_setting (paying at.segment.domain k) t (at_paid k t at ms) (fit_paid k t at ms) ms.parts.stubs;

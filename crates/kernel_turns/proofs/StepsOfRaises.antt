@@ -40,7 +40,7 @@ use Rattle.segment_steps.specs.RaisingHere.{RaisedHere, went_of}
 use Rattle.segment_steps.specs.declared.went.Went.{Went}
 use Rattle.kernel_parts.specs.SoundKernels.{AreKernelParts, KernelContent, kernel_machine, parts_of}
 use Rattle.kernel_turns.specs.RunningPlaces.{RunsAt, contents_at, here_in, paying, runs}
-use Rattle.kernel_turns.specs.SteppedParts.{EndsByThrow, Follows, HasRoomsForLiterals, IsEmptied, IsPending, IsThrownIn, MayFollow, MayStep, RaisesAs, StaysWithoutJk, is_revoked, stops, with_left}
+use Rattle.kernel_turns.specs.SteppedParts.{EndsByThrow, Follows, HasRoomsForLiterals, IsEmptied, IsPending, IsThrownIn, MayFollow, MayStep, RaisesAs, is_revoked, stops, with_left}
 use Rattle.kernel_turns.proofs.DomainsByPlace.{names_there, shared_there}
 use Rattle.kernel_turns.proofs.EndedThreads.{AreSingle}
 use Rattle.kernel_turns.proofs.FlaggedParts.{apart_fallen, at_flagged, fallen, fit_flagged, is_flagged, single_flagged}
@@ -49,6 +49,7 @@ use Rattle.kernel_turns.proofs.PlacedThreads.{own_at, place}
 use Rattle.kernel_turns.proofs.SegmentsMayAct.{in_progress, knows, may_raise, raises_on}
 use Rattle.kernel_turns.proofs.SegmentsThatRan.{emptied_by, fit_left_off, fit_ran, is_ran, left_off, ran, throws}
 use Rattle.kernel_turns.proofs.SettingsOfPlaces.{is_setting}
+use Rattle.kernel_turns.proofs.StaysWithoutJk.{StaysWithoutJk}
 use Rattle.kernel_turns.proofs.StepsOfActs.{apart_paid, at_paid, fit_paid, known_paid, moved, place_paid, single, sound_paid, steps_by, without_jk}
 use Rattle.kernel_turns.proofs.ThrownObjects.{thrown_in}
 
@@ -283,9 +284,9 @@ still_stop s = s.stop
 abbrev falls : SharedSegment → Bool
 falls s = false
 
-pub raises_as : RaisedObjectsAreThrowables → UnwindingKeeps → (k : KernelContent) (t : ThreadNo) (at : RunsAt k t) (raise : Raise)
-    (change : SharedSegment → SharedSegment) → StaysWithoutJk → MayStep k at → IsPending at.segment raise change → RaisesAs k at raise change
-raises_as raised unwound k t at raise change sw ms (stops on) =
+pub raises_as : RaisedObjectsAreThrowables → UnwindingKeeps → StaysWithoutJk → (k : KernelContent) (t : ThreadNo) (at : RunsAt k t) (raise : Raise)
+    (change : SharedSegment → SharedSegment) → MayStep k at → IsPending at.segment raise change → RaisesAs k at raise change
+raises_as raised unwound sw k t at raise change ms (stops on) =
     let acts : (n : ℕ) (lines : List Line) (new : Machine)
     → RaisesInThread (kernel_machine (kf k t at ms falls still_revoked)) t (Raised.Standing Stands.ThreadDeath) n lines new
     → Acts (kernel_machine (paying at.segment.domain k)) t (deed_of_raise n) lines new =
@@ -298,7 +299,7 @@ raises_as raised unwound k t at raise change sw ms (stops on) =
       follows = may_follow k t at ms falls still_revoked raised unwound Stands.ThreadDeath;
       steps = is_step k t at ms falls still_revoked raised unwound Stands.ThreadDeath sw acts;
     }
-raises_as raised unwound k t at raise change sw ms (is_revoked calm on) =
+raises_as raised unwound sw k t at raise change ms (is_revoked calm on) =
     let acts : (n : ℕ) (lines : List Line) (new : Machine)
     → RaisesInThread (kernel_machine (kf k t at ms still_stop falls)) t (Raised.Standing Stands.Revoked) n lines new
     → Acts (kernel_machine (paying at.segment.domain k)) t (deed_of_raise n) lines new =

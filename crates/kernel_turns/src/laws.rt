@@ -2,6 +2,8 @@
 
 ghost use Rattle.kernel_turns.specs.SteppedParts.{ActsAreSteps, RaisesAreSteps};
 
+use machine_laws::machines::steps_stay_known_without_jk;
+use row_laws::heap_rows::heap_rows_keep;
 use row_laws::running::local_steps_keep;
 use row_laws::unwinding::{raised_objects_are_throwables, unwound_segments_stay_sealed};
 
@@ -11,6 +13,8 @@ pub fn acts_are_steps()
     ensures { ActsAreSteps }
 {
     local_steps_keep();
+    heap_rows_keep();
+    steps_stay_known_without_jk();
 }
 
 /// So it is where something was pending and was raised.
@@ -19,4 +23,6 @@ pub fn raises_are_steps()
 {
     raised_objects_are_throwables();
     unwound_segments_stay_sealed();
+    heap_rows_keep();
+    steps_stay_known_without_jk();
 }
