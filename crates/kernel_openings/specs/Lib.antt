@@ -1,5 +1,7 @@
 pub mod AddedDomains
 pub mod FirstFrames
 pub mod FolderEvents
+pub mod Joining
+pub mod PackageJk
 pub mod StandingObjects
 pub mod StartedThreads

@@ -4,9 +4,13 @@ pub mod CallsDecided
 pub mod CallsStayAnswered
 pub mod CapabilitiesAfterRuns
 pub mod ChangedItems
+pub mod ConfinedWithoutJk
 pub mod ConstantsOfFields
 pub mod CopiesTaken
 pub mod DomainsAfterRuns
+pub mod ElsewhereSame
+pub mod DomainsChanged
+pub mod EndsSealed
 pub mod EventsGoOn
 pub mod FieldsNamedWell
 pub mod FieldsStay
@@ -23,6 +27,7 @@ pub mod InsidesStaySealed
 pub mod InstructionsKeepHeads
 pub mod InstructionsOfFiles
 pub mod InstructionsThatAsk
+pub mod KillsKnown
 pub mod LinkedAgain
 pub mod LowestFramesStay
 pub mod LowestSegmentsLeft
@@ -64,6 +69,8 @@ pub mod RunsGoOn
 pub mod SealedAfterRuns
 pub mod SegmentsAnswered
 pub mod SegmentsRunAgain
+pub mod SegmentsCut
+pub mod SegmentsCutFit
 pub mod SegmentsStillFit
 pub mod SegmentsThatRan
 pub mod SoundAgain

@@ -1,4 +1,5 @@
 pub mod CallsAndAnswers
+pub mod ConfinedSteps
 pub mod GoingOn
 pub mod KeptWorlds
 pub mod KnownMachines

@@ -1,7 +1,7 @@
 //! The laws. The functions have no bodies: each stands for its clause.
 
 ghost use Rattle.machine_laws.specs.KeptWorlds.{StepsDrawNumbers, StepsKeepWorlds};
-ghost use Rattle.machine_laws.specs.SealedCrossings.{AnswersStaySealed, RaisesStaySealed, ThrowablesStaySealed};
+ghost use Rattle.machine_laws.specs.SealedCrossings.{AnswersStaySealed, EndsStaySealed, RaisesStaySealed, ThrowablesStaySealed};
 
 /// No step and no end of a domain changes the pools, the classes, what domains are opened with, or the number of the next thread.
 pub fn steps_keep_worlds()
@@ -28,4 +28,9 @@ pub fn raises_stay_sealed()
 /// are answered.
 pub fn answers_stay_sealed()
     ensures { AnswersStaySealed }
+{}
+
+/// Where a domain ends, the machine is sealed, and calls stay answered.
+pub fn ends_stay_sealed()
+    ensures { EndsStaySealed }
 {}

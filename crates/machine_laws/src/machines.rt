@@ -1,10 +1,11 @@
 //! The laws. The functions have no bodies: each stands for its clauses.
 
+ghost use Rattle.machine_laws.specs.ConfinedSteps.{StepsAreConfinedWithoutJk};
 ghost use Rattle.machine_laws.specs.KnownMachines.{IsKnownMachine, IsKnownWithoutJk};
 ghost use Rattle.machine_laws.specs.LowestFrames.{LowestFramesGiveStill};
 ghost use Rattle.machine_laws.specs.MachinesOfRuns.{FirstMachinesAreWithoutJk, IsOfRunWithoutJk, KillsMayGrow, RoundsGoOn, StartsMayGrow, StartsStayOfRuns, StepsMayGrow, StepsStayOfRuns, ThreadsGoOn, TurnsGoOn};
 ghost use Rattle.machine_laws.specs.RunsInMachines.{AnsweringRunsStayWhole, FirstMachinesAreWhole, KeptRunsStaySealed, PaidMachinesStayKnown};
-ghost use Rattle.machine_laws.specs.SealedSteps.{FirstMachinesAreKnown, LeftRunsStaySealed, RunningSegmentsActWell, StartsStayKnown, StartsStaySealed, StartsStayWithoutJk, StepsStayWithoutJk, WaitingRunsStaySealed};
+ghost use Rattle.machine_laws.specs.SealedSteps.{FirstMachinesAreKnown, KillsStayKnown, LeftRunsStaySealed, RunningSegmentsActWell, StartsStayKnown, StartsStaySealed, StartsStayWithoutJk, StepsStayWithoutJk, WaitingRunsStaySealed};
 ghost use Rattle.machine_laws.specs.StepProgress.{GoingIsThere, RoundsAreThere, StepsAreThereWithoutJk, TurnsAreThere};
 
 use crate::folders::system_classes_are_sound;
@@ -67,6 +68,13 @@ pub fn steps_stay_known_without_jk()
     heap_rows_keep();
 }
 
+/// Where no class refers to package jk, a step changes its own thread and the inside of the domain in which that runs, and nothing elsewhere.
+pub fn steps_are_confined_without_jk()
+    ensures { StepsAreConfinedWithoutJk }
+{
+    heap_rows_keep();
+}
+
 /// A start leads from a machine of which all is known to such a machine, from a sealed one to a sealed one where classes and names are sound, and
 /// from one without package jk to one without it.
 pub fn starts_stay_known()
@@ -115,3 +123,8 @@ pub fn runs_go_on_without_jk()
     steps_stay_known_without_jk();
     machines_may_grow();
 }
+
+/// Where a domain is killed, all is known of the machine that was known.
+pub fn kills_stay_known()
+    ensures { KillsStayKnown }
+{}
