@@ -1,5 +1,7 @@
 -- A step that changes nothing of what domains share and prints nothing is what a segment that acts does.
-use Rattle.std.proofs.Common.{◌≡◌, List, [], ◌∷◌, ◌++◌, ◌<◌, ◌^◌, ℕ, Option, Some, None, Result, Ok, append-nil, refl, sym, ap, subst, ◌∙◌, arith}
+use Rattle.std.proofs.Common.{List, [], ◌<◌, ◌^◌, ℕ, Option, Some, None, Result, Ok, Err, append-nil, refl, sym, ap, subst, arith}
+use Rattle.std.specs.Prelude.{IfOk, OnErr, OnOk}
+use Rattle.system_calls.specs.SystemSteps.{printed}
 use Rattle.jk_model.specs.declared.identifiers.ThreadNo.{ThreadNo}
 use Rattle.jk_model.specs.declared.output.Line.{Line}
 use Rattle.jk_model.specs.Outside.{Appends}
@@ -8,9 +10,9 @@ use Rattle.jk_model_running.specs.LocalSteps.{LocalStep}
 use Rattle.jk_model_running.specs.Ways.{Asks, Crosses, Ended, GoesOn, Left, Says, Terminates}
 use Rattle.jk_model_running.specs.Ways.{Went as Way}
 use Rattle.jk_outside.specs.SeveralLines.{PrintsLines}
-use Rattle.step_contents.specs.Contents.{Becomes, Contents, Here, left_behind}
+use Rattle.step_contents.specs.Contents.{Becomes, Contents, Here, LeftBehind, left_behind}
 use Rattle.segment_steps.specs.ActingSegments.{Acted, ActsSo, MayAct, crosses, ended, goes_on, leaves, terminates}
-use Rattle.segment_steps.specs.StepsAlone.{IsWent, Stepped, Steps}
+use Rattle.segment_steps.specs.StepsAlone.{IsWent, Stepped, Steps, went_so}
 use Rattle.segment_steps.specs.declared.went.Went.{Went}
 use Rattle.segment_steps.specs.declared.went.Went.TheVariants as Goes
 
@@ -38,7 +40,14 @@ pub acts_alone : (old new : Contents) (here : Here) (t : ThreadNo) (went : Went)
     → GoOut [] → ActsSo old here t (left_behind new here.shared) went GoOut
 acts_alone old new here t went GoOut steps none = λ x may is. ([], acted x t may new went (steps x may is), none)
 
--- ---- Nothing was printed.
+-- ---- Lines.
+
+-- lines went out so
+abbrev pub gone_out : {E : Type 0} → Result (Unit {0}) E → Option (List ℕ) → Option (List ℕ) → List (List ℕ) → List (List ℕ) → ℕ → ℕ → List Line
+    → Type 0
+gone_out result bytes new_bytes pieces new_pieces faults new_faults lines = PrintsLines bytes new_bytes pieces new_pieces faults new_faults result lines
+
+-- nothing was printed
 
 appends_none : (a : Option (List ℕ)) → Appends a a []
 appends_none None = refl
@@ -55,3 +64,25 @@ prints_none bytes pieces faults fits = record {
   calm = refl;
   faults = record { later = omega arith; fits = fits };
 }
+
+-- ---- By the answer.
+
+module _ {E : Type 0} (old : Contents) (here : Here) (t : ThreadNo) (left : LeftBehind) where
+  pub went_well : (result : Result Went E) (GoOut : List Line → Type 0) → ActsSo old here t left (went_so result) GoOut
+      → IfOk result (λ went. ActsSo old here t left went GoOut)
+  went_well (Ok went) GoOut acts = acts
+  went_well (Err e) GoOut acts = tt
+
+  pub went_badly : (result : Result Went E) (GoOut : List Line → Type 0) → ActsSo old here t left (went_so result) GoOut
+      → OnErr result (ActsSo old here t left Goes.GoesOn GoOut)
+  went_badly (Ok went) GoOut acts = tt
+  went_badly (Err e) GoOut acts = acts
+
+module _ {E : Type 0} (P : Type 0) where
+  pub on_err_so : (result : Result Went E) → OnErr (printed result) P → OnErr result P
+  on_err_so (Ok went) h = tt
+  on_err_so (Err e) h = h
+
+  pub on_ok_so : (result : Result Went E) → OnOk (printed result) P → OnOk result P
+  on_ok_so (Ok went) h = h
+  on_ok_so (Err e) h = tt

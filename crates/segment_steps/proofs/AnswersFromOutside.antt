@@ -1,5 +1,5 @@
 -- A method of the system that is answered from outside of its domain, or ends it, leaves its domain's inside as it was.
-use Rattle.std.proofs.Common.{inl, inr, ◌≡◌, ◌⊎◌, ◌==◌, ℕ, ℤ, Bool, true, false, cond, List, [], ◌∷◌, ◌++◌, Option, Some, None, refl, sym, ap, subst, ◌∙◌}
+use Rattle.std.proofs.Common.{inl, inr, ◌≡◌, ◌⊎◌, ◌==◌, ℕ, Bool, true, false, cond, List, [], ◌∷◌, ◌++◌, Option, Some, None, sym, ap, subst, ◌∙◌}
 use Rattle.std.specs.Prelude.{MatchBool, MatchOption, ⊤}
 use Rattle.jk_model.specs.declared.identifiers.MemberId.{MemberId}
 use Rattle.jk_model.specs.declared.identifiers.SegmentNo.{SegmentNo}
@@ -7,7 +7,7 @@ use Rattle.jk_model.specs.declared.steps.Raise.TheVariants as Raised
 use Rattle.jk_model.specs.declared.values.Value.{Value}
 use Rattle.jk_model.specs.declared.values.Value.TheVariants as Held
 use Rattle.jk_model_domains.specs.NumberRows.{is_null}
-use Rattle.jk_model_domains.specs.Objects.{NamedObject, Object, Task, Text}
+use Rattle.jk_model_domains.specs.Objects.{NamedObject, Object, Text}
 use Rattle.jk_model_frames.specs.Frames.{FrameState}
 use Rattle.jk_model_heaps.specs.SystemClasses.{ARRAY_STORE_EXCEPTION}
 use Rattle.jk_model_heaps.specs.Workings.{Asks, Inside, LooksUp, Request, Resumes, Setting, Stops, Suspends, Terminates, Unbinds, Working}
@@ -17,7 +17,7 @@ use Rattle.jk_model_system_rows.specs.declared.meanings.SystemMeaning.TheVariant
 use Rattle.jk_model_system_rows.specs.Answers.{Answer, Answered, Answers, AnswersNew, Ends, Fails, Gives, MakesAnd, Tells, Wants, gives_nothing, with_answer}
 use Rattle.jk_model_system_rows.specs.ArrayCopies.{ArrayCopy, CopiesItems, at_null, copies, copy_answer, of_other_kinds, out_of_range}
 use Rattle.jk_model_system_rows.specs.HiddenTexts.{AppendsTo, BeginsBuffer, BeginsBufferWith, GivesBufferLength, GivesBufferText, GivesMessage, SetsMessage}
-use Rattle.jk_model_system_rows.specs.PackageJk.{AsksByName, AsksOfTask, BindsName, CountsWords, CreatesCapability, RevokesCapability}
+use Rattle.jk_model_system_rows.specs.PackageJk.{AsksByName, AsksOfTask, BindsName, CreatesCapability, RevokesCapability}
 use Rattle.jk_model_system_rows.specs.SystemRows.{SystemRow}
 use Rattle.jk_model_system_rows.specs.TextMethods.{CutsText, GivesTextLength, GivesUnit, JoinsTexts, PrintsText, ReadsNumber, TellsEqual, TellsSame, WritesText}
 use Rattle.jk_model_system_rows.specs.SystemCalls.{Answering, DoesSystem}

@@ -1,11 +1,10 @@
 -- What denies something that a domain asks for may be raised in it.
-use Rattle.std.proofs.Common.{◌≡◌, ℕ, List, Result, Ok, Err, refl, arith}
+use Rattle.std.proofs.Common.{ℕ, List, Result, Ok, Err, refl, arith}
 use Rattle.jk_model.specs.declared.identifiers.CapId.{CapId}
 use Rattle.jk_model.specs.declared.identifiers.ClassId.{ClassId}
 use Rattle.jk_model.specs.declared.identifiers.DomainId.{DomainId}
 use Rattle.jk_model.specs.declared.steps.Raise.{Raise}
 use Rattle.jk_model.specs.declared.steps.Raise.TheVariants as Raised
-use Rattle.jk_model.specs.declared.steps.Standing.TheVariants as Stands
 use Rattle.jk_model_classes.specs.declared.records.ClassRecord.{ClassRecord}
 use Rattle.jk_model_domains.specs.Objects.{NamedObject}
 use Rattle.jk_model_heaps.specs.Capabilities.{CapRange}
@@ -31,7 +30,8 @@ module _ (classes : List ClassRecord) (sound : AreSoundCodes classes) (heap : Li
   illegal : Can (Raised.Fresh ILLEGAL_ARGUMENT_EXCEPTION)
   illegal = (omega arith, below_listed classes sound 9 22 9 refl)
 
-  created : (range : CapRange) (class : ClassId) (target : ℕ) (answer : Result CapId Raise) (new : CapRange) → Creates range class target answer new → CanIn answer
+  created : (range : CapRange) (class : ClassId) (target : ℕ) (answer : Result CapId Raise) (new : CapRange)
+      → Creates range class target answer new → CanIn answer
   created range class target answer new (used_up full) = tt
   created range class target answer new (has_room room) = tt
 
@@ -39,16 +39,15 @@ module _ (classes : List ClassRecord) (sound : AreSoundCodes classes) (heap : Li
   revoked range k answer new (of_another other) = tt
   revoked range k answer new (own is) = tt
 
-  bound : (names : List BoundName) (quota : ℕ) (asked : BoundName) (answer : Result (Unit {0}) Raise) (new : List BoundName) → Binds names quota asked answer new
-      → CanIn answer
+  bound : (names : List BoundName) (quota : ℕ) (asked : BoundName) (answer : Result (Unit {0}) Raise) (new : List BoundName)
+      → Binds names quota asked answer new → CanIn answer
   bound names quota asked answer new (too_long long) = illegal
   bound names quota asked answer new (bound_by_another by short is other) = illegal
   bound names quota asked answer new (own_name by short is same) = tt
   bound names quota asked answer new (one_too_many short none full) = tt
   bound names quota asked answer new (new_name short none room) = tt
 
-  unbound : (names : List BoundName) (d : DomainId) (text : List ℕ) (answer : Result (Unit {0}) Raise) (new : List BoundName) → Unbinds names d text answer new
-      → CanIn answer
+  unbound : (names : List BoundName) (d : DomainId) (text : List ℕ) (answer : Result (Unit {0}) Raise) (new : List BoundName) → Unbinds names d text answer new → CanIn answer
   unbound names d text answer new (not_own by is other) = tt
   unbound names d text answer new (removed by is same) = tt
   unbound names d text answer new (not_bound none) = tt

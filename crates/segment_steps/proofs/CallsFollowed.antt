@@ -1,13 +1,12 @@
 -- An instruction of call was done: the called frame runs, a capability is to be called, something is raised, or a method of the system is to be
 -- done.
-use Rattle.std.proofs.Common.{◌≡◌, ℕ, List, [], ◌∷◌, ◌++◌, refl}
+use Rattle.std.proofs.Common.{◌≡◌, ℕ, [], ◌∷◌, ◌++◌, refl}
 use Rattle.jk_model.specs.declared.identifiers.CapId.{CapId}
 use Rattle.jk_model.specs.declared.identifiers.MemberId.{MemberId}
 use Rattle.jk_model.specs.declared.steps.After.{After}
 use Rattle.jk_model.specs.declared.steps.After.TheVariants as Next
 use Rattle.jk_model.specs.declared.steps.Raise.{Raise}
 use Rattle.jk_model_classes.specs.Worlds.{WorldRecord}
-use Rattle.jk_model_frames.specs.Frames.{FrameState}
 use Rattle.jk_model_heaps.specs.Workings.{Calls, Crosses, Outcome, Raises, Run, Setting, Working}
 use Rattle.jk_model_call_rows.specs.CallRows.{CallRow, CallsSystem}
 use Rattle.jk_model_running.specs.Executions.{calls as by_call}
@@ -30,7 +29,7 @@ use Rattle.step_contents.proofs.InstructionsBegin.{is_some_setting, runs_code, r
 use Rattle.segment_steps.specs.ActingSegments.{MayAct}
 use Rattle.segment_steps.specs.FollowedCalls.{LeavesToSystem}
 use Rattle.segment_steps.specs.RaisingHere.{RaisedHere}
-use Rattle.segment_steps.specs.StepsAlone.{StandsReady, Stepped, Steps}
+use Rattle.segment_steps.specs.StepsAlone.{StandsReady, Stepped}
 use Rattle.segment_steps.specs.declared.meeting.Runs.{Runs}
 use Rattle.segment_steps.specs.declared.went.Went.{Went}
 use Rattle.segment_steps.specs.declared.went.Went.TheVariants as Goes

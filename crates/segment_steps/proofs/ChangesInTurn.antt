@@ -1,5 +1,5 @@
 -- What changes in turn make of the stores, together.
-use Rattle.std.proofs.Common.{◌≡◌, ℕ, List, [], ◌∷◌, ◌++◌, Option, Some, refl, sym, ap, subst, ◌∙◌, arith}
+use Rattle.std.proofs.Common.{◌≡◌, ℕ, List, [], ◌∷◌, ◌++◌, Option, Some, refl, sym, ap, ◌∙◌, arith}
 use Rattle.std.proofs.lemmas.Option.{same_Some}
 use Rattle.jk_model_frames.specs.Frames.{FrameState, frames_chunks, head_chunks}
 use Rattle.jk_model_heaps.specs.Workings.{Inside, Run}

@@ -1,11 +1,9 @@
 -- A store of frames that is as it was, by what it holds, is nothing to a step: what is done after it is done before it.
-use Rattle.std.proofs.Common.{◌≡◌, List, refl, sym, ap, subst, ◌∙◌}
+use Rattle.std.proofs.Common.{List, refl, ◌∙◌}
 use Rattle.jk_model.specs.declared.identifiers.ThreadNo.{ThreadNo}
 use Rattle.jk_model.specs.declared.output.Line.{Line}
 use Rattle.jk_model_heaps.specs.Workings.{Run, Setting}
-use Rattle.frame_store.specs.FrameContents.{FrameContent, IsSame, TopFrame}
-use Rattle.jk_model.specs.declared.identifiers.SegmentNo.{SegmentNo}
-use Rattle.jk_model_frames.specs.Frames.{FrameState}
+use Rattle.frame_store.specs.FrameContents.{FrameContent, IsSame}
 use Rattle.jk_model_classes.specs.declared.records.ClassRecord.{ClassRecord}
 use Rattle.jk_model_domains.specs.OwnStates.{OwnState}
 use Rattle.step_contents.specs.Contents.{Becomes, Contents, Here, LeftBehind, contents_of}

@@ -1,5 +1,5 @@
 -- A frame that runs and returned may be taken off, and what follows is what a step leaves.
-use Rattle.std.proofs.Common.{◌≡◌, ◌≢◌, List, [], ◌∷◌, ◌++◌, Option, Some, None, refl, sym, ap, subst, ◌∙◌}
+use Rattle.std.proofs.Common.{◌≡◌, ◌≢◌, List, [], ◌∷◌, ◌++◌, Option, Some, None, sym, ap, subst, ◌∙◌}
 use Rattle.std.proofs.lemmas.List.Elements.{Contains-append_right}
 use Rattle.list_lemmas.proofs.ItemsOfLists.{Contains-here}
 use Rattle.jk_model.specs.declared.frames.FrameHead.{FrameHead}

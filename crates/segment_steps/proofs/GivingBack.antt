@@ -1,5 +1,5 @@
 -- A frame that returned is taken off, and what is left goes on.
-use Rattle.std.proofs.Common.{◌≡◌, ◌≢◌, ℕ, zero, ◌+◌, List, [], ◌∷◌, ◌++◌, length, Option, Some, None, is_some, append-nil, option_map, refl, sym, ap, subst, ◌∙◌, arith}
+use Rattle.std.proofs.Common.{◌≡◌, ◌≢◌, ℕ, ◌+◌, List, [], ◌∷◌, ◌++◌, length, Option, Some, None, is_some, append-nil, option_map, refl, sym, ap, subst, ◌∙◌, arith}
 use Rattle.std.proofs.lemmas.Option.{same_Some}
 use Rattle.list_lemmas.proofs.LastItems.{last_of}
 use Rattle.jk_model.specs.declared.frames.FrameHead.{FrameHead}
@@ -10,17 +10,16 @@ use Rattle.jk_model_domains.specs.declared.states.ClassState.TheVariants as Stat
 use Rattle.jk_model_domains.specs.OwnStates.{OwnState, with_state}
 use Rattle.jk_model_frames.specs.Frames.{FrameState}
 use Rattle.jk_model_heaps.specs.CalledFrames.{resumed}
-use Rattle.jk_model_heaps.specs.Heaps.{heap_words}
 use Rattle.jk_model_heaps.specs.Workings.{Inside, Run, Setting, Working}
 use Rattle.jk_model_running.specs.LocalSteps.{ends, ends_initialiser, returns, with_class}
 use Rattle.jk_model_running.specs.Ways.{Ended, GoesOn}
 use Rattle.class_init.specs.KeptStates.{KeptState}
-use Rattle.frame_store.specs.FrameContents.{FrameContent, HasTop, IsContent, IsThere, Pops, SetsTop, StoredSegment, TopFrame}
-use Rattle.number_ops.proofs.TopFrames.{same_top, then_sets, top_after}
+use Rattle.frame_store.specs.FrameContents.{FrameContent, IsContent, IsThere, Pops, SetsTop, StoredSegment, TopFrame}
+use Rattle.number_ops.proofs.TopFrames.{then_sets, top_after}
 use Rattle.object_store.specs.HeapContents.{HeapContent}
 use Rattle.step_contents.specs.Contents.{Becomes, Contents, FramesBecome, Here, Holds, InsideBecomes, contents_of, with_frame}
 use Rattle.exception_unwind.proofs.FramesChanged.{frames_popped, same_frames}
-use Rattle.segment_steps.specs.Returning.{HasReturned, MayResume, MayReturn, TopMayResume, TopResumes}
+use Rattle.segment_steps.specs.Returning.{HasReturned, MayReturn, TopMayResume, TopResumes}
 use Rattle.segment_steps.specs.declared.went.Went.TheVariants as Goes
 use Rattle.segment_steps.proofs.ChangesInTurn.{inside_kept, stored_top, top_set}
 

@@ -1,5 +1,5 @@
 -- An instruction on objects was done: its frame goes on, or something is raised.
-use Rattle.std.proofs.Common.{◌≡◌, List, None, refl, sym, ap, subst, ◌∙◌, ℕ}
+use Rattle.std.proofs.Common.{◌≡◌, None, refl, subst, ℕ}
 use Rattle.jk_model.specs.declared.steps.After.{After}
 use Rattle.jk_model.specs.declared.steps.After.TheVariants as Next
 use Rattle.jk_model.specs.declared.steps.Raise.{Raise}
@@ -7,7 +7,7 @@ use Rattle.jk_model_classes.specs.Worlds.{WorldRecord}
 use Rattle.jk_model_frames.specs.Frames.{FrameState}
 use Rattle.jk_model_heaps.specs.Workings.{GoesOn, Outcome, Raises, Setting, Working}
 use Rattle.jk_model_heap_rows.specs.HeapRows.{HeapRow}
-use Rattle.jk_model_running.specs.Executions.{Executes, heap}
+use Rattle.jk_model_running.specs.Executions.{heap}
 use Rattle.jk_model_sharing.specs.SharedStates.{SharedState}
 use Rattle.class_init.specs.KeptStates.{HasRooms, KeptState}
 use Rattle.frame_store.specs.FrameContents.{FrameContent, HasTop, SetsTop, TopFrame}
@@ -108,11 +108,11 @@ two_answers (Next.Goto n) outcome is goes raises = goes n refl
 two_answers (Next.Raise raise) outcome is goes raises = raises raise refl
 two_answers after outcome is goes raises = is
 
-pub nothing_else : (old mid : Contents) (world : WorldRecord) (shared : SharedState) (r : Runs) (at : PlaceInCode)
+pub nothing_else : (old new : Contents) (world : WorldRecord) (shared : SharedState) (r : Runs) (at : PlaceInCode)
     (st : StandsReady old.frames world.classes old.own.state r at) → MayAct old (here old world shared r at st) → (after : After)
-    → HeapDone old mid (here old world shared r at st) at after → ((n : ℕ) → after ≡ Next.Goto n → ⊥)
+    → HeapDone old new (here old world shared r at st) at after → ((n : ℕ) → after ≡ Next.Goto n → ⊥)
     → ((raise : Raise) → after ≡ Next.Raise raise → ⊥) → ⊥
-nothing_else old mid world shared r at st may after done goes raises =
+nothing_else old new world shared r at st may after done goes raises =
     let to_do = may_do old world shared r at st may in
     let d = done (some_setting to_do) to_do (is_some_setting to_do) in
     two_answers after d.1 d.3 goes raises

@@ -1,5 +1,5 @@
 -- What an instruction left that keeps what rows keep: its frame goes on at a place, or something is raised there.
-use Rattle.std.proofs.Common.{◌≡◌, ℕ, List, [], ◌∷◌, ◌++◌, Option, None, refl, sym, ap, subst, ◌∙◌, arith}
+use Rattle.std.proofs.Common.{◌≡◌, ℕ, [], ◌∷◌, ◌++◌, Option, None, refl, sym, ap, subst, ◌∙◌, arith}
 use Rattle.std.proofs.lemmas.List.Sums.{sum_by_push}
 use Rattle.jk_model.specs.declared.frames.FrameHead.{FrameHead}
 use Rattle.jk_model.specs.declared.identifiers.ClassId.{ClassId}
@@ -19,13 +19,12 @@ use Rattle.jk_model_sealing.specs.SealedInsides.{IsSealedInside}
 use Rattle.jk_model_sealing.specs.SealedRuns.{AreSealedFrames, IsSealedRun}
 use Rattle.jk_model_sharing.specs.SharedStates.{SharedState}
 use Rattle.class_init.specs.KeptStates.{HasRooms, KeptState}
-use Rattle.frame_store.specs.FrameContents.{FrameContent, SetsTop, TopFrame, free_chunks}
+use Rattle.frame_store.specs.FrameContents.{FrameContent, SetsTop, TopFrame}
 use Rattle.object_store.specs.HeapContents.{HeapContent}
-use Rattle.heap_laws.specs.FittingOutcomes.{FitsOutcome}
 use Rattle.heap_laws.specs.KeptInsides.{IsKept}
 use Rattle.heap_laws.specs.RaisableObjects.{KeepsStates, MayBeRaised, MayMeetRaise}
 use Rattle.step_contents.specs.Conditions.{MayRaise, around, working}
-use Rattle.step_contents.specs.Contents.{Becomes, Contents, Here, contents_of, inside_in, with_frame}
+use Rattle.step_contents.specs.Contents.{Becomes, Contents, Here, contents_of, with_frame}
 use Rattle.step_contents.specs.PlacesInCode.{PlaceInCode}
 use Rattle.step_contents.specs.Settings.{IsSetting}
 use Rattle.step_contents.proofs.InstructionsBegin.{same_quota}

@@ -1,5 +1,5 @@
 -- What is known of a domain and of its setting afterwards, where what it has inside became something, and frames changed that cost the same.
-use Rattle.std.proofs.Common.{◌≡◌, ℕ, ◌-◌, List, Contains, Option, Some, slice_get, refl, sym, ap, subst, ◌∙◌}
+use Rattle.std.proofs.Common.{◌≡◌, ℕ, ◌-◌, List, Contains, Option, Some, slice_get, sym, ap, subst, ◌∙◌}
 use Rattle.std.specs.Option.{option_map_or}
 use Rattle.jk_model.specs.declared.identifiers.DomainId.{DomainId}
 use Rattle.jk_model_domains.specs.OwnStates.{Literal}

@@ -4,7 +4,9 @@ pub mod AnswersFromOutside
 pub mod AnswersRaise
 pub mod CallersBelow
 pub mod CallsFollowed
+pub mod CallsMoved
 pub mod ChangesInTurn
+pub mod ConstantsFollowed
 pub mod FramesInTurn
 pub mod FramesMoved
 pub mod FramesReplaced
@@ -26,5 +28,6 @@ pub mod RaisedInSegments
 pub mod SegmentsRaise
 pub mod StandingHere
 pub mod StatesStay
+pub mod SystemCalled
 pub mod SystemFollowed
 pub mod TurnsInFrame

@@ -1,5 +1,5 @@
 -- What a thread met at its top frame tells whether the class is ready that the frame needs, of which there is one at most.
-use Rattle.std.proofs.Common.{inl, inr, ◌≡◌, ◌≢◌, ◌⊎◌, List, Option, Some, None, slice_get, refl, sym, ap, subst, ◌∙◌}
+use Rattle.std.proofs.Common.{inl, inr, ◌≡◌, ◌≢◌, ◌⊎◌, List, [], ◌∷◌, ◌++◌, true, false, Option, Some, None, is_some, option_map, slice_get, refl, sym, ap, subst, ◌∙◌}
 use Rattle.std.specs.Prelude.{MatchOption}
 use Rattle.std.proofs.lemmas.Option.{none-some, same_Some}
 use Rattle.jk_model.specs.declared.frames.FrameHead.{FrameHead}
@@ -9,7 +9,6 @@ use Rattle.jk_model.specs.declared.identifiers.ThreadNo.{ThreadNo}
 use Rattle.jk_model.specs.declared.instructions.Instr.{Instr}
 use Rattle.jk_model_classes.specs.declared.records.BaseRef.TheVariants as Base
 use Rattle.jk_model_classes.specs.declared.records.ClassRecord.{ClassRecord}
-use Rattle.jk_model_classes.specs.declared.records.Link.{Link}
 use Rattle.jk_model_classes.specs.declared.records.Link.TheVariants as To
 use Rattle.jk_model_classes.specs.declared.records.TypeRef.{TypeRef}
 use Rattle.jk_model_domains.specs.declared.states.ClassState.{ClassState}
@@ -21,11 +20,16 @@ use Rattle.jk_model_frames.specs.Frames.{FrameState}
 use Rattle.jk_model_heaps.specs.RunningCode.{InstrNeeds, RunsCode}
 use Rattle.jk_model_running.specs.Initialising.{FrameNeeds, IsReady}
 use Rattle.jk_model_typing.specs.FrameTypes.{array_type}
-use Rattle.jk_model_typing.specs.Scopes.{CodeScope, LeadsToLink}
+use Rattle.jk_model_typing.specs.Scopes.{CodeScope}
 use Rattle.typing_lemmas.proofs.OneScope.{one_link}
-use Rattle.row_laws.proofs.StandsHere.{code_is_one}
+use Rattle.row_laws.proofs.StandsHere.{code_here, code_is_one}
+use Rattle.step_contents.proofs.InstructionsBegin.{fit_top}
+use Rattle.jk_model_domains.specs.Objects.{NamedObject}
+use Rattle.jk_model_sealing.specs.FittingFrames.{FitsAsTop, FramesFit}
 use Rattle.frame_store.specs.FrameContents.{FrameContent, TopFrame}
 use Rattle.step_contents.specs.PlacesInCode.{IsPlaceIn, PlaceInCode}
+use Rattle.step_contents.specs.StandingFrames.{IsPlaceOf, place_of}
+use Rattle.step_contents.specs.declared.places.StandsAt.{StandsAt}
 use Rattle.segment_steps.specs.Meetings.{Meets, NeedsOf}
 use Rattle.segment_steps.specs.StepsAlone.{StandsReady}
 use Rattle.segment_steps.specs.declared.meeting.Meeting.{Meeting}
@@ -138,6 +142,28 @@ module _ (classes : List ClassRecord) (own : OwnState) (r : Runs) (f : FrameStat
         let found = needed_met (λ ready. (let two : Sees.Broken ≡ Sees.Ready = sym e ∙ ready in absurd cc)) in
         (found.0, found.2, broken_state r.thread (state_of own found.0) met.look found.3 e)
 
+    some_need : (o : Option ClassId) → is_some o ≡ true → (c : ClassId) × (o ≡ Some c)
+    some_need (Some c) e = (c, refl)
+    some_need None e = absurd cc
+
+    pub no_need : (o : Option ClassId) → is_some o ≡ false → o ≡ None
+    no_need None e = refl
+    no_need (Some c) e = absurd cc
+
+    -- the need of the frame, and that its class is ready
+    pub need_met : met.look ≡ Sees.Ready → is_some met.head.need ≡ true
+        → (c : ClassId) × (met.head.need ≡ Some c) × IsReady own r.thread c
+    need_met ready some =
+        let need = some_need met.head.need some in
+        (need.0, need.1, ready_met ready need.0 (inl (ap (λ (h : FrameHead). h.need) (sym m.head) ∙ need.1)))
+
+    -- the place where it stands
+    pub place_met : (at : StandsAt) → met.at ≡ Some at → ((place_of at).head ≡ f.head) × IsPlaceIn classes (place_of at)
+    place_met at is = subst (λ (o : Option StandsAt). IsPlaceOf classes f.head (option_map place_of o)) is m.at
+
+    pub nowhere_met : met.at ≡ None → (at : PlaceInCode) → at.head ≡ f.head → IsPlaceIn classes at → ⊥
+    nowhere_met is = subst (λ (o : Option StandsAt). IsPlaceOf classes f.head (option_map place_of o)) is m.at
+
     -- where the frame has no need, it stands ready at its instruction
     module _ (ready : met.look ≡ Sees.Ready) (frames : FrameContent) (top : TopFrame frames r.segment f) (at : PlaceInCode)
         (same : at.head ≡ f.head) (place : IsPlaceIn classes at) (none : f.head.need ≡ None) where
@@ -161,3 +187,19 @@ module _ (classes : List ClassRecord) (own : OwnState) (r : Runs) (f : FrameStat
         place = place;
         ready = λ c needs. ready_met ready c (inr (none, (code, needs)));
       }
+
+-- a top frame without a need stands somewhere
+pub stands_somewhere : (classes : List ClassRecord) (heap : List NamedObject) (run : List FrameState) (callers : List FrameState) (f : FrameState)
+    → run ≡ callers ++ f ∷ [] → FramesFit (FitsAsTop classes heap) classes heap run → f.head.need ≡ None
+    → (at : PlaceInCode) × (at.head ≡ f.head) × IsPlaceIn classes at
+stands_somewhere classes heap run callers f are fit none = by_case (fit_top (FitsAsTop classes heap) classes heap callers f
+    (subst (FramesFit (FitsAsTop classes heap) classes heap) are fit))
+  where
+    by_case : FitsAsTop classes heap f → (at : PlaceInCode) × (at.head ≡ f.head) × IsPlaceIn classes at
+    by_case (inl empty) = absurd (empty.need none)
+    by_case (inr (well, here)) =
+        let code = code_here classes f here.0 in (
+          record { head = f.head; scope = code.scope; instr = code.instr },
+          refl,
+          record { method = code.method; is_method = code.is_method; is_scope = code.is_scope; stands = code.stands },
+        )

@@ -11,12 +11,11 @@ use Rattle.jk_model.specs.declared.steps.Standing.TheVariants as Stands
 use Rattle.jk_model_classes.specs.declared.records.ClassRecord.{ClassRecord}
 use Rattle.jk_model_classes.specs.Classes.{record_of}
 use Rattle.jk_model_classes.specs.Worlds.{WorldRecord}
-use Rattle.jk_model_domains.specs.declared.states.ClassState.{ClassState}
 use Rattle.jk_model_domains.specs.declared.states.ClassState.TheVariants as State
 use Rattle.jk_model_domains.specs.OwnStates.{ClassPart, HasState, OwnState, part_of, state_of, with_state}
-use Rattle.jk_model_frames.specs.Frames.{FrameState, frames_chunks, head_chunks, new_frame}
+use Rattle.jk_model_frames.specs.Frames.{FrameState, head_chunks, new_frame}
 use Rattle.jk_model_heaps.specs.SystemClasses.{NO_CLASS_DEF_FOUND_ERROR}
-use Rattle.jk_model_heaps.specs.Workings.{Inside, Run, Setting}
+use Rattle.jk_model_heaps.specs.Workings.{Inside, Setting}
 use Rattle.jk_model_running.specs.Initialising.{FrameNeeds, IsInitialiserHead}
 use Rattle.jk_model_running.specs.LocalSteps.{Touches, begun, meets_broken, overflows, touches, with_class}
 use Rattle.jk_model_running.specs.Ways.{GoesOn}
@@ -25,7 +24,7 @@ use Rattle.class_init.specs.KeptStates.{KeptState}
 use Rattle.frame_store.specs.FrameContents.{Changes, FrameContent, HasRoomFor, IsSame, IsThere, Pushes, StoredSegment, TopFrame, free_chunks}
 use Rattle.heap_laws.specs.RaisableObjects.{MayBeRaised}
 use Rattle.row_laws.proofs.SystemParents.{below_listed}
-use Rattle.step_contents.specs.Contents.{Becomes, Contents, FramesBecome, Here, InsideBecomes, contents_of, here_at, inside_in}
+use Rattle.step_contents.specs.Contents.{Contents, FramesBecome, Here, InsideBecomes, contents_of, here_at, inside_in}
 use Rattle.step_contents.specs.Settings.{IsSetting}
 use Rattle.exception_unwind.proofs.FramesChanged.{segment_of}
 use Rattle.exception_unwind.proofs.InsidesChanged.{own_changed}
@@ -36,7 +35,7 @@ use Rattle.segment_steps.specs.declared.meeting.Runs.{Runs}
 use Rattle.segment_steps.specs.declared.went.Went.{Went}
 use Rattle.segment_steps.specs.declared.went.Went.TheVariants as Goes
 use Rattle.segment_steps.proofs.ChangesInTurn.{inside_kept, top_of}
-use Rattle.segment_steps.proofs.SegmentsRaise.{raise_still, raised_still}
+use Rattle.segment_steps.proofs.SegmentsRaise.{raised_still}
 use Rattle.segment_steps.proofs.StandingHere.{becomes_same, same_frames}
 use Rattle.segment_steps.proofs.StatesStay.{has_part}
 

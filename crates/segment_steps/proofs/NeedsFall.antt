@@ -1,11 +1,8 @@
 -- The need falls of a top frame whose class is ready.
-use Rattle.std.proofs.Common.{inl, inr, ◌≡◌, ◌≢◌, List, [], ◌∷◌, ◌++◌, Option, Some, None, refl, sym, ap, subst, ◌∙◌}
-use Rattle.std.proofs.lemmas.List.Elements.{Contains-append_right}
-use Rattle.list_lemmas.proofs.ItemsOfLists.{Contains-here}
+use Rattle.std.proofs.Common.{◌≡◌, List, Some, None, refl, sym, ap, subst, ◌∙◌}
 use Rattle.jk_model.specs.declared.frames.FrameHead.{FrameHead}
 use Rattle.jk_model.specs.declared.identifiers.ClassId.{ClassId}
 use Rattle.jk_model_classes.specs.Worlds.{WorldRecord}
-use Rattle.jk_model_domains.specs.OwnStates.{OwnState}
 use Rattle.jk_model_frames.specs.Frames.{FrameState}
 use Rattle.jk_model_heaps.specs.Workings.{Inside, Run, Setting}
 use Rattle.jk_model_running.specs.Initialising.{IsReady}

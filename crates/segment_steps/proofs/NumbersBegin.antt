@@ -1,5 +1,5 @@
 -- Where an instruction may be done, it has a row of typing; and an instruction on numbers finds what it asks for.
-use Rattle.std.proofs.Common.{◌≡◌, ℕ, ◌<◌, ℤ, pos, List, Some, length, refl, sym, ap, subst, ◌∙◌, arith}
+use Rattle.std.proofs.Common.{◌≡◌, ℕ, ◌+◌, ◌^◌, ◌<◌, ℤ, pos, Some, length, refl, sym, ap, subst, ◌∙◌, arith}
 use Rattle.std.proofs.lemmas.Option.{slice_get_within}
 use Rattle.list_lemmas.proofs.ItemsOfLists.{Contains-at}
 use Rattle.jk_model.specs.declared.frames.FrameHead.{FrameHead}
@@ -45,6 +45,10 @@ module _ {old : Contents} {here : Here} {at : PlaceInCode} (may : MayDo old here
 
   decoded : IsDecoded at.scope.code
   decoded = may.domain.codes.decoded may.place.method at.scope may.place.is_scope
+
+  -- the next place fits 32 bits
+  pub next_fits : at.head.at + 1 < 2 ^ 32
+  next_fits = omega (arith, slice_get_within at.scope.code.instrs at.head.at at.instr may.place.stands, decoded.short)
 
   module _ (kind : IsOfNumbers at.scope at.instr) where
     ready_there : IsReady old.frames here.world.classes here.segment may.frame.head at.instr

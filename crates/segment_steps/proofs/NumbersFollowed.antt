@@ -1,6 +1,5 @@
 -- What follows an instruction on numbers: its frame goes on, returns, or divided by 0.
-use Rattle.std.proofs.Common.{◌≡◌, ℕ, List, Option, None, refl, sym, ap, subst, ◌∙◌}
-use Rattle.jk_model.specs.declared.frames.FrameHead.{FrameHead}
+use Rattle.std.proofs.Common.{◌≡◌, ℕ, Option, None, refl, sym, ◌∙◌}
 use Rattle.jk_model.specs.declared.steps.After.TheVariants as Next
 use Rattle.jk_model.specs.declared.steps.Raise.{Raise}
 use Rattle.jk_model.specs.declared.values.Value.{Value}

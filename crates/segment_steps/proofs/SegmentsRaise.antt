@@ -1,5 +1,5 @@
 -- Something is raised in a segment that acts and is as it was.
-use Rattle.std.proofs.Common.{◌≡◌, List, Some, None, refl, sym, ap, subst, ◌∙◌, arith}
+use Rattle.std.proofs.Common.{refl}
 use Rattle.jk_model.specs.declared.identifiers.ThreadNo.{ThreadNo}
 use Rattle.jk_model.specs.declared.steps.Raise.{Raise}
 use Rattle.jk_model_heaps.specs.declared.shapes.Unwound.{Unwound}

@@ -1,15 +1,13 @@
 -- A domain that stays sealed keeps a state for each class that it had one for: which classes have one depends on its names alone.
-use Rattle.std.proofs.Common.{inl, inr, ◌≡◌, ◌==◌, List, [], ◌∷◌, ◌++◌, Contains, Some, refl, sym, ap, subst, ◌∙◌}
+use Rattle.std.proofs.Common.{inl, inr, ◌≡◌, ◌==◌, List, [], ◌∷◌, ◌++◌, Some, refl, sym, ap, subst, ◌∙◌}
 use Rattle.std.proofs.lemmas.Bool.{eqb-true}
 use Rattle.std.proofs.lemmas.List.Elements.{Contains-append_cases, Contains-append_left, Contains-append_right}
 use Rattle.list_lemmas.proofs.FoundItems.{Finds, finds}
 use Rattle.list_lemmas.proofs.ItemsOfLists.{Contains-at, Contains-here, only_in}
 use Rattle.jk_model.specs.declared.identifiers.ClassId.{ClassId}
 use Rattle.jk_model_classes.specs.declared.records.ClassRecord.{ClassRecord}
-use Rattle.jk_model_classes.specs.Classes.{record_of}
 use Rattle.jk_model_classes.specs.Worlds.{NamedClass}
-use Rattle.jk_model_domains.specs.declared.states.ClassState.{ClassState}
-use Rattle.jk_model_domains.specs.OwnStates.{ClassPart, HasPart, HasState, IsOwnState, OwnState, part_of, with_state}
+use Rattle.jk_model_domains.specs.OwnStates.{ClassPart, HasPart, HasState, IsOwnState, OwnState}
 use Rattle.jk_model_frames.specs.Frames.{FrameState}
 use Rattle.model_lemmas.proofs.SameNumbers.{same_class}
 use Rattle.heap_laws.specs.RaisableObjects.{KeepsStates}

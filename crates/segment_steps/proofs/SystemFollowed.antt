@@ -1,11 +1,10 @@
 -- A method of the system was done: the frame goes on, or something is raised, or the domain is to be killed; and what it asked for is granted or
 -- denied.
-use Rattle.std.proofs.Common.{◌≡◌, ℕ, ◌+◌, List, [], ◌∷◌, ◌++◌, Option, Some, None, Ok, Err, refl, sym, ap, subst, ◌∙◌}
+use Rattle.std.proofs.Common.{◌≡◌, ℕ, ◌+◌, List, [], ◌++◌, Option, None, refl, sym, subst, ◌∙◌}
 use Rattle.jk_model.specs.declared.frames.FrameHead.{FrameHead}
 use Rattle.jk_model.specs.declared.identifiers.ClassId.{ClassId}
 use Rattle.jk_model.specs.declared.identifiers.MemberId.{MemberId}
 use Rattle.jk_model.specs.declared.output.Line.{Line}
-use Rattle.jk_model.specs.declared.output.Line.TheVariants.{Said}
 use Rattle.jk_model.specs.declared.steps.After.TheVariants as Next
 use Rattle.jk_model.specs.declared.steps.Raise.{Raise}
 use Rattle.jk_model.specs.declared.values.Value.{Value}
@@ -16,12 +15,10 @@ use Rattle.jk_model_heaps.specs.declared.shapes.Unwound.{Unwound}
 use Rattle.jk_model_heaps.specs.CalledFrames.{as_entries, at_place, resumed}
 use Rattle.jk_model_heaps.specs.Workings.{Asks, GoesOn, Inside, Outcome, Raises, Request, Run, Says, Setting, Terminates, Working}
 use Rattle.jk_model_running.specs.Executions.{Executes, system}
-use Rattle.jk_model_running.specs.LocalSteps.{TopFrame, asks, does, goes_on, says, terminates}
+use Rattle.jk_model_running.specs.LocalSteps.{asks, does, goes_on, says, terminates}
 use Rattle.jk_model_running.specs.Raising.{RaisesIn}
-use Rattle.jk_model_sharing.specs.Answers.{Answers}
 use Rattle.jk_model_sharing.specs.SharedStates.{SharedState}
 use Rattle.jk_model_system_rows.specs.SystemCalls.{DoesSystem}
-use Rattle.jk_model_unwinding.specs.Unwinding.{Unwinds}
 use Rattle.class_init.specs.KeptStates.{KeptState}
 use Rattle.frame_store.specs.FrameContents.{FrameContent, HasTop, SetsTop}
 use Rattle.frame_store.specs.FrameContents.{TopFrame as StoredTop}
@@ -32,7 +29,7 @@ use Rattle.object_store.specs.HeapContents.{HeapContent}
 use Rattle.row_laws.proofs.CallsOfSystem.{row_keeps}
 use Rattle.row_laws.proofs.StacksNotRead.{unread}
 use Rattle.step_contents.specs.Conditions.{MayDo, MayRaise, around, working}
-use Rattle.step_contents.specs.Contents.{Becomes, Contents, Here, LeftBehind, contents_of, left_behind, with_frame}
+use Rattle.step_contents.specs.Contents.{Becomes, Contents, Here, contents_of, left_behind, with_frame}
 use Rattle.step_contents.specs.PlacesInCode.{PlaceInCode}
 use Rattle.step_contents.specs.Settings.{IsSetting}
 use Rattle.step_contents.proofs.InstructionsBegin.{runs_code, runs_well}
@@ -40,7 +37,7 @@ use Rattle.system_calls.specs.SystemSteps.{CallSite, SystemFollows, call_site}
 use Rattle.system_calls.specs.SystemSteps.{denies as sys_denies, goes_on as sys_goes_on, grants as sys_grants, raises as sys_raises, says as sys_says, terminates as sys_terminates}
 use Rattle.segment_steps.specs.ActingSegments.{Acted, MayAct}
 use Rattle.segment_steps.specs.ActingSegments.{goes_on as acted_on, is_denied, is_granted, says as acted_saying, terminates as acted_down}
-use Rattle.segment_steps.specs.RaisingHere.{RaisedHere, went_of}
+use Rattle.segment_steps.specs.RaisingHere.{RaisedHere}
 use Rattle.segment_steps.specs.StepsAlone.{StandsReady}
 use Rattle.segment_steps.specs.declared.meeting.Runs.{Runs}
 use Rattle.segment_steps.specs.declared.went.Went.{Went}

@@ -2,12 +2,9 @@
 use Rattle.std.specs.Prelude.{◌≡◌}
 use Rattle.jk_model.specs.declared.identifiers.MemberId.{MemberId}
 use Rattle.jk_model.specs.declared.identifiers.ThreadNo.{ThreadNo}
-use Rattle.jk_model_heaps.specs.Workings.{Setting}
-use Rattle.jk_model_call_rows.specs.CallRows.{CallsSystem}
-use Rattle.step_contents.specs.Conditions.{MayDo, working}
 use Rattle.step_contents.specs.Contents.{Contents, Here, KeepsFrames}
 use Rattle.step_contents.specs.PlacesInCode.{PlaceInCode}
-use Rattle.step_contents.specs.Settings.{IsSetting}
+use Rattle.segment_steps.specs.CallsOnSystem.{CallsMethod}
 use Rattle.segment_steps.specs.StepsAlone.{Steps}
 use Rattle.segment_steps.specs.declared.instructions.Called.{Called}
 use Rattle.segment_steps.specs.declared.instructions.Called.TheVariants as Comes
@@ -17,8 +14,7 @@ pub record LeavesToSystem (old new : Contents) (here : Here) (at : PlaceInCode) 
   pub heaps : new.heaps ≡ old.heaps
   pub frames : KeepsFrames old new
   pub own : new.own ≡ old.own
-  pub calls : (x : Setting) (may : MayDo old here at) → IsSetting old here x
-      → (call : CallsSystem x at.scope at.instr (working may)) × (call.member ≡ m)
+  pub calls : CallsMethod old here at m
 
 abbrev pub ComesTo : Contents → Contents → Here → PlaceInCode → ThreadNo → Called → Type 0
 ComesTo old new here at t (Comes.Went went) = Steps old new here t went

@@ -1,5 +1,5 @@
 -- Steps that ask nothing of what domains share and print nothing, in the words of the functions that take them.
-use Rattle.std.specs.Prelude.{◌≡◌, List, None}
+use Rattle.std.specs.Prelude.{◌≡◌, List, None, Result, Ok, Err}
 use Rattle.jk_model.specs.declared.identifiers.ClassId.{ClassId}
 use Rattle.jk_model.specs.declared.identifiers.ThreadNo.{ThreadNo}
 use Rattle.jk_model_classes.specs.declared.records.ClassRecord.{ClassRecord}
@@ -54,3 +54,8 @@ pub record Stepped {old : Contents} {here : Here} (x : Setting) (t : ThreadNo) (
 -- One step of the thread in the segment.
 abbrev pub Steps : Contents → Contents → Here → ThreadNo → Went → Type 0
 Steps old new here t went = (x : Setting) (may : MayAct old here) → IsSetting old here x → Stepped x t may new went
+
+-- what a step comes to where it may print: where the sink fails, it is done all the same
+abbrev pub went_so : {E : Type 0} → Result Went E → Went
+went_so (Ok went) = went
+went_so (Err e) = Goes.GoesOn

@@ -1,5 +1,5 @@
 -- By the value.
-use Rattle.std.proofs.Common.{Some, None, length, sym, ap, subst, ◌∙◌, arith, Option}
+use Rattle.std.proofs.Common.{length, sym, ap, subst, arith, Option}
 use Rattle.jk_model.specs.declared.frames.FrameHead.{FrameHead}
 use Rattle.jk_model.specs.declared.values.Value.{Value}
 use Rattle.jk_model_frames.specs.Frames.{FrameState}
