@@ -5,6 +5,7 @@ mod FirstSegments
 mod MainOfAClass
 mod NamesApart
 mod OpenedInsides
+mod OpenedOrNot
 mod PartsAfterOpenings
 mod PartsByPlace
 mod StandingSoFar
