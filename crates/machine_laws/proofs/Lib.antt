@@ -1,6 +1,8 @@
 pub mod AnswersSealed
 pub mod BodiesOfMethods
+pub mod CallsArrive
 pub mod CallsDecided
+pub mod CallsSealed
 pub mod CallsStayAnswered
 pub mod CapabilitiesAfterRuns
 pub mod ChangedItems
@@ -58,6 +60,7 @@ pub mod RunningSegmentsFit
 pub mod RunsAgain
 pub mod RunsAnswered
 pub mod SealedAfterRuns
+pub mod SegmentsAdded
 pub mod SegmentsAnswered
 pub mod SegmentsCut
 pub mod SegmentsCutFit
