@@ -1,6 +1,8 @@
 pub mod AnswersSealed
 pub mod BodiesOfMethods
+pub mod CallsArrive
 pub mod CallsDecided
+pub mod CallsSealed
 pub mod CallsStayAnswered
 pub mod CapabilitiesAfterRuns
 pub mod ChangedItems
@@ -67,6 +69,7 @@ pub mod RunsAgain
 pub mod RunsAnswered
 pub mod RunsGoOn
 pub mod SealedAfterRuns
+pub mod SegmentsAdded
 pub mod SegmentsAnswered
 pub mod SegmentsRunAgain
 pub mod SegmentsCut
