@@ -1,5 +1,5 @@
 -- The length of an array that an instruction finds.
-use Rattle.std.proofs.Common.{◌≡◌, inl, inr, ℕ, pos, ◌+◌, [], ◌∷◌, length, refl, sym, ap, subst}
+use Rattle.std.proofs.Common.{◌≡◌, inl, inr, ℕ, pos, ◌+◌, [], ◌∷◌, length, refl, sym, subst}
 use Rattle.jk_model.specs.declared.opcodes.TheConstants.{ARRAYLENGTH}
 use Rattle.jk_model.specs.declared.steps.After.TheVariants as Next
 use Rattle.jk_model.specs.declared.steps.Raise.TheVariants as Raised

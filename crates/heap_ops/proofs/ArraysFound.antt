@@ -7,7 +7,7 @@ use Rattle.jk_model.specs.declared.identifiers.DomainId.{DomainId}
 use Rattle.jk_model.specs.declared.values.Value.{Value}
 use Rattle.jk_model.specs.declared.values.Value.TheVariants as Held
 use Rattle.jk_model_classes.specs.declared.records.TypeRef.{TypeRef}
-use Rattle.jk_model_domains.specs.Objects.{NamedObject, Object, Array}
+use Rattle.jk_model_domains.specs.Objects.{NamedObject, Array}
 use Rattle.jk_model_heaps.specs.declared.shapes.Shape.TheVariants as Of
 use Rattle.jk_model_heaps.specs.References.{IsHeapArray}
 use Rattle.jk_model_heap_rows.specs.ElementRows.{place_at}

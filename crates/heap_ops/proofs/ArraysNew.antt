@@ -27,7 +27,7 @@ use Rattle.step_contents.proofs.InstructionsBegin.{runs_code, runs_well}
 use Rattle.heap_ops.specs.declared.here.Here.{Here}
 use Rattle.heap_ops.specs.OneInstruction.{place_in}
 use Rattle.heap_ops.specs.TopEntries.{HasEntries, PutsFor, StandsBelow}
-use Rattle.heap_ops.proofs.DoingHere.{Doing, Done, below, c, entries, found, here, i, is_there, put, raised, s, w}
+use Rattle.heap_ops.proofs.DoingHere.{Doing, Done, below, c, entries, found, i, is_there, put, raised, s, w}
 use Rattle.heap_ops.proofs.FoundByOpcode.{NewArrayFound, found_at}
 use Rattle.heap_ops.proofs.ObjectsMade.{fails_new, pushed_new}
 use Rattle.heap_ops.proofs.RoomOnStack.{shape_at}

@@ -1,5 +1,5 @@
 -- Fields that instructions name, and objects that have them, as the store has these.
-use Rattle.std.proofs.Common.{◌≡◌, ℕ, ◌<◌, ◌^◌, List, Contains, Some, slice_get, IsTrue, sym, ap, subst, ◌∙◌, arith}
+use Rattle.std.proofs.Common.{◌≡◌, ℕ, ◌<◌, ◌^◌, List, Some, slice_get, IsTrue, sym, subst, ◌∙◌, arith}
 use Rattle.std.specs.Prelude.{IsFalse}
 use Rattle.std.proofs.lemmas.Option.{same_Some, slice_get_within}
 use Rattle.list_lemmas.proofs.ItemsOfLists.{Contains-at}

@@ -11,7 +11,7 @@ use Rattle.jk_model.specs.declared.values.Value.TheVariants as Held
 use Rattle.jk_model_classes.specs.declared.records.ClassRecord.{ClassRecord}
 use Rattle.jk_model_classes.specs.declared.records.TypeRef.{TypeRef}
 use Rattle.jk_model_classes.specs.Classes.{OBJECT, record_of}
-use Rattle.jk_model_domains.specs.Objects.{NamedObject, Object, CAPABILITY}
+use Rattle.jk_model_domains.specs.Objects.{NamedObject, CAPABILITY}
 use Rattle.jk_model_heaps.specs.Capabilities.{CapRange, Capability, CapabilityIsA, KnownCapabilities, OwnedCapability, ShowsInterface, StandsInFor, capability_numbered}
 use Rattle.jk_model_heaps.specs.Instances.{IsInstance}
 use Rattle.jk_model_heaps.specs.References.{IsNullOrInstance}

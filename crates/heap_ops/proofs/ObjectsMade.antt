@@ -14,7 +14,7 @@ use Rattle.jk_model_domains.specs.NumberRows.{IsOnTop}
 use Rattle.jk_model_domains.specs.Objects.{NamedObject, Object, object_named, object_words}
 use Rattle.jk_model_domains.specs.OwnStates.{OwnState}
 use Rattle.jk_model_heaps.specs.declared.shapes.Shape.{Shape}
-use Rattle.jk_model_heaps.specs.Heaps.{Makes, MakesOne, heap_words, named, zero_object}
+use Rattle.jk_model_heaps.specs.Heaps.{MakesOne, heap_words, named, zero_object}
 use Rattle.jk_model_heaps.specs.Workings.{GoesOn, GoesOnWith, Inside, Outcome, Raises, Working, with_heap}
 use Rattle.jk_model_heaps.proofs.OneIsMade.{one_is_made}
 use Rattle.jk_model_heap_rows.specs.HeapRows.{HeapRow}

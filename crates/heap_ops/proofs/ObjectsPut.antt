@@ -17,7 +17,7 @@ use Rattle.jk_model_domains.specs.ValueTypes.{HoldsDeclared}
 use Rattle.jk_model_heaps.specs.Capabilities.{CapRange}
 use Rattle.jk_model_heaps.specs.Heaps.{IsAlike, field_records, heap_words, named, with_object}
 use Rattle.jk_model_heaps.specs.StoredValues.{stored}
-use Rattle.jk_model_heaps.specs.Workings.{GoesOn, Inside, Working, with_heap}
+use Rattle.jk_model_heaps.specs.Workings.{GoesOn, Working, with_heap}
 use Rattle.jk_model_heap_rows.specs.HeapRows.{HeapRow}
 use Rattle.jk_model_sealing.specs.SealedInsides.{IsKnownValue, IsSealedInside, IsSealedObject}
 use Rattle.jk_model_sharing.specs.SharedStates.{caps_of}

@@ -1,5 +1,5 @@
 -- A reference that an instruction stores into an array of references.
-use Rattle.std.proofs.Common.{◌≡◌, ◌⊎◌, inl, inr, ℕ, List, [], ◌∷◌, ◌++◌, refl, sym, ap, subst, ◌∙◌}
+use Rattle.std.proofs.Common.{◌≡◌, ◌⊎◌, inl, inr, ℕ, List, [], ◌∷◌, ◌++◌, refl, sym, subst, ◌∙◌}
 use Rattle.std.specs.Prelude.{IsTrue}
 use Rattle.list_lemmas.proofs.EndsOfLists.{one_split}
 use Rattle.jk_model.specs.declared.identifiers.CapId.{CapId}

@@ -1,11 +1,10 @@
 -- An instruction that pushes a value and takes none has room for it.
-use Rattle.std.proofs.Common.{◌≡◌, inl, inr, ℕ, ◌+◌, List, [], ◌∷◌, ◌++◌, length, append-nil, refl, sym, ap, subst, ◌∙◌, arith}
+use Rattle.std.proofs.Common.{◌≡◌, inl, inr, ℕ, List, [], ◌∷◌, ◌++◌, length, append-nil, refl, sym, ap, subst, ◌∙◌, arith}
 use Rattle.std.proofs.lemmas.List.{length-append}
 use Rattle.jk_model.specs.declared.opcodes.TheConstants.{GETSTATIC, LDC_W, NEW}
 use Rattle.jk_model_typing.specs.declared.frames.FrameType.{FrameType}
 use Rattle.jk_model_typing.specs.declared.frames.VType.{VType}
-use Rattle.jk_model_typing.specs.FrameTypes.{slots}
-use Rattle.jk_model_typing.specs.Groups.{Makes, Shape, Takes, group_of}
+use Rattle.jk_model_typing.specs.Groups.{Makes, Takes, group_of}
 use Rattle.jk_model_typing.specs.Rows.{AllMeet, HasShape}
 use Rattle.frame_store.specs.FrameContents.{FrameContent, HasFreeEntry}
 use Rattle.object_store.specs.HeapContents.{HeapContent}
@@ -18,7 +17,7 @@ use Rattle.row_laws.proofs.StandsHere.{room, stands_typed}
 use Rattle.step_contents.proofs.InstructionsBegin.{runs_code, runs_well}
 use Rattle.heap_ops.specs.declared.here.Here.{Here}
 use Rattle.heap_ops.specs.OneInstruction.{place_in}
-use Rattle.heap_ops.proofs.DoingHere.{Doing, c, here, i, s, top, w}
+use Rattle.heap_ops.proofs.DoingHere.{Doing, i, s, top, w}
 
 -- the frame type after it has one entry more
 abbrev pub OneMore : FrameType → FrameType → Type 0

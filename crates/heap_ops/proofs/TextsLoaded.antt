@@ -12,10 +12,10 @@ use Rattle.jk_model.specs.declared.values.Value.TheVariants as Held
 use Rattle.jk_model_classes.specs.declared.records.Link.{Link}
 use Rattle.jk_model_classes.specs.declared.records.Link.TheVariants as To
 use Rattle.jk_model_frames.specs.Frames.{FrameState}
-use Rattle.jk_model_domains.specs.Objects.{NamedObject, Object, Text, object_words}
+use Rattle.jk_model_domains.specs.Objects.{NamedObject, Text, object_words}
 use Rattle.jk_model_domains.specs.OwnStates.{IsLiteralOf, Literal, OwnState, literal_named}
 use Rattle.jk_model_heaps.specs.Heaps.{named}
-use Rattle.jk_model_heaps.specs.Workings.{Inside, with_heap}
+use Rattle.jk_model_heaps.specs.Workings.{with_heap}
 use Rattle.jk_model_heap_rows.specs.HeapRows.{loads_text}
 use Rattle.jk_model_heap_rows.specs.NewObjectRows.{LacksWords, with_literal}
 use Rattle.jk_model_sealing.specs.SealedRuns.{KnowsClassOf}

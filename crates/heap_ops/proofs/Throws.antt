@@ -1,5 +1,5 @@
 -- The object that athrow finds.
-use Rattle.std.proofs.Common.{◌≡◌, inl, inr, ℕ, [], refl, ap}
+use Rattle.std.proofs.Common.{◌≡◌, inl, inr, ℕ, [], refl}
 use Rattle.jk_model.specs.declared.opcodes.TheConstants.{ATHROW}
 use Rattle.jk_model.specs.declared.steps.After.TheVariants as Next
 use Rattle.jk_model.specs.declared.steps.Raise.TheVariants as Raised

@@ -31,7 +31,7 @@ use Rattle.heap_ops.specs.ArrayCounts.{AreIntsOnTop}
 use Rattle.heap_ops.specs.OneInstruction.{place_in}
 use Rattle.heap_ops.specs.TopEntries.{HasEntries, PutsFor}
 use Rattle.heap_ops.proofs.CountsRead.{ints_are_one}
-use Rattle.heap_ops.proofs.DoingHere.{Doing, Done, c, entries, found, here, i, put, raised, s, same_classes, same_heap, top, w}
+use Rattle.heap_ops.proofs.DoingHere.{Doing, Done, entries, found, i, put, raised, s, same_classes, same_heap, top, w}
 use Rattle.heap_ops.proofs.FoundByOpcode.{NewArraysFound, found_at}
 use Rattle.heap_ops.proofs.ObjectsMade.{fits, grown_by, lacks, went_on_grown}
 use Rattle.heap_ops.proofs.ObjectsNew.{one_type}

@@ -10,17 +10,6 @@ use Rattle.step_contents.specs.Conditions.{MayChange}
 use Rattle.step_contents.specs.Contents.{Contents, Here, InsideBecomes, inside_in}
 use Rattle.step_contents.specs.Settings.{IsSetting}
 
--- pub fn set_constants<H: ObjectStore>(heap: &mut H, own: &mut Own, w: &World, d: DomainId, c: ClassId) -> Result<(), NoRoom>
---   requires { (frames : FrameContent) × (shared : SharedState) × (s : SegmentNo)
---       × MaySetConstants (contents_of (H.content heap.old) frames own.old) (here_at w.now shared d s) c }
---   ensures ok { OnOk result ((frames : FrameContent) (shared : SharedState) (s : SegmentNo)
---       → ConstantsSet (contents_of (H.content heap.old) frames own.old) (contents_of (H.content heap.new) frames own.new)
---       (here_at w.now shared d s) c) }
---   ensures err { OnErr result ((frames : FrameContent) (shared : SharedState) (s : SegmentNo)
---       → ConstantsLack (contents_of (H.content heap.old) frames own.old) (here_at w.now shared d s) c) }
---   ensures as_before { OnErr result (IsSame (H.content heap.old) (H.content heap.new) × (own.new ≡ own.old)) }
--- No frame is asked for and none changes, so the clauses hold of whatever frames and segments there are. It takes no memory.
-
 -- The domain has static fields of the class.
 pub record MaySetConstants (c : Contents) (here : Here) (class : ClassId) : Type 0 where
   pub may : MayChange c here

@@ -5,6 +5,7 @@
 mod array_trees;
 mod arrays;
 mod casts;
+mod constants;
 mod entries;
 mod fields;
 mod here;
@@ -14,4 +15,5 @@ mod statics;
 mod steps;
 mod stored;
 
+pub use constants::set_constants;
 pub use steps::step;

@@ -21,7 +21,7 @@ const MOST_WORDS: usize = 16_777_216;
 
 /// The object of a literal, which is made where there is none yet. It fails exactly where it has to be made and doesn't fit, and
 /// then all is as before.
-fn literal_object<H: ObjectStore>(
+pub(crate) fn literal_object<H: ObjectStore>(
     heap: &mut H,
     own: &mut Own,
     t: &ClassTable,

@@ -1,11 +1,4 @@
--- What a start does, before its line is printed.
---
--- kernel_openings::start<H, F>(k: &mut KernelParts<H, F>, name: &[u8], class: &[u8], words: &[Bytes]) -> Beginning
---   requires short       { length class.now ≤ 255 }
---   requires words       { AreStartWords words.now }
---   requires numbers     { (k.old.next_thread < 2 ^ 31) × (k.old.next_segment < 2 ^ 64 - 1) }
---   ensures event        { Starts k.old (record { domain = name.now; class = class.now; words = words.now }) (told_of name.now result ∷ []) k.new }
--- It has no answer for want of memory, and each rule S1 to S6 has its cause in `Starts`.
+-- What is asked of the words of a start, and the line that tells what came of it.
 use Rattle.std.specs.Prelude.{ℕ, ◌≤◌, List, length}
 use Rattle.std.specs.List.{AllByRecursion}
 use Rattle.jk_model.specs.declared.output.Line.{Line}

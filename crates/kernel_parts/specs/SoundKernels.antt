@@ -1,12 +1,5 @@
--- What holds of a kernel at every moment, and of the machine for which its parts stand.
---
--- pub struct KernelParts<H, F> { pub alloc: Global, pub world: World, pub owns: Vec<Option<Own>>, pub shared: Shared, pub heap: H,
---     pub frames: F, pub main_kind: MethodType }
---   ghost Value     = { Machine }
---   ghost view      = { λ k. kernel_machine (content_of k) }
---   ghost invariant = { λ k. AreSoundParts (content_of k) }
--- where `content_of k` is the record of `k.world`, `k.owns.items`, `k.shared`, `H.content k.heap`, `F.content k.frames` and `k.main_kind`.
--- Of the kernel over such parts it is `IsSoundKernel` of the same record.
+-- What holds of a kernel at every moment, and of the machine for which its parts stand. Contracts see `KernelParts` as that machine,
+-- `kernel_machine` of its content, of which `AreKernelParts` holds. Of the kernel over such parts holds `IsSoundKernel` besides.
 use Rattle.std.specs.Prelude.{◌≡◌, ℕ, ◌+◌, ◌*◌, ◌≤◌, List, length, map, Contains, Option, Some, codes, option_map, slice_get}
 use Rattle.jk_model.specs.declared.descriptors.MethodType.{MethodType}
 use Rattle.jk_model.specs.Descriptors.{IsMethodText}
@@ -64,13 +57,15 @@ pub record AreSoundParts (k : KernelContent) : Type 0 where
       → HasRooms k.world.classes names.table own
   pub main : IsMethodText (codes "([Ljava/lang/String;)V") k.main_kind
 
--- ---- Of a kernel, in which every domain runs and none stands in for another.
-
-pub record IsSoundKernel (k : KernelContent) : Type 0 where
-  pub parts : AreSoundParts k
-  pub answered : AreCallsAnswered (kernel_machine k)
-  -- no capability and no stub is of a class that isn't there
-  pub capabilities : (d : DomainState) (c : Capability) → Contains (kernel_machine k).domains d → Contains d.caps.made c
-      → HasClass (kernel_machine k).classes c.class
+-- What holds of `KernelParts`: no stub stands in for that of a class that isn't there.
+pub record AreKernelParts (k : KernelContent) : Type 0 where
+  pub sound : AreSoundParts k
   pub stubs : (s : Stub) → Contains k.shared.stubs s → HasClass k.world.classes s.class
-  pub few_domains : length k.world.domains ≤ 65535
+
+-- ---- Of a kernel over such parts, in whose machine every domain runs and none stands in for another.
+
+pub record IsSoundKernel (m : Machine) : Type 0 where
+  pub answered : AreCallsAnswered m
+  -- no capability is of a class that isn't there
+  pub capabilities : (d : DomainState) (c : Capability) → Contains m.domains d → Contains d.caps.made c → HasClass m.classes c.class
+  pub few_domains : length m.domains ≤ 65535

@@ -29,7 +29,7 @@ one_if : (b : Bool) → b ≡ true → ◌≡◌ {A = ℕ} (cond b 1 0) 1
 one_if true e = refl
 one_if false e = absurd cc
 
-progress_is : (t : ThreadNo) (own : OwnState) (c : ClassId) (by : ThreadNo) → state_of own c ≡ State.InProgress by → by.0 ≡ t.0
+pub progress_is : (t : ThreadNo) (own : OwnState) (c : ClassId) (by : ThreadNo) → state_of own c ≡ State.InProgress by → by.0 ≡ t.0
     → progress_by t own c ≡ 1
 unfolding taken_by
 progress_is t own c by e same = ap (taken_by t) e ∙ one_if (by.0 == t.0) (eq-eqb by.0 t.0 same)

@@ -103,19 +103,16 @@ pub counted_here : (d : DomainId) (c : ClassId) (s : Segment) → s.shared.domai
     → segment_initialisers d c s ≡ count_by (initialises c) s.frames
 counted_here d c s same = counted_by (s.shared.domain.0 == d.0) (count_by (initialises c) s.frames) (eq-eqb s.shared.domain.0 d.0 same)
 
--- ---- The law.
+-- ---- In a sealed machine.
 
-module _ (m : Machine) (t : ThreadNo) (p : RunningSegment m t) (known : IsKnownMachine m) where
-  sealed : IsSealed m
-  sealed = known.0.0
-
-  home_there : Contains m.domains p.home.domain
+module _ (m : Machine) (t : ThreadNo) (p : RunningSegment m t) (sealed : IsSealed m) where
+  pub home_there : Contains m.domains p.home.domain
   home_there = Contains-at m.domains p.segment.shared.domain.0 p.home.domain p.home.is_domain
 
-  thread_there : Contains m.threads p.thread
+  pub thread_there : Contains m.threads p.thread
   thread_there = let place = thread_place m t p in Contains-at m.threads place.0 p.thread place.1
 
-  in_progress : (c : ClassId) → count_by (initialises c) p.segment.frames ≤ progress_by t p.home.inside.own c
+  pub in_progress : (c : ClassId) → count_by (initialises c) p.segment.frames ≤ progress_by t p.home.inside.own c
   in_progress c =
       let d = p.home.domain.number in
       let all : initialisers_of d c p.thread ≡ progress_by p.thread.number p.home.inside.own c =
@@ -134,6 +131,18 @@ module _ (m : Machine) (t : ThreadNo) (p : RunningSegment m t) (known : IsKnownM
       at_most : (n here lower all by_thread by : ℕ) → here ≡ n → all ≡ lower + here → all ≡ by_thread → by_thread ≡ by → n ≤ by
       at_most n here lower all by_thread by a b c d = omega arith
 
+  -- the running segment's frames, as its top one is found
+  pub running_frames : AreSealedFrames (surroundings m p.home.domain) (TopFits m p.home.inside p.segment) p.home.inside.heap p.segment.frames
+  running_frames =
+      frames_at m (λ inside f. TopFits m inside p.segment f) p.segment p.home
+      (lower_fit m p.lower p.segment (subst (SegmentsFit m) p.are_segments (sealed.threads.segments p.thread thread_there)))
+
+-- ---- The law.
+
+module _ (m : Machine) (t : ThreadNo) (p : RunningSegment m t) (known : IsKnownMachine m) where
+  sealed : IsSealed m
+  sealed = known.0.0
+
   pub acts_well : p.segment.shared.revoked ≡ false → ActsWell (surroundings m p.home.domain) (setting_of p) t (run_of p)
   acts_well calm = record {
     setting = record {
@@ -141,18 +150,17 @@ module _ (m : Machine) (t : ThreadNo) (p : RunningSegment m t) (known : IsKnownM
       ranges = refl;
       stand_ins = λ s i there none lists. absurd (Contains-none s there);
       codes = known.1.codes;
-      table = known.1.tables p.home.domain home_there;
+      table = known.1.tables p.home.domain (home_there m t p sealed);
     };
     sealed = record {
-      inside = sealed.domains.insides p.home.domain p.home.inside home_there p.home.is_inside;
+      inside = sealed.domains.insides p.home.domain p.home.inside (home_there m t p sealed) p.home.is_inside;
       frames = frames_weaker (surroundings m p.home.domain) p.home.inside.heap (TopFits m p.home.inside p.segment)
           (FitsAsTop m.classes p.home.inside.heap) runs p.segment.frames
-          (frames_at m (λ inside f. TopFits m inside p.segment f) p.segment p.home
-          (lower_fit m p.lower p.segment (subst (SegmentsFit m) p.are_segments (sealed.threads.segments p.thread thread_there))));
+          (running_frames m t p sealed);
     };
     answers = top_answers m.classes p.lower p.segment
-        (subst (SegmentsAnswer m.classes) p.are_segments (known.0.1.segments p.thread thread_there));
-    progress = in_progress;
+        (subst (SegmentsAnswer m.classes) p.are_segments (known.0.1.segments p.thread (thread_there m t p sealed)));
+    progress = in_progress m t p sealed;
   }
     where
       runs : (f : FrameState) → TopFits m p.home.inside p.segment f → FitsAsTop m.classes p.home.inside.heap f

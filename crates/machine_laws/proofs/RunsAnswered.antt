@@ -1,9 +1,8 @@
 -- Where a segment has run and its lowest frame gives what it gave, all calls are answered.
-use Rattle.std.proofs.Common.{◌≡◌, ◌⊎◌, inl, inr, true, List, [], ◌∷◌, ◌++◌, sym, subst}
+use Rattle.std.proofs.Common.{◌≡◌, ◌⊎◌, inl, inr, true, List, [], ◌∷◌, ◌++◌, subst, ◌∙◌}
 use Rattle.jk_model.specs.declared.identifiers.ThreadNo.{ThreadNo}
 use Rattle.jk_model_classes.specs.declared.records.ClassRecord.{ClassRecord}
 use Rattle.jk_model_sealing.specs.AnsweringFrames.{FramesAnswer}
-use Rattle.jk_model_sharing.specs.Segments.{SharedSegment}
 use Rattle.jk_model_machine_state.specs.Machines.{Machine, Segment}
 use Rattle.jk_model_runs.specs.AnsweredCalls.{AreCallsAnswered, SegmentAnswers, SegmentsAnswer}
 use Rattle.list_lemmas.proofs.ItemsOfLists.{Contains-at}
@@ -11,7 +10,7 @@ use Rattle.machine_laws.specs.RunsInMachines.{GivesStill}
 use Rattle.machine_laws.proofs.SegmentsThatRan.{HasRun, after, thread_there}
 use Rattle.machine_laws.proofs.ThreadsAfterRuns.{each_thread}
 
-module _ (classes : List ClassRecord) (old new : Segment) (same : new.shared ≡ old.shared) (gives : GivesStill classes old.frames new.frames)
+module _ (classes : List ClassRecord) (old new : Segment) (same : new.shared.orphan ≡ old.shared.orphan) (gives : GivesStill classes old.frames new.frames)
     (answers : FramesAnswer classes new.frames) where
   above_answers : (a : Segment) → SegmentAnswers classes a old → SegmentAnswers classes a new
   above_answers a h =
@@ -27,10 +26,7 @@ module _ (classes : List ClassRecord) (old new : Segment) (same : new.shared ≡
       }
 
   orphan_or : (a : Segment) → (old.shared.orphan ≡ true) ⊎ SegmentAnswers classes a old → (new.shared.orphan ≡ true) ⊎ SegmentAnswers classes a new
-  orphan_or a (inl orphan) = inl orphan_at
-    where
-      orphan_at : new.shared.orphan ≡ true
-      orphan_at = subst (λ (s : SharedSegment). s.orphan ≡ true) (sym same) orphan
+  orphan_or a (inl orphan) = inl (same ∙ orphan)
   orphan_or a (inr h) = inr (above_answers a h)
 
   pub top_answered : (lower : List Segment) → SegmentsAnswer classes (lower ++ old ∷ []) → SegmentsAnswer classes (lower ++ new ∷ [])
@@ -38,7 +34,7 @@ module _ (classes : List ClassRecord) (old new : Segment) (same : new.shared ≡
   top_answered (a ∷ []) h = (h.0, orphan_or a h.1, answers)
   top_answered (a ∷ b ∷ lower) h = (h.0, h.1, top_answered (b ∷ lower) h.2)
 
-pub calls_answered : (m : Machine) (t : ThreadNo) (r : HasRun m t) → r.segment.shared ≡ r.place.segment.shared
+pub calls_answered : (m : Machine) (t : ThreadNo) (r : HasRun m t) → r.segment.shared.orphan ≡ r.place.segment.shared.orphan
     → GivesStill m.classes r.place.segment.frames r.segment.frames → FramesAnswer m.classes r.segment.frames → AreCallsAnswered m
     → AreCallsAnswered (after r)
 calls_answered m t r same gives answers h = record {

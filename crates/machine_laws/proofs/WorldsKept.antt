@@ -39,7 +39,7 @@ use Rattle.machine_laws.specs.KeptWorlds.{KeepsWorld, LastingDomain, lasting}
 keeps_same : (m : Machine) → KeepsWorld m m
 keeps_same m = record { pools = (refl, refl); classes = refl; domains = refl; next_thread = refl }
 
-keeps_both : (a b c : Machine) → KeepsWorld a b → KeepsWorld b c → KeepsWorld a c
+pub keeps_both : (a b c : Machine) → KeepsWorld a b → KeepsWorld b c → KeepsWorld a c
 keeps_both a b c h k = record {
   pools = (k.pools.0 ∙ h.pools.0, k.pools.1 ∙ h.pools.1);
   classes = k.classes ∙ h.classes;
@@ -68,7 +68,7 @@ domain_keeps d change m h = record { pools = (refl, refl); classes = refl; domai
 
 -- ---- The top segment.
 
-running_keeps : {m : Machine} {t : ThreadNo} (p : RunningSegment m t) (s : Segment) (inside : Inside) → KeepsWorld m (with_running p s inside)
+pub running_keeps : {m : Machine} {t : ThreadNo} (p : RunningSegment m t) (s : Segment) (inside : Inside) → KeepsWorld m (with_running p s inside)
 running_keeps {m = m} p s inside = record {
   pools = (refl, refl);
   classes = refl;
@@ -76,13 +76,13 @@ running_keeps {m = m} p s inside = record {
   next_thread = refl;
 }
 
-top_keeps : {m : Machine} {t : ThreadNo} (p : RunningSegment m t) → KeepsWorld m (without_top p)
+pub top_keeps : {m : Machine} {t : ThreadNo} (p : RunningSegment m t) → KeepsWorld m (without_top p)
 top_keeps p = record { pools = (refl, refl); classes = refl; domains = refl; next_thread = refl }
 
 end_keeps : (t : ThreadNo) (m : Machine) → KeepsWorld m (without_thread t m)
 end_keeps t m = record { pools = (refl, refl); classes = refl; domains = refl; next_thread = refl }
 
-below_keeps : {m : Machine} {t : ThreadNo} (s : TopTwo m t) (r : Segment) (inside : Inside) → KeepsWorld m (with_running s.below r inside)
+pub below_keeps : {m : Machine} {t : ThreadNo} (s : TopTwo m t) (r : Segment) (inside : Inside) → KeepsWorld m (with_running s.below r inside)
 below_keeps {m = m} s r inside =
     keeps_both m (without_top s.left) (with_running s.below r inside) (top_keeps s.left) (running_keeps s.below r inside)
 

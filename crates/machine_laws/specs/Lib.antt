@@ -1,7 +1,11 @@
 pub mod CallsAndAnswers
+pub mod ConfinedSteps
 pub mod GoingOn
 pub mod KeptWorlds
 pub mod KnownMachines
+pub mod LoadingNext
+pub mod LowestFrames
+pub mod MachinesOfRuns
 pub mod OpenedMachines
 pub mod RunsInMachines
 pub mod SealedCrossings

@@ -12,15 +12,6 @@ use Rattle.step_contents.specs.Contents.{Becomes, Contents, Here}
 use Rattle.step_contents.specs.Settings.{IsSetting}
 use Rattle.segment_steps.specs.ActingSegments.{MayAct}
 
--- pub fn run_in_frame<F: FrameStore>(w: &World, frames: &mut F, s: SegmentNo, steps: u32) -> u32
---   requires { (heaps : HeapContent) × (own : KeptState) × (shared : SharedState) × (d : DomainId)
---       × MayAct (contents_of heaps (F.content frames.old) own) (here_at w.now shared d s) }
---   ensures few { result ≤ steps }
---   ensures { (heaps : HeapContent) (own : KeptState) (shared : SharedState) (d : DomainId)
---       → RunsInFrame (contents_of heaps (F.content frames.old) own) (contents_of heaps (F.content frames.new) own)
---       (here_at w.now shared d s) result }
--- It answers how many steps it took. It takes no memory, and neither heap nor own state.
-
 -- the top frame needs no class before it goes on
 abbrev pub NeedsNoClass : List ClassRecord → Run → Type 0
 NeedsNoClass classes run = (top : TopFrame run) (c : ClassId) → FrameNeeds classes top.frame c → ⊥

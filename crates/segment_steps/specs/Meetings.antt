@@ -10,10 +10,6 @@ use Rattle.step_contents.specs.StandingFrames.{IsPlaceOf, place_of}
 use Rattle.segment_steps.specs.declared.meeting.Meeting.{Meeting}
 use Rattle.segment_steps.specs.declared.meeting.Runs.{Runs}
 
--- pub fn meet<'a, F: FrameStore>(w: &'a World, own: &Own, frames: &F, r: Runs) -> Meeting<'a>
---   requires { HasTop (F.content frames.now) r.segment }
---   ensures { (f : FrameState) → TopFrame (F.content frames.now) r.segment f → Meets w.now.classes own.now.state r f result }
-
 -- the frame needs this class before it goes on, or none
 abbrev pub NeedsOf : List ClassRecord → FrameState → Option ClassId → Type 0
 NeedsOf classes f None = (c : ClassId) → FrameNeeds classes f c → ⊥

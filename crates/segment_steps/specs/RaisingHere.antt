@@ -11,14 +11,6 @@ use Rattle.step_contents.specs.Settings.{IsSetting}
 use Rattle.segment_steps.specs.declared.went.Went.{Went}
 use Rattle.segment_steps.specs.declared.went.Went.TheVariants as Goes
 
--- pub fn raise_here<H: ObjectStore, F: FrameStore>(w: &World, heap: &mut H, frames: &mut F, own: &mut Own, r: Runs, raise: Raise) -> Went
---   requires may { (shared : SharedState)
---       × MayRaise (contents_of (H.content heap.old) (F.content frames.old) own.old) (here_at w.now shared r.domain r.segment) }
---   requires raise { MayBeRaised w.now.classes ((H.content heap.old).heap r.domain) raise }
---   ensures { (shared : SharedState) → RaisedHere (contents_of (H.content heap.old) (F.content frames.old) own.old)
---       (contents_of (H.content heap.new) (F.content frames.new) own.new) (here_at w.now shared r.domain r.segment) raise result }
--- It takes no memory. The kernel calls it for a pending flag, and where a crossing raises something.
-
 abbrev pub went_of : Unwound → Went
 went_of Caught = Goes.GoesOn
 went_of (Uncaught a) = Goes.Left a

@@ -1,5 +1,5 @@
 -- The arrays are made where all of them fit together.
-use Rattle.std.proofs.Common.{List, sym, ap, subst, ◌∙◌, arith}
+use Rattle.std.proofs.Common.{List, sym, subst, ◌∙◌, arith}
 use Rattle.jk_model_classes.specs.declared.records.ClassRecord.{ClassRecord}
 use Rattle.jk_model_heap_rows.specs.ArrayTrees.{tree_words}
 use Rattle.heap_loops.specs.ObjectsMade.{MakesObjects}

@@ -1,5 +1,5 @@
 -- A negative count is met first.
-use Rattle.std.proofs.Common.{length, sym, ap, subst}
+use Rattle.std.proofs.Common.{length, sym, subst}
 use Rattle.jk_model.specs.declared.steps.After.TheVariants as Next
 use Rattle.jk_model.specs.declared.steps.Raise.{Raise}
 use Rattle.heap_ops.proofs.DoingHere.{Doing, Done, doing}

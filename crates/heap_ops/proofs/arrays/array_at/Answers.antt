@@ -1,5 +1,5 @@
 -- The array's shape tells its elements and how many they are, and an array is short.
-use Rattle.std.proofs.Common.{length, ap, arith}
+use Rattle.std.proofs.Common.{length, arith}
 use Rattle.jk_model_domains.specs.Objects.{Array}
 use Rattle.object_store.proofs.ObjectsWritten.{is_short}
 use Rattle.heap_ops.proofs.ArraysFound.{shape_told}

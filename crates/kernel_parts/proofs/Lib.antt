@@ -1,0 +1,3 @@
+mod DescriptorOfMain
+mod FirstParts
+mod WorldOfSystem

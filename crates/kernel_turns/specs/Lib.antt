@@ -1,0 +1,3 @@
+-- What one step of one thread over the parts of a kernel is to the machine.
+pub mod RunningPlaces
+pub mod SteppedParts
