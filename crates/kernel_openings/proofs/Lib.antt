@@ -2,6 +2,7 @@
 mod ClosedStores
 mod DescriptorOfMain
 mod FirstSegments
+mod LoadingKernels
 mod MainOfAClass
 mod NamesApart
 mod OpenedInsides
