@@ -4,6 +4,8 @@ pub mod CallsDecided
 pub mod CallsStayAnswered
 pub mod CapabilitiesAfterRuns
 pub mod ChangedItems
+pub mod ConfinedByDeed
+pub mod ConfinedEnds
 pub mod ConfinedWithoutJk
 pub mod ConstantsOfFields
 pub mod CopiesTaken
@@ -19,6 +21,7 @@ pub mod FirstMachines
 pub mod FirstObjects
 pub mod FirstParts
 pub mod FlagsOfMembers
+pub mod FoundAmongFiltered
 pub mod FramesStaySealed
 pub mod InitialisersAfterRuns
 pub mod InsidesStaySealed
@@ -58,6 +61,7 @@ pub mod PushedItems
 pub mod RaisesKeep
 pub mod RaisesSealed
 pub mod RaisesWhereMet
+pub mod RanInSteps
 pub mod RequestsGranted
 pub mod RunningSegmentsFit
 pub mod RunsAgain

@@ -1,0 +1,146 @@
+-- What a step changes elsewhere is what its deed says, deed by deed.
+use Rattle.std.proofs.Common.{◌≡◌, ℕ, zero, suc, List, [], inl, refl, sym, ap, subst, ◌∙◌}
+use Rattle.std.specs.Prelude.{⊤}
+use Rattle.std.proofs.lemmas.Option.{same_Some}
+use Rattle.jk_model.specs.declared.identifiers.DomainId.{DomainId}
+use Rattle.jk_model.specs.declared.identifiers.SegmentNo.{SegmentNo}
+use Rattle.jk_model.specs.declared.identifiers.ThreadNo.{ThreadNo}
+use Rattle.jk_model.specs.declared.output.Line.{Line}
+use Rattle.jk_model_heaps.specs.Workings.{Inside, Request, Run}
+use Rattle.jk_model_heaps.specs.Workings.{Binds as AsksToBind, Creates as AsksToCreate, LooksUp as AsksToLookUp, Resumes as AsksToResume, Revokes as AsksToRevoke, Stops as AsksToStop, Suspends as AsksToSuspend, Unbinds as AsksToUnbind}
+use Rattle.jk_model_running.specs.Ways.{Went}
+use Rattle.jk_model_machine_state.specs.Machines.{Machine, Segment, paid, thread_numbered}
+use Rattle.jk_model_machine_state.specs.Places.{RunningSegment, with_run}
+use Rattle.jk_model_runs.specs.Confined.{Confined}
+use Rattle.jk_model_runs.specs.Steps.{Acts, Deed, EndedDomain, Ensues, Flagged, LeftSegments, Rested, StepsBy, Worked, deed_of_raise, deed_of_request}
+use Rattle.machine_laws.specs.ConfinedSteps.{WasEnd, WasRest}
+use Rattle.machine_laws.specs.KnownMachines.{IsKnownMachine}
+use Rattle.machine_laws.proofs.ConfinedEnds.{end_changes}
+use Rattle.machine_laws.proofs.RanInSteps.{ChangesHere, confined_by, one_top, unchanged, was_top}
+use Rattle.machine_laws.proofs.RunningSegmentsFit.{same_thread_number, thread_place}
+use Rattle.machine_laws.proofs.RunsAgain.{of_home}
+use Rattle.machine_laws.proofs.ThreadsEnded.{thread_found}
+
+-- ---- What was raised, and what was asked.
+
+raise_of : (P : Deed → Type 0) → P Worked → ((n : ℕ) → P (LeftSegments n)) → (n : ℕ) → P (deed_of_raise n)
+raise_of P works leaves zero = works
+raise_of P works leaves (suc n) = leaves (suc n)
+
+request_of : (P : Deed → Type 0) → P Worked → ((s : SegmentNo) → P (Flagged s)) → (request : Request) → P (deed_of_request request)
+request_of P works flags (AsksToCreate class target) = works
+request_of P works flags (AsksToRevoke k) = works
+request_of P works flags (AsksToBind text k) = works
+request_of P works flags (AsksToLookUp text) = works
+request_of P works flags (AsksToUnbind text) = works
+request_of P works flags (AsksToSuspend s) = flags s
+request_of P works flags (AsksToResume s) = flags s
+request_of P works flags (AsksToStop s) = flags s
+
+-- ---- The paid step of a segment.
+
+module _ (m : Machine) (t : ThreadNo) (p : RunningSegment m t) (known : IsKnownMachine m) (q : RunningSegment m t) where
+  abbrev payer : DomainId
+  payer = q.segment.shared.domain
+
+  pays : payer ≡ p.segment.shared.domain
+  pays = ap (λ (s : Segment). s.shared.domain) (one_top m t p q).2
+
+  of_old : (z : RunningSegment (paid payer m) t) (s : Segment) (inside : Inside) → z.segment.shared.domain ≡ p.segment.shared.domain
+  of_old z s inside = ap (λ (u : Segment). u.shared.domain) (was_top m t p known payer pays z s inside).2
+
+  abbrev Changes : Deed → Machine → Type 0
+  Changes deed new = ChangesHere (record { machine = m; thread = t; deed = deed }) p.segment.shared.domain p new
+
+  -- ---- Where its domain ended.
+
+  abbrev Ends : Deed → Type 0
+  Ends (EndedDomain e) = ⊤
+  Ends deed = ⊥
+
+  ensues_ends : (z : RunningSegment (paid payer m) t) (run : Run) (went : Went) (deed : Deed) (lines : List Line) (new : Machine)
+      → Ensues (with_run z run) t went deed lines new → Ends deed → Changes deed new
+  ensues_ends z run went deed lines new Ensues.goes_on ended = absurd ended
+  ensues_ends z run went deed lines new (Ensues.says x text) ended = absurd ended
+  ensues_ends z run went deed lines new (Ensues.ended v n said end done) ended = absurd ended
+  ensues_ends z run went deed lines new (Ensues.left a n said end done) ended = absurd ended
+  ensues_ends z run went deed lines new (Ensues.enters k method c end of_cap of_method h) ended = absurd ended
+  ensues_ends z run went deed lines new (Ensues.is_refused k method c r n said end of_cap of_method refused h) ended =
+      absurd (raise_of (λ (y : Deed). Ends y → ⊥) (λ x. x) (λ k x. x) n ended)
+  ensues_ends z run went deed lines new (Ensues.grants x request v mid end granted s received) ended =
+      absurd (request_of (λ (y : Deed). Ends y → ⊥) (λ x. x) (λ k x. x) request ended)
+  ensues_ends z run went deed lines new (Ensues.denies x request r n said mid end granted h) ended =
+      absurd (raise_of (λ (y : Deed). Ends y → ⊥) (λ x. x) (λ k x. x) n ended)
+  ensues_ends z run went deed lines new (Ensues.terminates x said end h) ended =
+      let s : Segment = record z.segment { frames = run.frames } in
+      end_changes m t p known payer pays z s run.inside (of_old z s run.inside) x.home.domain
+      (x.home.numbered ∙ of_home (paid payer m) t z s run.inside refl x ∙ of_old z s run.inside) said end h
+
+  acts_ends : (deed : Deed) (lines : List Line) (new : Machine) → Acts (paid payer m) t deed lines new → Ends deed → Changes deed new
+  acts_ends deed lines new (Acts.stops x n said end stop h) ended = absurd (raise_of (λ (y : Deed). Ends y → ⊥) (λ x. x) (λ k x. x) n ended)
+  acts_ends deed lines new (Acts.is_revoked x n said end stop revoked h) ended =
+      absurd (raise_of (λ (y : Deed). Ends y → ⊥) (λ x. x) (λ k x. x) n ended)
+  acts_ends deed lines new (Acts.does z run went done said end stop revoked step h) ended = ensues_ends z run went done said end h ended
+
+  -- ---- It never rests.
+
+  abbrev Rests : Deed → Type 0
+  Rests Rested = ⊤
+  Rests deed = ⊥
+
+  ensues_works : (mid : Machine) (went : Went) (deed : Deed) (lines : List Line) (new : Machine) → Ensues mid t went deed lines new → Rests deed → ⊥
+  ensues_works mid went deed lines new Ensues.goes_on rested = rested
+  ensues_works mid went deed lines new (Ensues.says x text) rested = rested
+  ensues_works mid went deed lines new (Ensues.ended v n said end done) rested = rested
+  ensues_works mid went deed lines new (Ensues.left a n said end done) rested = rested
+  ensues_works mid went deed lines new (Ensues.enters k method c end of_cap of_method h) rested = rested
+  ensues_works mid went deed lines new (Ensues.is_refused k method c r n said end of_cap of_method refused h) rested =
+      raise_of (λ (y : Deed). Rests y → ⊥) (λ x. x) (λ k x. x) n rested
+  ensues_works mid went deed lines new (Ensues.grants x request v other end granted s received) rested =
+      request_of (λ (y : Deed). Rests y → ⊥) (λ x. x) (λ k x. x) request rested
+  ensues_works mid went deed lines new (Ensues.denies x request r n said other end granted h) rested =
+      raise_of (λ (y : Deed). Rests y → ⊥) (λ x. x) (λ k x. x) n rested
+  ensues_works mid went deed lines new (Ensues.terminates x said end h) rested = rested
+
+  acts_works : (mid : Machine) (deed : Deed) (lines : List Line) (new : Machine) → Acts mid t deed lines new → Rests deed → ⊥
+  acts_works mid deed lines new (Acts.stops x n said end stop h) rested = raise_of (λ (y : Deed). Rests y → ⊥) (λ x. x) (λ k x. x) n rested
+  acts_works mid deed lines new (Acts.is_revoked x n said end stop revoked h) rested =
+      raise_of (λ (y : Deed). Rests y → ⊥) (λ x. x) (λ k x. x) n rested
+  acts_works mid deed lines new (Acts.does z run went done said end stop revoked step h) rested =
+      ensues_works (with_run z run) went done said end h rested
+
+-- ---- Where nothing changed.
+
+rest_changes : (m : Machine) (t : ThreadNo) (p : RunningSegment m t)
+    → ChangesHere (record { machine = m; thread = t; deed = Rested }) p.segment.shared.domain p m
+rest_changes m t p = record {
+  domains = λ e old after differ at there.
+      unchanged (record { machine = m; thread = t; deed = Rested }) old after (same_Some after old (sym there ∙ at));
+  names = refl;
+  threads = λ u old differ at.
+      inl (old, ap (thread_numbered m) (same_thread_number old.number u (thread_found m u old at).1) ∙ at, refl, refl);
+  own_thread = inl (p.thread, ap (thread_numbered m) (same_thread_number p.thread.number t (thread_place m t p).2) ∙ p.is_thread, refl, refl);
+  no_more = λ u differ lives. lives;
+  own_end = λ e is. absurd cc;
+}
+
+-- ---- The laws.
+
+pub rests_confined : (m new : Machine) (t : ThreadNo) (deed : Deed) (lines : List Line) (p : RunningSegment m t) → IsKnownMachine m → WasRest deed
+    → StepsBy m t deed lines new → Confined (record { machine = m; thread = t; deed = deed }) p.segment.shared.domain new
+rests_confined m new t deed lines p known was (StepsBy.not_live gone) = absurd (gone (p.thread, p.is_thread))
+rests_confined m new t deed lines p known was (StepsBy.is_held q held) =
+    confined_by m m t Rested [] p (StepsBy.is_held q held) (rest_changes m t p)
+rests_confined m new t deed lines p known was (StepsBy.is_spent q free spent) =
+    confined_by m m t Rested [] p (StepsBy.is_spent q free spent) (rest_changes m t p)
+rests_confined m new t deed lines p known was (StepsBy.acts q done said end free rich h) =
+    absurd (acts_works m t p known q (paid q.segment.shared.domain m) done said end h (subst (Rests m t p known q) (sym was) tt))
+
+pub ends_confined : (m new : Machine) (t : ThreadNo) (deed : Deed) (lines : List Line) (p : RunningSegment m t) → IsKnownMachine m → WasEnd deed
+    → StepsBy m t deed lines new → Confined (record { machine = m; thread = t; deed = deed }) p.segment.shared.domain new
+ends_confined m new t deed lines p known was (StepsBy.not_live gone) = absurd (gone (p.thread, p.is_thread))
+ends_confined m new t deed lines p known (e, was) (StepsBy.is_held q held) = absurd cc
+ends_confined m new t deed lines p known (e, was) (StepsBy.is_spent q free spent) = absurd cc
+ends_confined m new t deed lines p known (e, was) (StepsBy.acts q done said end free rich h) =
+    confined_by m end t done said p (StepsBy.acts q done said end free rich h)
+    (acts_ends m t p known q done said end h (subst (Ends m t p known q) (sym was) tt))
