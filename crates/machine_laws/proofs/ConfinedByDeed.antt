@@ -12,9 +12,10 @@ use Rattle.jk_model_running.specs.Ways.{Went}
 use Rattle.jk_model_machine_state.specs.Machines.{Machine, Segment, paid, thread_numbered}
 use Rattle.jk_model_machine_state.specs.Places.{RunningSegment, with_run}
 use Rattle.jk_model_runs.specs.Confined.{Confined}
-use Rattle.jk_model_runs.specs.Steps.{Acts, Deed, EndedDomain, Ensues, Flagged, LeftSegments, Rested, StepsBy, Worked, deed_of_raise, deed_of_request}
-use Rattle.machine_laws.specs.ConfinedSteps.{WasEnd, WasRest}
+use Rattle.jk_model_runs.specs.Steps.{Acts, Deed, EndedDomain, Ensues, Entered, Flagged, LeftSegments, Rested, StepsBy, Worked, deed_of_raise, deed_of_request}
+use Rattle.machine_laws.specs.ConfinedSteps.{WasCall, WasEnd, WasRest}
 use Rattle.machine_laws.specs.KnownMachines.{IsKnownMachine}
+use Rattle.machine_laws.proofs.ConfinedCalls.{call_changes}
 use Rattle.machine_laws.proofs.ConfinedEnds.{end_changes}
 use Rattle.machine_laws.proofs.RanInSteps.{ChangesHere, confined_by, one_top, unchanged, was_top}
 use Rattle.machine_laws.proofs.RunningSegmentsFit.{same_thread_number, thread_place}
@@ -82,6 +83,34 @@ module _ (m : Machine) (t : ThreadNo) (p : RunningSegment m t) (known : IsKnownM
       absurd (raise_of (λ (y : Deed). Ends y → ⊥) (λ x. x) (λ k x. x) n ended)
   acts_ends deed lines new (Acts.does z run went done said end stop revoked step h) ended = ensues_ends z run went done said end h ended
 
+  -- ---- Where another domain was entered.
+
+  abbrev Calls : Deed → Type 0
+  Calls (Entered k method) = ⊤
+  Calls deed = ⊥
+
+  ensues_calls : (z : RunningSegment (paid payer m) t) (run : Run) (went : Went) (deed : Deed) (lines : List Line) (new : Machine)
+      → Ensues (with_run z run) t went deed lines new → Calls deed → Changes deed new
+  ensues_calls z run went deed lines new Ensues.goes_on called = absurd called
+  ensues_calls z run went deed lines new (Ensues.says x text) called = absurd called
+  ensues_calls z run went deed lines new (Ensues.ended v n said end done) called = absurd called
+  ensues_calls z run went deed lines new (Ensues.left a n said end done) called = absurd called
+  ensues_calls z run went deed lines new (Ensues.enters k method c end of_cap of_method h) called =
+      call_changes m t p known payer pays z run c end h k method of_cap
+  ensues_calls z run went deed lines new (Ensues.is_refused k method c r n said end of_cap of_method refused h) called =
+      absurd (raise_of (λ (y : Deed). Calls y → ⊥) (λ x. x) (λ k x. x) n called)
+  ensues_calls z run went deed lines new (Ensues.grants x request v mid end granted s received) called =
+      absurd (request_of (λ (y : Deed). Calls y → ⊥) (λ x. x) (λ k x. x) request called)
+  ensues_calls z run went deed lines new (Ensues.denies x request r n said mid end granted h) called =
+      absurd (raise_of (λ (y : Deed). Calls y → ⊥) (λ x. x) (λ k x. x) n called)
+  ensues_calls z run went deed lines new (Ensues.terminates x said end h) called = absurd called
+
+  acts_calls : (deed : Deed) (lines : List Line) (new : Machine) → Acts (paid payer m) t deed lines new → Calls deed → Changes deed new
+  acts_calls deed lines new (Acts.stops x n said end stop h) called = absurd (raise_of (λ (y : Deed). Calls y → ⊥) (λ x. x) (λ k x. x) n called)
+  acts_calls deed lines new (Acts.is_revoked x n said end stop revoked h) called =
+      absurd (raise_of (λ (y : Deed). Calls y → ⊥) (λ x. x) (λ k x. x) n called)
+  acts_calls deed lines new (Acts.does z run went done said end stop revoked step h) called = ensues_calls z run went done said end h called
+
   -- ---- It never rests.
 
   abbrev Rests : Deed → Type 0
@@ -144,3 +173,12 @@ ends_confined m new t deed lines p known (e, was) (StepsBy.is_spent q free spent
 ends_confined m new t deed lines p known (e, was) (StepsBy.acts q done said end free rich h) =
     confined_by m end t done said p (StepsBy.acts q done said end free rich h)
     (acts_ends m t p known q done said end h (subst (Ends m t p known q) (sym was) tt))
+
+pub calls_confined : (m new : Machine) (t : ThreadNo) (deed : Deed) (lines : List Line) (p : RunningSegment m t) → IsKnownMachine m → WasCall deed
+    → StepsBy m t deed lines new → Confined (record { machine = m; thread = t; deed = deed }) p.segment.shared.domain new
+calls_confined m new t deed lines p known was (StepsBy.not_live gone) = absurd (gone (p.thread, p.is_thread))
+calls_confined m new t deed lines p known (k, method, was) (StepsBy.is_held q held) = absurd cc
+calls_confined m new t deed lines p known (k, method, was) (StepsBy.is_spent q free spent) = absurd cc
+calls_confined m new t deed lines p known (k, method, was) (StepsBy.acts q done said end free rich h) =
+    confined_by m end t done said p (StepsBy.acts q done said end free rich h)
+    (acts_calls m t p known q done said end h (subst (Calls m t p known q) (sym was) tt))

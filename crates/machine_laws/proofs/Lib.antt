@@ -5,6 +5,7 @@ pub mod CallsStayAnswered
 pub mod CapabilitiesAfterRuns
 pub mod ChangedItems
 pub mod ConfinedByDeed
+pub mod ConfinedCalls
 pub mod ConfinedEnds
 pub mod ConfinedWithoutJk
 pub mod ConstantsOfFields

@@ -1,5 +1,6 @@
 -- A step of a thread is paid, and the thread's top segment becomes another one of its domain: the machine then, and what a whole step is confined to.
-use Rattle.std.proofs.Common.{◌≡◌, ◌≢◌, ◌⊎◌, inl, inr, List, [], ◌∷◌, ◌++◌, length, Some, slice_get, refl, sym, ap, subst, ◌∙◌}
+use Rattle.std.proofs.Common.{ℕ, ◌≡◌, ◌≢◌, ◌⊎◌, inl, inr, List, [], ◌∷◌, ◌++◌, length, Some, slice_get, refl, sym, ap, subst, ◌∙◌, Bool, true, false, cond, ◌-◌, ◌==◌, Option}
+use Rattle.std.specs.Option.{option_map}
 use Rattle.std.proofs.lemmas.Bool.{cases_eq}
 use Rattle.std.proofs.lemmas.List.{length-map}
 use Rattle.std.proofs.lemmas.Option.{same_Some}
@@ -8,7 +9,7 @@ use Rattle.jk_model.specs.declared.identifiers.ThreadNo.{ThreadNo}
 use Rattle.jk_model.specs.declared.output.Line.{Line}
 use Rattle.jk_model_heaps.specs.Workings.{Inside}
 use Rattle.jk_model_sharing.specs.BoundNames.{without_names_of}
-use Rattle.jk_model_machine_state.specs.Machines.{DomainState, IsLiveThread, Machine, Segment, Thread, domain_at, paid, thread_numbered}
+use Rattle.jk_model_machine_state.specs.Machines.{DomainState, IsLiveThread, caps_of, Machine, Segment, Thread, domain_at, paid, thread_numbered}
 use Rattle.jk_model_machine_state.specs.Places.{LiveDomain, RunningSegment, with_running}
 use Rattle.jk_model_runs.specs.Confined.{Confined, DomainChanges, OthersChange, OwnChange, StepOf, ThreadChanges}
 use Rattle.jk_model_runs.specs.Steps.{Deed, EndedDomain, StepsBy}
@@ -16,12 +17,14 @@ use Rattle.list_lemmas.proofs.ItemsByPlace.{comes_from, mapped_at}
 use Rattle.list_lemmas.proofs.LastItems.{one_last}
 use Rattle.machine_laws.specs.KeptWorlds.{KeepsWorld, LastingDomain, lasting}
 use Rattle.machine_laws.specs.KnownMachines.{IsKnownMachine}
+use Rattle.machine_laws.proofs.ChangedItems.{parts_stay}
 use Rattle.machine_laws.proofs.ElsewhereSame.{other_domains, other_insides, other_running}
 use Rattle.machine_laws.proofs.MachinesThatGrow.{AreNumbered}
 use Rattle.machine_laws.proofs.NumbersDrawn.{steps_draw}
 use Rattle.machine_laws.proofs.PaidSteps.{known_paid}
 use Rattle.machine_laws.proofs.RunningSegmentsFit.{same_thread_number}
-use Rattle.machine_laws.proofs.RunsAgain.{thread_set}
+use Rattle.machine_laws.proofs.RunsAgain.{set_inside, thread_set}
+use Rattle.machine_laws.proofs.ThreadsEnded.{thread_found}
 use Rattle.machine_laws.proofs.WorldsKept.{running_keeps, steps_keep}
 
 -- domains stand at their numbers still
@@ -46,6 +49,16 @@ unchanged x old after is = record {
   rest = subst (λ (y : DomainState). y ≡ record old { inside = y.inside }) (sym is) refl;
   inside = inl (ap (λ (y : DomainState). y.inside) is);
 }
+
+-- a thread that is found as before
+pub thread_same : (Change : List Segment → List Segment → Type 0) → ((ss : List Segment) → Change ss ss) → (m new : Machine) (u : ThreadNo) (old : Thread)
+    → thread_numbered m u ≡ Some old → thread_numbered new u ≡ thread_numbered m u → ThreadChanges Change old new
+thread_same Change same m new u old at is =
+    inl (old, ap (thread_numbered new) (same_thread_number old.number u (thread_found m u old at).1) ∙ is ∙ at, refl, same old.segments)
+
+-- what is there where it is known to be the same
+pub live_same : (m new : Machine) (u : ThreadNo) → thread_numbered new u ≡ thread_numbered m u → IsLiveThread new u → IsLiveThread m u
+live_same m new u is lives = (lives.0, sym is ∙ lives.1)
 
 -- ---- What the world keeps anyway is left out.
 
@@ -129,3 +142,19 @@ module _ (m : Machine) (t : ThreadNo) (p : RunningSegment m t) (known : IsKnownM
   ran_own =
       thread_set (paid payer m) t (z.lower ++ s ∷ []) z
       ∙ (λ i. Some (record (was_top.0 i) { segments = was_top.1 i ++ s ∷ [] }))
+
+  caps_by : (b : Bool) (e : DomainState) (x : Inside) → (cond b (record e { inside = Some x }) e).caps ≡ e.caps
+  caps_by true e x = refl
+  caps_by false e x = refl
+
+  paid_by : (b : Bool) (e : DomainState) (left : Option ℕ) → (cond b (record e { steps_left = left }) e).caps ≡ e.caps
+  paid_by true e left = refl
+  paid_by false e left = refl
+
+  -- no capability changed
+  pub ran_caps : caps_of ran ≡ caps_of m
+  ran_caps =
+      parts_stay (set_inside z.segment.shared.domain inside) (λ (e : DomainState). e.caps)
+      (λ e. caps_by (e.number.0 == z.segment.shared.domain.0) e inside) (paid payer m).domains
+      ∙ parts_stay (λ (e : DomainState). cond (e.number.0 == payer.0) (record e { steps_left = option_map (λ (n : ℕ). n - 1) e.steps_left }) e)
+      (λ (e : DomainState). e.caps) (λ e. paid_by (e.number.0 == payer.0) e (option_map (λ (n : ℕ). n - 1) e.steps_left)) m.domains

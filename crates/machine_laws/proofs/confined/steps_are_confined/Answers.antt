@@ -1,5 +1,5 @@
 -- By the case of the step.
-use Rattle.machine_laws.proofs.ConfinedByDeed.{ends_confined, rests_confined}
+use Rattle.machine_laws.proofs.ConfinedByDeed.{calls_confined, ends_confined, rests_confined}
 use Rattle.machine_laws.proofs.confined.steps_are_confined.Goals as goal
 
 pub returns-clause-rests : goal.returns-clause-rests
@@ -7,3 +7,6 @@ returns-clause-rests c = λ m new t deed lines p known was step. rests_confined 
 
 pub returns-clause-ends : goal.returns-clause-ends
 returns-clause-ends c = λ m new t deed lines p known was step. ends_confined m new t deed lines p known was step
+
+pub returns-clause-calls : goal.returns-clause-calls
+returns-clause-calls c = λ m new t deed lines p known was step. calls_confined m new t deed lines p known was step
