@@ -7,6 +7,7 @@ pub mod ChangedItems
 pub mod ConfinedByDeed
 pub mod ConfinedCalls
 pub mod ConfinedEnds
+pub mod ConfinedRequests
 pub mod ConfinedWithoutJk
 pub mod ConstantsOfFields
 pub mod CopiesTaken
@@ -40,6 +41,7 @@ pub mod MethodsNamedWell
 pub mod MethodsOfPackageJk
 pub mod MethodsThatAsk
 pub mod NamesOfNewCode
+pub mod NamesOfOthers
 pub mod NamesStay
 pub mod NeedsDecided
 pub mod NewMembers
@@ -94,6 +96,7 @@ pub mod TypesOfMethods
 pub mod WaitingRuns
 pub mod WaitsDecided
 pub mod WidenedSurroundings
+pub mod WorkedSoFar
 pub mod WorldsKept
 pub mod WorldsOpened
 pub mod WorldsStay

@@ -8,7 +8,7 @@ use Rattle.jk_model.specs.declared.output.Line.{Line}
 use Rattle.jk_model_machine_state.specs.Machines.{Machine}
 use Rattle.jk_model_machine_state.specs.Places.{RunningSegment}
 use Rattle.jk_model_runs.specs.Confined.{Confined}
-use Rattle.jk_model_runs.specs.Steps.{Deed, EndedDomain, Entered, Rested, StepsBy}
+use Rattle.jk_model_runs.specs.Steps.{Deed, EndedDomain, Entered, Rested, StepsBy, Worked}
 use Rattle.machine_laws.specs.KnownMachines.{IsKnownMachine, RunsNoPackageJk}
 
 -- without package jk
@@ -27,6 +27,10 @@ AreConfinedIf Was =
 -- nothing changed
 abbrev pub WasRest : Deed → Type 0
 WasRest deed = deed ≡ Rested
+
+-- its own thread and domain alone changed
+abbrev pub WasWork : Deed → Type 0
+WasWork deed = deed ≡ Worked
 
 -- another domain was entered
 abbrev pub WasCall : Deed → Type 0
