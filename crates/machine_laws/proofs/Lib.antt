@@ -6,6 +6,10 @@ pub mod CallsSealed
 pub mod CallsStayAnswered
 pub mod CapabilitiesAfterRuns
 pub mod ChangedItems
+pub mod ConfinedByDeed
+pub mod ConfinedCalls
+pub mod ConfinedEnds
+pub mod ConfinedRequests
 pub mod ConfinedWithoutJk
 pub mod ConstantsOfFields
 pub mod CopiesTaken
@@ -23,6 +27,7 @@ pub mod FirstMachines
 pub mod FirstObjects
 pub mod FirstParts
 pub mod FlagsOfMembers
+pub mod FoundAmongFiltered
 pub mod FramesStaySealed
 pub mod InitialisersAfterRuns
 pub mod InsidesStaySealed
@@ -41,6 +46,7 @@ pub mod MethodsNamedWell
 pub mod MethodsOfPackageJk
 pub mod MethodsThatAsk
 pub mod NamesOfNewCode
+pub mod NamesOfOthers
 pub mod NamesStay
 pub mod NeedsDecided
 pub mod NewMembers
@@ -63,6 +69,7 @@ pub mod PushedItems
 pub mod RaisesKeep
 pub mod RaisesSealed
 pub mod RaisesWhereMet
+pub mod RanInSteps
 pub mod RequestsGranted
 pub mod RunningSegmentsFit
 pub mod RunsAgain
@@ -97,6 +104,7 @@ pub mod TypesOfMethods
 pub mod WaitingRuns
 pub mod WaitsDecided
 pub mod WidenedSurroundings
+pub mod WorkedSoFar
 pub mod WorldsKept
 pub mod WorldsOpened
 pub mod WorldsStay
