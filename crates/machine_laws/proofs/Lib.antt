@@ -5,6 +5,7 @@ pub mod CallsDecided
 pub mod CallsSealed
 pub mod CallsStayAnswered
 pub mod CapabilitiesAfterRuns
+pub mod CapabilitiesChanged
 pub mod ChangedItems
 pub mod ConstantsOfFields
 pub mod CopiesTaken
@@ -20,6 +21,7 @@ pub mod FirstMachineWhole
 pub mod FirstMachines
 pub mod FirstObjects
 pub mod FirstParts
+pub mod FlagsChanged
 pub mod FlagsOfMembers
 pub mod FramesStaySealed
 pub mod InitialisersAfterRuns
@@ -35,6 +37,7 @@ pub mod MeaningsOfNames
 pub mod MethodsNamedWell
 pub mod MethodsOfPackageJk
 pub mod MethodsThatAsk
+pub mod NamesChanged
 pub mod NamesOfNewCode
 pub mod NamesStay
 pub mod NewMembers
@@ -55,7 +58,9 @@ pub mod PoolsAfterRuns
 pub mod RaisesKeep
 pub mod RaisesSealed
 pub mod RaisesWhereMet
+pub mod RequestsAnswered
 pub mod RequestsGranted
+pub mod RequestsSealed
 pub mod RunningSegmentsFit
 pub mod RunsAgain
 pub mod RunsAnswered
