@@ -5,6 +5,7 @@ pub mod CallsDecided
 pub mod CallsSealed
 pub mod CallsStayAnswered
 pub mod CapabilitiesAfterRuns
+pub mod CapabilitiesChanged
 pub mod ChangedItems
 pub mod ConfinedByDeed
 pub mod ConfinedCalls
@@ -26,6 +27,7 @@ pub mod FirstMachineWhole
 pub mod FirstMachines
 pub mod FirstObjects
 pub mod FirstParts
+pub mod FlagsChanged
 pub mod FlagsOfMembers
 pub mod FoundAmongFiltered
 pub mod FramesStaySealed
@@ -45,6 +47,7 @@ pub mod MeaningsOfNames
 pub mod MethodsNamedWell
 pub mod MethodsOfPackageJk
 pub mod MethodsThatAsk
+pub mod NamesChanged
 pub mod NamesOfNewCode
 pub mod NamesOfOthers
 pub mod NamesStay
@@ -70,7 +73,9 @@ pub mod RaisesKeep
 pub mod RaisesSealed
 pub mod RaisesWhereMet
 pub mod RanInSteps
+pub mod RequestsAnswered
 pub mod RequestsGranted
+pub mod RequestsSealed
 pub mod RunningSegmentsFit
 pub mod RunsAgain
 pub mod RunsAnswered
