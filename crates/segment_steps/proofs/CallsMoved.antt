@@ -1,9 +1,10 @@
 -- A call of a method of the system that is still to be done, after what changed nothing.
-use Rattle.std.proofs.Common.{List, refl, sym, subst}
+use Rattle.std.proofs.Common.{◌≡◌, List, refl, sym, ap, subst, ◌∙◌}
 use Rattle.jk_model.specs.declared.identifiers.MemberId.{MemberId}
 use Rattle.jk_model.specs.declared.identifiers.ThreadNo.{ThreadNo}
 use Rattle.jk_model.specs.declared.output.Line.{Line}
 use Rattle.jk_model_classes.specs.Worlds.{WorldRecord}
+use Rattle.jk_model_domains.specs.Objects.{CAPABILITY}
 use Rattle.jk_model_heaps.specs.Workings.{Setting}
 use Rattle.jk_model_sharing.specs.SharedStates.{SharedState}
 use Rattle.class_init.specs.KeptStates.{KeptState}
@@ -14,7 +15,7 @@ use Rattle.step_contents.specs.Contents.{Becomes, Contents, Here, LeftBehind, co
 use Rattle.step_contents.specs.PlacesInCode.{PlaceInCode}
 use Rattle.step_contents.specs.Settings.{IsSetting}
 use Rattle.step_contents.proofs.InstructionsBegin.{is_some_setting, some_setting}
-use Rattle.system_calls.specs.PackageJk.{HasNoRemote, IsOfPackageJk}
+use Rattle.system_calls.specs.PackageJk.{HasNoRemote}
 use Rattle.segment_steps.specs.ActingSegments.{ActsSo, MayAct}
 use Rattle.segment_steps.specs.CallsOnSystem.{CallsMethod, LacksRemoteForJk}
 use Rattle.segment_steps.specs.FollowedCalls.{LeavesToSystem}
@@ -107,7 +108,7 @@ module _ (old new : Contents) (h : Here) (at : PlaceInCode) (m : MemberId) (left
 pub lacks_remote : (old new : Contents) (world : WorldRecord) (shared : SharedState) (r : Runs) (at : PlaceInCode)
     (st : StandsReady old.frames world.classes old.own.state r at) (m : MemberId) → MayAct old (here old world shared r at st)
     → LeavesToSystem old new (here old world shared r at st) at m → LacksRemoteForJk old (here old world shared r at st)
-    → IsOfPackageJk world.classes m.class → HasNoRemote new.heaps r.domain
+    → m.class ≡ CAPABILITY → HasNoRemote new.heaps r.domain
 lacks_remote old new world shared r at st m may left lacks is_jk =
     let doing = may_do old world shared r at st may in
     let x = some_setting doing in
@@ -115,4 +116,4 @@ lacks_remote old new world shared r at st m may left lacks is_jk =
     let call = left.calls x doing is in
     subst (λ (hs : HeapContent). HasNoRemote hs r.domain) (sym left.heaps)
     (lacks x may is (top old world shared r at st may) (code old world shared r at st may x is) call.0
-    (subst (λ (k : MemberId). IsOfPackageJk world.classes k.class) (sym call.1) is_jk))
+    (ap (λ (k : MemberId). k.class) call.1 ∙ is_jk))

@@ -31,13 +31,12 @@ use Rattle.step_contents.proofs.InstructionsBegin.{is_some_setting, some_setting
 use Rattle.system_calls.specs.declared.here.Here.{Here}
 use Rattle.system_calls.specs.DoneRows.{Finds}
 use Rattle.system_calls.specs.GivenOnTop.{FramesAfter, HasGiven, HasRoomAfter, IsGiven, TakesOff, given_count, next_after}
-use Rattle.system_calls.specs.MethodGroups.{IsOfJk}
+use Rattle.system_calls.specs.MethodGroups.{IsOfCapabilities}
 use Rattle.system_calls.specs.MethodsDone.{MayAnswer, MethodDone, among}
-use Rattle.system_calls.specs.PackageJk.{IsOfPackageJk}
 use Rattle.system_calls.specs.SystemSteps.{MayCall, SystemDone, SystemFollows, call_site}
 use Rattle.system_calls.proofs.CallsDone.{ended, method_follows, said}
 use Rattle.system_calls.proofs.CallsFound as found
-use Rattle.system_calls.proofs.PackageOfMeanings.{of_package_jk}
+use Rattle.system_calls.proofs.ClassOfCapabilities.{class_of_capabilities}
 use Rattle.system_calls.proofs.RoomForAnswers as rooms
 
 module _ (heaps : HeapContent) (frames : FrameContent) (shared : SharedState) (h : Here) (at : PlaceInCode) (m : MemberId) where
@@ -76,17 +75,6 @@ module _ (heaps : HeapContent) (frames : FrameContent) (shared : SharedState) (h
     module _ (meaning : SystemMeaning) (means : meaning_of m ≡ Some meaning) where
       pub has_given : HasGiven frames h.segment (given_count meaning)
       has_given = found.has_given heaps frames may.0 shared h at may.1.may x is call m member meaning means
-
-      -- a method of package jk is of a class of it
-      pub jk_class : IsOfJk meaning → IsOfPackageJk h.world.now.classes m.class
-      jk_class jk =
-          let sound = may.1.may.domain.codes in
-          let method : MethodIs h.world.now.classes call.member call.method = call.is_method in
-          let named = subst (λ (n : MemberId). MethodIs h.world.now.classes n call.method) member method in
-          let home = sound.system_bodies m call.method named.0 call.number named named.1 call.of_system in
-          let low = sound.of_system m.class named.0 named.1 home in
-          let class = item_there system_classes m.class.0 low in
-          of_package_jk h.world.now.classes sound m meaning class.0 named.0 means class.1 named.1 jk
 
       module _ (given : List Value) (read : IsGiven frames h.segment given) (long : length given ≡ given_count meaning) where
         pub may_answer : MayAnswer heaps shared h meaning given

@@ -20,7 +20,6 @@ mod MethodsMayBeDone
 mod NamesAsked
 mod NumbersRead
 mod OwnDomain
-mod PackageOfMeanings
 mod RemoteClasses
 mod RoomForAnswers
 mod RowsOfNewObjects
@@ -29,3 +28,4 @@ mod TasksAsked
 mod TextRows
 mod TextsJoined
 mod UnitsRead
+mod ClassOfCapabilities

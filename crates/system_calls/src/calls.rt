@@ -5,6 +5,7 @@ ghost use Rattle.jk_model.specs.Outside.{HasRisen, NeverFalls};
 ghost use Rattle.jk_model.specs.declared.output.Line.TheVariants as line;
 ghost use Rattle.jk_model.specs.declared.steps.After.TheVariants as Next;
 ghost use Rattle.jk_model_classes.specs.Worlds.{DomainRecord, domain_of};
+ghost use Rattle.jk_model_domains.specs.Objects.{CAPABILITY};
 ghost use Rattle.jk_model_system_rows.specs.declared.meanings.SystemMeaning.TheVariants as Means;
 ghost use Rattle.jk_model_system_rows.specs.Answers.{Tells};
 ghost use Rattle.jk_outside.specs.SeveralLines.{PrintsLines};
@@ -17,7 +18,7 @@ ghost use Rattle.system_calls.specs.DoneRows.{Finds};
 ghost use Rattle.system_calls.specs.GivenOnTop.{FramesAfter, HasGiven, HasRoomAfter, next_after};
 ghost use Rattle.system_calls.specs.MethodGroups.{IsAnswered, IsOfCapabilities, IsOfJk, Prints};
 ghost use Rattle.system_calls.specs.MethodsDone.{MayAnswer, MethodDone};
-ghost use Rattle.system_calls.specs.PackageJk.{HasNoRemote, IsOfPackageJk};
+ghost use Rattle.system_calls.specs.PackageJk.{HasNoRemote};
 ghost use Rattle.system_calls.specs.SystemSteps.{MayCall, SystemDone, call_site, printed};
 ghost use Rattle.system_calls.specs.Wordings.{IsWorded};
 
@@ -65,7 +66,7 @@ pub fn call<H: ObjectStore, F: FrameStore, S: Sink>(
 ) -> Result<After, SinkFailed>
     requires may { (own : KeptState) × MayCall (contents_of (H.content heap.old) (F.content frames.old) own)
         (call_site (here_at w.now shared.old d s) (place_of at.now) m) }
-    requires without_jk { IsOfPackageJk w.now.classes m.class → HasNoRemote (H.content heap.old) d }
+    requires no_remote { m.class ≡ CAPABILITY → HasNoRemote (H.content heap.old) d }
     ensures ok { IfOk result (λ after. (own : KeptState)
         → SystemDone (contents_of (H.content heap.old) (F.content frames.old) own) (call_site (here_at w.now shared.old d s) (place_of at.now) m)
         (left_behind (contents_of (H.content heap.new) (F.content frames.new) own) shared.new) after

@@ -4,7 +4,8 @@ use Rattle.jk_model.proofs.CountsNeverFall.{NeverFalls-refl}
 use Rattle.jk_model_system_rows.specs.Meanings.{meaning_of}
 use Rattle.step_contents.specs.StandingFrames.{place_of}
 use Rattle.system_calls.specs.GivenOnTop.{HasGiven, TakesOff}
-use Rattle.system_calls.proofs.CallsBegin.{as_read, comes_so, end_comes, has_given, jk_class, line_comes, may_answer, place_fits, room_if, some_meaning}
+use Rattle.system_calls.proofs.ClassOfCapabilities.{class_of_capabilities}
+use Rattle.system_calls.proofs.CallsBegin.{as_read, comes_so, end_comes, has_given, line_comes, may_answer, place_fits, room_if, some_meaning}
 use Rattle.system_calls.proofs.LinesSaid.{err_printed, none_printed, ok_printed}
 use Rattle.system_calls.proofs.calls.call.Goals as goal
 
@@ -54,10 +55,7 @@ answer-answer-requires g c =
           (record { world = c.args.w; domain = c.args.d; segment = c.args.s }) (place_of c.args.at.now) c.args.m
           c.requires.may c.in-Some.meaning means (take c.from.result c.read_given-values.result) read.0 read.1;
       answered = (search rules, search rules);
-      no_remote = λ caps.
-          c.requires.without_jk (jk_class (g.H.ObjectStore.content c.args.heap.now) (g.F.FrameStore.content c.args.frames.now) c.args.shared.now
-          (record { world = c.args.w; domain = c.args.d; segment = c.args.s }) (place_of c.args.at.now) c.args.m
-          c.requires.may c.in-Some.meaning means (inr (inl caps)));
+      no_remote = λ caps. c.requires.no_remote (class_of_capabilities c.args.m c.in-Some.meaning means caps);
     }
 
 pub finish-requires : goal.finish-requires
