@@ -3,10 +3,16 @@ mod EndedThreads
 mod FitsAgain
 mod FittingRuns
 mod FlaggedParts
+mod FollowedThreads
 mod KeptParts
+mod NeededClasses
 mod PaidParts
 mod PlacedThreads
 mod RanParts
+mod RaisingSteps
+mod ReadyThreads
+mod RestingThreads
+mod RunningFound
 mod SegmentsApart
 mod SegmentsMayAct
 mod SegmentsThatRan

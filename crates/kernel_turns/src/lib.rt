@@ -4,3 +4,7 @@
 #![tactic(auto)]
 
 pub mod laws;
+mod own_states;
+mod running;
+mod stepping;
+mod thread_ends;
