@@ -1,11 +1,12 @@
 //! What a domain is to others, and its part of what they share.
 
-ghost use Rattle.std.specs.Prelude.{◌≡◌, ◌-◌, ◌^◌, ◌<◌, ◌≤◌, ◌∷◌, ◌++◌, [], true, length, Err, IfErr, OnErr, OnOk};
+ghost use Rattle.std.specs.Prelude.{◌≡◌, ◌-◌, ◌^◌, ◌<◌, ◌≤◌, ◌⊎◌, ◌∷◌, ◌++◌, [], true, length, Err, IfErr, OnErr, OnOk};
 ghost use Rattle.jk_model.specs.declared.identifiers.DomainId.{DomainId as ADomainId};
 ghost use Rattle.jk_model_classes.specs.Worlds.{IsLiveNamed};
 ghost use Rattle.jk_model_sharing.specs.CapabilityCalls.{LacksNumbers};
 ghost use Rattle.jk_model_sharing.specs.SharedStates.{admitted, caps_of};
 ghost use Rattle.thread_segments.specs.Asked.{AreWithin, IsNext};
+ghost use Rattle.kernel_openings.specs.declared.answers.AddAnswer.TheVariants as Adding;
 ghost use Rattle.kernel_openings.specs.Joining.{IsFullFor};
 
 use crate::answers::AddAnswer;
@@ -80,4 +81,32 @@ pub(crate) fn join(
         }
         Err(CapsError::Numbers) => unreachable!(),
     }
+}
+
+/// Joins a domain to the others, or answers why it may not. After an error all is as before.
+pub(crate) fn enter(
+    world: &mut World,
+    shared: &mut Shared,
+    d: DomainId,
+    newcomer: Newcomer,
+    quotas: &Quotas,
+) -> Result<(), AddAnswer>
+    requires free { (e : ADomainId) → IsLiveNamed world.old newcomer.name e → ⊥ }
+    requires number { d.0 ≡ length world.old.domains }
+    requires next { IsNext shared.old d }
+    requires quotas { AreWithin quotas.now }
+    ensures numbers { OnOk result (LacksNumbers (caps_of shared.old) quotas.now.caps → ⊥) }
+    ensures few { OnOk result (length world.old.domains < 65535) }
+    ensures world { OnOk result (world.new ≡ record world.old {
+      domains = world.old.domains
+          ++ record { id = d; name = newcomer.name; live = true; table = newcomer.table; offers = newcomer.offers } ∷ [];
+    }) }
+    ensures shared { OnOk result (shared.new ≡ admitted d quotas.now newcomer.stubs shared.old) }
+    ensures same_world { OnErr result (world.new ≡ world.old) }
+    ensures same_shared { OnErr result (shared.new ≡ shared.old) }
+    ensures cause { IfErr result (λ e. (e ≡ Adding.OutOfMemory) ⊎ IsFullFor world.old shared.old quotas.now e) }
+{
+    may_join(world, shared, quotas)?;
+    join(world, shared, d, newcomer, quotas)?;
+    Ok(())
 }

@@ -6,6 +6,7 @@ mod class_names;
 mod first_segments;
 mod joining;
 mod main_methods;
+mod opening;
 mod package_jk;
 mod standing_objects;
 mod start_words;

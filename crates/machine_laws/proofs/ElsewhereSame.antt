@@ -1,5 +1,6 @@
 -- Where one domain or one thread of a machine is changed, the others are found as they were, and so is what became of that thread.
-use Rattle.std.proofs.Common.{◌≡◌, ◌≢◌, ℕ, ◌==◌, Bool, true, false, cond, not, List, [], ◌∷◌, ◌++◌, map, filter, find, Option, Some, None, slice_get, refl, sym, ap, ◌∙◌, ne_eqb}
+use Rattle.std.proofs.Common.{◌≡◌, ◌≢◌, ℕ, ◌==◌, Bool, true, false, cond, not, List, [], ◌∷◌, ◌++◌, map, filter, find, Option, Some, None, slice_get, refl, sym, ap, ◌∙◌, eq-eqb, ne_eqb}
+use Rattle.std.specs.Option.{option_map}
 use Rattle.std.proofs.lemmas.Bool.{eqb-true}
 use Rattle.jk_model.specs.declared.identifiers.DomainId.{DomainId}
 use Rattle.jk_model.specs.declared.identifiers.ThreadNo.{ThreadNo}
@@ -8,11 +9,16 @@ use Rattle.jk_model_machine_state.specs.Machines.{DomainState, Machine, Segment,
 use Rattle.jk_model_machine_state.specs.Places.{RunningSegment, with_running}
 use Rattle.list_lemmas.proofs.ItemsByPlace.{comes_from, mapped_at}
 use Rattle.machine_laws.proofs.FilteredItems.{found_still}
+use Rattle.machine_laws.proofs.InitialisersAfterRuns.{found_still as found_mapped}
 use Rattle.machine_laws.proofs.MachinesThatGrow.{AreNumbered}
 
 kept_if : {X : Type 0} (b : Bool) (x y : X) → b ≡ false → cond b x y ≡ y
 kept_if true x y e = absurd cc
 kept_if false x y e = refl
+
+set_if : {X : Type 0} (b : Bool) (x y : X) → b ≡ true → cond b x y ≡ x
+set_if true x y e = refl
+set_if false x y e = absurd cc
 
 -- ---- Lists.
 
@@ -81,6 +87,18 @@ other_threads m t change keeps u differ =
   where
     alike : (b : Bool) (x : Thread) → ((cond b (change x) x).number.0 == u.0) ≡ (x.number.0 == u.0)
     alike true x = ap (λ (n : ThreadNo). n.0 == u.0) (keeps x)
+    alike false x = refl
+
+-- the thread itself
+pub own_changed : (m : Machine) (t : ThreadNo) (change : Thread → Thread) → ((x : Thread) → (change x).number ≡ x.number) → (e : Thread)
+    → thread_numbered m t ≡ Some e → e.number.0 ≡ t.0 → thread_numbered (with_thread t change m) t ≡ Some (change e)
+own_changed m t change keeps e is of_t =
+    found_mapped (λ (x : Thread). cond (x.number.0 == t.0) (change x) x) (λ (x : Thread). x.number.0 == t.0) (λ x. alike (x.number.0 == t.0) x) m.threads
+    ∙ ap (option_map (λ (x : Thread). cond (x.number.0 == t.0) (change x) x)) is
+    ∙ ap (λ (x : Thread). Some x) (set_if (e.number.0 == t.0) (change e) e (eq-eqb e.number.0 t.0 of_t))
+  where
+    alike : (b : Bool) (x : Thread) → ((cond b (change x) x).number.0 == t.0) ≡ (x.number.0 == t.0)
+    alike true x = ap (λ (n : ThreadNo). n.0 == t.0) (keeps x)
     alike false x = refl
 
 pub others_left : (m : Machine) (t u : ThreadNo) → u ≢ t → thread_numbered (without_thread t m) u ≡ thread_numbered m u

@@ -7,6 +7,7 @@
 //! `specs/` says more than is proved: the functions of these modules have what is proved.
 #![tactic(auto)]
 
+pub mod confined;
 pub mod crossings;
 pub mod folders;
 pub mod machines;

@@ -47,7 +47,8 @@ module _ (classes : List ClassRecord) (sound : AreSoundCodes classes) (heap : Li
   bound names quota asked answer new (one_too_many short none full) = tt
   bound names quota asked answer new (new_name short none room) = tt
 
-  unbound : (names : List BoundName) (d : DomainId) (text : List ℕ) (answer : Result (Unit {0}) Raise) (new : List BoundName) → Unbinds names d text answer new → CanIn answer
+  unbound : (names : List BoundName) (d : DomainId) (text : List ℕ) (answer : Result (Unit {0}) Raise) (new : List BoundName)
+      → Unbinds names d text answer new → CanIn answer
   unbound names d text answer new (not_own by is other) = tt
   unbound names d text answer new (removed by is same) = tt
   unbound names d text answer new (not_bound none) = tt

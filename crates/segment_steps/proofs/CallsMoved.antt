@@ -14,9 +14,9 @@ use Rattle.step_contents.specs.Contents.{Becomes, Contents, Here, LeftBehind, co
 use Rattle.step_contents.specs.PlacesInCode.{PlaceInCode}
 use Rattle.step_contents.specs.Settings.{IsSetting}
 use Rattle.step_contents.proofs.InstructionsBegin.{is_some_setting, some_setting}
-use Rattle.system_calls.specs.PackageJk.{IsOfPackageJk}
+use Rattle.system_calls.specs.PackageJk.{HasNoRemote, IsOfPackageJk}
 use Rattle.segment_steps.specs.ActingSegments.{ActsSo, MayAct}
-use Rattle.segment_steps.specs.CallsOnSystem.{CallsMethod, CallsNoJk}
+use Rattle.segment_steps.specs.CallsOnSystem.{CallsMethod, LacksRemoteForJk}
 use Rattle.segment_steps.specs.FollowedCalls.{LeavesToSystem}
 use Rattle.segment_steps.specs.StepsAlone.{StandsReady}
 use Rattle.segment_steps.specs.declared.meeting.Runs.{Runs}
@@ -104,14 +104,15 @@ module _ (old new : Contents) (h : Here) (at : PlaceInCode) (m : MemberId) (left
   acts_as_before t after went GoOut acts =
       acts_before old h new.frames left.frames t after went GoOut (back (λ (c : Contents). ActsSo c h t after went GoOut) acts)
 
-pub none_of_jk : (old new : Contents) (world : WorldRecord) (shared : SharedState) (r : Runs) (at : PlaceInCode)
+pub lacks_remote : (old new : Contents) (world : WorldRecord) (shared : SharedState) (r : Runs) (at : PlaceInCode)
     (st : StandsReady old.frames world.classes old.own.state r at) (m : MemberId) → MayAct old (here old world shared r at st)
-    → LeavesToSystem old new (here old world shared r at st) at m → CallsNoJk old (here old world shared r at st)
-    → IsOfPackageJk world.classes m.class → ⊥
-none_of_jk old new world shared r at st m may left no_jk is_jk =
+    → LeavesToSystem old new (here old world shared r at st) at m → LacksRemoteForJk old (here old world shared r at st)
+    → IsOfPackageJk world.classes m.class → HasNoRemote new.heaps r.domain
+lacks_remote old new world shared r at st m may left lacks is_jk =
     let doing = may_do old world shared r at st may in
     let x = some_setting doing in
     let is = is_some_setting doing in
     let call = left.calls x doing is in
-    no_jk x may is (top old world shared r at st may) (code old world shared r at st may x is) call.0
-    (subst (λ (k : MemberId). IsOfPackageJk world.classes k.class) (sym call.1) is_jk)
+    subst (λ (hs : HeapContent). HasNoRemote hs r.domain) (sym left.heaps)
+    (lacks x may is (top old world shared r at st may) (code old world shared r at st may x is) call.0
+    (subst (λ (k : MemberId). IsOfPackageJk world.classes k.class) (sym call.1) is_jk))

@@ -1,6 +1,6 @@
 //! The methods of jk/Capability: what they ask for is granted or denied by what domains share.
 
-ghost use Rattle.std.specs.Prelude.{◌≡◌, [], ◌∷◌};
+ghost use Rattle.std.specs.Prelude.{[], ◌∷◌};
 ghost use Rattle.jk_model.specs.declared.values.Value.TheVariants as Held;
 ghost use Rattle.jk_model_system_rows.specs.declared.meanings.SystemMeaning.TheVariants as Means;
 ghost use Rattle.system_calls.specs.MethodGroups.{IsOfCapabilities};

@@ -1,6 +1,6 @@
 //! The methods of jk/Domain and jk/Task that touch their own domain's heap alone.
 
-ghost use Rattle.std.specs.Prelude.{◌≡◌, ◌+◌, ◌<◌, ◌≤◌, ◌^◌, List, [], length, IfOk, OnErr, OnOk, Some};
+ghost use Rattle.std.specs.Prelude.{◌≡◌, ◌+◌, ◌<◌, ◌≤◌, List, [], length, IfOk, OnErr, OnOk, Some};
 ghost use Rattle.jk_model_classes.specs.Worlds.{DomainRecord, domain_of};
 ghost use Rattle.jk_model_domains.specs.Objects.{Text};
 ghost use Rattle.jk_model_sharing.specs.SharedStates.{SharedState};

@@ -1,7 +1,6 @@
 //! The methods of jk/Repository: what they ask for is granted or denied by what domains share.
 
-ghost use Rattle.std.specs.Prelude.{◌≡◌, ◌⊎◌, ◌≤◌, ℕ, List, [], ◌∷◌, length, take};
-ghost use Rattle.jk_model.specs.declared.values.Value.TheVariants as Held;
+ghost use Rattle.std.specs.Prelude.{◌≡◌, ◌≤◌, ℕ, List, [], ◌∷◌, length, take};
 ghost use Rattle.jk_model_domains.specs.Objects.{Text};
 ghost use Rattle.jk_model_system_rows.specs.declared.meanings.SystemMeaning.TheVariants as Means;
 ghost use Rattle.object_store.specs.HeapContents.{IsLive};
