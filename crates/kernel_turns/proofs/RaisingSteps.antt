@@ -24,7 +24,7 @@ use Rattle.kernel_turns.specs.RunningPlaces.{paying, runs}
 use Rattle.kernel_turns.specs.StepsOfThreads.{IsReady, content_of}
 use Rattle.kernel_turns.specs.SteppedParts.{Follows, HasRoomsForLiterals, MayFollow, RaisesAreSteps, RaisesAs, flagged}
 use Rattle.kernel_turns.proofs.FlaggedParts.{threads_change}
-use Rattle.kernel_turns.proofs.ReadyThreads.{HasFallen, own_there, there}
+use Rattle.kernel_turns.proofs.ReadyThreads.{HasFallen, live_thread, own_there, there}
 
 module _ (law : RaisesAreSteps) (k : KernelContent) (x : Running) (ready : IsReady k x) (th : Standing) (shared : SharedState)
     (fallen : HasFallen ready.at.segment x.runs.segment (spent x.runs.domain k.shared) th shared) where
@@ -51,15 +51,10 @@ module _ (law : RaisesAreSteps) (k : KernelContent) (x : Running) (ready : IsRea
     (fell, there k x ready (λ r. MayRaise (contents_of k.heap k.frames ready.at.own) (here_at k.world fell r.domain r.segment)) leads.may),
   )
 
-  -- the thread is live still
-  found : (o : Option SharedThread) → option_and_then (λ (e : SharedThread). top_of e.segments) o ≡ Some s → (e : SharedThread) × (o ≡ Some e)
-  found None top = absurd cc
-  found (Some e) top = (e, refl)
-
   pub lives_still : IsLiveThread shared x.runs.thread
   lives_still =
       let change = with_segment shared_form x.runs.segment fallen.change in
-      let e = found (thread_numbered k.shared.threads x.runs.thread) ready.at.is_top in
+      let e = live_thread k x ready in
       (
         with_segments change e.0,
         ap (λ (sh : SharedState). thread_numbered sh.threads x.runs.thread) fallen.is ∙ threads_change x.runs.thread change k.shared.threads

@@ -1,16 +1,17 @@
 -- What is known of a thread whose step may be taken, as code asks for it.
-use Rattle.std.proofs.Common.{◌≡◌, ◌⊎◌, inl, inr, ◌≢◌, Bool, true, false, slice_get, Option, Some, sym, ap, subst, refl, ◌∙◌}
+use Rattle.std.proofs.Common.{◌≡◌, ◌⊎◌, inl, inr, ◌≢◌, Bool, true, false, slice_get, Option, Some, None, sym, ap, subst, refl, ◌∙◌}
+use Rattle.std.specs.Prelude.{option_and_then}
 use Rattle.jk_model.specs.declared.identifiers.DomainId.{DomainId}
 use Rattle.jk_model.specs.declared.identifiers.SegmentNo.{SegmentNo}
 use Rattle.jk_model.specs.declared.identifiers.ThreadNo.{ThreadNo}
 use Rattle.jk_model.specs.declared.steps.Raise.TheVariants as Raised
 use Rattle.jk_model.specs.declared.steps.Standing.{Standing}
 use Rattle.jk_model.specs.declared.steps.Standing.TheVariants as Stands
-use Rattle.jk_model_sharing.specs.Segments.{SharedSegment, with_revoked, with_stop}
+use Rattle.jk_model_sharing.specs.Segments.{SharedSegment, SharedThread, thread_numbered, top_of, with_revoked, with_stop}
 use Rattle.jk_model_sharing.specs.SharedStates.{SharedState, spent, with_flags}
 use Rattle.class_init.specs.KeptStates.{KeptState}
 use Rattle.segment_steps.specs.declared.meeting.Runs.{Runs}
-use Rattle.thread_segments.specs.Asked.{IsLiveDomain, IsThere, MaySpend}
+use Rattle.thread_segments.specs.Asked.{IsLiveDomain, IsLiveThread, IsThere, MaySpend}
 use Rattle.kernel_parts.specs.SoundKernels.{KernelContent, kernel_machine, parts_of}
 use Rattle.kernel_turns.specs.declared.running.Running.{Running}
 use Rattle.kernel_turns.specs.LiveThreads.{AreApart}
@@ -45,6 +46,15 @@ module _ (k : KernelContent) (x : Running) (ready : IsReady k x) where
   is_there d =
       let found = top_numbered k.shared.threads apart x.runs.thread ready.at.segment ready.at.is_top in
       there (λ r. IsThere (spent d k.shared) r.segment) (record { thread = found.0; segment = ready.at.segment }, found.1)
+
+  -- the thread is live
+  thread_found : (o : Option SharedThread) → option_and_then (λ (e : SharedThread). top_of e.segments) o ≡ Some ready.at.segment
+      → (e : SharedThread) × (o ≡ Some e)
+  thread_found None top = absurd cc
+  thread_found (Some e) top = (e, refl)
+
+  pub live_thread : IsLiveThread k.shared x.runs.thread
+  live_thread = thread_found (thread_numbered k.shared.threads x.runs.thread) ready.at.is_top
 
   pub own_there : slice_get k.owns x.runs.domain.0 ≡ Some (Some ready.at.own)
   own_there = there (λ r. slice_get k.owns r.domain.0 ≡ Some (Some ready.at.own)) ready.at.is_own
