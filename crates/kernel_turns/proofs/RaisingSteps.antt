@@ -54,11 +54,10 @@ module _ (law : RaisesAreSteps) (k : KernelContent) (x : Running) (ready : IsRea
   pub lives_still : IsLiveThread shared x.runs.thread
   lives_still =
       let change = with_segment shared_form x.runs.segment fallen.change in
-      let e = live_thread k x ready in
-      (
+      let e = live_thread k x ready in (
         with_segments change e.0,
         ap (λ (sh : SharedState). thread_numbered sh.threads x.runs.thread) fallen.is ∙ threads_change x.runs.thread change k.shared.threads
-        ∙ ap (option_map (with_segments change)) e.1,
+            ∙ ap (option_map (with_segments change)) e.1,
       )
 
   module _ (heap : HeapContent) (frames : FrameContent) (own : KeptState) (went : Went)

@@ -43,9 +43,9 @@ module _ (k : KernelContent) (t : ThreadNo) where
   dead_rests single none = (
     Rested,
     not_live
-    (λ live.
-    let found = lives_in_both (parts_of k) t live in
-    top_by single (thread_numbered k.shared.threads t) found.0 (finds has_number k.shared.threads) found.1 none),
+        (λ live.
+        let found = lives_in_both (parts_of k) t live in
+        top_by single (thread_numbered k.shared.threads t) found.0 (finds has_number k.shared.threads) found.1 none),
   )
 
 -- ---- It is held, or its domain has no step left.

@@ -15,7 +15,8 @@ use Rattle.kernel_turns.proofs.PlacedThreads.{top_is_there}
 
 -- ---- One of a list passes a test.
 
-any_there : {X : Type 0} (test : X → Bool) (xs : List X) → list_any test xs ≡ true → (k : ℕ) × (x : X) × (slice_get xs k ≡ Some x) × (test x ≡ true)
+any_there : {X : Type 0} (test : X → Bool) (xs : List X) → list_any test xs ≡ true
+    → (k : ℕ) × (x : X) × (slice_get xs k ≡ Some x) × (test x ≡ true)
 any_there test [] h = absurd cc
 any_there test (x ∷ xs) h = by (test x) refl h (any_there test xs)
   where

@@ -29,7 +29,12 @@ use segment_steps::{Meeting, Runs, Went, act, meet, raise_here};
 use thread_segments::Shared;
 
 /// Where the top frame of a segment of a live domain stands, and what its thread meets there.
-pub(crate) fn meet_in<'a, F: FrameStore>(w: &'a World, owns: &Vec<Option<Own>>, frames: &F, r: Runs) -> Meeting<'a>
+pub(crate) fn meet_in<'a, F: FrameStore>(
+    w: &'a World,
+    owns: &Vec<Option<Own>>,
+    frames: &F,
+    r: Runs,
+) -> Meeting<'a>
     requires own { (own : KeptState) × (slice_get owns.now.items r.domain.0 ≡ Some (Some own)) }
     requires top { HasTop (F.content frames.now) r.segment }
     ensures { (own : KeptState) → slice_get owns.now.items r.domain.0 ≡ Some (Some own) → (f : AFrame)

@@ -33,17 +33,32 @@ pub(crate) fn follow<H: ObjectStore, F: FrameStore, S: Sink>(
     out: &mut S,
 ) -> Result<(), SinkFailed>
     requires may { (owns : AList (Option KeptState)) × (main : MethodType) × MayFollow (record {
-      world = w.now; owns = owns; shared = shared.old; heap = H.content heap.now; frames = F.content frames.old; main_kind = main;
+      world = w.now;
+      owns = owns;
+      shared = shared.old;
+      heap = H.content heap.now;
+      frames = F.content frames.old;
+      main_kind = main;
     }) running.runs went }
     requires live { IsLiveThread shared.old running.runs.thread }
     ensures { (after : AList Line)
         × PrintsMore (record { bytes = S.bytes out.old; pieces = S.pieces out.old; faults = S.faults out.old })
         (record { bytes = S.bytes out.new; pieces = S.pieces out.new; faults = S.faults out.new }) result after
         × ((owns : AList (Option KeptState)) (main : MethodType) (s : SharedSegment) → s.orphan ≡ running.info.orphan → Follows (record {
-      world = w.now; owns = owns; shared = shared.old; heap = H.content heap.now; frames = F.content frames.old; main_kind = main;
-    }) running.runs s went after (record {
-      world = w.now; owns = owns; shared = shared.new; heap = H.content heap.now; frames = F.content frames.new; main_kind = main;
-    })) }
+          world = w.now;
+          owns = owns;
+          shared = shared.old;
+          heap = H.content heap.now;
+          frames = F.content frames.old;
+          main_kind = main;
+        }) running.runs s went after (record {
+          world = w.now;
+          owns = owns;
+          shared = shared.new;
+          heap = H.content heap.now;
+          frames = F.content frames.new;
+          main_kind = main;
+        })) }
 {
     match went {
         Went::GoesOn => Ok(()),

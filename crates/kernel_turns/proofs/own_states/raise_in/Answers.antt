@@ -18,9 +18,9 @@ returns g c = λ own is.
       refl,
       c.holds.ensures.literals,
       λ shared.
-      subst
-      (λ (o : KeptState). RaisedHere (contents_of (g.H.ObjectStore.content c.args.heap.now) (g.F.FrameStore.content c.args.frames.now) o)
-      (contents_of (g.H.ObjectStore.content c.raise_here-went.new.heap) (g.F.FrameStore.content c.raise_here-went.new.frames) c.raise_here-went.new.own)
-      (here_at c.args.w.now shared c.args.r.domain c.args.r.segment) (Raised.Standing c.args.s) c.raise_here-went.result)
-      (sym same) (c.raise_here-went.ensures shared),
+          subst
+          (λ (o : KeptState). RaisedHere (contents_of (g.H.ObjectStore.content c.args.heap.now) (g.F.FrameStore.content c.args.frames.now) o)
+          (contents_of (g.H.ObjectStore.content c.raise_here-went.new.heap) (g.F.FrameStore.content c.raise_here-went.new.frames) c.raise_here-went.new.own)
+          (here_at c.args.w.now shared c.args.r.domain c.args.r.segment) (Raised.Standing c.args.s) c.raise_here-went.result)
+          (sym same) (c.raise_here-went.ensures shared),
     )

@@ -37,15 +37,14 @@ act_in-requires-clause-may g c =
     let calm : HasNothingPending ready.at.segment = (sym ready.stop ∙ c.requires.calm.0, sym ready.revoked ∙ c.requires.calm.1) in
     let met = c.requires.met in
     let same : met.0 ≡ ready.at.own =
-    same_Some met.0 ready.at.own (same_Some (Some met.0) (Some ready.at.own) (sym met.1 ∙ own_there k x ready)) in
-    (
+    same_Some met.0 ready.at.own (same_Some (Some met.0) (Some ready.at.own) (sym met.1 ∙ own_there k x ready)) in (
       ready.at.own,
       own_there k x ready,
       may_act c.acts_are_steps.ensures k x ready calm c.spend_step.new.self c.spend_step.ensures,
       subst
-      (λ (sh : SharedState). LacksRemoteForJk (contents_of k.heap k.frames ready.at.own)
-      (here_at k.world sh x.runs.domain x.runs.segment))
-      (sym c.spend_step.ensures) (c.requires.no_remote ready.at.own (own_there k x ready)),
+          (λ (sh : SharedState). LacksRemoteForJk (contents_of k.heap k.frames ready.at.own)
+          (here_at k.world sh x.runs.domain x.runs.segment))
+          (sym c.spend_step.ensures) (c.requires.no_remote ready.at.own (own_there k x ready)),
       (met.2.0, met.2.1, subst (λ (o : KeptState). Meets c.args.w.now.classes o.state x.runs met.2.0 c.args.met.now) same met.2.2),
     )
 
@@ -66,12 +65,11 @@ follow-requires-clause-may g c =
     (λ (result : Result Went SinkFailed). ActsSo (contents_of k.heap k.frames ready.at.own)
     (here_at k.world c.spend_step.new.self x.runs.domain x.runs.segment) x.runs.thread
     (left_behind (contents_of heap frames did.0) c.act_in.new.shared) (went_so result) (Out result))
-    c.in-Ok.is did.3 in
-    (
+    c.in-Ok.is did.3 in (
       slice_set k.owns ready.at.segment.domain.0 (Some did.0),
       k.main_kind,
       may_follow c.acts_are_steps.ensures k x ready calm c.spend_step.new.self c.spend_step.ensures heap frames did.0 c.act_in.new.shared
-      c.in-Ok.went (Out (Ok c.in-Ok.went)) acts,
+          c.in-Ok.went (Out (Ok c.in-Ok.went)) acts,
     )
 
 pub follow-requires-clause-live : goal.follow-requires-clause-live
@@ -117,11 +115,10 @@ returns-in-Ok g c = λ main ready.
     c.in-Ok.went (Out (Ok c.in-Ok.went)) acts in
     let stepped = is_step c.acts_are_steps.ensures k x ready calm c.spend_step.new.self c.spend_step.ensures heap frames did.0 c.act_in.new.shared
     c.in-Ok.went (Out (Ok c.in-Ok.went)) acts c.act_in.new.owns.items c.follow.new.shared (g.F.FrameStore.content c.follow.new.frames) after
-    did.2 did.1 c.follow.ensures.2 in
-    (
+    did.2 did.1 c.follow.ensures.2 in (
       own_step.0 ++ after,
       c.follow.ensures.1 (sink_state (g.S.Sink.bytes c.args.out.now) (g.S.Sink.pieces c.args.out.now) (g.S.Sink.faults c.args.out.now)) own_step.0
-      own_step.2,
+          own_step.2,
       stepped.0,
       stepped.1,
     )
@@ -146,13 +143,12 @@ returns-in-Err g c = λ main ready.
     let own_step = did_it c.acts_are_steps.ensures k x ready calm c.spend_step.new.self c.spend_step.ensures heap frames did.0 c.act_in.new.shared
     Goes.GoesOn (Out (Err c.in-Err.e)) acts in
     let stepped = is_step c.acts_are_steps.ensures k x ready calm c.spend_step.new.self c.spend_step.ensures heap frames did.0 c.act_in.new.shared
-    Goes.GoesOn (Out (Err c.in-Err.e)) acts c.act_in.new.owns.items c.act_in.new.shared frames [] did.2 did.1 (λ os kind s orphan. (refl, refl)) in
-    (
+    Goes.GoesOn (Out (Err c.in-Err.e)) acts c.act_in.new.owns.items c.act_in.new.shared frames [] did.2 did.1 (λ os kind s orphan. (refl, refl)) in (
       own_step.0,
       own_step.2,
       subst
-      (λ (ls : List Line). Steps (kernel_machine k) x.runs.thread ls
-      (kernel_machine (content_of k.world c.act_in.new.owns.items c.act_in.new.shared heap frames k.main_kind)))
-      (append-nil own_step.0) stepped.0,
+          (λ (ls : List Line). Steps (kernel_machine k) x.runs.thread ls
+          (kernel_machine (content_of k.world c.act_in.new.owns.items c.act_in.new.shared heap frames k.main_kind)))
+          (append-nil own_step.0) stepped.0,
       stepped.1,
     )

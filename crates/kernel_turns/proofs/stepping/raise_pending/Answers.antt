@@ -46,12 +46,11 @@ follow-requires-clause-may g c =
     let fallen = subst (λ (sh : SharedState). HasFallen ready.at.segment x.runs.segment sh th c.take_pending-throwable.new.shared) c.spend_step.ensures
     (has_fallen k x ready c.spend_step.new.self c.take_pending-throwable.new.shared th c.requires.pending
     c.take_pending-throwable.ensures.stops c.take_pending-throwable.ensures.is_revoked) in
-    let went = c.raise_in-went.ensures ready.at.own (own_there k x ready) in
-    (
+    let went = c.raise_in-went.ensures ready.at.own (own_there k x ready) in (
       slice_set k.owns ready.at.segment.domain.0 (Some went.0),
       k.main_kind,
       may_follow c.raises_are_steps.ensures k x ready th c.take_pending-throwable.new.shared fallen
-      (g.H.ObjectStore.content c.raise_in-went.new.heap) (g.F.FrameStore.content c.raise_in-went.new.frames) went.0 c.raise_in-went.result went.3,
+          (g.H.ObjectStore.content c.raise_in-went.new.heap) (g.F.FrameStore.content c.raise_in-went.new.frames) went.0 c.raise_in-went.result went.3,
     )
 
 pub follow-requires-clause-live : goal.follow-requires-clause-live
@@ -79,13 +78,12 @@ returns g c = λ main ready.
     let after = c.follow.ensures.0 in
     let stepped = is_step c.raises_are_steps.ensures k x ready th c.take_pending-throwable.new.shared fallen
     (g.H.ObjectStore.content c.raise_in-went.new.heap) (g.F.FrameStore.content c.raise_in-went.new.frames) went.0 c.raise_in-went.result went.3
-    c.raise_in-went.new.owns.items c.follow.new.shared (g.F.FrameStore.content c.follow.new.frames) after went.2 went.1 c.follow.ensures.2 in
-    (
+    c.raise_in-went.new.owns.items c.follow.new.shared (g.F.FrameStore.content c.follow.new.frames) after went.2 went.1 c.follow.ensures.2 in (
       after,
       c.follow.ensures.1
-      (sink_state (g.S.Sink.bytes c.args.out.now) (g.S.Sink.pieces c.args.out.now) (g.S.Sink.faults c.args.out.now)) []
-      (prints_none (g.S.Sink.bytes c.args.out.now) (g.S.Sink.pieces c.args.out.now) (g.S.Sink.faults c.args.out.now)
-      (g.met.S.Sink.faults_fit c.args.out.now)),
+          (sink_state (g.S.Sink.bytes c.args.out.now) (g.S.Sink.pieces c.args.out.now) (g.S.Sink.faults c.args.out.now)) []
+          (prints_none (g.S.Sink.bytes c.args.out.now) (g.S.Sink.pieces c.args.out.now) (g.S.Sink.faults c.args.out.now)
+          (g.met.S.Sink.faults_fit c.args.out.now)),
       stepped.0,
       stepped.1,
     )

@@ -29,20 +29,20 @@ pub returns-in-GoesOn : goal.returns-in-GoesOn
 returns-in-GoesOn g c = (
   [],
   λ from before h.
-  subst
-  (λ (ls : List Line). Prints {E = SinkFailed} from
-  (record { bytes = g.S.Sink.bytes c.args.out.now; pieces = g.S.Sink.pieces c.args.out.now; faults = g.S.Sink.faults c.args.out.now }) (Ok tt) ls)
-  (sym (append-nil before)) h,
+      subst
+      (λ (ls : List Line). Prints {E = SinkFailed} from
+      (record { bytes = g.S.Sink.bytes c.args.out.now; pieces = g.S.Sink.pieces c.args.out.now; faults = g.S.Sink.faults c.args.out.now }) (Ok tt) ls)
+      (sym (append-nil before)) h,
   λ owns main s orphan.
-  let k : KernelContent = record {
-    world = c.args.w.now;
-    owns = owns;
-    shared = c.args.shared.now;
-    heap = g.H.ObjectStore.content c.args.heap.now;
-    frames = g.F.FrameStore.content c.args.frames.now;
-    main_kind = main;
-  } in
-  subst (λ (w : Went). Follows k c.args.running.runs s w [] k) (sym c.in-GoesOn.is) (refl, refl),
+      let k : KernelContent = record {
+        world = c.args.w.now;
+        owns = owns;
+        shared = c.args.shared.now;
+        heap = g.H.ObjectStore.content c.args.heap.now;
+        frames = g.F.FrameStore.content c.args.frames.now;
+        main_kind = main;
+      } in
+      subst (λ (w : Went). Follows k c.args.running.runs s w [] k) (sym c.in-GoesOn.is) (refl, refl),
 )
 
 pub returns-in-Returned : goal.returns-in-Returned
@@ -50,17 +50,17 @@ returns-in-Returned g c = (
   Says.Ended c.args.running.runs.thread ∷ [],
   λ from before h. c.print_next.ensures from.bytes from.pieces from.faults before h,
   λ owns main s orphan.
-  let k : KernelContent = record {
-    world = c.args.w.now;
-    owns = owns;
-    shared = c.args.shared.now;
-    heap = g.H.ObjectStore.content c.args.heap.now;
-    frames = g.F.FrameStore.content c.args.frames.now;
-    main_kind = main;
-  } in
-  let new : KernelContent = record k { shared = c.leave.new.shared; frames = g.F.FrameStore.content c.leave.new.frames } in
-  subst (λ (w : Went). Follows k c.args.running.runs s w (Says.Ended c.args.running.runs.thread ∷ []) new) (sym c.in-Returned.is) (
-    refl,
-    ends_thread k c.args.running.runs c.leave.new.shared (g.F.FrameStore.content c.leave.new.frames) c.leave.ensures.frames c.leave.ensures.shared,
-  ),
+      let k : KernelContent = record {
+        world = c.args.w.now;
+        owns = owns;
+        shared = c.args.shared.now;
+        heap = g.H.ObjectStore.content c.args.heap.now;
+        frames = g.F.FrameStore.content c.args.frames.now;
+        main_kind = main;
+      } in
+      let new : KernelContent = record k { shared = c.leave.new.shared; frames = g.F.FrameStore.content c.leave.new.frames } in
+      subst (λ (w : Went). Follows k c.args.running.runs s w (Says.Ended c.args.running.runs.thread ∷ []) new) (sym c.in-Returned.is) (
+        refl,
+        ends_thread k c.args.running.runs c.leave.new.shared (g.F.FrameStore.content c.leave.new.frames) c.leave.ensures.frames c.leave.ensures.shared,
+      ),
 )

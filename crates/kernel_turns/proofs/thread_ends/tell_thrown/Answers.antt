@@ -65,14 +65,14 @@ returns g c =
     c.as_slice-class.ensures ∙ ap (λ (r : ClassRecord). r.name) one in (
       Says.EndedBy c.args.running.runs.thread c.requires.3.2.name ∷ [],
       λ from before h.
-      subst
-      (λ (n : List ℕ). Prints from (record {
-        bytes = g.S.Sink.bytes c.print_next-2.new.out;
-        pieces = g.S.Sink.pieces c.print_next-2.new.out;
-        faults = g.S.Sink.faults c.print_next-2.new.out;
-      }) c.print_next-2.result (before ++ Says.EndedBy c.args.running.runs.thread n ∷ []))
-      name (c.print_next-2.ensures from.bytes from.pieces from.faults before h),
+          subst
+          (λ (n : List ℕ). Prints from (record {
+            bytes = g.S.Sink.bytes c.print_next-2.new.out;
+            pieces = g.S.Sink.pieces c.print_next-2.new.out;
+            faults = g.S.Sink.faults c.print_next-2.new.out;
+          }) c.print_next-2.result (before ++ Says.EndedBy c.args.running.runs.thread n ∷ []))
+          name (c.print_next-2.ensures from.bytes from.pieces from.faults before h),
       λ k s world heap orphan. is_left c.requires.3.0 c.requires.3.1 c.requires.3.2 (orphan ∙ c.if-running.false)
-      (ap (λ (h : HeapContent). object_named (h.heap c.args.running.runs.domain) c.args.throwable) (heap ∙ sym c.requires.2) ∙ c.requires.3.3)
-      (ap (λ (w : WorldRecord). slice_get w.classes c.requires.3.0.0) (world ∙ sym c.requires.1) ∙ c.requires.3.4),
+          (ap (λ (h : HeapContent). object_named (h.heap c.args.running.runs.domain) c.args.throwable) (heap ∙ sym c.requires.2) ∙ c.requires.3.3)
+          (ap (λ (w : WorldRecord). slice_get w.classes c.requires.3.0.0) (world ∙ sym c.requires.1) ∙ c.requires.3.4),
     )
