@@ -38,7 +38,7 @@ module _ (t : ThreadNo) (change : List SharedSegment → List SharedSegment) whe
   found_by true e o r h = refl
   found_by false e o r h = h
 
-  threads_change : (threads : List SharedThread)
+  pub threads_change : (threads : List SharedThread)
       → thread_numbered (with_stacks change threads) t ≡ option_map (with_segments change) (thread_numbered threads t)
   threads_change [] = refl
   threads_change (e ∷ threads) =

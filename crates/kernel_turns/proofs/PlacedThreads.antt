@@ -19,7 +19,7 @@ use Rattle.kernel_parts.specs.SoundKernels.{KernelContent, kernel_machine, parts
 use Rattle.kernel_turns.specs.RunningPlaces.{RunsAt}
 use Rattle.kernel_turns.proofs.DomainsByPlace.{home_of}
 
-top_is_there : (segments : List SharedSegment) (s : SharedSegment) → top_of segments ≡ Some s → Contains segments s
+pub top_is_there : (segments : List SharedSegment) (s : SharedSegment) → top_of segments ≡ Some s → Contains segments s
 top_is_there [] s is = absurd cc
 top_is_there (x ∷ []) s is = (let same = same_Some x s is in Contains-at (x ∷ []) 0 s is)
 top_is_there (x ∷ above ∷ more) s is = Contains-there s x (above ∷ more) (top_is_there (above ∷ more) s is)

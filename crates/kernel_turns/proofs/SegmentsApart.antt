@@ -9,6 +9,7 @@ use Rattle.jk_model_runs.specs.Sealed.{IsSealed}
 use Rattle.list_lemmas.proofs.ItemsByPlace.{comes_from, mapped_at}
 use Rattle.machine_parts.specs.ChangedParts.{AreSegmentsApart}
 use Rattle.machine_parts.specs.MachineParts.{MachineParts, machine_of, segment_with_frames, thread_with_frames}
+use Rattle.kernel_turns.specs.LiveThreads.{AreApart}
 
 -- ---- Numbers of a sealed machine.
 
@@ -29,11 +30,6 @@ sealed_apart m sealed = record { threads = threads; segments = sealed.threads.se
     ]
 
 -- ---- What domains share.
-
-pub record AreApart (list : List SharedThread) : Type 0 where
-  pub threads : (i j : ℕ) (a b : SharedThread) → slice_get list i ≡ Some a → slice_get list j ≡ Some b → a.number ≡ b.number → i ≡ j
-  pub segments : (i j k l : ℕ) (a b : SharedThread) (s r : SharedSegment) → slice_get list i ≡ Some a → slice_get list j ≡ Some b
-      → slice_get a.segments k ≡ Some s → slice_get b.segments l ≡ Some r → s.number ≡ r.number → (i ≡ j) × (k ≡ l)
 
 module _ (p : MachineParts) where
   pub apart_in_shared : AreSegmentsApart (machine_of p) → AreApart p.shared.threads

@@ -246,6 +246,17 @@ module _ (k : KernelContent) (t : ThreadNo) (at : RunsAt k t) (ms : MayStep k at
   may_follow went lines (is_granted run top request v step answers becomes) = absurd (stays_inside run (Way.Asks request) step)
   may_follow went lines (is_denied run new request r unwound step answers raises becomes) = absurd (stays_inside run (Way.Asks request) step)
 
+  pub shared_stays : (went : Went) (lines : List Line) → Acted (setting_of (place_paid k t at ms)) t may_do left went lines
+      → left.shared ≡ (paying at.segment.domain k).shared
+  shared_stays went lines (goes_on run step becomes same) = same
+  shared_stays went lines (says run text step becomes same) = same
+  shared_stays went lines (ended run v step becomes same) = same
+  shared_stays went lines (leaves run a step becomes same) = same
+  shared_stays went lines (crosses run c m step becomes same) = same
+  shared_stays went lines (terminates run step becomes same) = same
+  shared_stays went lines (is_granted run top request v step answers becomes) = absurd (stays_inside run (Way.Asks request) step)
+  shared_stays went lines (is_denied run new request r unwound step answers raises becomes) = absurd (stays_inside run (Way.Asks request) step)
+
   -- what follows is over what domains share where the step is paid
   at_shared : (went : Went) (after : List Line) (new : KernelContent) → left.shared ≡ (paying at.segment.domain k).shared
       → Follows (with_left at.segment.domain left k) (runs t at.segment) at.segment went after new
@@ -308,5 +319,6 @@ acts_as keep sw k t at left went ms calm = record {
   may = may_do k t at ms calm sw keep left;
   is_setting = is_setting (paying at.segment.domain k) t (at_paid k t at ms) (fit_paid k t at ms) ms.parts.stubs;
   follows = may_follow k t at ms calm sw keep left went;
+  shared = shared_stays k t at ms calm sw keep left went;
   steps = is_step k t at ms calm sw keep left went;
 }

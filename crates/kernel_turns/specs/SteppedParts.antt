@@ -100,6 +100,8 @@ pub record ActsAs (k : KernelContent) {t : ThreadNo} (at : RunsAt k t) (left : L
   pub may : MayAct (contents_at at) (here_in (paying at.segment.domain k) at.segment)
   pub is_setting : IsSetting (contents_at at) (here_in (paying at.segment.domain k) at.segment) setting
   pub follows : (lines : List Line) → Acted setting t may left went lines → MayFollow (with_left at.segment.domain left k) (runs t at.segment) went
+  -- of what domains share nothing changed but that the step is paid
+  pub shared : (lines : List Line) → Acted setting t may left went lines → left.shared ≡ (paying at.segment.domain k).shared
   pub steps : (lines after : List Line) (new : KernelContent) → Acted setting t may left went lines → HasRoomsForLiterals left.contents.own
       → Follows (with_left at.segment.domain left k) (runs t at.segment) at.segment went after new
       → Steps (kernel_machine k) t (lines ++ after) (kernel_machine new) × AreKernelParts new
