@@ -1,5 +1,6 @@
 -- A call of a method of the system that is still to be done, after what changed nothing.
-use Rattle.std.proofs.Common.{◌≡◌, List, refl, sym, ap, subst, ◌∙◌}
+use Rattle.std.proofs.Common.{◌≡◌, List, None, refl, sym, ap, subst, ◌∙◌}
+use Rattle.jk_model.specs.declared.frames.FrameHead.{FrameHead}
 use Rattle.jk_model.specs.declared.identifiers.MemberId.{MemberId}
 use Rattle.jk_model.specs.declared.identifiers.ThreadNo.{ThreadNo}
 use Rattle.jk_model.specs.declared.output.Line.{Line}
@@ -115,5 +116,6 @@ lacks_remote old new world shared r at st m may left lacks is_jk =
     let is = is_some_setting doing in
     let call = left.calls x doing is in
     subst (λ (hs : HeapContent). HasNoRemote hs r.domain) (sym left.heaps)
-    (lacks x may is (top old world shared r at st may) (code old world shared r at st may x is) call.0
+    (lacks x may is (top old world shared r at st may) (subst (λ (f : FrameHead). f.need ≡ None) doing.head doing.no_need)
+    (code old world shared r at st may x is) call.0
     (ap (λ (k : MemberId). k.class) call.1 ∙ is_jk))

@@ -1,5 +1,5 @@
 -- Which method of the system a top frame calls.
-use Rattle.std.specs.Prelude.{◌≡◌}
+use Rattle.std.specs.Prelude.{◌≡◌, None}
 use Rattle.jk_model.specs.declared.identifiers.MemberId.{MemberId}
 use Rattle.jk_model_call_rows.specs.CallRows.{CallsSystem}
 use Rattle.jk_model_domains.specs.Objects.{CAPABILITY}
@@ -19,10 +19,11 @@ CallsMethod old here at m =
     (x : Setting) (may : MayDo old here at) → IsSetting old here x
     → (call : CallsSystem x at.scope at.instr (working may)) × (call.member ≡ m)
 
--- Where it calls one of jk/Capability, no object of the domain is of the interface jk/Remote itself. This asks nothing of who knows that no such
--- method is called, or that there is no such object.
+-- Where it needs no class first, and calls a method of jk/Capability, no object of the domain is of the interface jk/Remote itself. This asks
+-- nothing of who knows that no such method is called, or that there is no such object.
 abbrev pub LacksRemoteForJk : Contents → Here → Type 0
 LacksRemoteForJk old here =
-    (x : Setting) (may : MayAct old here) → IsSetting old here x → (top : TopFrame may.run) (code : RunsCode x.classes top.frame)
+    (x : Setting) (may : MayAct old here) → IsSetting old here x → (top : TopFrame may.run) → top.frame.head.need ≡ None
+    → (code : RunsCode x.classes top.frame)
     → (call : CallsSystem x code.scope code.instr (record { inside = may.run.inside; frame = top.frame }))
     → call.member.class ≡ CAPABILITY → HasNoRemote old.heaps here.domain
