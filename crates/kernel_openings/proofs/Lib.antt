@@ -2,11 +2,14 @@
 mod ClosedStores
 mod DescriptorOfMain
 mod FirstSegments
+mod FoldersOpen
 mod LoadingKernels
 mod MainOfAClass
 mod NamesApart
 mod OpenedInsides
+mod OpenedKernels
 mod OpenedOrNot
+mod OpenedWorlds
 mod PartsAfterOpenings
 mod PartsByPlace
 mod StandingSoFar
