@@ -1,11 +1,12 @@
 -- A kernel in which a folder was loaded and its domain was opened is one again, and its machine has the domain.
-use Rattle.std.proofs.Common.{◌≡◌, ℕ, zero, suc, ◌+◌, ◌/◌, ◌<◌, ◌≤◌, ◌==◌, ◌⊎◌, inl, inr, true, List, [], ◌∷◌, ◌++◌, length, map, find, Contains, Option, Some, None, slice_get, option_map, refl, sym, ap, subst, ◌∙◌, arith, length-append}
+use Rattle.std.proofs.Common.{◌≡◌, ℕ, zero, suc, ◌+◌, ◌*◌, ◌/◌, ◌<◌, ◌≤◌, ◌==◌, ◌⊎◌, inl, inr, true, List, [], ◌∷◌, ◌++◌, length, map, find, Contains, Option, Some, None, slice_get, option_map, refl, sym, ap, subst, ◌∙◌, arith, length-append}
 use Rattle.std.proofs.lemmas.Bool.{eqb-true}
-use Rattle.std.proofs.lemmas.List.{map-append}
+use Rattle.std.proofs.lemmas.List.{length-map, map-append}
 use Rattle.std.proofs.lemmas.List.Elements.{Contains-push_cases}
 use Rattle.std.proofs.lemmas.Option.{same_Some, slice_get_within}
 use Rattle.list_lemmas.proofs.FoundItems.{Finds, finds}
-use Rattle.list_lemmas.proofs.ItemsByPlace.{old_or_new}
+use Rattle.list_lemmas.proofs.ItemsByPlace.{mapped_at}
+use Rattle.list_lemmas.proofs.ItemsOfLists.{Contains-at, place_of}
 use Rattle.jk_model.specs.SystemTable.{system_classes}
 use Rattle.jk_model.specs.declared.identifiers.ClassId.{ClassId}
 use Rattle.jk_model.specs.declared.identifiers.DomainId.{DomainId}
@@ -41,6 +42,7 @@ use Rattle.frame_store.specs.FrameContents.{pool_of as pool_of_frames}
 use Rattle.thread_segments.specs.SoundStates.{AreSound}
 use Rattle.folder_loader.specs.declared.answers.Loaded.{Loaded}
 use Rattle.folder_loader.specs.LinkedFolders.{AreTypedFrom}
+use Rattle.heap_laws.specs.SoundCodes.{AreSoundCodes}
 use Rattle.heap_laws.specs.SoundTables.{IsSoundTable}
 use Rattle.sound_folders.specs.LinkedWorlds.{AreLinked}
 use Rattle.machine_parts.specs.FittingParts.{AreFittingParts}
@@ -57,6 +59,7 @@ use Rattle.machine_laws.proofs.OpenedPools.{opened_pool}
 use Rattle.machine_laws.proofs.OpenedThreads.{opened_initialisers, opened_tasks, opened_threads}
 use Rattle.kernel_parts.specs.SoundKernels.{AreKernelParts, AreSoundParts, KernelContent, kernel_machine, parts_of}
 use Rattle.kernel_openings.specs.OpenedParts.{LacksPlaces, OpenParts, OpensParts, next_number, opened_names as names_of_opened}
+use Rattle.kernel_openings.specs.StandingObjects.{objects_named, opening_classes}
 use Rattle.kernel_openings.proofs.FoldersOpen.{added, grown, loaded_parts, not_live, placed_classes, sound_now, tables, there}
 use Rattle.kernel_openings.proofs.LoadingKernels.{as_many, caps_there, few_domains, may_load}
 use Rattle.kernel_openings.proofs.OpenedInsides.{opening_is}
@@ -85,6 +88,9 @@ rooms_still classes more table kept there has = record {
   rooms_differ = has.rooms_differ;
   literals = has.literals;
 }
+
+in_map : {X Y : Type 0} (g : X → Y) (xs : List X) (x : X) → Contains xs x → Contains (map g xs) (g x)
+in_map g xs x on = let place = place_of xs x on in Contains-at (map g xs) place.0 (g x) (mapped_at g xs place.0 x place.1)
 
 -- ---- Another domain may be opened.
 
@@ -150,3 +156,230 @@ opened_sealed {m} {w} {a} {inside} o = record {
   tasks = opened_tasks o;
   initialisers = opened_initialisers o;
 }
+
+-- ---- The domain of a folder that was loaded is opened.
+
+module _ (k : KernelContent) (h : AreKernelParts k) (law : AcceptedFoldersStaySound) (f : FolderFiles) (files : AreFiles f) (name : List ℕ) (l : Loaded)
+    (classes : List ClassRecord) (loads : Loads f k.world name l.first l.table l.offers l.stubs (record k.world { classes = classes }))
+    (typed : AreTypedFrom classes l.first) (ordered : AreOrdered classes) (heaps : IsHeapContent k.heap) (frames : IsContent k.frames)
+    (shared : AreSound k.shared) (q : Quotas) (new : OpenParts) (new_heaps : IsHeapContent new.heap)
+    (o : OpensParts (loaded_parts k h law f name l classes loads typed ordered) new l name q) where
+  abbrev m : Machine
+  m = kernel_machine k
+
+  abbrev d : DomainId
+  d = record { 0 = length k.world.domains }
+
+  abbrev pub then : KernelContent
+  then = record {
+    world = new.world;
+    owns = new.owns;
+    shared = new.shared;
+    heap = new.heap;
+    frames = new.frames;
+    main_kind = k.main_kind;
+  }
+
+  abbrev pub a : Admission
+  a = record { name = name; quotas = q; table = l.table; offers = l.offers }
+
+  abbrev pub inside : Inside
+  inside = inside_of new.heap new.frames d o.own.state
+
+  classes_are : new.world.classes ≡ classes
+  classes_are = ap (λ (w : WorldRecord). w.classes) o.names_are
+
+  more_classes : new.world.classes ≡ k.world.classes ++ added k h law f name l classes loads typed ordered
+  more_classes = classes_are ∙ grown k h law f name l classes loads typed ordered
+
+  -- ---- Each part has the domain behind the others.
+
+  others : KeepsOthers k.heap new.heap d
+  others = record {
+    quota = λ e other. o.standing.makes.becomes.domains.quota e ∙ o.heap.others.quota e other;
+    first_page = λ e other. o.standing.makes.becomes.domains.first_page e ∙ o.heap.others.first_page e other;
+    used = λ e other. o.standing.makes.becomes.other_uses e other ∙ o.heap.others.used e other;
+    heap = λ e other. o.standing.makes.becomes.others e other ∙ o.heap.others.heap e other;
+    mark = λ e x other. o.standing.makes.becomes.mark e x ∙ o.heap.others.mark e x other;
+  }
+
+  opens : OpensInParts (parts_of k) (parts_of then) a o.own.state l.stubs
+  opens = record {
+    names = ap (λ (w : WorldRecord). w.domains) o.names_are;
+    owns =
+        ap (map (option_map (λ (own : KeptState). own.state))) o.owns_are
+        ∙ map-append (option_map (λ (own : KeptState). own.state)) k.owns (Some o.own ∷ []);
+    shared = o.shared_is;
+    pages = o.standing.makes.becomes.domains.pages ∙ o.heap.pages;
+    heaps = others;
+    frames = o.stack;
+  }
+
+  stubs_are : AreStubs new.world.classes l.first l.stubs
+  stubs_are =
+      subst (λ (cs : List ClassRecord). AreStubs cs l.first l.stubs)
+      (sym (classes_are ∙ placed_classes k h law f name l classes loads typed ordered)) loads.stubs_are
+
+  words : new.heap.quota d ≡ Some q.heap
+  words = o.standing.makes.becomes.domains.quota d ∙ o.heap.quota
+
+  used : new.heap.used d ≡ heap_words new.world.classes (new.heap.heap d)
+  used =
+      let made = o.standing.makes.becomes in
+      let objects = objects_named classes (o.standing.out ∷ o.standing.standing) opening_classes in
+      let heap_is : new.heap.heap d ≡ objects = made.becomes ∙ ap (λ (xs : List NamedObject). xs ++ objects) o.heap.empty.heap in
+      let none : 0 + heap_words classes objects ≡ heap_words classes objects = omega arith in
+      made.uses ∙ ap (λ (n : ℕ). n + heap_words classes objects) o.heap.empty.unused ∙ none ∙ ap (heap_words classes) (sym heap_is)
+      ∙ ap (λ (cs : List ClassRecord). heap_words cs (new.heap.heap d)) (sym classes_are)
+
+  fit_then : AreFittingParts (parts_of then)
+  fit_then =
+      fits_after (parts_of k) h.sound.fitting (parts_of then) a o.own.state l.stubs opens (added k h law f name l classes loads typed ordered)
+      more_classes h.sound.world.ordered h.stubs l.first loads.first_is stubs_are h.sound.sealed h.sound.sound heaps frames words used
+      (λ x. o.standing.makes.becomes.mark d x ∙ o.heap.empty.mark x)
+
+  stubs_then : (s : Stub) → Contains new.shared.stubs s → HasClass new.world.classes s.class
+  stubs_then =
+      stubs_there (parts_of k) h.sound.fitting (parts_of then) a o.own.state l.stubs opens (added k h law f name l classes loads typed ordered)
+      more_classes h.sound.world.ordered h.stubs l.first loads.first_is stubs_are
+
+  -- ---- The machine.
+
+  pub machine_is : kernel_machine then ≡ with_new_domain m new.world a inside
+  machine_is = opens_change_machines (parts_of k) (parts_of then) a o.own.state l.stubs h.sound.fitting.domains opens
+
+  pub opening : IsOpening new.world.classes l.table q.heap inside
+  opening =
+      subst (λ (cs : List ClassRecord). IsOpening cs l.table q.heap inside) (sym classes_are)
+      (opening_is o.empty new.heap classes l.table d q.heap o.before o.own o.first o.heap.empty.heap o.heap.empty.unused words new_heaps o.standing
+      (ap (λ (x : KeptState). length x.state.standing) (sym o.standing.known) ∙ o.eight) inside refl refl)
+
+  pub placed : IsPlacedIn m q inside
+  placed = record {
+    heap =
+        subst (λ (p : Pool). IsPlaceFor p (heap_pages_of q) (new.heap.first_page d)) (sym (heap_pool_is k h heaps frames shared))
+        (subst (IsPlaceFor (pool_of_heaps k.heap) (pages_for q.heap)) (sym (o.standing.makes.becomes.domains.first_page d)) o.heap.place);
+    stack =
+        subst (λ (p : Pool). IsPlaceFor p (stack_pages_of q) (new.frames.first_page d)) (sym (stack_pool_is k h heaps frames shared)) o.stack.place;
+  }
+
+  tables_then : tables_of (with_new_domain m new.world a inside) ≡ tables_of m ++ l.table ∷ []
+  tables_then = map-append (λ (e : DomainState). e.table) m.domains _
+
+  pub sound_then : HasSoundClasses (with_new_domain m new.world a inside)
+  sound_then =
+      let now = sound_now k h law f name l classes loads typed ordered in
+      record {
+        linked =
+            subst (λ (ts : List (List NamedClass)). AreLinked new.world.classes ts) (sym tables_then)
+            (subst (λ (cs : List ClassRecord). AreLinked cs (tables_of m ++ l.table ∷ [])) (sym classes_are) now.1);
+        codes = subst AreSoundCodes (sym classes_are) now.0.codes;
+        tables = λ e on.
+            subst (λ (cs : List ClassRecord). IsSoundTable cs e.table) (sym classes_are)
+            (now.0.each e.table (subst (λ (ts : List (List NamedClass)). Contains ts e.table) tables_then (in_map (λ (x : DomainState). x.table) (with_new_domain m new.world a inside).domains e on)));
+      }
+
+  pub numbers_left : LacksNumbers (caps_of m) q.caps → ⊥
+  numbers_left lacks = o.numbers (subst (λ (rs : List CapRange). LacksNumbers rs q.caps) (caps_are k h heaps frames shared) lacks)
+
+  pub few_then : HasManyDomains m → ⊥
+  few_then many = omega (arith, many, o.few, as_many k h)
+
+  pub pages_left : LacksPages m q → ⊥
+  pages_left lacks = o.places (subst (λ (A : Type 0). A) (sym (pages_lack k h heaps frames shared q)) lacks)
+
+  is_opened : IsOpened m new.world a inside
+  is_opened = record {
+    sealed = h.sound.sealed;
+    sound = h.sound.sound;
+    grows = may_grow k h heaps frames shared;
+    sound_then = sound_then;
+    more = added k h law f name l classes loads typed ordered;
+    same = more_classes;
+    not_live = not_live k h law f name l classes loads typed ordered;
+    numbers = numbers_left;
+    few = few_then;
+    opening = opening;
+    placed = placed;
+  }
+
+  -- ---- The kernel.
+
+  abbrev names : DomainRecord
+  names = record { id = d; name = name; live = true; table = l.table; offers = l.offers }
+
+  placed_there : l.table ≡ loads.placed.table
+  placed_there = loads.table_is
+
+  world_then : IsWorld new.world (length new.world.domains)
+  world_then =
+      let at_last = opened_world loads (may_load k h) name (λ e live. loads.not_live (e, live))
+              (subst AreOrdered (grown k h law f name l classes loads typed ordered) ordered) o.few in
+      let same : record {
+        classes = k.world.classes ++ added k h law f name l classes loads typed ordered;
+        domains = k.world.domains
+            ++ record { id = d; name = name; live = true; table = loads.placed.table; offers = loads.placed.offers } ∷ [];
+      } ≡ new.world =
+      (λ i. record {
+        classes = sym (grown k h law f name l classes loads typed ordered) i;
+        domains = k.world.domains
+            ++ record { id = d; name = name; live = true; table = sym loads.table_is i; offers = sym loads.offers_are i } ∷ [];
+      }) ∙ sym o.names_are in
+      subst (λ (w : WorldRecord). IsWorld w (length w.domains)) same at_last
+
+  few_classes_then : length new.world.classes ≤ length system_classes + 512 * length new.world.domains
+  few_classes_then =
+      omega (
+        arith,
+        ap (λ (w : WorldRecord). length w.domains) o.names_are,
+        length-append k.world.domains (names ∷ []),
+        ap length more_classes,
+        length-append k.world.classes (added k h law f name l classes loads typed ordered),
+        as_many_added loads (may_load k h) files,
+        h.sound.few_classes,
+      )
+
+  rooms_of_new : HasRooms new.world.classes l.table o.own
+  rooms_of_new =
+      subst (λ (cs : List ClassRecord). HasRooms cs l.table o.own) (sym classes_are)
+      (let first = o.rooms.rooms in subst (HasRooms classes l.table) (sym o.standing.known) (record {
+        texts = first.texts;
+        rooms_differ = first.rooms_differ;
+        literals = first.literals;
+      }))
+
+  rooms_then : (i : ℕ) (ns : DomainRecord) (own : KeptState) → slice_get new.world.domains i ≡ Some ns → slice_get new.owns i ≡ Some (Some own)
+      → HasRooms new.world.classes ns.table own
+  rooms_then i ns own names_at own_at =
+      by (last_or_before k.world.domains names i ns (subst (λ (w : WorldRecord). slice_get w.domains i ≡ Some ns) o.names_are names_at))
+      (last_or_before k.owns (Some o.own) i (Some own) (subst (λ (os : List (Option KeptState)). slice_get os i ≡ Some (Some own)) o.owns_are own_at))
+    where
+      as_many_owns : length k.owns ≡ length k.world.domains
+      as_many_owns = sym (length-map k.owns (option_map (λ (x : KeptState). x.state))) ∙ h.sound.fitting.domains.owns
+
+      by : ((i < length k.world.domains) × (slice_get k.world.domains i ≡ Some ns)) ⊎ ((i ≡ length k.world.domains) × (names ≡ ns))
+          → ((i < length k.owns) × (slice_get k.owns i ≡ Some (Some own))) ⊎ ((i ≡ length k.owns) × (Some o.own ≡ Some own))
+          → HasRooms new.world.classes ns.table own
+      by (inl low) (inl old) =
+          subst (λ (cs : List ClassRecord). HasRooms cs ns.table own) (sym more_classes)
+          (rooms_still k.world.classes (added k h law f name l classes loads typed ordered) ns.table own (h.sound.world.named i ns low.1)
+          (h.sound.rooms i ns own low.1 old.1))
+      by (inl low) (inr last) = absurd (omega (arith, low.0, last.0, as_many_owns))
+      by (inr end) (inl old) = absurd (omega (arith, end.0, old.0, as_many_owns))
+      by (inr end) (inr last) =
+          subst (λ (n : DomainRecord). HasRooms new.world.classes n.table own) end.1
+          (subst (HasRooms new.world.classes l.table) (same_Some o.own own last.1) rooms_of_new)
+
+  pub kernel_then : AreKernelParts then
+  kernel_then = record {
+    sound = record {
+      fitting = fit_then;
+      sealed = subst IsSealed (sym machine_is) (opened_sealed is_opened);
+      sound = subst HasSoundClasses (sym machine_is) sound_then;
+      world = world_then;
+      few_classes = few_classes_then;
+      rooms = rooms_then;
+      main = h.sound.main;
+    };
+    stubs = stubs_then;
+  }
