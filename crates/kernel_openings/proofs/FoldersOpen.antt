@@ -1,15 +1,14 @@
 -- A folder that a kernel has loaded: its classes and names are sound beside the others, and its domain may be opened.
-use Rattle.std.proofs.Common.{◌≡◌, ◌⊎◌, ℕ, List, [], ◌∷◌, ◌++◌, length, map, take, Contains, Option, Some, None, slice_get, refl, sym, ap, subst, ◌∙◌, arith}
+use Rattle.std.proofs.Common.{◌≡◌, ℕ, List, [], ◌∷◌, ◌++◌, length, take, Contains, slice_get, sym, ap, subst, ◌∙◌, arith}
 use Rattle.list_lemmas.proofs.ItemsByPlace.{comes_from, mapped_at, take_front}
 use Rattle.list_lemmas.proofs.ItemsOfLists.{Contains-at, place_of}
 use Rattle.jk_model.specs.declared.identifiers.ClassId.{ClassId}
-use Rattle.jk_model.specs.declared.identifiers.DomainId.{DomainId}
 use Rattle.jk_model_classes.specs.declared.records.ClassRecord.{ClassRecord}
 use Rattle.jk_model_classes.specs.Classes.{AreOrdered, HasClass}
-use Rattle.jk_model_classes.specs.Worlds.{DomainRecord, IsNamed, NamedClass, WorldRecord}
+use Rattle.jk_model_classes.specs.Worlds.{IsNamed, NamedClass, WorldRecord}
 use Rattle.jk_model_folders.specs.declared.files.FolderFiles.{FolderFiles}
 use Rattle.jk_model_folders.specs.Loads.{Loads}
-use Rattle.jk_model_machine_state.specs.Machines.{DomainState, IsLiveDomain, is_live_domain, world_of}
+use Rattle.jk_model_machine_state.specs.Machines.{DomainState, IsLiveDomain, is_live_domain}
 use Rattle.folder_loader.specs.declared.answers.Loaded.{Loaded}
 use Rattle.folder_loader.specs.LinkedFolders.{AreTypedFrom}
 use Rattle.heap_laws.specs.SoundTables.{IsSoundTable}
@@ -91,7 +90,7 @@ module _ (k : KernelContent) (h : AreKernelParts k) (law : AcceptedFoldersStaySo
   not_live e on live same =
       let place = place_of (kernel_machine k).domains e on in
       let at = mapped_at (λ (x : DomainState). record { id = x.number; name = x.name; live = is_live_domain x; table = x.table; offers = x.offers })
-              (kernel_machine k).domains place.0 e place.1 in
+      (kernel_machine k).domains place.0 e place.1 in
       loads.not_live (
         record { 0 = place.0 },
         (

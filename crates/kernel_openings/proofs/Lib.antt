@@ -1,4 +1,5 @@
 -- Lemmas of openings and starts.
+mod AddedKernels
 mod ClosedStores
 mod DescriptorOfMain
 mod FirstSegments
@@ -10,6 +11,7 @@ mod OpenedInsides
 mod OpenedKernels
 mod OpenedOrNot
 mod OpenedWorlds
+mod OpeningsAnswered
 mod PartsAfterOpenings
 mod PartsByPlace
 mod StandingSoFar

@@ -1,8 +1,7 @@
 -- A kernel in which a folder was loaded and its domain was opened is one again, and its machine has the domain.
-use Rattle.std.proofs.Common.{◌≡◌, ℕ, zero, suc, ◌+◌, ◌*◌, ◌/◌, ◌<◌, ◌≤◌, ◌==◌, ◌⊎◌, inl, inr, true, List, [], ◌∷◌, ◌++◌, length, map, find, Contains, Option, Some, None, slice_get, option_map, refl, sym, ap, subst, ◌∙◌, arith, length-append}
+use Rattle.std.proofs.Common.{◌≡◌, ℕ, ◌+◌, ◌*◌, ◌/◌, ◌<◌, ◌≤◌, ◌==◌, ◌⊎◌, inl, inr, true, List, [], ◌∷◌, ◌++◌, length, map, Contains, Option, Some, None, slice_get, option_map, refl, sym, ap, subst, ◌∙◌, arith, length-append}
 use Rattle.std.proofs.lemmas.Bool.{eqb-true}
 use Rattle.std.proofs.lemmas.List.{length-map, map-append}
-use Rattle.std.proofs.lemmas.List.Elements.{Contains-push_cases}
 use Rattle.std.proofs.lemmas.Option.{same_Some, slice_get_within}
 use Rattle.list_lemmas.proofs.FoundItems.{Finds, finds}
 use Rattle.list_lemmas.proofs.ItemsByPlace.{mapped_at}
@@ -14,7 +13,7 @@ use Rattle.jk_model.specs.declared.script.Quotas.{Quotas}
 use Rattle.jk_model_classes.specs.declared.records.ClassRecord.{ClassRecord}
 use Rattle.jk_model_classes.specs.declared.sharing.Stub.{Stub}
 use Rattle.jk_model_classes.specs.Classes.{AreOrdered, HasClass}
-use Rattle.jk_model_classes.specs.Worlds.{DomainRecord, IsLiveNamed, IsNamed, IsWorld, NamedClass, WorldRecord}
+use Rattle.jk_model_classes.specs.Worlds.{DomainRecord, IsNamed, IsWorld, NamedClass, WorldRecord}
 use Rattle.jk_model_domains.specs.OwnStates.{OwnState}
 use Rattle.jk_model_folders.specs.declared.files.FolderFiles.{FolderFiles}
 use Rattle.jk_model_folders.specs.FolderTrees.{AreFiles}
@@ -25,14 +24,13 @@ use Rattle.jk_model_heaps.specs.Heaps.{heap_words}
 use Rattle.jk_model_domains.specs.Objects.{NamedObject}
 use Rattle.jk_model_heaps.specs.Workings.{Inside}
 use Rattle.jk_model_sharing.specs.CapabilityCalls.{LacksNumbers}
-use Rattle.jk_model_sharing.specs.SharedStates.{SharedDomain, SharedState}
+use Rattle.jk_model_sharing.specs.SharedStates.{SharedDomain}
 use Rattle.jk_model_sharing.specs.SharedStates.{caps_of as caps_in}
 use Rattle.jk_model_machine_state.specs.Machines.{DomainState, Machine, Thread, caps_of}
 use Rattle.jk_model_openings.specs.OpenedDomains.{Admission, IsOpening, IsPlacedIn, with_new_domain}
 use Rattle.jk_model_openings.specs.Openings.{HasManyDomains, LacksPages}
 use Rattle.jk_model_openings.specs.PoolsOfMachines.{heap_pages_of, heap_pool, stack_pages_of, stack_pool}
 use Rattle.jk_model_runs.specs.Sealed.{IsSealed}
-use Rattle.class_growth.proofs.MoreClasses.{has_class-still}
 use Rattle.class_growth.proofs.OwnStatesKept.{literal-before}
 use Rattle.class_init.specs.KeptStates.{HasRooms, KeptState}
 use Rattle.object_store.specs.HeapContents.{HeapContent, IsHeapContent, KeepsOthers, pages_for}
@@ -46,7 +44,7 @@ use Rattle.heap_laws.specs.SoundCodes.{AreSoundCodes}
 use Rattle.heap_laws.specs.SoundTables.{IsSoundTable}
 use Rattle.sound_folders.specs.LinkedWorlds.{AreLinked}
 use Rattle.machine_parts.specs.FittingParts.{AreFittingParts}
-use Rattle.machine_parts.specs.MachineParts.{MachineParts, domain_states, inside_of, machine_of}
+use Rattle.machine_parts.specs.MachineParts.{domain_states, inside_of}
 use Rattle.machine_parts.specs.OpenedParts.{OpensInParts}
 use Rattle.machine_parts.proofs.DomainOpened.{opens_change_machines}
 use Rattle.machine_parts.proofs.PoolsSame.{heap_pools, stack_pools}
@@ -57,11 +55,11 @@ use Rattle.machine_laws.proofs.OpenedMachines.{IsOpened, new as machine_then}
 use Rattle.machine_laws.proofs.OpenedParts.{opened_capabilities, opened_domains, opened_names}
 use Rattle.machine_laws.proofs.OpenedPools.{opened_pool}
 use Rattle.machine_laws.proofs.OpenedThreads.{opened_initialisers, opened_tasks, opened_threads}
-use Rattle.kernel_parts.specs.SoundKernels.{AreKernelParts, AreSoundParts, KernelContent, kernel_machine, parts_of}
-use Rattle.kernel_openings.specs.OpenedParts.{LacksPlaces, OpenParts, OpensParts, next_number, opened_names as names_of_opened}
+use Rattle.kernel_parts.specs.SoundKernels.{AreKernelParts, KernelContent, kernel_machine, parts_of}
+use Rattle.kernel_openings.specs.OpenedParts.{LacksPlaces, OpenParts, OpensParts}
 use Rattle.kernel_openings.specs.StandingObjects.{objects_named, opening_classes}
-use Rattle.kernel_openings.proofs.FoldersOpen.{added, grown, loaded_parts, not_live, placed_classes, sound_now, tables, there}
-use Rattle.kernel_openings.proofs.LoadingKernels.{as_many, caps_there, few_domains, may_load}
+use Rattle.kernel_openings.proofs.FoldersOpen.{added, grown, loaded_parts, not_live, placed_classes, sound_now, there}
+use Rattle.kernel_openings.proofs.LoadingKernels.{as_many, caps_there, may_load}
 use Rattle.kernel_openings.proofs.OpenedInsides.{opening_is}
 use Rattle.kernel_openings.proofs.OpenedWorlds.{as_many_added, last_or_before, opened_world}
 use Rattle.kernel_openings.proofs.PartsAfterOpenings.{fits_after, stubs_there}
@@ -107,8 +105,8 @@ module _ (k : KernelContent) (h : AreKernelParts k) (heaps : IsHeapContent k.hea
       let from = from_shared_thread k.frames k.shared.threads thread on in
       let admitted = shared.threads.started from.0 from.1 in
       let found : Finds (λ (e : SharedDomain). e.number.0 == from.0.domain.0) k.shared.domains (Some admitted.0) =
-          subst (Finds (λ (e : SharedDomain). e.number.0 == from.0.domain.0) k.shared.domains) admitted.1
-          (finds (λ (e : SharedDomain). e.number.0 == from.0.domain.0) k.shared.domains) in
+      subst (Finds (λ (e : SharedDomain). e.number.0 == from.0.domain.0) k.shared.domains) admitted.1
+      (finds (λ (e : SharedDomain). e.number.0 == from.0.domain.0) k.shared.domains) in
       let low = slice_get_within k.shared.domains found.0 admitted.0 found.1 in
       let number : admitted.0.number.0 ≡ from.0.domain.0 = eqb-true admitted.0.number.0 from.0.domain.0 found.2 in
       let same : from.0.domain.0 ≡ thread.domain.0 = ap (λ (t : Thread). t.domain.0) from.2 in
@@ -186,7 +184,7 @@ module _ (k : KernelContent) (h : AreKernelParts k) (law : AcceptedFoldersStaySo
   abbrev pub inside : Inside
   inside = inside_of new.heap new.frames d o.own.state
 
-  classes_are : new.world.classes ≡ classes
+  pub classes_are : new.world.classes ≡ classes
   classes_are = ap (λ (w : WorldRecord). w.classes) o.names_are
 
   more_classes : new.world.classes ≡ k.world.classes ++ added k h law f name l classes loads typed ordered
@@ -314,7 +312,7 @@ module _ (k : KernelContent) (h : AreKernelParts k) (law : AcceptedFoldersStaySo
   world_then : IsWorld new.world (length new.world.domains)
   world_then =
       let at_last = opened_world loads (may_load k h) name (λ e live. loads.not_live (e, live))
-              (subst AreOrdered (grown k h law f name l classes loads typed ordered) ordered) o.few in
+      (subst AreOrdered (grown k h law f name l classes loads typed ordered) ordered) o.few in
       let same : record {
         classes = k.world.classes ++ added k h law f name l classes loads typed ordered;
         domains = k.world.domains
