@@ -274,7 +274,9 @@ module _ (k : KernelContent) (h : AreKernelParts k) (law : AcceptedFoldersStaySo
         codes = subst AreSoundCodes (sym classes_are) now.0.codes;
         tables = λ e on.
             subst (λ (cs : List ClassRecord). IsSoundTable cs e.table) (sym classes_are)
-            (now.0.each e.table (subst (λ (ts : List (List NamedClass)). Contains ts e.table) tables_then (in_map (λ (x : DomainState). x.table) (with_new_domain m new.world a inside).domains e on)));
+            (now.0.each e.table
+            (subst (λ (ts : List (List NamedClass)). Contains ts e.table) tables_then
+            (in_map (λ (x : DomainState). x.table) (with_new_domain m new.world a inside).domains e on)));
       }
 
   pub numbers_left : LacksNumbers (caps_of m) q.caps → ⊥
