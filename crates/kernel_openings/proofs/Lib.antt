@@ -1,12 +1,17 @@
 -- Lemmas of openings and starts.
+mod AddedKernels
 mod ClosedStores
 mod DescriptorOfMain
 mod FirstSegments
+mod FoldersOpen
 mod LoadingKernels
 mod MainOfAClass
 mod NamesApart
 mod OpenedInsides
+mod OpenedKernels
 mod OpenedOrNot
+mod OpenedWorlds
+mod OpeningsAnswered
 mod PartsAfterOpenings
 mod PartsByPlace
 mod StandingSoFar

@@ -1,13 +1,12 @@
 -- In a kernel of sound parts a folder may be loaded: there are few domains, as none stands in for another, and the world of the parts is that
 -- of the machine. Another domain may be opened in it.
-use Rattle.std.proofs.Common.{◌≡◌, ◌≢◌, ℕ, zero, suc, ◌+◌, ◌<◌, ◌≤◌, ◌==◌, Bool, true, false, not, List, [], ◌∷◌, length, map, filter, find, Contains, Option, Some, None, slice_get, refl, sym, ap, subst, ◌∙◌, inl, inr, arith, true≢false}
+use Rattle.std.proofs.Common.{◌≡◌, ℕ, suc, ◌<◌, ◌≤◌, ◌==◌, Bool, true, false, not, List, [], ◌∷◌, length, map, filter, find, Contains, Option, Some, None, slice_get, refl, sym, ap, subst, ◌∙◌, inl, inr, arith, true≢false}
 use Rattle.std.specs.Prelude.{is_some}
-use Rattle.std.specs.Option.{option_map}
 use Rattle.std.specs.List.{AllByRecursion, IsDistinct, list_any}
 use Rattle.std.proofs.lemmas.Bool.{cases_Bool, cases_lt, eqb-true}
 use Rattle.std.proofs.lemmas.List.{length-map}
 use Rattle.std.proofs.lemmas.Map.Steps.{length-le_from_distinct_below}
-use Rattle.std.proofs.lemmas.Option.{same_Some, slice_get_within}
+use Rattle.std.proofs.lemmas.Option.{slice_get_within}
 use Rattle.list_lemmas.proofs.FoundItems.{Finds, finds}
 use Rattle.list_lemmas.proofs.ItemsOfLists.{Contains-at, Contains-here, Contains-there, place_of}
 use Rattle.jk_model.specs.SystemTable.{system_classes}
@@ -19,8 +18,8 @@ use Rattle.jk_model_classes.specs.Worlds.{DomainRecord, WorldRecord}
 use Rattle.jk_model_domains.specs.OwnStates.{OwnState}
 use Rattle.jk_model_folders.specs.Loads.{MayLoad}
 use Rattle.jk_model_heaps.specs.Capabilities.{Capability}
-use Rattle.jk_model_sharing.specs.SharedStates.{SharedDomain, stub_for}
-use Rattle.jk_model_machine_state.specs.Machines.{DomainState, Machine, world_of, is_live_domain}
+use Rattle.jk_model_sharing.specs.SharedStates.{SharedDomain}
+use Rattle.jk_model_machine_state.specs.Machines.{DomainState, world_of, is_live_domain}
 use Rattle.jk_model_machine_state.specs.Places.{LiveDomain}
 use Rattle.jk_model_runs.specs.Sealed.{is_stand_in}
 use Rattle.object_store.specs.HeapContents.{HeapContent}
@@ -32,7 +31,6 @@ use Rattle.machine_parts.specs.FittingParts.{AreFittingParts, HaveOneList}
 use Rattle.machine_parts.specs.MachineParts.{MachineParts, domain_state, domain_states, machine_of}
 use Rattle.machine_parts.proofs.DomainsOfParts.{at_place}
 use Rattle.machine_laws.proofs.OpenedParts.{no_stand_in}
-use Rattle.kernel_openings.proofs.PartsByPlace.{lives_or_not}
 
 -- ---- The world.
 
@@ -56,7 +54,7 @@ names_of_states heap frames (n ∷ world) [] owns many also live = absurd (omega
 names_of_states heap frames (n ∷ world) (s ∷ shared) [] many also live = absurd (omega arith)
 names_of_states heap frames (n ∷ world) (s ∷ shared) (own ∷ owns) many also live =
     let rest =
-        names_of_states heap frames world shared owns (omega (arith, many)) (omega (arith, also)) (λ i x o at had. live (suc i) x o at had) in
+    names_of_states heap frames world shared owns (omega (arith, many)) (omega (arith, also)) (λ i x o at had. live (suc i) x o at had) in
     let life : is_live_domain (domain_state heap frames n s own) ≡ n.live = lives_as heap frames n s own ∙ live 0 n own refl refl in
     ap (λ (b : Bool). with_life n b ∷ map names_in (domain_states heap frames world shared owns)) life
     ∙ ap (λ (xs : List DomainRecord). n ∷ xs) rest
@@ -123,7 +121,7 @@ stub_there : (stubs : List Stub) (c : ClassId) (stub : Stub) → find (λ (e : S
     → Contains stubs stub × (stub.class ≡ c)
 stub_there stubs c stub found =
     let at : Finds (λ (e : Stub). e.class.0 == c.0) stubs (Some stub) =
-        subst (Finds (λ (e : Stub). e.class.0 == c.0) stubs) found (finds (λ (e : Stub). e.class.0 == c.0) stubs) in
+    subst (Finds (λ (e : Stub). e.class.0 == c.0) stubs) found (finds (λ (e : Stub). e.class.0 == c.0) stubs) in
     let same : stub.class.0 ≡ c.0 = eqb-true stub.class.0 c.0 at.2 in
     (Contains-at stubs at.0 stub at.1, λ i. record { 0 = same i })
 

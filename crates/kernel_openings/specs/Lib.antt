@@ -1,7 +1,9 @@
 pub mod AddedDomains
+pub mod AddedWithoutJk
 pub mod FirstFrames
 pub mod FolderEvents
 pub mod Joining
+pub mod LoadedFolders
 pub mod OpenedParts
 pub mod PackageJk
 pub mod StandingObjects

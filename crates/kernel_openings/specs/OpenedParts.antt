@@ -91,6 +91,7 @@ pub record OpensParts (p new : OpenParts) (l : Loaded) (name : List ℕ) (q : Qu
   pub own : KeptState
   pub first : IsFirstState p.world.classes l.table before.state
   pub rooms : HasFirstRooms p.world.classes l.table before
+  pub eight : length own.state.standing ≡ 8
   -- the heaps where it has no object yet
   pub empty : HeapContent
   pub heap : AdmitsHeap p.heap empty (next_number p) q.heap

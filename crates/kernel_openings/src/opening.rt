@@ -102,6 +102,7 @@ pub(crate) fn open<H: ObjectStore, F: FrameStore>(
     }
     own.holds();
     make_standing(heap, world.classes(), d, &mut own);
+    own.holds();
     owns.push_reserved(Some(own));
     Ok(())
 }

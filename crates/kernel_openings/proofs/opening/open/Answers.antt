@@ -108,6 +108,7 @@ returns-clause-ok g c =
       own = c.make_standing.new.own;
       first = subst (λ (t : List ClassRecord). IsFirstState t c.args.loaded.table c.in_ok-own.own.state) c.classes-2.ensures c.in_ok-own.ensures.state;
       rooms = subst (λ (t : List ClassRecord). HasFirstRooms t c.args.loaded.table c.in_ok-own.own) c.classes-2.ensures c.in_ok-own.ensures.rooms;
+      eight = c.holds-2.ensures.standing;
       empty = g.H.ObjectStore.content c.admit_stores.new.heap;
       heap =
           subst (λ (d : DomainId). Admits old.heap (g.H.ObjectStore.content c.admit_stores.new.heap) d c.args.quotas.now.heap) number

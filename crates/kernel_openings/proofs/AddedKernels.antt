@@ -1,0 +1,207 @@
+-- What `add_domain` makes of a kernel, and why it doesn't, by what it made of the parts.
+use Rattle.std.proofs.Common.{◌≡◌, ◌≤◌, ℕ, List, [], ◌∷◌, length, take, Option, inr, sym, ap, subst, ◌∙◌, arith}
+use Rattle.jk_model.specs.declared.output.Line.TheVariants as Says
+use Rattle.jk_model.specs.declared.script.Quotas.{Quotas}
+use Rattle.jk_model.specs.Outside.{Tree, ◌/-◌}
+use Rattle.jk_model_classes.specs.declared.records.ClassRecord.{ClassRecord}
+use Rattle.jk_model_classes.specs.Classes.{AreOrdered}
+use Rattle.jk_model_classes.specs.Worlds.{WorldRecord}
+use Rattle.jk_model_folders.specs.declared.files.FolderFiles.{FolderFiles}
+use Rattle.jk_model_folders.specs.FolderTrees.{AreFiles, AreToldFiles}
+use Rattle.jk_model_folders.specs.Loads.{Loads}
+use Rattle.jk_model_machine_state.specs.Machines.{Machine, caps_of}
+use Rattle.jk_model_heaps.specs.Capabilities.{CapRange}
+use Rattle.jk_model_heaps.specs.Workings.{Inside}
+use Rattle.jk_model_openings.specs.OpenedDomains.{IsOpening, with_new_domain}
+use Rattle.jk_model_openings.specs.Openings.{HasManyDomains, IsAccepted, LacksPages, OpensWith, admission, opens}
+use Rattle.jk_model_sharing.specs.CapabilityCalls.{LacksNumbers}
+use Rattle.jk_model_sharing.specs.SharedStates.{caps_of as caps_in}
+use Rattle.object_store.specs.HeapContents.{HeapContent, IsHeapContent}
+use Rattle.object_store.specs.HeapContents.{IsSame as IsSameHeap}
+use Rattle.frame_store.specs.FrameContents.{FrameContent, IsContent}
+use Rattle.frame_store.specs.FrameContents.{IsSame as IsSameStack}
+use Rattle.thread_segments.specs.SoundStates.{AreSound}
+use Rattle.folder_loader.specs.declared.answers.Loaded.{Loaded}
+use Rattle.folder_loader.specs.LinkedFolders.{AreTypedFrom}
+use Rattle.machine_laws.specs.MachinesOfRuns.{FolderRefersToNoPackageJk}
+use Rattle.machine_laws.specs.SoundFolders.{AcceptedFoldersStaySound}
+use Rattle.kernel_parts.specs.SoundKernels.{AreKernelParts, KernelContent, kernel_machine}
+use Rattle.kernel_openings.specs.declared.answers.AddAnswer.{AddAnswer}
+use Rattle.kernel_openings.specs.declared.answers.AddAnswer.TheVariants as Adding
+use Rattle.kernel_openings.specs.AddedDomains.{Opening}
+use Rattle.kernel_openings.specs.AddedWithoutJk.{HasAcceptedWith, IsCauseNow}
+use Rattle.kernel_openings.specs.FolderEvents.{Opens}
+use Rattle.kernel_openings.specs.OpenedParts.{IsWhyNot, KeepsParts, LacksPlaces, MayOpen, OpenParts, OpensParts}
+use Rattle.kernel_openings.proofs.FoldersOpen.{cut, loaded_parts, may_open}
+use Rattle.kernel_openings.proofs.LoadingKernels.{as_many, world_is}
+use Rattle.kernel_openings.proofs.OpenedKernels.{caps_are, classes_are, few_then, inside, kernel_then, machine_is, numbers_left, opening, pages_lack, pages_left, placed}
+use Rattle.kernel_openings.proofs.OpeningsAnswered.{opens_in}
+
+-- the parts of a kernel with this world
+abbrev pub parts_with : KernelContent → WorldRecord → OpenParts
+parts_with k w = record { world = w; owns = k.owns; shared = k.shared; heap = k.heap; frames = k.frames }
+
+-- ---- Where all is as before.
+
+same_heap : (c now : HeapContent) → IsSameHeap c now → now ≡ c
+same_heap c now same = λ i. record {
+  pages = same.domains.pages i;
+  took_all = same.domains.took_all i;
+  quota = λ d. same.domains.quota d i;
+  first_page = λ d. same.domains.first_page d i;
+  used = λ d. same.used d i;
+  heap = λ d. same.heap d i;
+  mark = λ d a. same.mark d a i;
+}
+
+same_stack : (c now : FrameContent) → IsSameStack c now → now ≡ c
+same_stack c now same = λ i. record {
+  pages = same.domains.pages i;
+  took_all = same.domains.took_all i;
+  quota = λ d. same.domains.quota d i;
+  first_page = λ d. same.domains.first_page d i;
+  used = λ d. same.used d i;
+  segment = λ s. same.segment s i;
+}
+
+module _ (k : KernelContent) (h : AreKernelParts k) (law : AcceptedFoldersStaySound) (f : FolderFiles) (files : AreFiles f) (name : List ℕ) (l : Loaded)
+    (w : WorldRecord) (loads : Loads f k.world name l.first l.table l.offers l.stubs w) (typed : AreTypedFrom w.classes l.first)
+    (ordered : AreOrdered w.classes) where
+  w_is : w ≡ record k.world { classes = w.classes }
+  w_is =
+      loads.world
+      ∙ ap (λ (cs : List ClassRecord). let x : WorldRecord = record { classes = cs; domains = k.world.domains } in x)
+      (sym (ap (λ (x : WorldRecord). x.classes) loads.world))
+
+  loads_so : Loads f k.world name l.first l.table l.offers l.stubs (record k.world { classes = w.classes })
+  loads_so = subst (Loads f k.world name l.first l.table l.offers l.stubs) w_is loads
+
+  pub may_open_so : MayOpen (parts_with k w) l name
+  may_open_so =
+      subst (λ (x : WorldRecord). MayOpen (parts_with k x) l name) (sym w_is) (may_open k h law f name l w.classes loads_so typed ordered)
+
+  abbrev m : Machine
+  m = kernel_machine k
+
+  abbrev accepted_so : IsAccepted f m name
+  accepted_so = record {
+    first = l.first;
+    table = l.table;
+    offers = l.offers;
+    stubs = l.stubs;
+    world = w;
+    loads = subst (λ (x : WorldRecord). Loads f x name l.first l.table l.offers l.stubs w) (sym (world_is k h)) loads;
+  }
+
+  -- ---- All is as before where the domain isn't opened.
+
+  pub content_again : (new : OpenParts) (cut_world : WorldRecord) (n : ℕ) → n ≡ length k.world.classes → KeepsParts (parts_with k w) new
+      → cut_world ≡ record new.world { classes = take n new.world.classes }
+      → ◌≡◌ {A = KernelContent} (record {
+        world = cut_world;
+        owns = new.owns;
+        shared = new.shared;
+        heap = new.heap;
+        frames = new.frames;
+        main_kind = k.main_kind;
+      }) k
+  content_again new cut_world n many keeps is =
+      let front : cut_world ≡ k.world =
+      is
+      ∙ ap (λ (x : WorldRecord). let y : WorldRecord = record { classes = take n x.classes; domains = x.domains } in y) (keeps.world ∙ w_is)
+      ∙ ap (λ (cs : List ClassRecord). let y : WorldRecord = record { classes = cs; domains = k.world.domains } in y)
+      (cut k h law f name l w.classes loads_so typed ordered n many) in
+      λ i. record {
+        world = front i;
+        owns = keeps.owns i;
+        shared = keeps.shared i;
+        heap = same_heap k.heap new.heap keeps.heap i;
+        frames = same_stack k.frames new.frames keeps.frames i;
+        main_kind = k.main_kind;
+      }
+
+  module _ (heaps : IsHeapContent k.heap) (frames : IsContent k.frames) (shared : AreSound k.shared) (q : Quotas) (tree : Option Tree) (root : List ℕ)
+      (told : AreToldFiles tree (root /- name) f) where
+    abbrev o : Opening
+    o = record { tree = tree; root = root; name = name; quotas = q }
+
+    accepted_with : (Holds : List ClassRecord → _ → Type 0) → Holds w.classes l.first → HasAcceptedWith Holds o m
+    accepted_with Holds holds = record { files = f; are_files = files; are_told = told; accepted = accepted_so; holds = holds }
+
+    pages : LacksPlaces (parts_with k w) q ≡ LacksPages m q
+    pages = pages_lack k h heaps frames shared q
+
+    lacks_pages : LacksPlaces (parts_with k w) q → LacksPages m q
+    lacks_pages x = subst (λ (A : Type 0). A) pages x
+
+    has_places : (LacksPlaces (parts_with k w) q → ⊥) → LacksPages m q → ⊥
+    has_places none x = none (subst (λ (A : Type 0). A) (sym pages) x)
+
+    numbers_so : LacksNumbers (caps_of m) q.caps ≡ LacksNumbers (caps_in k.shared) q.caps
+    numbers_so = ap (λ (rs : List CapRange). LacksNumbers rs q.caps) (caps_are k h heaps frames shared)
+
+    many_so : 65535 ≤ length k.world.domains → HasManyDomains m
+    many_so many = omega (arith, many, as_many k h)
+
+    pub cause_so : (e : AddAnswer) → IsWhyNot (parts_with k w) l q e → IsCauseNow o m e
+    cause_so (Adding.Refused rule place) (rule_is, place_is, names_jk) = inr (rule_is, place_is, accepted_with _ names_jk)
+    cause_so Adding.NoRoom (apart, lacks) = (accepted_with _ apart, lacks_pages lacks)
+    cause_so Adding.CapNumbers (apart, places, lacks) =
+        (accepted_with _ apart, has_places places, subst (λ (A : Type 0). A) (sym numbers_so) lacks)
+    cause_so Adding.TooManyDomains (apart, places, numbers, many) = (
+      accepted_with _ apart,
+      has_places places,
+      λ lacks. numbers (subst (λ (A : Type 0). A) numbers_so lacks),
+      many_so (subst (λ (x : WorldRecord). 65535 ≤ length x.domains) w_is many),
+    )
+    cause_so Adding.ReadFault why = tt
+    cause_so Adding.OutOfMemory why = tt
+
+    -- ---- The domain is opened.
+
+    module _ (new : OpenParts) (new_heaps : IsHeapContent new.heap) (opened : OpensParts (parts_with k w) new l name q) where
+      opened_so : OpensParts (loaded_parts k h law f name l w.classes loads_so typed ordered) new l name q
+      opened_so = subst (λ (x : WorldRecord). OpensParts (parts_with k x) new l name q) w_is opened
+
+      abbrev pub kernel_of : KernelContent
+      kernel_of = record {
+        world = new.world;
+        owns = new.owns;
+        shared = new.shared;
+        heap = new.heap;
+        frames = new.frames;
+        main_kind = k.main_kind;
+      }
+
+      pub kernel_so : AreKernelParts kernel_of
+      kernel_so =
+          kernel_then k h law f files name l w.classes loads_so typed ordered heaps frames shared q new new_heaps opened_so
+
+      grown_so : new.world.classes ≡ w.classes
+      grown_so = classes_are k h law f files name l w.classes loads_so typed ordered heaps frames shared q new new_heaps opened_so
+
+      abbrev inside_now : Inside
+      inside_now = inside k h law f files name l w.classes loads_so typed ordered heaps frames shared q new new_heaps opened_so
+
+      machine_so : kernel_machine kernel_of ≡ with_new_domain m w (admission accepted_so q) inside_now
+      machine_so =
+          machine_is k h law f files name l w.classes loads_so typed ordered heaps frames shared q new new_heaps opened_so
+          ∙ ap (λ (cs : List ClassRecord). with_new_domain m (record { classes = cs; domains = [] }) (admission accepted_so q) inside_now) grown_so
+
+      pub opens_so : Opens tree root m name q (Says.Loaded name ∷ []) (kernel_machine kernel_of)
+      opens_so =
+          let by_files : OpensWith f m name q (Says.Loaded name ∷ []) (with_new_domain m w (admission accepted_so q) inside_now) =
+          opens accepted_so inside_now
+          (pages_left k h law f files name l w.classes loads_so typed ordered heaps frames shared q new new_heaps opened_so)
+          (numbers_left k h law f files name l w.classes loads_so typed ordered heaps frames shared q new new_heaps opened_so)
+          (few_then k h law f files name l w.classes loads_so typed ordered heaps frames shared q new new_heaps opened_so)
+          (subst (λ (cs : List ClassRecord). IsOpening cs l.table q.heap inside_now) grown_so
+          (opening k h law f files name l w.classes loads_so typed ordered heaps frames shared q new new_heaps opened_so))
+          (placed k h law f files name l w.classes loads_so typed ordered heaps frames shared q new new_heaps opened_so) in
+          subst (Opens tree root m name q (Says.Loaded name ∷ [])) (sym machine_so)
+          (opens_in tree root m name q f (Says.Loaded name ∷ []) (with_new_domain m w (admission accepted_so q) inside_now) files told by_files)
+
+      pub apart_so : FolderRefersToNoPackageJk new.world.classes (record { 0 = length k.world.classes })
+      apart_so =
+          subst (λ (cs : List ClassRecord). FolderRefersToNoPackageJk cs (record { 0 = length k.world.classes })) (sym grown_so)
+          (λ c d r low is on of. opened.apart c d r (omega (arith, low, loads.first_is)) is on of)
