@@ -8,8 +8,8 @@ use Rattle.jk_model_classes.specs.Classes.{AreOrdered}
 use Rattle.jk_model_classes.specs.Worlds.{WorldRecord}
 use Rattle.jk_model_folders.specs.declared.files.FolderFiles.{FolderFiles}
 use Rattle.jk_model_folders.specs.FolderTrees.{AreFiles, AreToldFiles}
-use Rattle.jk_model_folders.specs.Loads.{Loads}
-use Rattle.jk_model_machine_state.specs.Machines.{Machine, caps_of}
+use Rattle.jk_model_folders.specs.Loads.{Loads, MayLoad}
+use Rattle.jk_model_machine_state.specs.Machines.{Machine, caps_of, world_of}
 use Rattle.jk_model_heaps.specs.Capabilities.{CapRange}
 use Rattle.jk_model_heaps.specs.Workings.{Inside}
 use Rattle.jk_model_openings.specs.OpenedDomains.{IsOpening, with_new_domain}
@@ -23,17 +23,17 @@ use Rattle.frame_store.specs.FrameContents.{IsSame as IsSameStack}
 use Rattle.thread_segments.specs.SoundStates.{AreSound}
 use Rattle.folder_loader.specs.declared.answers.Loaded.{Loaded}
 use Rattle.folder_loader.specs.LinkedFolders.{AreTypedFrom}
-use Rattle.machine_laws.specs.MachinesOfRuns.{FolderRefersToNoPackageJk}
-use Rattle.machine_laws.specs.SoundFolders.{AcceptedFoldersStaySound}
+use Rattle.machine_laws.specs.MachinesOfRuns.{FolderRefersToNoPackageJk, OpensFrom}
+use Rattle.machine_laws.specs.SoundFolders.{AcceptedFoldersStaySound, AcceptsFiles}
 use Rattle.kernel_parts.specs.SoundKernels.{AreKernelParts, KernelContent, kernel_machine}
 use Rattle.kernel_openings.specs.declared.answers.AddAnswer.{AddAnswer}
 use Rattle.kernel_openings.specs.declared.answers.AddAnswer.TheVariants as Adding
 use Rattle.kernel_openings.specs.AddedDomains.{Opening}
-use Rattle.kernel_openings.specs.AddedWithoutJk.{HasAcceptedWith, IsCauseNow}
+use Rattle.kernel_openings.specs.AddedWithoutJk.{HasAcceptedWith, IsCauseNow, OpensApart}
 use Rattle.kernel_openings.specs.FolderEvents.{Opens}
 use Rattle.kernel_openings.specs.OpenedParts.{IsWhyNot, KeepsParts, LacksPlaces, MayOpen, OpenParts, OpensParts}
 use Rattle.kernel_openings.proofs.FoldersOpen.{cut, loaded_parts, may_open}
-use Rattle.kernel_openings.proofs.LoadingKernels.{as_many, world_is}
+use Rattle.kernel_openings.proofs.LoadingKernels.{as_many, may_load, world_is}
 use Rattle.kernel_openings.proofs.OpenedKernels.{caps_are, classes_are, few_then, inside, kernel_then, machine_is, numbers_left, opening, pages_lack, pages_left, placed}
 use Rattle.kernel_openings.proofs.OpeningsAnswered.{opens_in}
 
@@ -91,6 +91,14 @@ module _ (k : KernelContent) (h : AreKernelParts k) (law : AcceptedFoldersStaySo
     stubs = l.stubs;
     world = w;
     loads = subst (λ (x : WorldRecord). Loads f x name l.first l.table l.offers l.stubs w) (sym (world_is k h)) loads;
+  }
+
+  abbrev accepts_so : AcceptsFiles f (world_of m) name l.first l.table l.offers l.stubs w
+  accepts_so = record {
+    may = subst MayLoad (sym (world_is k h)) (may_load k h);
+    loads = accepted_so.loads;
+    typed = typed;
+    ordered = ordered;
   }
 
   -- ---- All is as before where the domain isn't opened.
@@ -205,3 +213,21 @@ module _ (k : KernelContent) (h : AreKernelParts k) (law : AcceptedFoldersStaySo
       apart_so =
           subst (λ (cs : List ClassRecord). FolderRefersToNoPackageJk cs (record { 0 = length k.world.classes })) (sym grown_so)
           (λ c d r low is on of. opened.apart c d r (omega (arith, low, loads.first_is)) is on of)
+
+      abbrev opens_from : OpensFrom f m name q (kernel_machine kernel_of)
+      opens_from = record {
+        accepted = accepted_so;
+        accepts = accepts_so;
+        inside = inside_now;
+        room = pages_left k h law f files name l w.classes loads_so typed ordered heaps frames shared q new new_heaps opened_so;
+        numbers = numbers_left k h law f files name l w.classes loads_so typed ordered heaps frames shared q new new_heaps opened_so;
+        few = few_then k h law f files name l w.classes loads_so typed ordered heaps frames shared q new new_heaps opened_so;
+        opening =
+            subst (λ (cs : List ClassRecord). IsOpening cs l.table q.heap inside_now) grown_so
+            (opening k h law f files name l w.classes loads_so typed ordered heaps frames shared q new new_heaps opened_so);
+        placed = placed k h law f files name l w.classes loads_so typed ordered heaps frames shared q new new_heaps opened_so;
+        leads = machine_so;
+      }
+
+      pub opened_apart : OpensApart m name q (kernel_machine kernel_of)
+      opened_apart = (f, files, opens_from, opened.apart)

@@ -1,11 +1,12 @@
 -- What `add_domain` answers as long as package jk isn't there: a folder of which a class refers to that package is refused by X1, behind all
 -- written rules and before it is asked whether there is room. All else is as AddedDomains says.
-use Rattle.std.specs.Prelude.{◌≡◌, ◌⊎◌, ⊤, List, [], ◌∷◌}
+use Rattle.std.specs.Prelude.{◌≡◌, ◌⊎◌, ⊤, ℕ, List, [], ◌∷◌}
 use Rattle.jk_model.specs.declared.identifiers.ClassId.{ClassId}
 use Rattle.jk_model.specs.declared.output.Line.{Line}
 use Rattle.jk_model.specs.declared.output.Line.TheVariants as Says
 use Rattle.jk_model.specs.declared.output.Place.TheVariants.{Whole}
 use Rattle.jk_model.specs.declared.output.Rule.TheVariants.{X1}
+use Rattle.jk_model.specs.declared.script.Quotas.{Quotas}
 use Rattle.jk_model.specs.Outside.{◌/-◌}
 use Rattle.jk_model_classes.specs.declared.records.ClassRecord.{ClassRecord}
 use Rattle.jk_model_folders.specs.declared.files.FolderFiles.{FolderFiles}
@@ -13,7 +14,7 @@ use Rattle.jk_model_folders.specs.FolderTrees.{AreFiles, AreToldFiles}
 use Rattle.jk_model_machine_state.specs.Machines.{Machine, caps_of, world_of}
 use Rattle.jk_model_openings.specs.Openings.{HasManyDomains, IsAccepted, LacksPages}
 use Rattle.jk_model_sharing.specs.CapabilityCalls.{LacksNumbers}
-use Rattle.machine_laws.specs.MachinesOfRuns.{FolderRefersToNoPackageJk}
+use Rattle.machine_laws.specs.MachinesOfRuns.{FolderRefersToNoPackageJk, OpensFrom}
 use Rattle.kernel_openings.specs.declared.answers.AddAnswer.{AddAnswer}
 use Rattle.kernel_openings.specs.declared.answers.AddAnswer.TheVariants as Adding
 use Rattle.kernel_openings.specs.AddedDomains.{Opening}
@@ -49,3 +50,8 @@ IsCauseNow o m Adding.OutOfMemory = ⊤
 pub data OpensNow (o : Opening) (m : Machine) : List Line → Machine → Type 0 where
   opens : (lines : List Line) (new : Machine) → Opens o.tree o.root m o.name o.quotas lines new → OpensNow o m lines new
   refers : RefersToJk o m → OpensNow o m (Says.Refused o.name X1 Whole ∷ []) m
+
+-- A domain is opened from accepted files, of which no class refers to package jk.
+abbrev pub OpensApart : Machine → List ℕ → Quotas → Machine → Type 0
+OpensApart m name quotas new =
+    (f : FolderFiles) × AreFiles f × (o : OpensFrom f m name quotas new) × FolderRefersToNoPackageJk o.accepted.world.classes o.accepted.first

@@ -1,6 +1,7 @@
 //! Domains that are opened, and threads that start, over the parts of a kernel.
 #![tactic(auto)]
 
+mod adding;
 mod answers;
 mod class_names;
 mod first_segments;
@@ -13,5 +14,6 @@ mod start_words;
 mod starting;
 mod store_rooms;
 
+pub use adding::add_domain;
 pub use answers::{AddAnswer, Beginning};
 pub use starting::start;

@@ -1,0 +1,446 @@
+-- What is loaded and opened is a kernel with the domain; and what is refused leaves the kernel as it was.
+use Rattle.std.proofs.Common.{◌≡◌, ℕ, List, [], ◌∷◌, length, Result, Ok, Err, refl, sym, ap, subst, ◌∙◌}
+use Rattle.jk_model.specs.declared.output.Line.TheVariants as Says
+use Rattle.jk_model_classes.specs.Worlds.{WorldRecord}
+use Rattle.jk_model_sharing.specs.SharedStates.{SharedState}
+use Rattle.machine_laws.specs.MachinesOfRuns.{FolderRefersToNoPackageJk}
+use Rattle.jk_model_machine_state.specs.Machines.{Machine}
+use Rattle.kernel_parts.specs.SoundKernels.{AreKernelParts, KernelContent, kernel_machine}
+use Rattle.kernel_openings.specs.AddedDomains.{Opening}
+use Rattle.kernel_openings.specs.declared.answers.AddAnswer.TheVariants.{ReadFault}
+use Rattle.kernel_openings.specs.AddedWithoutJk.{IsCauseNow, OpensApart, OpensNow}
+use Rattle.kernel_openings.specs.FolderEvents.{Opens}
+use Rattle.kernel_openings.specs.OpenedParts.{IsWhyNot, OpenParts}
+use Rattle.kernel_openings.proofs.AddedKernels.{apart_so, cause_so, content_again, kernel_so, may_open_so, opened_apart, opens_so, parts_with}
+use Rattle.kernel_openings.proofs.LoadingKernels.{as_many, may_load, world_is}
+use Rattle.kernel_openings.proofs.OpeningsAnswered.{cause_of_load, load_calm, load_fault, told_by_cause}
+use Rattle.kernel_openings.proofs.adding.add_domain.Goals as goal
+
+-- an answer is in one error
+same_error : {T E : Type 0} {x y : E} → ◌≡◌ {A = Result T E} (Err x) (Err y) → x ≡ y
+same_error e = cc
+
+ok_isnt_err : {T E : Type 0} {x : T} {y : E} → ◌≡◌ {A = Result T E} (Ok x) (Err y) → ⊥
+ok_isnt_err e = cc
+
+pub load-requires : goal.load-requires
+load-requires g c =
+    let k = c.k.inside in
+    let here : KernelContent = record {
+      world = k.world;
+      owns = k.owns.items;
+      shared = k.shared;
+      heap = g.H.ObjectStore.content k.heap;
+      frames = g.F.FrameStore.content k.frames;
+      main_kind = k.main_kind;
+    } in
+    may_load here c.k.invariant
+
+pub open-requires-clause-may : goal.open-requires-clause-may
+open-requires-clause-may g c =
+    let k = c.k.inside in
+    let here : KernelContent = record {
+      world = k.world;
+      owns = k.owns.items;
+      shared = k.shared;
+      heap = g.H.ObjectStore.content k.heap;
+      frames = g.F.FrameStore.content k.frames;
+      main_kind = k.main_kind;
+    } in
+    let loaded = c.in-Ok.ensures.ok in
+    may_open_so here c.k.invariant c.accepted_folders_stay_sound.ensures loaded.found loaded.are_files c.args.name.now c.in-Ok.loaded c.load.new.world loaded.loads
+    c.in-Ok.ensures.typed c.holds.ensures.ordered
+
+pub open-requires-clause-asked : goal.open-requires-clause-asked
+open-requires-clause-asked g c = record { words = c.requires.words; chunks = c.requires.chunks; counts = c.requires.counts }
+
+pub invariant_of-k-in-Ok-open : goal.invariant_of-k-in-Ok-open
+invariant_of-k-in-Ok-open g c =
+    let k = c.k.inside in
+    let here : KernelContent = record {
+      world = k.world;
+      owns = k.owns.items;
+      shared = k.shared;
+      heap = g.H.ObjectStore.content k.heap;
+      frames = g.F.FrameStore.content k.frames;
+      main_kind = k.main_kind;
+    } in
+    let loaded = c.in-Ok.ensures.ok in
+    let new : OpenParts = record {
+      world = c.open.new.world;
+      owns = c.open.new.owns.items;
+      shared = c.open.new.shared;
+      heap = g.H.ObjectStore.content c.open.new.heap;
+      frames = g.F.FrameStore.content c.open.new.frames;
+    } in
+    kernel_so here c.k.invariant c.accepted_folders_stay_sound.ensures loaded.found loaded.are_files c.args.name.now c.in-Ok.loaded c.load.new.world loaded.loads
+    c.in-Ok.ensures.typed c.holds.ensures.ordered (g.met.H.ObjectStore.holds k.heap) (g.met.F.FrameStore.holds k.frames) c.is_sound.ensures c.args.quotas
+    (g.R.Files.tree c.args.files.now) c.args.root.now loaded.are_told
+    new (g.met.H.ObjectStore.holds c.open.new.heap) c.in-Ok-open.ensures.ok
+
+pub invariant_of-k-in-Err-open : goal.invariant_of-k-in-Err-open
+invariant_of-k-in-Err-open g c =
+    let k = c.k.inside in
+    let here : KernelContent = record {
+      world = k.world;
+      owns = k.owns.items;
+      shared = k.shared;
+      heap = g.H.ObjectStore.content k.heap;
+      frames = g.F.FrameStore.content k.frames;
+      main_kind = k.main_kind;
+    } in
+    let loaded = c.in-Ok.ensures.ok in
+    let new : OpenParts = record {
+      world = c.open.new.world;
+      owns = c.open.new.owns.items;
+      shared = c.open.new.shared;
+      heap = g.H.ObjectStore.content c.open.new.heap;
+      frames = g.F.FrameStore.content c.open.new.frames;
+    } in
+    subst AreKernelParts (sym (content_again here c.k.invariant c.accepted_folders_stay_sound.ensures loaded.found loaded.are_files c.args.name.now c.in-Ok.loaded c.load.new.world loaded.loads
+    c.in-Ok.ensures.typed c.holds.ensures.ordered new c.cut_classes.new.self
+    c.len.result (c.len.ensures.count ∙ ap length c.classes.ensures) c.in-Err-open.ensures.err c.cut_classes.ensures)) c.k.invariant
+
+pub returns-in-Err-clause-number : goal.returns-in-Err-clause-number
+returns-in-Err-clause-number g c = tt
+
+pub returns-in-Err-clause-ok : goal.returns-in-Err-clause-ok
+returns-in-Err-clause-ok g c = tt
+
+pub returns-in-Err-clause-opened : goal.returns-in-Err-clause-opened
+returns-in-Err-clause-opened g c = tt
+
+pub returns-in-Err-clause-apart : goal.returns-in-Err-clause-apart
+returns-in-Err-clause-apart g c = tt
+
+pub returns-in-Err-clause-cause : goal.returns-in-Err-clause-cause
+returns-in-Err-clause-cause g c =
+    let k = c.k.inside in
+    let here : KernelContent = record {
+      world = k.world;
+      owns = k.owns.items;
+      shared = k.shared;
+      heap = g.H.ObjectStore.content k.heap;
+      frames = g.F.FrameStore.content k.frames;
+      main_kind = k.main_kind;
+    } in
+    let o : Opening = record { tree = g.R.Files.tree c.args.files.now; root = c.args.root.now; name = c.args.name.now; quotas = c.args.quotas } in
+    subst (λ (m : Machine). IsCauseNow o m c.not_loaded.result) c.k.view_is
+    (cause_of_load o (kernel_machine here) k.world (world_is here c.k.invariant) c.in-Err.e c.not_loaded.result c.not_loaded.ensures
+    (λ rule place is. c.load.ensures.refused rule place (c.in-Err.is ∙ ap Err is))
+    (λ t rule place told is. c.load.ensures.folder_fault t rule place told (c.in-Err.is ∙ ap Err is)))
+
+pub returns-in-Err-clause-refused : goal.returns-in-Err-clause-refused
+returns-in-Err-clause-refused g c =
+    let k = c.k.inside in
+    let here : KernelContent = record {
+      world = k.world;
+      owns = k.owns.items;
+      shared = k.shared;
+      heap = g.H.ObjectStore.content k.heap;
+      frames = g.F.FrameStore.content k.frames;
+      main_kind = k.main_kind;
+    } in
+    let o : Opening = record { tree = g.R.Files.tree c.args.files.now; root = c.args.root.now; name = c.args.name.now; quotas = c.args.quotas } in
+    λ line is. told_by_cause o c.args.k.now c.not_loaded.result line
+    (subst (λ (m : Machine). IsCauseNow o m c.not_loaded.result) c.k.view_is
+    (cause_of_load o (kernel_machine here) k.world (world_is here c.k.invariant) c.in-Err.e c.not_loaded.result c.not_loaded.ensures
+    (λ rule place is. c.load.ensures.refused rule place (c.in-Err.is ∙ ap Err is))
+    (λ t rule place told is. c.load.ensures.folder_fault t rule place told (c.in-Err.is ∙ ap Err is)))) is
+
+pub returns-in-Err-clause-err : goal.returns-in-Err-clause-err
+returns-in-Err-clause-err g c =
+    let k = c.k.inside in
+    let here : KernelContent = record {
+      world = k.world;
+      owns = k.owns.items;
+      shared = k.shared;
+      heap = g.H.ObjectStore.content k.heap;
+      frames = g.F.FrameStore.content k.frames;
+      main_kind = k.main_kind;
+    } in
+    ap (λ (w : WorldRecord). kernel_machine (record {
+      world = w;
+      owns = here.owns;
+      shared = here.shared;
+      heap = here.heap;
+      frames = here.frames;
+      main_kind = here.main_kind;
+    })) c.in-Err.ensures.err ∙ c.k.view_is
+
+pub returns-in-Err-clause-read_fault : goal.returns-in-Err-clause-read_fault
+returns-in-Err-clause-read_fault g c = λ e. c.load.ensures.read_fault (c.in-Err.is ∙ ap Err (load_fault c.in-Err.e c.not_loaded.result c.not_loaded.ensures (same_error e)))
+
+pub returns-in-Err-clause-something : goal.returns-in-Err-clause-something
+returns-in-Err-clause-something g c = λ e. c.load.ensures.something (c.in-Err.is ∙ ap Err (load_fault c.in-Err.e c.not_loaded.result c.not_loaded.ensures (same_error e)))
+
+pub returns-in-Err-clause-calm : goal.returns-in-Err-clause-calm
+returns-in-Err-clause-calm g c = λ t told other.
+    c.load.ensures.calm t told
+    (λ fault. load_calm c.in-Err.e c.not_loaded.result c.not_loaded.ensures (λ e. other (ap Err e)) (same_error (sym c.in-Err.is ∙ fault)))
+
+pub returns-in-Err-clause-counts : goal.returns-in-Err-clause-counts
+returns-in-Err-clause-counts g c = (ap (λ (m : Machine). m.next_thread) c.k.view_is, ap (λ (m : Machine). m.next_segment) c.k.view_is)
+
+pub returns-in-Err-clause-stays : goal.returns-in-Err-clause-stays
+returns-in-Err-clause-stays g c = c.load.ensures.stays
+
+pub returns-in-Err-clause-faults : goal.returns-in-Err-clause-faults
+returns-in-Err-clause-faults g c = c.load.ensures.faults
+
+pub returns-in-Err-clause-asks : goal.returns-in-Err-clause-asks
+returns-in-Err-clause-asks g c = c.load.ensures.asks
+
+pub returns-in-Ok-open-clause-number : goal.returns-in-Ok-open-clause-number
+returns-in-Ok-open-clause-number g c =
+    let k = c.k.inside in
+    let here : KernelContent = record {
+      world = k.world;
+      owns = k.owns.items;
+      shared = k.shared;
+      heap = g.H.ObjectStore.content k.heap;
+      frames = g.F.FrameStore.content k.frames;
+      main_kind = k.main_kind;
+    } in
+    c.domain_count.ensures.count ∙ sym (as_many here c.k.invariant) ∙ ap (λ (m : Machine). length m.domains) c.k.view_is
+
+pub returns-in-Ok-open-clause-ok : goal.returns-in-Ok-open-clause-ok
+returns-in-Ok-open-clause-ok g c =
+    let k = c.k.inside in
+    let here : KernelContent = record {
+      world = k.world;
+      owns = k.owns.items;
+      shared = k.shared;
+      heap = g.H.ObjectStore.content k.heap;
+      frames = g.F.FrameStore.content k.frames;
+      main_kind = k.main_kind;
+    } in
+    let loaded = c.in-Ok.ensures.ok in
+    let new : OpenParts = record {
+      world = c.open.new.world;
+      owns = c.open.new.owns.items;
+      shared = c.open.new.shared;
+      heap = g.H.ObjectStore.content c.open.new.heap;
+      frames = g.F.FrameStore.content c.open.new.frames;
+    } in
+    subst (λ (m : Machine). Opens (g.R.Files.tree c.args.files.now) c.args.root.now m c.args.name.now c.args.quotas
+    (Says.Loaded c.args.name.now ∷ []) (kernel_machine (record {
+      world = new.world;
+      owns = new.owns;
+      shared = new.shared;
+      heap = new.heap;
+      frames = new.frames;
+      main_kind = k.main_kind;
+    }))) c.k.view_is
+    (opens_so here c.k.invariant c.accepted_folders_stay_sound.ensures loaded.found loaded.are_files c.args.name.now c.in-Ok.loaded c.load.new.world loaded.loads
+    c.in-Ok.ensures.typed c.holds.ensures.ordered (g.met.H.ObjectStore.holds k.heap) (g.met.F.FrameStore.holds k.frames) c.is_sound.ensures c.args.quotas
+    (g.R.Files.tree c.args.files.now) c.args.root.now loaded.are_told
+    new (g.met.H.ObjectStore.holds c.open.new.heap) c.in-Ok-open.ensures.ok)
+
+pub returns-in-Ok-open-clause-opened : goal.returns-in-Ok-open-clause-opened
+returns-in-Ok-open-clause-opened g c =
+    let k = c.k.inside in
+    let here : KernelContent = record {
+      world = k.world;
+      owns = k.owns.items;
+      shared = k.shared;
+      heap = g.H.ObjectStore.content k.heap;
+      frames = g.F.FrameStore.content k.frames;
+      main_kind = k.main_kind;
+    } in
+    let loaded = c.in-Ok.ensures.ok in
+    let new : OpenParts = record {
+      world = c.open.new.world;
+      owns = c.open.new.owns.items;
+      shared = c.open.new.shared;
+      heap = g.H.ObjectStore.content c.open.new.heap;
+      frames = g.F.FrameStore.content c.open.new.frames;
+    } in
+    subst (λ (m : Machine). OpensApart m c.args.name.now c.args.quotas (kernel_machine (record {
+      world = new.world;
+      owns = new.owns;
+      shared = new.shared;
+      heap = new.heap;
+      frames = new.frames;
+      main_kind = k.main_kind;
+    }))) c.k.view_is
+    (opened_apart here c.k.invariant c.accepted_folders_stay_sound.ensures loaded.found loaded.are_files c.args.name.now c.in-Ok.loaded c.load.new.world loaded.loads
+    c.in-Ok.ensures.typed c.holds.ensures.ordered (g.met.H.ObjectStore.holds k.heap) (g.met.F.FrameStore.holds k.frames) c.is_sound.ensures c.args.quotas
+    (g.R.Files.tree c.args.files.now) c.args.root.now loaded.are_told
+    new (g.met.H.ObjectStore.holds c.open.new.heap) c.in-Ok-open.ensures.ok)
+
+pub returns-in-Ok-open-clause-apart : goal.returns-in-Ok-open-clause-apart
+returns-in-Ok-open-clause-apart g c =
+    let k = c.k.inside in
+    let here : KernelContent = record {
+      world = k.world;
+      owns = k.owns.items;
+      shared = k.shared;
+      heap = g.H.ObjectStore.content k.heap;
+      frames = g.F.FrameStore.content k.frames;
+      main_kind = k.main_kind;
+    } in
+    let loaded = c.in-Ok.ensures.ok in
+    let new : OpenParts = record {
+      world = c.open.new.world;
+      owns = c.open.new.owns.items;
+      shared = c.open.new.shared;
+      heap = g.H.ObjectStore.content c.open.new.heap;
+      frames = g.F.FrameStore.content c.open.new.frames;
+    } in
+    subst (λ (m : Machine). FolderRefersToNoPackageJk c.open.new.world.classes (record { 0 = length m.classes })) c.k.view_is
+    (apart_so here c.k.invariant c.accepted_folders_stay_sound.ensures loaded.found loaded.are_files c.args.name.now c.in-Ok.loaded c.load.new.world loaded.loads
+    c.in-Ok.ensures.typed c.holds.ensures.ordered (g.met.H.ObjectStore.holds k.heap) (g.met.F.FrameStore.holds k.frames) c.is_sound.ensures c.args.quotas
+    (g.R.Files.tree c.args.files.now) c.args.root.now loaded.are_told
+    new (g.met.H.ObjectStore.holds c.open.new.heap) c.in-Ok-open.ensures.ok)
+
+pub returns-in-Ok-open-clause-cause : goal.returns-in-Ok-open-clause-cause
+returns-in-Ok-open-clause-cause g c = tt
+
+pub returns-in-Ok-open-clause-refused : goal.returns-in-Ok-open-clause-refused
+returns-in-Ok-open-clause-refused g c = tt
+
+pub returns-in-Ok-open-clause-err : goal.returns-in-Ok-open-clause-err
+returns-in-Ok-open-clause-err g c = tt
+
+pub returns-in-Ok-open-clause-read_fault : goal.returns-in-Ok-open-clause-read_fault
+returns-in-Ok-open-clause-read_fault g c = λ e. absurd (ok_isnt_err e)
+
+pub returns-in-Ok-open-clause-something : goal.returns-in-Ok-open-clause-something
+returns-in-Ok-open-clause-something g c = λ e. absurd (ok_isnt_err e)
+
+pub returns-in-Ok-open-clause-calm : goal.returns-in-Ok-open-clause-calm
+returns-in-Ok-open-clause-calm g c = λ t told other. c.load.ensures.calm t told (λ fault. ok_isnt_err (sym c.in-Ok.is ∙ fault))
+
+pub returns-in-Ok-open-clause-counts : goal.returns-in-Ok-open-clause-counts
+returns-in-Ok-open-clause-counts g c = (
+  ap (λ (s : SharedState). s.next_thread) c.in-Ok-open.ensures.ok.shared_is ∙ ap (λ (m : Machine). m.next_thread) c.k.view_is,
+  ap (λ (s : SharedState). s.next_segment) c.in-Ok-open.ensures.ok.shared_is ∙ ap (λ (m : Machine). m.next_segment) c.k.view_is,
+)
+
+pub returns-in-Ok-open-clause-stays : goal.returns-in-Ok-open-clause-stays
+returns-in-Ok-open-clause-stays g c = c.load.ensures.stays
+
+pub returns-in-Ok-open-clause-faults : goal.returns-in-Ok-open-clause-faults
+returns-in-Ok-open-clause-faults g c = c.load.ensures.faults
+
+pub returns-in-Ok-open-clause-asks : goal.returns-in-Ok-open-clause-asks
+returns-in-Ok-open-clause-asks g c = c.load.ensures.asks
+
+pub returns-in-Err-open-clause-number : goal.returns-in-Err-open-clause-number
+returns-in-Err-open-clause-number g c = tt
+
+pub returns-in-Err-open-clause-ok : goal.returns-in-Err-open-clause-ok
+returns-in-Err-open-clause-ok g c = tt
+
+pub returns-in-Err-open-clause-opened : goal.returns-in-Err-open-clause-opened
+returns-in-Err-open-clause-opened g c = tt
+
+pub returns-in-Err-open-clause-apart : goal.returns-in-Err-open-clause-apart
+returns-in-Err-open-clause-apart g c = tt
+
+pub returns-in-Err-open-clause-cause : goal.returns-in-Err-open-clause-cause
+returns-in-Err-open-clause-cause g c =
+    let k = c.k.inside in
+    let here : KernelContent = record {
+      world = k.world;
+      owns = k.owns.items;
+      shared = k.shared;
+      heap = g.H.ObjectStore.content k.heap;
+      frames = g.F.FrameStore.content k.frames;
+      main_kind = k.main_kind;
+    } in
+    let o : Opening = record { tree = g.R.Files.tree c.args.files.now; root = c.args.root.now; name = c.args.name.now; quotas = c.args.quotas } in
+    let loaded = c.in-Ok.ensures.ok in
+    subst (λ (m : Machine). IsCauseNow o m c.in-Err-open.e) c.k.view_is
+    (cause_so here c.k.invariant c.accepted_folders_stay_sound.ensures loaded.found loaded.are_files c.args.name.now c.in-Ok.loaded c.load.new.world loaded.loads
+    c.in-Ok.ensures.typed c.holds.ensures.ordered (g.met.H.ObjectStore.holds k.heap) (g.met.F.FrameStore.holds k.frames) c.is_sound.ensures c.args.quotas
+    (g.R.Files.tree c.args.files.now) c.args.root.now loaded.are_told
+    c.in-Err-open.e c.in-Err-open.ensures.cause)
+
+pub returns-in-Err-open-clause-refused : goal.returns-in-Err-open-clause-refused
+returns-in-Err-open-clause-refused g c =
+    let k = c.k.inside in
+    let here : KernelContent = record {
+      world = k.world;
+      owns = k.owns.items;
+      shared = k.shared;
+      heap = g.H.ObjectStore.content k.heap;
+      frames = g.F.FrameStore.content k.frames;
+      main_kind = k.main_kind;
+    } in
+    let o : Opening = record { tree = g.R.Files.tree c.args.files.now; root = c.args.root.now; name = c.args.name.now; quotas = c.args.quotas } in
+    let loaded = c.in-Ok.ensures.ok in
+    λ line is. told_by_cause o c.args.k.now c.in-Err-open.e line
+    (subst (λ (m : Machine). IsCauseNow o m c.in-Err-open.e) c.k.view_is
+    (cause_so here c.k.invariant c.accepted_folders_stay_sound.ensures loaded.found loaded.are_files c.args.name.now c.in-Ok.loaded c.load.new.world loaded.loads
+    c.in-Ok.ensures.typed c.holds.ensures.ordered (g.met.H.ObjectStore.holds k.heap) (g.met.F.FrameStore.holds k.frames) c.is_sound.ensures c.args.quotas
+    (g.R.Files.tree c.args.files.now) c.args.root.now loaded.are_told
+    c.in-Err-open.e c.in-Err-open.ensures.cause)) is
+
+pub returns-in-Err-open-clause-err : goal.returns-in-Err-open-clause-err
+returns-in-Err-open-clause-err g c =
+    let k = c.k.inside in
+    let here : KernelContent = record {
+      world = k.world;
+      owns = k.owns.items;
+      shared = k.shared;
+      heap = g.H.ObjectStore.content k.heap;
+      frames = g.F.FrameStore.content k.frames;
+      main_kind = k.main_kind;
+    } in
+    let loaded = c.in-Ok.ensures.ok in
+    let new : OpenParts = record {
+      world = c.open.new.world;
+      owns = c.open.new.owns.items;
+      shared = c.open.new.shared;
+      heap = g.H.ObjectStore.content c.open.new.heap;
+      frames = g.F.FrameStore.content c.open.new.frames;
+    } in
+    ap kernel_machine (content_again here c.k.invariant c.accepted_folders_stay_sound.ensures loaded.found loaded.are_files c.args.name.now c.in-Ok.loaded c.load.new.world loaded.loads
+    c.in-Ok.ensures.typed c.holds.ensures.ordered new c.cut_classes.new.self
+    c.len.result (c.len.ensures.count ∙ ap length c.classes.ensures) c.in-Err-open.ensures.err c.cut_classes.ensures) ∙ c.k.view_is
+
+pub returns-in-Err-open-clause-read_fault : goal.returns-in-Err-open-clause-read_fault
+returns-in-Err-open-clause-read_fault g c =
+    let k = c.k.inside in
+    let here : KernelContent = record {
+      world = k.world;
+      owns = k.owns.items;
+      shared = k.shared;
+      heap = g.H.ObjectStore.content k.heap;
+      frames = g.F.FrameStore.content k.frames;
+      main_kind = k.main_kind;
+    } in
+    λ e. absurd (subst (IsWhyNot (parts_with here c.load.new.world) c.in-Ok.loaded c.args.quotas) (same_error e) c.in-Err-open.ensures.cause)
+
+pub returns-in-Err-open-clause-something : goal.returns-in-Err-open-clause-something
+returns-in-Err-open-clause-something g c =
+    let k = c.k.inside in
+    let here : KernelContent = record {
+      world = k.world;
+      owns = k.owns.items;
+      shared = k.shared;
+      heap = g.H.ObjectStore.content k.heap;
+      frames = g.F.FrameStore.content k.frames;
+      main_kind = k.main_kind;
+    } in
+    λ e. absurd (subst (IsWhyNot (parts_with here c.load.new.world) c.in-Ok.loaded c.args.quotas) (same_error e) c.in-Err-open.ensures.cause)
+
+pub returns-in-Err-open-clause-calm : goal.returns-in-Err-open-clause-calm
+returns-in-Err-open-clause-calm g c = λ t told other. c.load.ensures.calm t told (λ fault. ok_isnt_err (sym c.in-Ok.is ∙ fault))
+
+pub returns-in-Err-open-clause-counts : goal.returns-in-Err-open-clause-counts
+returns-in-Err-open-clause-counts g c = (
+  ap (λ (s : SharedState). s.next_thread) c.in-Err-open.ensures.err.shared ∙ ap (λ (m : Machine). m.next_thread) c.k.view_is,
+  ap (λ (s : SharedState). s.next_segment) c.in-Err-open.ensures.err.shared ∙ ap (λ (m : Machine). m.next_segment) c.k.view_is,
+)
+
+pub returns-in-Err-open-clause-stays : goal.returns-in-Err-open-clause-stays
+returns-in-Err-open-clause-stays g c = c.load.ensures.stays
+
+pub returns-in-Err-open-clause-faults : goal.returns-in-Err-open-clause-faults
+returns-in-Err-open-clause-faults g c = c.load.ensures.faults
+
+pub returns-in-Err-open-clause-asks : goal.returns-in-Err-open-clause-asks
+returns-in-Err-open-clause-asks g c = c.load.ensures.asks

@@ -1,0 +1,98 @@
+//! Domains that are added.
+
+ghost use Rattle.std.specs.Prelude.{◌≡◌, ◌≢◌, ◌≤◌, ◌∷◌, ◌++◌, [], true, length, List as AList, Some, Err, IfErr, IfOk, OnErr, OnOk};
+ghost use Rattle.std.specs.List.{AllByRecursion};
+ghost use Rattle.jk_model.specs.declared.output.Line.{Line as ALine};
+ghost use Rattle.jk_model.specs.declared.output.Line.TheVariants as Says;
+ghost use Rattle.jk_model.specs.Outside.{Ask, HasRisen, NeverFalls, Tree, ◌/-◌};
+ghost use Rattle.jk_model.specs.ScriptGrammar.{is_name};
+ghost use Rattle.folder_reader.specs.FolderAnswers.{AsksWithin};
+ghost use Rattle.machine_laws.specs.MachinesOfRuns.{FolderRefersToNoPackageJk};
+ghost use Rattle.kernel_openings.specs.AddedDomains.{Opening, line_of};
+ghost use Rattle.kernel_openings.specs.AddedWithoutJk.{IsCauseNow, OpensApart, OpensNow};
+ghost use Rattle.kernel_openings.specs.FolderEvents.{Opens};
+ghost use Rattle.kernel_openings.specs.LoadedFolders.{IsLoadRefusal};
+
+use crate::answers::AddAnswer;
+use crate::opening::open;
+use folder_loader::{LoadAnswer, load};
+use frame_store::FrameStore;
+use jk_model::{ClassId, DomainId, Quotas};
+use jk_outside::Files;
+use kernel_parts::KernelParts;
+use machine_laws::folders::accepted_folders_stay_sound;
+use object_store::ObjectStore;
+
+/// Adds the domain of the folder of this name below a root, and answers its number. After an error all is as before. A folder of which a
+/// class refers to package jk is refused behind all written rules (X1): that package isn't there yet.
+pub fn add_domain<H: ObjectStore + Drop, F: FrameStore + Drop, R: Files>(
+    k: &mut KernelParts<H, F>,
+    files: &mut R,
+    root: &str,
+    name: &str,
+    quotas: Quotas,
+) -> Result<DomainId, AddAnswer>
+    requires named { is_name name.now ≡ true }
+    requires words { (44 ≤ quotas.heap) × (quotas.heap ≤ 16777216) }
+    requires chunks { (1 ≤ quotas.chunks) × (quotas.chunks ≤ 262144) }
+    requires counts { (quotas.threads ≤ 4096) × (quotas.names ≤ 4096) }
+    ensures number { IfOk result (λ d. d.0 ≡ length k.old.domains) }
+    ensures ok { OnOk result (Opens (R.tree files.old) root.now k.old name.now quotas (Says.Loaded name.now ∷ []) k.new) }
+    ensures opened { OnOk result (OpensApart k.old name.now quotas k.new) }
+    // No class of the folder refers to package jk.
+    ensures apart { OnOk result (FolderRefersToNoPackageJk k.new.classes (record { 0 = length k.old.classes })) }
+    // Each error has its cause, and none but the last two leaves the folder unjudged.
+    ensures cause { let o : Opening = record { tree = R.tree files.old; root = root.now; name = name.now; quotas = quotas } in
+        IfErr result (IsCauseNow o k.old) }
+    // What the event prints at an answer leads to the machine as it was.
+    ensures refused { let o : Opening = record { tree = R.tree files.old; root = root.now; name = name.now; quotas = quotas } in
+        IfErr result (λ e. (line : ALine) → line_of name.now e ≡ Some line → OpensNow o k.old (line ∷ []) k.old) }
+    ensures err { OnErr result (k.new ≡ k.old) }
+    ensures read_fault { result ≡ Err AddAnswer.ReadFault → HasRisen (R.faults files.old) (R.faults files.new) }
+    // It is never answered before something was asked.
+    ensures something { result ≡ Err AddAnswer.ReadFault → R.asked files.new ≢ R.asked files.old }
+    // An answer other than `ReadFault` counted no fault of told files.
+    ensures calm { (t : Tree) → R.tree files.old ≡ Some t → result ≢ Err AddAnswer.ReadFault → R.faults files.new ≡ R.faults files.old }
+    ensures stays { R.tree files.new ≡ R.tree files.old }
+    ensures faults { NeverFalls (R.faults files.old) (R.faults files.new) }
+    ensures asks { (more : AList Ask) × (R.asked files.new ≡ R.asked files.old ++ more) × AllByRecursion (AsksWithin (root.now /- name.now)) more }
+    ensures counts { (k.new.next_thread ≡ k.old.next_thread) × (k.new.next_segment ≡ k.old.next_segment) }
+{
+    accepted_folders_stay_sound();
+    k.shared.is_sound();
+    let first = ClassId(k.world.classes().len() as u32);
+    let number = DomainId(k.world.domain_count() as u32);
+    let loaded = match load(k.alloc, files, root, name, &mut k.world) {
+        Ok(loaded) => loaded,
+        Err(e) => return Err(not_loaded(e)),
+    };
+    k.world.holds();
+    match open(
+        k.alloc,
+        &mut k.world,
+        &mut k.owns,
+        &mut k.shared,
+        &mut k.heap,
+        &mut k.frames,
+        loaded,
+        name,
+        &quotas,
+    ) {
+        Ok(()) => Ok(number),
+        Err(e) => {
+            k.world.cut_classes(first);
+            Err(e)
+        }
+    }
+}
+
+/// What is answered of a folder that isn't loaded.
+fn not_loaded(e: LoadAnswer) -> AddAnswer
+    ensures { IsLoadRefusal e result }
+{
+    match e {
+        LoadAnswer::Refused(rule, place) => AddAnswer::Refused(rule, place),
+        LoadAnswer::ReadFault => AddAnswer::ReadFault,
+        LoadAnswer::OutOfMemory => AddAnswer::OutOfMemory,
+    }
+}
