@@ -1,12 +1,16 @@
 //! Domains that are added.
 
-ghost use Rattle.std.specs.Prelude.{◌≡◌, ◌≢◌, ◌≤◌, ◌∷◌, ◌++◌, [], true, length, List as AList, Some, Err, IfErr, IfOk, OnErr, OnOk};
+ghost use Rattle.std.specs.Prelude.{◌≡◌, ◌≢◌, ◌≤◌, ◌⊎◌, ◌∷◌, ◌++◌, [], true, length, List as AList, Some, Err, IfErr, IfOk, MatchResult, OnErr, OnOk};
 ghost use Rattle.std.specs.List.{AllByRecursion};
 ghost use Rattle.jk_model.specs.declared.output.Line.{Line as ALine};
 ghost use Rattle.jk_model.specs.declared.output.Line.TheVariants as Says;
+ghost use Rattle.jk_model.specs.declared.output.Place.{Place as APlace};
+ghost use Rattle.jk_model.specs.declared.output.Rule.{Rule as ARule};
 ghost use Rattle.jk_model.specs.Outside.{Ask, HasRisen, NeverFalls, Tree, ◌/-◌};
 ghost use Rattle.jk_model.specs.ScriptGrammar.{is_name};
 ghost use Rattle.folder_reader.specs.FolderAnswers.{AsksWithin};
+ghost use Rattle.jk_model_folders.specs.FolderRules.{IsFolderFault};
+ghost use Rattle.jk_model_machine_state.specs.Machines.{world_of};
 ghost use Rattle.machine_laws.specs.MachinesOfRuns.{FolderRefersToNoPackageJk};
 ghost use Rattle.kernel_openings.specs.AddedDomains.{Opening, line_of};
 ghost use Rattle.kernel_openings.specs.AddedWithoutJk.{IsCauseNow, OpensApart, OpensNow};
@@ -44,6 +48,10 @@ pub fn add_domain<H: ObjectStore + Drop, F: FrameStore + Drop, R: Files>(
     // Each error has its cause, and none but the last two leaves the folder unjudged.
     ensures cause { let o : Opening = record { tree = R.tree files.old; root = root.now; name = name.now; quotas = quotas } in
         IfErr result (IsCauseNow o k.old) }
+    // A folder of a told tree that breaks a written rule is refused by exactly this rule, there, unless the files fail or memory runs out.
+    ensures only_refused { (t : Tree) (rule : ARule) (place : APlace) → R.tree files.old ≡ Some t
+        → IsFolderFault t root.now (world_of k.old) name.now rule place
+        → MatchResult result (λ _. ⊥) (λ e. (e ≡ AddAnswer.Refused rule place) ⊎ (e ≡ AddAnswer.ReadFault) ⊎ (e ≡ AddAnswer.OutOfMemory)) }
     // What the event prints at an answer leads to the machine as it was.
     ensures refused { let o : Opening = record { tree = R.tree files.old; root = root.now; name = name.now; quotas = quotas } in
         IfErr result (λ e. (line : ALine) → line_of name.now e ≡ Some line → OpensNow o k.old (line ∷ []) k.old) }

@@ -1,13 +1,21 @@
 -- What is loaded and opened is a kernel with the domain; and what is refused leaves the kernel as it was.
-use Rattle.std.proofs.Common.{◌≡◌, ℕ, List, [], ◌∷◌, length, Result, Ok, Err, refl, sym, ap, subst, ◌∙◌}
+use Rattle.std.proofs.Common.{◌≡◌, ◌⊎◌, inl, inr, ℕ, List, [], ◌∷◌, length, Result, Ok, Err, refl, sym, ap, subst, ◌∙◌}
 use Rattle.jk_model.specs.declared.output.Line.TheVariants as Says
+use Rattle.jk_model.specs.declared.output.Place.{Place}
+use Rattle.jk_model.specs.declared.output.Rule.{Rule}
 use Rattle.jk_model_classes.specs.Worlds.{WorldRecord}
 use Rattle.jk_model_sharing.specs.SharedStates.{SharedState}
 use Rattle.machine_laws.specs.MachinesOfRuns.{FolderRefersToNoPackageJk}
-use Rattle.jk_model_machine_state.specs.Machines.{Machine}
+use Rattle.jk_model_folders.specs.FolderRules.{IsFolderFault}
+use Rattle.jk_model_machine_state.specs.Machines.{Machine, world_of}
+use Rattle.folder_loader.specs.declared.answers.LoadAnswer.{LoadAnswer}
+use Rattle.folder_loader.specs.declared.answers.LoadAnswer.TheVariants as Loading
 use Rattle.kernel_parts.specs.SoundKernels.{AreKernelParts, KernelContent, kernel_machine}
 use Rattle.kernel_openings.specs.AddedDomains.{Opening}
+use Rattle.kernel_openings.specs.declared.answers.AddAnswer.{AddAnswer}
+use Rattle.kernel_openings.specs.declared.answers.AddAnswer.TheVariants as Adding
 use Rattle.kernel_openings.specs.declared.answers.AddAnswer.TheVariants.{ReadFault}
+use Rattle.kernel_openings.specs.LoadedFolders.{IsLoadRefusal}
 use Rattle.kernel_openings.specs.AddedWithoutJk.{IsCauseNow, OpensApart, OpensNow}
 use Rattle.kernel_openings.specs.FolderEvents.{Opens}
 use Rattle.kernel_openings.specs.OpenedParts.{IsWhyNot, OpenParts}
@@ -22,6 +30,14 @@ same_error e = cc
 
 ok_isnt_err : {T E : Type 0} {x : T} {y : E} → ◌≡◌ {A = Result T E} (Ok x) (Err y) → ⊥
 ok_isnt_err e = cc
+
+-- a written rule that the folder breaks has no other answer
+load_alone : (e : LoadAnswer) (a : AddAnswer) (rule : Rule) (place : Place) → IsLoadRefusal e a
+    → (e ≡ Loading.Refused rule place) ⊎ (e ≡ Loading.ReadFault) ⊎ (e ≡ Loading.OutOfMemory)
+    → (a ≡ Adding.Refused rule place) ⊎ (a ≡ Adding.ReadFault) ⊎ (a ≡ Adding.OutOfMemory)
+load_alone e a rule place refusal (inl is) = inl (subst (λ (x : LoadAnswer). IsLoadRefusal x a) is refusal)
+load_alone e a rule place refusal (inr (inl is)) = inr (inl (subst (λ (x : LoadAnswer). IsLoadRefusal x a) is refusal))
+load_alone e a rule place refusal (inr (inr is)) = inr (inr (subst (λ (x : LoadAnswer). IsLoadRefusal x a) is refusal))
 
 pub load-requires : goal.load-requires
 load-requires g c =
@@ -147,6 +163,22 @@ returns-in-Err-clause-refused g c =
     (cause_of_load o (kernel_machine here) k.world (world_is here c.k.invariant) c.in-Err.e c.not_loaded.result c.not_loaded.ensures
     (λ rule place is. c.load.ensures.refused rule place (c.in-Err.is ∙ ap Err is))
     (λ t rule place told is. c.load.ensures.folder_fault t rule place told (c.in-Err.is ∙ ap Err is)))) is
+
+pub returns-in-Err-clause-only_refused : goal.returns-in-Err-clause-only_refused
+returns-in-Err-clause-only_refused g c = λ t rule place told fault.
+    let k = c.k.inside in
+    let here : KernelContent = record {
+      world = k.world;
+      owns = k.owns.items;
+      shared = k.shared;
+      heap = g.H.ObjectStore.content k.heap;
+      frames = g.F.FrameStore.content k.frames;
+      main_kind = k.main_kind;
+    } in
+    let there : IsFolderFault t c.args.root.now k.world c.args.name.now rule place =
+    subst (λ (w : WorldRecord). IsFolderFault t c.args.root.now w c.args.name.now rule place) (world_is here c.k.invariant)
+    (subst (λ (m : Machine). IsFolderFault t c.args.root.now (world_of m) c.args.name.now rule place) (sym c.k.view_is) fault) in
+    load_alone c.in-Err.e c.not_loaded.result rule place c.not_loaded.ensures (c.in-Err.ensures.only_refused t rule place told there)
 
 pub returns-in-Err-clause-err : goal.returns-in-Err-clause-err
 returns-in-Err-clause-err g c =
@@ -300,6 +332,22 @@ returns-in-Ok-open-clause-cause g c = tt
 pub returns-in-Ok-open-clause-refused : goal.returns-in-Ok-open-clause-refused
 returns-in-Ok-open-clause-refused g c = tt
 
+pub returns-in-Ok-open-clause-only_refused : goal.returns-in-Ok-open-clause-only_refused
+returns-in-Ok-open-clause-only_refused g c = λ t rule place told fault.
+    let k = c.k.inside in
+    let here : KernelContent = record {
+      world = k.world;
+      owns = k.owns.items;
+      shared = k.shared;
+      heap = g.H.ObjectStore.content k.heap;
+      frames = g.F.FrameStore.content k.frames;
+      main_kind = k.main_kind;
+    } in
+    let there : IsFolderFault t c.args.root.now k.world c.args.name.now rule place =
+    subst (λ (w : WorldRecord). IsFolderFault t c.args.root.now w c.args.name.now rule place) (world_is here c.k.invariant)
+    (subst (λ (m : Machine). IsFolderFault t c.args.root.now (world_of m) c.args.name.now rule place) (sym c.k.view_is) fault) in
+    absurd (c.in-Ok.ensures.only_refused t rule place told there)
+
 pub returns-in-Ok-open-clause-err : goal.returns-in-Ok-open-clause-err
 returns-in-Ok-open-clause-err g c = tt
 
@@ -377,6 +425,22 @@ returns-in-Err-open-clause-refused g c =
     c.in-Ok.ensures.typed c.holds.ensures.ordered (g.met.H.ObjectStore.holds k.heap) (g.met.F.FrameStore.holds k.frames) c.is_sound.ensures c.args.quotas
     (g.R.Files.tree c.args.files.now) c.args.root.now loaded.are_told
     c.in-Err-open.e c.in-Err-open.ensures.cause)) is
+
+pub returns-in-Err-open-clause-only_refused : goal.returns-in-Err-open-clause-only_refused
+returns-in-Err-open-clause-only_refused g c = λ t rule place told fault.
+    let k = c.k.inside in
+    let here : KernelContent = record {
+      world = k.world;
+      owns = k.owns.items;
+      shared = k.shared;
+      heap = g.H.ObjectStore.content k.heap;
+      frames = g.F.FrameStore.content k.frames;
+      main_kind = k.main_kind;
+    } in
+    let there : IsFolderFault t c.args.root.now k.world c.args.name.now rule place =
+    subst (λ (w : WorldRecord). IsFolderFault t c.args.root.now w c.args.name.now rule place) (world_is here c.k.invariant)
+    (subst (λ (m : Machine). IsFolderFault t c.args.root.now (world_of m) c.args.name.now rule place) (sym c.k.view_is) fault) in
+    absurd (c.in-Ok.ensures.only_refused t rule place told there)
 
 pub returns-in-Err-open-clause-err : goal.returns-in-Err-open-clause-err
 returns-in-Err-open-clause-err g c =
