@@ -1,2 +1,4 @@
 pub mod AskedOfCopies
 pub mod CopyAnswers
+pub mod MetObjects
+pub mod Queues

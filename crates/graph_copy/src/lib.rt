@@ -5,5 +5,7 @@
 #![tactic(auto)]
 
 mod answers;
+mod marks;
+mod meeting;
 
 pub use answers::CopyAnswer;

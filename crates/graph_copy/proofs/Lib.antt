@@ -1,0 +1,4 @@
+-- Why the marks of objects hold queues.
+mod MarkedObjects
+mod ObjectsMet
+mod QueuesForgotten

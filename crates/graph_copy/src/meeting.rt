@@ -1,0 +1,52 @@
+//! Objects that are met on the way, put on the queue of those whose values are still to be walked over.
+
+ghost use Rattle.std.specs.Prelude.{◌≡◌, ℕ, ⊤, ◌^◌, ◌<◌, [], ◌∷◌, None, MatchOption};
+ghost use Rattle.object_store.specs.HeapContents.{IsName};
+ghost use Rattle.graph_copy.specs.MetObjects.{AreNamed, HasMet, Meets, MeetsOne};
+
+use crate::marks::link;
+use jk_model::{Args, DomainId, Value};
+use object_store::ObjectStore;
+
+/// Puts an object at the head of the queue, unless it is on a queue already.
+fn meet<H: ObjectStore>(store: &mut H, d: DomainId, b: u32, head: Option<u32>) -> Option<u32>
+    requires named { IsName (H.content store.old) d b }
+    requires small { MatchOption head ⊤ (λ a. a < 2 ^ 30) }
+    ensures { MeetsOne (H.content store.old) (H.content store.new) d b head result }
+{
+    if store.mark(d, b) != 0 {
+        return head;
+    }
+    store.set_mark(d, b, link(head));
+    Some(b)
+}
+
+/// Puts the object that a value names, if it names one, on the queue.
+pub(crate) fn meet_value<H: ObjectStore>(
+    store: &mut H,
+    d: DomainId,
+    v: Value,
+    head: Option<u32>,
+) -> Option<u32>
+    requires queue { HasMet (H.content store.old) d head }
+    requires named { AreNamed (H.content store.old) d (v ∷ []) }
+    ensures { Meets (H.content store.old) (H.content store.new) d (v ∷ []) head result }
+{
+    match v {
+        Value::Obj(b) => meet(store, d, b, head),
+        _ => head,
+    }
+}
+
+/// The queue of the objects that the given values name.
+pub(crate) fn meet_given<H: ObjectStore>(store: &mut H, d: DomainId, values: &Args) -> Option<u32>
+    requires queue { HasMet (H.content store.old) d None }
+    requires named { AreNamed (H.content store.old) d values.now }
+    ensures { Meets (H.content store.old) (H.content store.new) d values.now None result }
+{
+    let mut head = None;
+    for i in 0..values.len() {
+        head = meet_value(store, d, values.get(i), head);
+    }
+    head
+}
