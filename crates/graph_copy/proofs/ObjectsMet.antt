@@ -40,7 +40,7 @@ met_head_is_small c d head holds m =
 
 -- ---- Contents that are the same.
 
-queue_stays : (old new : HeapContent) (d : DomainId) (names : List ℕ) → new.heap d ≡ old.heap d
+pub queue_stays : (old new : HeapContent) (d : DomainId) (names : List ℕ) → new.heap d ≡ old.heap d
     → ((a : ℕ) → Contains names a → new.mark d a ≡ old.mark d a) → IsQueue old d names → IsQueue new d names
 queue_stays old new d names heap mark q = record {
   linked = linked_beside (old.mark d) (new.mark d) names mark q.linked;

@@ -5,7 +5,9 @@
 #![tactic(auto)]
 
 mod answers;
+mod discovery;
 mod marks;
 mod meeting;
+mod places;
 
 pub use answers::CopyAnswer;
