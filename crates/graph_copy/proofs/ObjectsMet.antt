@@ -156,7 +156,7 @@ meets_one old new d b head result name meets = elim meets [
   | inr h ↦ is_met old new d b head result name h.0 h.1 h.2
 ]
 
-both_change : (old now new : HeapContent) (d : DomainId) → ChangesMarks old now d → ChangesMarks now new d → ChangesMarks old new d
+pub both_change : (old now new : HeapContent) (d : DomainId) → ChangesMarks old now d → ChangesMarks now new d → ChangesMarks old new d
 both_change old now new d before after = record {
   domains = record {
     pages = after.domains.pages ∙ before.domains.pages;

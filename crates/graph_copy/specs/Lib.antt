@@ -1,6 +1,9 @@
 pub mod AskedOfCopies
 pub mod CopyAnswers
 pub mod Finished
+pub mod FoundSoFar
+pub mod Judged
 pub mod MetObjects
 pub mod Places
 pub mod Queues
+pub mod Visited

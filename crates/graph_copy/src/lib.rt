@@ -6,6 +6,7 @@
 
 mod answers;
 mod discovery;
+mod judge;
 mod marks;
 mod meeting;
 mod places;
