@@ -8,3 +8,5 @@ mod ObjectsVisited
 mod PlacesWalked
 mod QueuesForgotten
 mod ReachFound
+mod WalksGoOn
+mod WordsFound

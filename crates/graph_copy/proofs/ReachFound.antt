@@ -27,7 +27,7 @@ use Rattle.graph_copy.proofs.QueuesForgotten.{has_head}
 
 -- ---- The objects that the values name.
 
-nothing_met : (c : HeapContent) (d : DomainId) → ((a : ℕ) → c.mark d a ≡ 0) → AreMet c d [] []
+pub nothing_met : (c : HeapContent) (d : DomainId) → ((a : ℕ) → c.mark d a ≡ 0) → AreMet c d [] []
 unfolding IsDistinct
 nothing_met c d calm = record {
   todo_queue = record { linked = tt; distinct = tt; named = λ a there. absurd (Contains-none a there) };

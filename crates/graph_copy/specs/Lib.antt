@@ -1,5 +1,6 @@
 pub mod AskedOfCopies
 pub mod CopyAnswers
+pub mod Discovered
 pub mod Finished
 pub mod FoundSoFar
 pub mod Judged
