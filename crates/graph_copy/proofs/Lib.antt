@@ -1,4 +1,5 @@
 -- Why the marks of objects hold queues, and what is found on them is all that is reached.
+mod AnswersFound
 mod FieldsByPlace
 mod MarkedObjects
 mod NamesShared

@@ -1,3 +1,4 @@
+pub mod AnswersTold
 pub mod AskedOfCopies
 pub mod CopyAnswers
 pub mod Discovered
