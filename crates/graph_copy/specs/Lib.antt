@@ -1,2 +1,11 @@
+pub mod AnswersTold
 pub mod AskedOfCopies
 pub mod CopyAnswers
+pub mod Discovered
+pub mod Finished
+pub mod FoundSoFar
+pub mod Judged
+pub mod MetObjects
+pub mod Places
+pub mod Queues
+pub mod Visited
