@@ -29,6 +29,7 @@ pub mod InsidesStaySealed
 pub mod InstructionsKeepHeads
 pub mod InstructionsOfFiles
 pub mod InstructionsThatAsk
+pub mod InstructionsThatCross
 pub mod KillsKnown
 pub mod LinkedAgain
 pub mod LowestFramesStay
@@ -42,6 +43,7 @@ pub mod NamesOfNewCode
 pub mod NamesStay
 pub mod NewMembers
 pub mod NumbersDrawn
+pub mod NumbersFound
 pub mod ObjectsMadeWell
 pub mod OpcodesByTest
 pub mod OpenedMachines
@@ -60,6 +62,7 @@ pub mod RaisesSealed
 pub mod RaisesWhereMet
 pub mod RequestsAnswered
 pub mod RequestsGranted
+pub mod RequestsKnown
 pub mod RequestsSealed
 pub mod RunningSegmentsFit
 pub mod RunsAgain
@@ -73,7 +76,10 @@ pub mod SegmentsStillFit
 pub mod SegmentsThatRan
 pub mod SoundAgain
 pub mod StaticsBegin
+pub mod StepsAllKnown
+pub mod StepsKnown
 pub mod StepsKnownWithoutJk
+pub mod StepsThatCross
 pub mod StepsWithinDomains
 pub mod SystemClassesSound
 pub mod TasksAfterRuns

@@ -3,7 +3,7 @@
 ghost use Rattle.machine_laws.specs.KnownMachines.{IsKnownMachine, IsKnownWithoutJk};
 ghost use Rattle.machine_laws.specs.LowestFrames.{LowestFramesGiveStill};
 ghost use Rattle.machine_laws.specs.RunsInMachines.{AnsweringRunsStayWhole, FirstMachinesAreWhole, KeptRunsStaySealed, PaidMachinesStayKnown};
-ghost use Rattle.machine_laws.specs.SealedSteps.{FirstMachinesAreKnown, LeftRunsStaySealed, KillsStayKnown, RunningSegmentsActWell, StepsStayWithoutJk, WaitingRunsStaySealed};
+ghost use Rattle.machine_laws.specs.SealedSteps.{FirstMachinesAreKnown, LeftRunsStaySealed, KillsStayKnown, RunningSegmentsActWell, StepsStayKnown, StepsStayWithoutJk, WaitingRunsStaySealed};
 ghost use Rattle.machine_laws.specs.StepProgress.{GoingIsThere, RoundsAreThere, TurnsAreThere};
 
 use crate::folders::system_classes_are_sound;
@@ -61,6 +61,14 @@ pub fn lowest_frames_give_still()
 /// known of it that was known.
 pub fn steps_stay_known_without_jk()
     ensures { StepsStayWithoutJk }
+{
+    heap_rows_keep();
+}
+
+/// All is known of the machine to which a step leads of which all is known: whatever the step was, also where the thread entered another domain,
+/// came back from one or asked for something, and where a domain ended.
+pub fn steps_stay_known()
+    ensures { StepsStayKnown }
 {
     heap_rows_keep();
 }
