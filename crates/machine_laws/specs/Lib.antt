@@ -2,7 +2,9 @@ pub mod CallsAndAnswers
 pub mod GoingOn
 pub mod KeptWorlds
 pub mod KnownMachines
+pub mod LoadingNext
 pub mod LowestFrames
+pub mod MachinesOfRuns
 pub mod OpenedMachines
 pub mod RunsInMachines
 pub mod SealedCrossings

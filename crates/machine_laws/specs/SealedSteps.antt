@@ -10,7 +10,7 @@ use Rattle.jk_model_runs.specs.Events.{Kills}
 use Rattle.jk_model_runs.specs.Sealed.{IsSealed, surroundings}
 use Rattle.jk_model_runs.specs.Starts.{Starts, StartWords}
 use Rattle.jk_model_runs.specs.Steps.{Steps}
-use Rattle.machine_laws.specs.SoundMachines.{IsSealedAtCall}
+use Rattle.machine_laws.specs.SoundMachines.{HasSoundClasses, IsSealedAtCall}
 use Rattle.machine_laws.specs.KnownMachines.{IsKnownMachine, RunsNoPackageJk}
 use Rattle.row_laws.specs.KeptRuns.{ActsWell, AwaitOn, KeepsRun}
 
@@ -47,6 +47,12 @@ StepsStayKnown = (m new : Machine) (t : ThreadNo) (lines : List Line) → IsKnow
 
 abbrev pub StartsStayKnown : Type 0
 StartsStayKnown = (m new : Machine) (start : StartWords) (lines : List Line) → IsKnownMachine m → Starts m start lines new → IsKnownMachine new
+
+-- also where calls aren't answered
+abbrev pub StartsStaySealed : Type 0
+StartsStaySealed =
+    (m new : Machine) (start : StartWords) (lines : List Line) → IsSealed m → HasSoundClasses m → Starts m start lines new
+    → IsSealed new × HasSoundClasses new
 
 abbrev pub KillsStayKnown : Type 0
 KillsStayKnown = (m new : Machine) (name : List ℕ) (lines : List Line) → IsKnownMachine m → Kills m name lines new → IsKnownMachine new

@@ -2,12 +2,14 @@
 
 ghost use Rattle.machine_laws.specs.KnownMachines.{IsKnownMachine, IsKnownWithoutJk};
 ghost use Rattle.machine_laws.specs.LowestFrames.{LowestFramesGiveStill};
+ghost use Rattle.machine_laws.specs.MachinesOfRuns.{FirstMachinesAreWithoutJk, IsOfRunWithoutJk, KillsMayGrow, RoundsGoOn, StartsMayGrow, StartsStayOfRuns, StepsMayGrow, StepsStayOfRuns, ThreadsGoOn, TurnsGoOn};
 ghost use Rattle.machine_laws.specs.RunsInMachines.{AnsweringRunsStayWhole, FirstMachinesAreWhole, KeptRunsStaySealed, PaidMachinesStayKnown};
-ghost use Rattle.machine_laws.specs.SealedSteps.{FirstMachinesAreKnown, LeftRunsStaySealed, KillsStayKnown, RunningSegmentsActWell, StepsStayKnown, StepsStayWithoutJk, WaitingRunsStaySealed};
-ghost use Rattle.machine_laws.specs.StepProgress.{GoingIsThere, RoundsAreThere, TurnsAreThere};
+ghost use Rattle.machine_laws.specs.SealedSteps.{FirstMachinesAreKnown, KillsStayKnown, LeftRunsStaySealed, RunningSegmentsActWell, StartsStayKnown, StartsStaySealed, StartsStayWithoutJk, StepsStayKnown, StepsStayWithoutJk, WaitingRunsStaySealed};
+ghost use Rattle.machine_laws.specs.StepProgress.{GoingIsThere, RoundsAreThere, StepsAreThereWithoutJk, TurnsAreThere};
 
 use crate::folders::system_classes_are_sound;
 use row_laws::heap_rows::heap_rows_keep;
+use row_laws::running::{local_steps_are_there, local_steps_keep};
 
 /// Where each thread of such a machine has a step, and steps lead to such machines, there are whole turns and rounds.
 pub fn turns_are_there()
@@ -77,3 +79,52 @@ pub fn steps_stay_known()
 pub fn kills_stay_known()
     ensures { KillsStayKnown }
 {}
+
+/// A start leads from a machine of which all is known to such a machine, from a sealed one to a sealed one where classes and names are sound, and
+/// from one without package jk to one without it.
+pub fn starts_stay_known()
+    ensures known { StartsStayKnown }
+    ensures sealed { StartsStaySealed }
+    ensures without_jk { StartsStayWithoutJk }
+{}
+
+/// Where another domain may be opened, it may be opened after each start, step and kill.
+pub fn machines_may_grow()
+    ensures starts { StartsMayGrow }
+    ensures steps { StepsMayGrow }
+    ensures kills { KillsMayGrow }
+{
+    local_steps_keep();
+}
+
+/// The first machine has all that a run without package jk keeps, and a start keeps it.
+pub fn runs_begin_without_jk()
+    ensures first { FirstMachinesAreWithoutJk }
+    ensures starts { StartsStayOfRuns }
+{
+    first_machines_are_known();
+}
+
+/// Each thread of a machine without package jk has a step.
+pub fn steps_are_there_without_jk()
+    ensures { StepsAreThereWithoutJk }
+{
+    heap_rows_keep();
+    local_steps_are_there();
+    local_steps_keep();
+}
+
+/// In a run without package jk each step leads to a machine of the run, and there are whole turns and rounds, which lead to machines of the run.
+/// There are also from each machine without package jk of which all is known.
+pub fn runs_go_on_without_jk()
+    ensures steps { StepsStayOfRuns }
+    ensures turns { TurnsGoOn IsOfRunWithoutJk }
+    ensures threads { ThreadsGoOn IsOfRunWithoutJk }
+    ensures rounds { RoundsGoOn IsOfRunWithoutJk }
+    ensures known_turns { TurnsGoOn IsKnownWithoutJk }
+    ensures known_rounds { RoundsGoOn IsKnownWithoutJk }
+{
+    steps_are_there_without_jk();
+    steps_stay_known_without_jk();
+    machines_may_grow();
+}

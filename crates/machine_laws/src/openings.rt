@@ -1,7 +1,12 @@
 //! The laws. The functions have no bodies: each stands for its clauses.
 
+ghost use Rattle.machine_laws.specs.LoadingNext.{FirstMachinesLoadNext, FoldersMayLoad, KillsLoadNext, OpeningsLoadNext, StartsLoadNext, StepsLoadNext};
+ghost use Rattle.machine_laws.specs.MachinesOfRuns.{OpeningsStayKnown, OpeningsStayOfRuns};
 ghost use Rattle.machine_laws.specs.OpenedMachines.{FirstMachinesMayGrow, OpeningsStayWhole};
 ghost use Rattle.machine_laws.specs.SealedOpenings.{FramesStaySealed, InsidesStaySealed, OpeningsAreSealed, OpeningsAreThere};
+
+use crate::folders::{accepted_folders_stay_sound, system_classes_are_sound};
+use row_laws::running::local_steps_keep;
 
 /// A domain can be opened wherever 44 words fit, and is sealed inside.
 pub fn domains_open()
@@ -22,3 +27,25 @@ pub fn machines_stay_whole()
     ensures opened { OpeningsStayWhole }
     ensures first { FirstMachinesMayGrow }
 {}
+
+/// All is known of a machine in which a domain is opened from accepted files, and another domain may be opened in it. Where no class of the
+/// folder refers to package jk, that package stays out of the run.
+pub fn openings_stay_known()
+    ensures known { OpeningsStayKnown }
+    ensures without_jk { OpeningsStayOfRuns }
+{
+    accepted_folders_stay_sound();
+}
+
+/// All along a run another folder may be loaded: so it is in the first machine, and so it stays with each opening, start, step and kill.
+pub fn folders_may_be_loaded()
+    ensures may { FoldersMayLoad }
+    ensures first { FirstMachinesLoadNext }
+    ensures openings { OpeningsLoadNext }
+    ensures starts { StartsLoadNext }
+    ensures steps { StepsLoadNext }
+    ensures kills { KillsLoadNext }
+{
+    system_classes_are_sound();
+    local_steps_keep();
+}
