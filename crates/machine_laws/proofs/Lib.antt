@@ -2,6 +2,7 @@ pub mod AnswersSealed
 pub mod BodiesOfMethods
 pub mod CallsArrive
 pub mod CallsDecided
+pub mod CallsFound
 pub mod CallsSealed
 pub mod CallsStayAnswered
 pub mod CapabilitiesAfterRuns
@@ -70,6 +71,7 @@ pub mod RequestsAnswered
 pub mod RequestsGranted
 pub mod RequestsKnown
 pub mod RequestsSealed
+pub mod ReturnsFound
 pub mod RunningSegmentsFit
 pub mod RunsAgain
 pub mod RunsAnswered
@@ -86,6 +88,7 @@ pub mod SoundAgain
 pub mod StartWordsMade
 pub mod StartsStayKnown
 pub mod StaticsBegin
+pub mod StepsAllFound
 pub mod StepsAllKnown
 pub mod StepsFound
 pub mod StepsGrow
@@ -100,6 +103,7 @@ pub mod ThreadsBegun
 pub mod ThreadsEnded
 pub mod ThreadsThinned
 pub mod ThrowablesSealed
+pub mod ThrowsFound
 pub mod TopFramesReplaced
 pub mod TopSegmentsTaken
 pub mod TypesOfMethods

@@ -162,7 +162,7 @@ module _ (m : Machine) (t : ThreadNo) (p : RunningSegment m t) (answered : AreCa
 -- ---- What is answered.
 
 -- a value of the request's type, which is known, or something that may be raised
-abbrev FitsGranted : Machine → List NamedObject → Request → Granted → Type 0
+abbrev pub FitsGranted : Machine → List NamedObject → Request → Granted → Type 0
 FitsGranted mid heap request (Ok v) = IsAnswerOf mid.classes heap (answer_type request) v × IsKnownAnswer (caps_of mid) heap v
 FitsGranted mid heap request (Err r) = MayBeRaised mid.classes heap r
 
@@ -291,23 +291,23 @@ module _ (m : Machine) (t : ThreadNo) (p : RunningSegment m t) (waits : IsSealed
   may = asked_by asks.around.classes asks.around.caps m t p asks.classes asks.caps asks.around.table request asks.awaits.known
 
   module _ (granted : Granted) (mid : Machine) (grants : Grants p request granted mid) where
-    kept : PlaceKept p mid
+    pub kept : PlaceKept p mid
     kept = place_kept m t p answered request granted mid grants
 
-    given : IsSealedAtCall mid t
+    pub given : IsSealedAtCall mid t
     given = granted_sealed m t p request granted mid waits sound may grants
 
-    mid_sound : HasSoundClasses mid
+    pub mid_sound : HasSoundClasses mid
     mid_sound = sound_classes_stay m mid (grants_keep p request granted mid grants) sound
 
-    fits : (heap : List NamedObject) → FitsGranted mid heap request granted
+    pub fits : (heap : List NamedObject) → FitsGranted mid heap request granted
     fits heap = granted_fits m t p waits sound answered heap request granted mid grants given mid_sound
 
     classes_same : asks.around.classes ≡ mid.classes
     classes_same = asks.classes ∙ sym (grants_keep p request granted mid grants).classes
 
     module _ (q : RunningSegment mid t) where
-      frames_same : q.segment.frames ≡ asks.callers ++ asks.caller ∷ []
+      pub frames_same : q.segment.frames ≡ asks.callers ++ asks.caller ∷ []
       frames_same = ap (λ (x : Segment). x.frames) (one_running mid t kept.place q).0 ∙ kept.frames ∙ asks.are_frames
 
       inside_same : q.home.inside ≡ p.home.inside

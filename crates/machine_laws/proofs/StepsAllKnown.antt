@@ -29,13 +29,13 @@ module _ (m : Machine) (t : ThreadNo) (known : IsKnownMachine m) (p : RunningSeg
   abbrev ran : Segment
   ran = record p.segment { frames = run.frames }
 
-  waits : IsSealedAtCall (with_run p run) t
+  pub waits : IsSealedAtCall (with_run p run) t
   waits = waiting_sealed m t p run (Asks request) known.0.0 keeps keeps.fits.0.0
 
-  answered : AreCallsAnswered (with_run p run)
+  pub answered : AreCallsAnswered (with_run p run)
   answered = running_answered m t p known.0.1 ran run.inside refl gives keeps.fits.0.1
 
-  asks_here : (s : RunningSegment (with_run p run) t) → AsksHere s request
+  pub asks_here : (s : RunningSegment (with_run p run) t) → AsksHere s request
   asks_here s = record {
     callers = keeps.fits.1.0.callers;
     caller = keeps.fits.1.0.frame;

@@ -73,7 +73,7 @@ raised_whole m t p whole sound r can n lines new raises = (
 )
 
 -- each refusal is a throwable of the system, or one that stands there
-refusal : (w : Machine) → HasSoundClasses w → (heap : List NamedObject) (t : ThreadNo) (c : RemoteCall w t) (r : Raise) → Refuses c r
+pub refusal : (w : Machine) → HasSoundClasses w → (heap : List NamedObject) (t : ThreadNo) (c : RemoteCall w t) (r : Raise) → Refuses c r
     → MayBeRaised w.classes heap r
 refusal w sound heap t c r (Refuses.is_dead dead) = tt
 refusal w sound heap t c r (Refuses.not_shown live not) = (omega arith, below_listed w.classes sound.codes 9 INCOMPATIBLE_CLASS_CHANGE_ERROR.0 9 refl)
@@ -156,11 +156,11 @@ module _ (m : Machine) (t : ThreadNo) (known : IsKnownMachine m) where
     pub sound : HasSoundClasses w
     sound = sound_classes_stay m w (running_keeps p ran run.inside) known.1
 
-    whole : RunOn around run → GivesStill m.classes p.segment.frames run.frames → IsWhole w
+    pub whole : RunOn around run → GivesStill m.classes p.segment.frames run.frames → IsWhole w
     whole on gives =
         let r = goes_on m t p run went known.0.0 keeps on.0 in (sealed_after m t r, calls_answered m t r refl gives on.1 known.0.1)
 
-    others : AreOthersAnswered w t
+    pub others : AreOthersAnswered w t
     others = others_left m t p known.0.1 ran run.inside refl
 
     pub caps_same : caps_of w ≡ caps_of m
@@ -189,7 +189,7 @@ module _ (m : Machine) (t : ThreadNo) (known : IsKnownMachine m) where
                 (subst (λ (h : List NamedObject). IsAnswerOf m.classes h result v) (sym same) (result_given around run.inside.heap result v is).0);
           }
 
-      taken : IsTaken w t v
+      pub taken : IsTaken w t v
       taken s orphan =
           let sealed = left_sealed m t p run went known.0.0 keeps none in
           let one = runs_there m t p ran run.inside refl s.left in

@@ -5,7 +5,7 @@ ghost use Rattle.machine_laws.specs.LowestFrames.{LowestFramesGiveStill};
 ghost use Rattle.machine_laws.specs.MachinesOfRuns.{FirstMachinesAreWithoutJk, IsOfRunWithoutJk, KillsMayGrow, RoundsGoOn, StartsMayGrow, StartsStayOfRuns, StepsMayGrow, StepsStayOfRuns, ThreadsGoOn, TurnsGoOn};
 ghost use Rattle.machine_laws.specs.RunsInMachines.{AnsweringRunsStayWhole, FirstMachinesAreWhole, KeptRunsStaySealed, PaidMachinesStayKnown};
 ghost use Rattle.machine_laws.specs.SealedSteps.{FirstMachinesAreKnown, KillsStayKnown, LeftRunsStaySealed, RunningSegmentsActWell, StartsStayKnown, StartsStaySealed, StartsStayWithoutJk, StepsStayKnown, StepsStayWithoutJk, WaitingRunsStaySealed};
-ghost use Rattle.machine_laws.specs.StepProgress.{GoingIsThere, RoundsAreThere, StepsAreThereWithoutJk, TurnsAreThere};
+ghost use Rattle.machine_laws.specs.StepProgress.{GoingIsThere, RoundsAreThere, StepsAreThere, StepsAreThereWithoutJk, TurnsAreThere};
 
 use crate::folders::system_classes_are_sound;
 use row_laws::heap_rows::heap_rows_keep;
@@ -108,6 +108,15 @@ pub fn runs_begin_without_jk()
 /// Each thread of a machine without package jk has a step.
 pub fn steps_are_there_without_jk()
     ensures { StepsAreThereWithoutJk }
+{
+    heap_rows_keep();
+    local_steps_are_there();
+    local_steps_keep();
+}
+
+/// Each thread of a machine of which all is known has a step.
+pub fn steps_are_there()
+    ensures { StepsAreThere }
 {
     heap_rows_keep();
     local_steps_are_there();
