@@ -2,6 +2,7 @@ pub mod AnswersSealed
 pub mod BodiesOfMethods
 pub mod CallsArrive
 pub mod CallsDecided
+pub mod CallsFound
 pub mod CallsSealed
 pub mod CallsStayAnswered
 pub mod CapabilitiesAfterRuns
@@ -36,6 +37,7 @@ pub mod InsidesStaySealed
 pub mod InstructionsKeepHeads
 pub mod InstructionsOfFiles
 pub mod InstructionsThatAsk
+pub mod InstructionsThatCross
 pub mod KillsKnown
 pub mod LinkedAgain
 pub mod LowestFramesStay
@@ -54,6 +56,7 @@ pub mod NamesStay
 pub mod NeedsDecided
 pub mod NewMembers
 pub mod NumbersDrawn
+pub mod NumbersFound
 pub mod ObjectsMadeWell
 pub mod OpcodesByTest
 pub mod OpenedMachines
@@ -75,7 +78,9 @@ pub mod RaisesWhereMet
 pub mod RanInSteps
 pub mod RequestsAnswered
 pub mod RequestsGranted
+pub mod RequestsKnown
 pub mod RequestsSealed
+pub mod ReturnsFound
 pub mod RunningSegmentsFit
 pub mod RunsAgain
 pub mod RunsAnswered
@@ -92,9 +97,13 @@ pub mod SoundAgain
 pub mod StartWordsMade
 pub mod StartsStayKnown
 pub mod StaticsBegin
+pub mod StepsAllFound
+pub mod StepsAllKnown
 pub mod StepsFound
 pub mod StepsGrow
+pub mod StepsKnown
 pub mod StepsKnownWithoutJk
+pub mod StepsThatCross
 pub mod StepsWithinDomains
 pub mod SystemClassesSound
 pub mod TasksAfterRuns
@@ -103,6 +112,7 @@ pub mod ThreadsBegun
 pub mod ThreadsEnded
 pub mod ThreadsThinned
 pub mod ThrowablesSealed
+pub mod ThrowsFound
 pub mod TopFramesReplaced
 pub mod TopSegmentsTaken
 pub mod TypesOfMethods
