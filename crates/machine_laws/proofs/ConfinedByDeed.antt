@@ -1,6 +1,6 @@
 -- What a step changes elsewhere is what its deed says, deed by deed.
-use Rattle.std.proofs.Common.{◌≡◌, ℕ, zero, suc, ◌-◌, List, [], ◌∷◌, ◌++◌, Option, Ok, Err, false, inl, refl, sym, ap, subst, ◌∙◌}
-use Rattle.std.specs.Prelude.{⊤, option_map}
+use Rattle.std.proofs.Common.{◌≡◌, ℕ, zero, suc, List, [], Ok, Err, false, inl, refl, sym, ap, subst, ◌∙◌}
+use Rattle.std.specs.Prelude.{⊤}
 use Rattle.std.proofs.lemmas.Option.{same_Some}
 use Rattle.jk_model.specs.declared.identifiers.DomainId.{DomainId}
 use Rattle.jk_model.specs.declared.identifiers.SegmentNo.{SegmentNo}
@@ -9,28 +9,28 @@ use Rattle.jk_model.specs.declared.output.Line.{Line}
 use Rattle.jk_model.specs.declared.steps.Raise.{Raise}
 use Rattle.jk_model.specs.declared.steps.Raise.TheVariants as Raised
 use Rattle.jk_model.specs.declared.steps.Standing.TheVariants as Stands
-use Rattle.jk_model.specs.declared.values.Value.{Value}
-use Rattle.jk_model_domains.specs.Objects.{NamedObject}
-use Rattle.jk_model_heaps.specs.CalledFrames.{resumed}
-use Rattle.jk_model_heaps.specs.Workings.{Inside, Request, Run, with_heap}
+use Rattle.jk_model_heaps.specs.Workings.{Request, Run}
 use Rattle.jk_model_heaps.specs.Workings.{Binds as AsksToBind, Creates as AsksToCreate, LooksUp as AsksToLookUp, Resumes as AsksToResume, Revokes as AsksToRevoke, Stops as AsksToStop, Suspends as AsksToSuspend, Unbinds as AsksToUnbind}
 use Rattle.jk_model_running.specs.Ways.{Went}
 use Rattle.jk_model_sharing.specs.Answers.{Granted}
-use Rattle.jk_model_sharing.specs.Segments.{SharedSegment, with_revoked, with_stop}
-use Rattle.jk_model_machine_state.specs.Machines.{DomainState, Machine, Segment, paid, thread_numbered}
+use Rattle.jk_model_sharing.specs.Segments.{with_revoked, with_stop}
+use Rattle.jk_model_machine_state.specs.Machines.{Machine, Segment, paid, thread_numbered}
 use Rattle.jk_model_machine_state.specs.Places.{RunningSegment, with_flags, with_run}
-use Rattle.jk_model_crossings.specs.Answers.{Receives}
 use Rattle.jk_model_crossings.specs.Requests.{Grants}
 use Rattle.jk_model_crossings.specs.Throwing.{RaisesInThread, Throws}
 use Rattle.jk_model_runs.specs.Confined.{Confined}
 use Rattle.jk_model_runs.specs.Steps.{Acts, Deed, EndedDomain, Ensues, Entered, Flagged, LeftSegments, Rested, StepsBy, Worked, deed_of_raise, deed_of_request}
-use Rattle.machine_laws.specs.ConfinedSteps.{WasCall, WasEnd, WasRest, WasWork}
+use Rattle.row_laws.specs.HeapRowLaws.{HeapRowsKeep}
+use Rattle.machine_laws.specs.ConfinedSteps.{WasCall, WasEnd, WasLeaving, WasRest, WasWork}
 use Rattle.machine_laws.specs.KnownMachines.{IsKnownMachine}
 use Rattle.machine_laws.proofs.ConfinedCalls.{call_changes}
 use Rattle.machine_laws.proofs.ConfinedEnds.{end_changes}
 use Rattle.machine_laws.proofs.ConfinedRequests.{IsQuiet, granted_here}
-use Rattle.machine_laws.proofs.WorkedSoFar.{WorkedSo, starts, changes_domain, works_on, worked_changes}
-use Rattle.machine_laws.proofs.RanInSteps.{ChangesHere, confined_by, one_top, unchanged, was_top}
+use Rattle.machine_laws.proofs.WorkedSoFar.{WorkedSo, works_on, worked_changes}
+use Rattle.machine_laws.proofs.ConfinedLeaves.{acts_leave}
+use Rattle.machine_laws.proofs.FallsSoFar.{left_changes}
+use Rattle.machine_laws.proofs.PaidSoFar.{flagged_so, of_old, payer, pays, ran_so, receives_so}
+use Rattle.machine_laws.proofs.RanInSteps.{ChangesHere, confined_by, unchanged}
 use Rattle.machine_laws.proofs.RunningSegmentsFit.{same_thread_number, thread_place}
 use Rattle.machine_laws.proofs.RunsAgain.{of_home}
 use Rattle.machine_laws.proofs.ThreadsEnded.{thread_found}
@@ -54,14 +54,8 @@ request_of P works flags (AsksToStop s) = flags s
 -- ---- The paid step of a segment.
 
 module _ (m : Machine) (t : ThreadNo) (p : RunningSegment m t) (known : IsKnownMachine m) (q : RunningSegment m t) where
-  abbrev payer : DomainId
-  payer = q.segment.shared.domain
-
-  pays : payer ≡ p.segment.shared.domain
-  pays = ap (λ (s : Segment). s.shared.domain) (one_top m t p q).2
-
-  of_old : (z : RunningSegment (paid payer m) t) (s : Segment) (inside : Inside) → z.segment.shared.domain ≡ p.segment.shared.domain
-  of_old z s inside = ap (λ (u : Segment). u.shared.domain) (was_top m t p known payer pays z s inside).2
+  abbrev pays_it : DomainId
+  pays_it = payer m t p known q
 
   abbrev Changes : Deed → Machine → Type 0
   Changes deed new = ChangesHere (record { machine = m; thread = t; deed = deed }) p.segment.shared.domain p new
@@ -72,7 +66,7 @@ module _ (m : Machine) (t : ThreadNo) (p : RunningSegment m t) (known : IsKnownM
   Ends (EndedDomain e) = ⊤
   Ends deed = ⊥
 
-  ensues_ends : (z : RunningSegment (paid payer m) t) (run : Run) (went : Went) (deed : Deed) (lines : List Line) (new : Machine)
+  ensues_ends : (z : RunningSegment (paid pays_it m) t) (run : Run) (went : Went) (deed : Deed) (lines : List Line) (new : Machine)
       → Ensues (with_run z run) t went deed lines new → Ends deed → Changes deed new
   ensues_ends z run went deed lines new Ensues.goes_on ended = absurd ended
   ensues_ends z run went deed lines new (Ensues.says x text) ended = absurd ended
@@ -87,10 +81,10 @@ module _ (m : Machine) (t : ThreadNo) (p : RunningSegment m t) (known : IsKnownM
       absurd (raise_of (λ (y : Deed). Ends y → ⊥) (λ x. x) (λ k x. x) n ended)
   ensues_ends z run went deed lines new (Ensues.terminates x said end h) ended =
       let s : Segment = record z.segment { frames = run.frames } in
-      end_changes m t p known payer pays z s run.inside (of_old z s run.inside) x.home.domain
-      (x.home.numbered ∙ of_home (paid payer m) t z s run.inside refl x ∙ of_old z s run.inside) said end h
+      end_changes m t p known pays_it (pays m t p known q) z s run.inside (of_old m t p known q z s run.inside) x.home.domain
+      (x.home.numbered ∙ of_home (paid pays_it m) t z s run.inside refl x ∙ of_old m t p known q z s run.inside) said end h
 
-  acts_ends : (deed : Deed) (lines : List Line) (new : Machine) → Acts (paid payer m) t deed lines new → Ends deed → Changes deed new
+  acts_ends : (deed : Deed) (lines : List Line) (new : Machine) → Acts (paid pays_it m) t deed lines new → Ends deed → Changes deed new
   acts_ends deed lines new (Acts.stops x n said end stop h) ended = absurd (raise_of (λ (y : Deed). Ends y → ⊥) (λ x. x) (λ k x. x) n ended)
   acts_ends deed lines new (Acts.is_revoked x n said end stop revoked h) ended =
       absurd (raise_of (λ (y : Deed). Ends y → ⊥) (λ x. x) (λ k x. x) n ended)
@@ -102,14 +96,14 @@ module _ (m : Machine) (t : ThreadNo) (p : RunningSegment m t) (known : IsKnownM
   Calls (Entered k method) = ⊤
   Calls deed = ⊥
 
-  ensues_calls : (z : RunningSegment (paid payer m) t) (run : Run) (went : Went) (deed : Deed) (lines : List Line) (new : Machine)
+  ensues_calls : (z : RunningSegment (paid pays_it m) t) (run : Run) (went : Went) (deed : Deed) (lines : List Line) (new : Machine)
       → Ensues (with_run z run) t went deed lines new → Calls deed → Changes deed new
   ensues_calls z run went deed lines new Ensues.goes_on called = absurd called
   ensues_calls z run went deed lines new (Ensues.says x text) called = absurd called
   ensues_calls z run went deed lines new (Ensues.ended v n said end done) called = absurd called
   ensues_calls z run went deed lines new (Ensues.left a n said end done) called = absurd called
   ensues_calls z run went deed lines new (Ensues.enters k method c end of_cap of_method h) called =
-      call_changes m t p known payer pays z run c end h k method of_cap
+      call_changes m t p known pays_it (pays m t p known q) z run c end h k method of_cap
   ensues_calls z run went deed lines new (Ensues.is_refused k method c r n said end of_cap of_method refused h) called =
       absurd (raise_of (λ (y : Deed). Calls y → ⊥) (λ x. x) (λ k x. x) n called)
   ensues_calls z run went deed lines new (Ensues.grants x request v mid end granted s received) called =
@@ -118,7 +112,7 @@ module _ (m : Machine) (t : ThreadNo) (p : RunningSegment m t) (known : IsKnownM
       absurd (raise_of (λ (y : Deed). Calls y → ⊥) (λ x. x) (λ k x. x) n called)
   ensues_calls z run went deed lines new (Ensues.terminates x said end h) called = absurd called
 
-  acts_calls : (deed : Deed) (lines : List Line) (new : Machine) → Acts (paid payer m) t deed lines new → Calls deed → Changes deed new
+  acts_calls : (deed : Deed) (lines : List Line) (new : Machine) → Acts (paid pays_it m) t deed lines new → Calls deed → Changes deed new
   acts_calls deed lines new (Acts.stops x n said end stop h) called = absurd (raise_of (λ (y : Deed). Calls y → ⊥) (λ x. x) (λ k x. x) n called)
   acts_calls deed lines new (Acts.is_revoked x n said end stop revoked h) called =
       absurd (raise_of (λ (y : Deed). Calls y → ⊥) (λ x. x) (λ k x. x) n called)
@@ -129,14 +123,6 @@ module _ (m : Machine) (t : ThreadNo) (p : RunningSegment m t) (known : IsKnownM
   abbrev Works : Deed → Type 0
   Works Worked = ⊤
   Works deed = ⊥
-
-  paid_so : WorkedSo m t p (paid payer m)
-  paid_so =
-      changes_domain m t p m (starts m t p known.0.0.domains.numbered) payer pays
-      (λ (e : DomainState). record e { steps_left = option_map (λ (n : ℕ). n - 1) e.steps_left }) (λ e. refl)
-
-  ran_so : (z : RunningSegment (paid payer m) t) (run : Run) → WorkedSo m t p (with_run z run)
-  ran_so z run = works_on m t p (paid payer m) paid_so z (record z.segment { frames = run.frames }) run.inside refl refl refl
 
   -- what is raised is caught
   raise_works : (here : Machine) → WorkedSo m t p here → (r : Raise) (n : ℕ) (lines : List Line) (new : Machine) → RaisesInThread here t r n lines new
@@ -151,18 +137,6 @@ module _ (m : Machine) (t : ThreadNo) (p : RunningSegment m t) (known : IsKnownM
       leaves k there a said end (Throws.drops w b s orphan) works = works
       leaves k there a said end (Throws.caught w mid b s r orphan brought p run raised) works = works
       leaves k there a said end (Throws.goes_on n w mid last b c more s r orphan brought p run raised thrown) works = works
-
-  flagged_so : (z : RunningSegment (paid payer m) t) (shared : SharedSegment) → shared.number ≡ z.segment.shared.number
-      → shared.domain ≡ z.segment.shared.domain → shared.orphan ≡ z.segment.shared.orphan → WorkedSo m t p (with_flags z shared)
-  flagged_so z shared number domain orphan =
-      works_on m t p (paid payer m) paid_so z (record z.segment { shared = shared }) z.home.inside number domain orphan
-
-  -- the answer comes to the frame that asked
-  receives_so : (here : Machine) → WorkedSo m t p here → (q : RunningSegment here t) (heap : List NamedObject) (v : Option Value) (new : Machine)
-      → Receives q heap v new → WorkedSo m t p new
-  receives_so here w q heap v new r =
-      subst (WorkedSo m t p) (sym r.leads)
-      (works_on m t p here w q (record q.segment { frames = r.callers ++ resumed v r.caller ∷ [] }) (with_heap q.home.inside heap) refl refl refl)
 
   quiet_work : (request : Request) → Works (deed_of_request request) → IsQuiet request
   quiet_work (AsksToCreate class target) works = tt
@@ -186,31 +160,31 @@ module _ (m : Machine) (t : ThreadNo) (p : RunningSegment m t) (known : IsKnownM
   denied_quiet here q request g r mid (Grants.resumes s) denied = absurd cc
   denied_quiet here q request g r mid (Grants.stops s) denied = absurd cc
 
-  ensues_work : (z : RunningSegment (paid payer m) t) (run : Run) (went : Went) (deed : Deed) (lines : List Line) (new : Machine)
+  ensues_work : (z : RunningSegment (paid pays_it m) t) (run : Run) (went : Went) (deed : Deed) (lines : List Line) (new : Machine)
       → Ensues (with_run z run) t went deed lines new → Works deed → WorkedSo m t p new
-  ensues_work z run went deed lines new Ensues.goes_on works = ran_so z run
-  ensues_work z run went deed lines new (Ensues.says x text) works = ran_so z run
+  ensues_work z run went deed lines new Ensues.goes_on works = ran_so m t p known q z run
+  ensues_work z run went deed lines new (Ensues.says x text) works = ran_so m t p known q z run
   ensues_work z run went deed lines new (Ensues.ended v n said end done) works = absurd works
   ensues_work z run went deed lines new (Ensues.left a n said end done) works = absurd works
   ensues_work z run went deed lines new (Ensues.enters k method c end of_cap of_method h) works = absurd works
   ensues_work z run went deed lines new (Ensues.is_refused k method c r n said end of_cap of_method refused h) works =
-      raise_works (with_run z run) (ran_so z run) r n said end h works
-  ensues_work z run went deed lines new (Ensues.grants x request v mid end granted q received) works =
-      receives_so mid
-      (granted_here m t p (with_run z run) (ran_so z run) known.0.0.names.differ x request (Ok v) mid granted (quiet_work request works)) q
-      q.home.inside.heap v end received
+      raise_works (with_run z run) (ran_so m t p known q z run) r n said end h works
+  ensues_work z run went deed lines new (Ensues.grants x request v mid end granted y received) works =
+      receives_so m t p known q mid
+      (granted_here m t p (with_run z run) (ran_so m t p known q z run) known.0.0.names.differ x request (Ok v) mid granted (quiet_work request works)) y
+      y.home.inside.heap v end received
   ensues_work z run went deed lines new (Ensues.denies x request r n said mid end granted h) works =
       raise_works mid
-      (granted_here m t p (with_run z run) (ran_so z run) known.0.0.names.differ x request (Err r) mid granted
+      (granted_here m t p (with_run z run) (ran_so m t p known q z run) known.0.0.names.differ x request (Err r) mid granted
       (denied_quiet (with_run z run) x request (Err r) r mid granted refl)) r n said end h works
   ensues_work z run went deed lines new (Ensues.terminates x said end h) works = absurd works
 
-  acts_work : (deed : Deed) (lines : List Line) (new : Machine) → Acts (paid payer m) t deed lines new → Works deed → WorkedSo m t p new
+  acts_work : (deed : Deed) (lines : List Line) (new : Machine) → Acts (paid pays_it m) t deed lines new → Works deed → WorkedSo m t p new
   acts_work deed lines new (Acts.stops z n said end stop h) works =
-      raise_works (with_flags z (with_stop false z.segment.shared)) (flagged_so z (with_stop false z.segment.shared) refl refl refl)
+      raise_works (with_flags z (with_stop false z.segment.shared)) (flagged_so m t p known q z (with_stop false z.segment.shared) refl refl refl)
       (Raised.Standing Stands.ThreadDeath) n said end h works
   acts_work deed lines new (Acts.is_revoked z n said end stop revoked h) works =
-      raise_works (with_flags z (with_revoked false z.segment.shared)) (flagged_so z (with_revoked false z.segment.shared) refl refl refl)
+      raise_works (with_flags z (with_revoked false z.segment.shared)) (flagged_so m t p known q z (with_revoked false z.segment.shared) refl refl refl)
       (Raised.Standing Stands.Revoked) n said end h works
   acts_work deed lines new (Acts.does z run went done said end stop revoked step h) works = ensues_work z run went done said end h works
 
@@ -295,3 +269,13 @@ works_confined m new t deed lines p known was (StepsBy.acts q done said end free
     confined_by m end t done said p (StepsBy.acts q done said end free rich h)
     (subst (λ (y : Deed). ChangesHere (record { machine = m; thread = t; deed = y }) p.segment.shared.domain p end) (sym was)
     (worked_changes m t p end (acts_work m t p known q done said end h (subst (Works m t p known q) (sym was) tt))))
+
+pub leaves_confined : HeapRowsKeep → (m new : Machine) (t : ThreadNo) (deed : Deed) (lines : List Line) (p : RunningSegment m t) → IsKnownMachine m
+    → WasLeaving deed → StepsBy m t deed lines new → Confined (record { machine = m; thread = t; deed = deed }) p.segment.shared.domain new
+leaves_confined rows m new t deed lines p known was (StepsBy.not_live gone) = absurd (gone (p.thread, p.is_thread))
+leaves_confined rows m new t deed lines p known (n, is, some) (StepsBy.is_held q held) = absurd cc
+leaves_confined rows m new t deed lines p known (n, is, some) (StepsBy.is_spent q free spent) = absurd cc
+leaves_confined rows m new t deed lines p known (n, is, some) (StepsBy.acts q done said end free rich h) =
+    confined_by m end t done said p (StepsBy.acts q done said end free rich h)
+    (subst (λ (y : Deed). ChangesHere (record { machine = m; thread = t; deed = y }) p.segment.shared.domain p end) (sym is)
+    (left_changes m t p n end (acts_leave m t p known q n rows done said end h (is, some))))

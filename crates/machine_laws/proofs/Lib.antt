@@ -7,13 +7,17 @@ pub mod ChangedItems
 pub mod ConfinedByDeed
 pub mod ConfinedCalls
 pub mod ConfinedEnds
+pub mod ConfinedLeaves
 pub mod ConfinedRequests
+pub mod ConfinedThrows
 pub mod ConfinedWithoutJk
 pub mod ConstantsOfFields
 pub mod CopiesTaken
+pub mod DeniedRequests
 pub mod DomainsAfterRuns
 pub mod ElsewhereSame
 pub mod EventsGoOn
+pub mod FallsSoFar
 pub mod FieldsNamedWell
 pub mod FieldsStay
 pub mod FilesHaveClasses
@@ -30,6 +34,7 @@ pub mod InsidesStaySealed
 pub mod InstructionsKeepHeads
 pub mod InstructionsOfFiles
 pub mod InstructionsThatAsk
+pub mod LeavingChanges
 pub mod LinkedAgain
 pub mod LowestFramesStay
 pub mod LowestSegmentsLeft
@@ -56,6 +61,7 @@ pub mod OpeningsSealed
 pub mod OpeningsStayWhole
 pub mod OpeningsThere
 pub mod PackageJkApart
+pub mod PaidSoFar
 pub mod PaidSteps
 pub mod ParentsOfClasses
 pub mod PassagesDecided

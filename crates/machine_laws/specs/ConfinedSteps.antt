@@ -1,5 +1,5 @@
 -- What a whole step changes outside of the domain in which its thread runs: no more than its deed says.
-use Rattle.std.specs.Prelude.{◌≡◌, List}
+use Rattle.std.specs.Prelude.{◌≡◌, ℕ, ◌≤◌, List}
 use Rattle.jk_model.specs.declared.identifiers.CapId.{CapId}
 use Rattle.jk_model.specs.declared.identifiers.DomainId.{DomainId}
 use Rattle.jk_model.specs.declared.identifiers.MemberId.{MemberId}
@@ -8,7 +8,7 @@ use Rattle.jk_model.specs.declared.output.Line.{Line}
 use Rattle.jk_model_machine_state.specs.Machines.{Machine}
 use Rattle.jk_model_machine_state.specs.Places.{RunningSegment}
 use Rattle.jk_model_runs.specs.Confined.{Confined}
-use Rattle.jk_model_runs.specs.Steps.{Deed, EndedDomain, Entered, Rested, StepsBy, Worked}
+use Rattle.jk_model_runs.specs.Steps.{Deed, EndedDomain, Entered, LeftSegments, Rested, StepsBy, Worked}
 use Rattle.machine_laws.specs.KnownMachines.{IsKnownMachine, RunsNoPackageJk}
 
 -- without package jk
@@ -35,6 +35,10 @@ WasWork deed = deed ≡ Worked
 -- another domain was entered
 abbrev pub WasCall : Deed → Type 0
 WasCall deed = (k : CapId) × (method : MemberId) × (deed ≡ Entered k method)
+
+-- segments were left, one or more
+abbrev pub WasLeaving : Deed → Type 0
+WasLeaving deed = (n : ℕ) × (deed ≡ LeftSegments n) × (1 ≤ n)
 
 -- the domain ended
 abbrev pub WasEnd : Deed → Type 0
