@@ -2,6 +2,7 @@
 use Rattle.std.proofs.Common.{◌≡◌, ◌⊎◌, inl, inr, ℕ, ◌+◌, ◌≤◌, ◌==◌, Bool, true, false, cond, List, [], ◌∷◌, ◌++◌, append_assoc, append-nil, find, map, Contains, Option, Some, None, refl, sym, ap, subst, ◌∙◌, arith, eqb-true, eq-eqb}
 use Rattle.std.specs.Prelude.{option_and_then}
 use Rattle.std.specs.Option.{option_map, option_map_or}
+use Rattle.std.proofs.lemmas.List.Elements.{Contains-append_right}
 use Rattle.std.proofs.lemmas.List.Sums.{sum_by-cons}
 use Rattle.jk_model.specs.declared.identifiers.ClassId.{ClassId}
 use Rattle.jk_model.specs.declared.identifiers.MemberId.{MemberId}
@@ -20,7 +21,7 @@ use Rattle.jk_model_heaps.specs.Throwables.{IsRaised}
 use Rattle.jk_model_heaps.specs.Workings.{Inside, Run, Setting, with_own}
 use Rattle.jk_model_running.specs.Raising.{RaisesIn}
 use Rattle.jk_model_sealing.specs.ClassesInProgress.{initialises, progress_by}
-use Rattle.jk_model_unwinding.specs.Unwinding.{LeavesFrame, LeavesFrames, LeavesInitialiser, Unwinds}
+use Rattle.jk_model_unwinding.specs.Unwinding.{IsCaughtIn, LeavesFrame, LeavesFrames, LeavesInitialiser, Unwinds}
 use Rattle.heap_laws.specs.ClassesInProgress.{AreInProgress, count_initialisers}
 use Rattle.list_lemmas.proofs.FoundItems.{Finds, finds}
 use Rattle.list_lemmas.proofs.ItemsOfLists.{Contains-cases, Contains-here, Contains-none, Contains-there}
@@ -200,20 +201,21 @@ frames_leave (f ∷ upper) x old a new b (mid, met, leaves, not, leaves_too) =
 
 -- ---- A whole segment.
 
-behind : {X : Type 0} (front : List X) (y x : X) (back : List X) → Contains back x → Contains (front ++ y ∷ back) x
-behind [] y x back on = Contains-there x y back on
-behind (z ∷ front) y x back on = Contains-there x z (front ++ y ∷ back) (behind front y x back on)
-
 pub raises_leave : (x : Setting) (old : Run) (r : Raise) (new : Run) (unwound : Unwound) → RaisesIn x old r new unwound
     → Leaving old.frames old.inside new.inside
 raises_leave x old r new unwound h =
     both_leave old.frames old.frames old.frames old.inside h.made new.inside (λ f on. on) (λ f on. on)
     (raised_leaves old.frames x old.inside r h.made h.thrown h.is_raised) (by unwound h.unwinds)
   where
+    -- the frames above the one that catches
+    above : (c : IsCaughtIn x (record old { inside = h.made }) h.thrown new) (f : FrameState) → Contains c.upper f → Contains old.frames f
+    above c f on =
+        subst (λ (fs : List FrameState). Contains fs f) (sym c.are_frames)
+        (Contains-append_right c.lower (c.catcher ∷ c.upper) f (Contains-there f c.catcher c.upper on))
+
     by : (u : Unwound) → Unwinds x (record old { inside = h.made }) h.thrown u new → Leaving old.frames h.made new.inside
     by Unwinding.Caught c =
-        both_leave c.upper c.upper old.frames h.made new.inside new.inside (λ f on. subst (λ (fs : List FrameState). Contains fs f) (sym c.are_frames) (behind c.lower c.catcher f c.upper on))
-        (λ f on. subst (λ (fs : List FrameState). Contains fs f) (sym c.are_frames) (behind c.lower c.catcher f c.upper on))
+        both_leave c.upper c.upper old.frames h.made new.inside new.inside (above c) (above c)
         (frames_leave c.upper x h.made h.thrown new.inside c.met c.leaves) (leaves_same c.upper new.inside)
     by (Unwinding.Uncaught b) c = frames_leave old.frames x h.made h.thrown new.inside b c.0
 

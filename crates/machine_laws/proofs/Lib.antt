@@ -4,13 +4,11 @@ pub mod CallsDecided
 pub mod CallsStayAnswered
 pub mod CapabilitiesAfterRuns
 pub mod ChangedItems
-pub mod ConfinedByDeed
 pub mod ConfinedCalls
 pub mod ConfinedEnds
-pub mod ConfinedLeaves
+pub mod ConfinedFlags
 pub mod ConfinedRequests
 pub mod ConfinedThrows
-pub mod ConfinedWithoutJk
 pub mod ConstantsOfFields
 pub mod CopiesTaken
 pub mod DeniedRequests
@@ -85,6 +83,7 @@ pub mod SoundAgain
 pub mod StartWordsMade
 pub mod StartsStayKnown
 pub mod StaticsBegin
+pub mod StepsConfined
 pub mod StepsFound
 pub mod StepsGrow
 pub mod StepsKnownWithoutJk

@@ -8,6 +8,7 @@ ghost use Rattle.machine_laws.specs.RunsInMachines.{AnsweringRunsStayWhole, Firs
 ghost use Rattle.machine_laws.specs.SealedSteps.{FirstMachinesAreKnown, LeftRunsStaySealed, RunningSegmentsActWell, StartsStayKnown, StartsStaySealed, StartsStayWithoutJk, StepsStayWithoutJk, WaitingRunsStaySealed};
 ghost use Rattle.machine_laws.specs.StepProgress.{GoingIsThere, RoundsAreThere, StepsAreThereWithoutJk, TurnsAreThere};
 
+use crate::confined::steps_are_confined;
 use crate::folders::system_classes_are_sound;
 use row_laws::heap_rows::heap_rows_keep;
 use row_laws::running::{local_steps_are_there, local_steps_keep};
@@ -72,7 +73,7 @@ pub fn steps_stay_known_without_jk()
 pub fn steps_are_confined_without_jk()
     ensures { StepsAreConfinedWithoutJk }
 {
-    heap_rows_keep();
+    steps_are_confined();
 }
 
 /// A start leads from a machine of which all is known to such a machine, from a sealed one to a sealed one where classes and names are sound, and
