@@ -2,9 +2,11 @@
 mod ClosedStores
 mod DescriptorOfMain
 mod FirstSegments
+mod LoadingKernels
 mod MainOfAClass
 mod NamesApart
 mod OpenedInsides
+mod OpenedOrNot
 mod PartsAfterOpenings
 mod PartsByPlace
 mod StandingSoFar

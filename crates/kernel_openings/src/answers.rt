@@ -1,6 +1,6 @@
 //! Why a domain isn't added, and what came of a start.
 
-use jk_model::{Place, Rule, ThreadNo};
+use jk_model::{OutOfMemory, Place, Rule, ThreadNo};
 use thiserror::Error;
 
 /// Why a domain isn't added. The machine is as before.
@@ -23,6 +23,17 @@ pub enum AddAnswer {
     TooManyDomains,
     #[error("out of memory")]
     OutOfMemory,
+}
+
+impl From<OutOfMemory> for AddAnswer {
+    ghost use Rattle.std.specs.Prelude.{◌≡◌};
+    ghost use Rattle.kernel_openings.specs.declared.answers.AddAnswer.TheVariants.{OutOfMemory as Lacks};
+
+    ghost from_gives = { λ _ e. e ≡ Lacks };
+
+    fn from(_e: OutOfMemory) -> AddAnswer {
+        AddAnswer::OutOfMemory
+    }
 }
 
 /// What came of a start.

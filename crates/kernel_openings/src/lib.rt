@@ -4,7 +4,10 @@
 mod answers;
 mod class_names;
 mod first_segments;
+mod joining;
 mod main_methods;
+mod opening;
+mod package_jk;
 mod standing_objects;
 mod start_words;
 mod starting;

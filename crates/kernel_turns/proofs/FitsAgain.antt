@@ -94,8 +94,10 @@ module _ (p : MachineParts) (fit : AreFittingParts p) (owns : List (Option OwnSt
       let item = item_there owns d.0 (omega (arith, low, many)) in
       let from = kept.each d.0 item.0 item.1 in
       let same : from.0 ≡ Some was.0 = same_Some from.0 (Some was.0) (sym from.1 ∙ was.1) in
-      let there = there_is item.0 (from.2 ∙ ap is_some same) in
-      home_of new one_list d there.0 (item.1 ∙ ap (λ (o : Option OwnState). Some o) there.1)
+      let on : is_some item.0 ≡ true = from.2 ∙ ap is_some same in
+      let there = there_is item.0 on in
+      let stands : slice_get owns d.0 ≡ Some (Some there.0) = item.1 ∙ ap (λ (o : Option OwnState). Some o) there.1 in
+      home_of new one_list d there.0 stands
 
   -- with the same quotas
   lived_on : (d : DomainId) (l : LiveDomain (machine_of new) d) → (old : LiveDomain (machine_of p) d) × (l.domain.quotas ≡ old.domain.quotas)

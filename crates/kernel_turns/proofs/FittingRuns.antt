@@ -1,5 +1,5 @@
 -- Where a thread's top segment has run over the contents of the stores, the parts fit again.
-use Rattle.std.proofs.Common.{◌≡◌, ◌≢◌, ℕ, ◌+◌, ◌==◌, inl, inr, ◌⊎◌, Bool, true, false, cond, List, [], ◌∷◌, ◌++◌, length, map, set, sum_by, slice_get, slice_set, Contains, Option, Some, None, is_some, refl, sym, ap, ◌∙◌, arith, eq-eqb, ne_eqb}
+use Rattle.std.proofs.Common.{◌≡◌, ◌≢◌, ℕ, ◌+◌, ◌==◌, inl, inr, Bool, true, false, cond, List, [], ◌∷◌, ◌++◌, map, set, sum_by, slice_get, slice_set, Contains, Option, Some, is_some, refl, sym, ap, ◌∙◌, arith, eq-eqb, ne_eqb}
 use Rattle.std.specs.Option.{option_map_or}
 use Rattle.std.proofs.lemmas.Bool.{cases_eq}
 use Rattle.std.proofs.lemmas.List.Sums.{sum_by_push}
@@ -7,8 +7,6 @@ use Rattle.std.proofs.lemmas.Option.{same_Some}
 use Rattle.jk_model.specs.declared.identifiers.DomainId.{DomainId}
 use Rattle.jk_model.specs.declared.identifiers.SegmentNo.{SegmentNo}
 use Rattle.jk_model.specs.declared.identifiers.ThreadNo.{ThreadNo}
-use Rattle.jk_model_domains.specs.Objects.{NamedObject}
-use Rattle.jk_model_domains.specs.OwnStates.{OwnState}
 use Rattle.jk_model_frames.specs.Frames.{FrameState, frames_chunks}
 use Rattle.jk_model_heaps.specs.Heaps.{heap_words}
 use Rattle.jk_model_heaps.specs.Workings.{Run}
@@ -21,7 +19,7 @@ use Rattle.machine_laws.proofs.ChangedItems.{one_changed, sum_changed}
 use Rattle.machine_laws.proofs.DomainsAfterRuns.{costs_elsewhere, costs_here}
 use Rattle.machine_laws.proofs.RunningSegmentsFit.{thread_place}
 use Rattle.machine_parts.specs.ChangedParts.{AreSegmentsApart}
-use Rattle.machine_parts.specs.FittingParts.{AreFittingParts, HaveSegments}
+use Rattle.machine_parts.specs.FittingParts.{AreFittingParts}
 use Rattle.machine_parts.specs.MachineParts.{frames_in, machine_of}
 use Rattle.step_contents.specs.Contents.{Becomes, Contents}
 use Rattle.kernel_parts.specs.SoundKernels.{KernelContent, kernel_machine, parts_of}
@@ -73,8 +71,8 @@ module _ (m : Machine) (t : ThreadNo) (p : RunningSegment m t) (s : Segment) (ap
       (sum_by (of_thread e) (set m.threads place.0 (record p.thread { segments = p.lower ++ s ∷ [] }))) (of_thread e p.thread) (chunks_used m e)
       (sum_by (chunks_of e) (p.lower ++ s ∷ [])) (sum_by (chunks_of e) p.lower) (chunks_of e p.segment) (chunks_of e s) new all before later
     where
-      adds : (new set_to thread all late lower old s : ℕ) → new ≡ set_to → set_to + thread ≡ all + late → thread ≡ lower + old → late ≡ lower + s
-          → new + old ≡ all + s
+      adds : (new set_to thread all late lower old s : ℕ) → new ≡ set_to → set_to + thread ≡ all + late → thread ≡ lower + old
+          → late ≡ lower + s → new + old ≡ all + s
       adds new set_to thread all late lower old s a b c e = omega arith
 
 same_domain : (d e : DomainId) → e.0 ≡ d.0 → e ≡ d

@@ -1,10 +1,9 @@
 -- What holds of the parts after a step: they fit, what is known of the machine is known still, and all else that loading and steps ask stays.
-use Rattle.std.proofs.Common.{◌≡◌, ℕ, inl, inr, List, [], ◌∷◌, map, slice_get, slice_set, Contains, Option, Some, refl, sym, ap, subst, ◌∙◌}
+use Rattle.std.proofs.Common.{◌≡◌, ℕ, inl, inr, List, [], ◌∷◌, map, slice_get, slice_set, Contains, Some, refl, sym, ap, subst, ◌∙◌}
 use Rattle.std.proofs.lemmas.Option.{same_Some, slice_get_within}
 use Rattle.jk_model.specs.declared.identifiers.ThreadNo.{ThreadNo}
 use Rattle.jk_model_classes.specs.declared.sharing.Stub.{Stub}
 use Rattle.jk_model_classes.specs.Worlds.{DomainRecord}
-use Rattle.jk_model_sharing.specs.Segments.{SharedSegment}
 use Rattle.jk_model_sharing.specs.SharedStates.{SharedState}
 use Rattle.list_lemmas.proofs.ItemsByPlace.{slice_get-set_cases, slice_get-set_same}
 use Rattle.class_init.specs.KeptStates.{HasRooms, KeptState}
@@ -50,7 +49,9 @@ module _ (k : KernelContent) (t : ThreadNo) (at : RunsAt k t) (own : KeptState) 
         record {
           texts = λ text leads. subst (λ (rooms : List (List ℕ)). Contains rooms text) (sym same) (was.texts text leads);
           rooms_differ = subst
-              (λ (rooms : List (List ℕ)). (i j : ℕ) (text : List ℕ) → slice_get rooms i ≡ Some text → slice_get rooms j ≡ Some text → i ≡ j) (sym same)
+              (λ (rooms : List (List ℕ)).
+              (i j : ℕ) (text : List ℕ) → slice_get rooms i ≡ Some text → slice_get rooms j ≡ Some text → i ≡ j)
+              (sym same)
               was.rooms_differ;
           literals = literals;
         }

@@ -2,6 +2,7 @@ mod DomainsByPlace
 mod EndedThreads
 mod FitsAgain
 mod FittingRuns
+mod FlaggedParts
 mod KeptParts
 mod PaidParts
 mod PlacedThreads
@@ -11,5 +12,7 @@ mod SegmentsMayAct
 mod SegmentsThatRan
 mod SettingsOfPlaces
 mod StatesOfFrames
+mod StaysWithoutJk
 mod StepsOfActs
+mod StepsOfRaises
 mod ThrownObjects

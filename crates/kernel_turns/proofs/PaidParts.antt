@@ -1,9 +1,8 @@
 -- Where a step is paid, all that is known of the parts and of their machine is known still.
-use Rattle.std.proofs.Common.{◌≡◌, ℕ, ◌-◌, ◌==◌, Bool, true, false, cond, List, [], slice_get, Contains, Some, option_map, refl, sym, ap, subst}
+use Rattle.std.proofs.Common.{◌≡◌, ℕ, ◌-◌, ◌==◌, Bool, true, false, cond, [], slice_get, Some, option_map, refl, sym, ap, subst}
 use Rattle.jk_model.specs.declared.identifiers.DomainId.{DomainId}
-use Rattle.jk_model_heaps.specs.Capabilities.{Capability}
 use Rattle.jk_model_sharing.specs.SharedStates.{SharedDomain, SharedState, spent}
-use Rattle.jk_model_machine_state.specs.Machines.{DomainState, Machine, paid}
+use Rattle.jk_model_machine_state.specs.Machines.{DomainState, paid}
 use Rattle.list_lemmas.proofs.ItemsByPlace.{comes_from}
 use Rattle.heap_laws.proofs.MappedLists.{mapped_from}
 use Rattle.machine_laws.proofs.ChangedItems.{as_many}

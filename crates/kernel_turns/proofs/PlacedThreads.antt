@@ -1,19 +1,16 @@
 -- The place at which a thread of the machine runs, by the parts: its segment has the frames of the store, and its domain's inside is what the
 -- stores and the own state have.
-use Rattle.std.proofs.Common.{◌≡◌, ℕ, ◌==◌, Bool, true, false, List, [], ◌∷◌, ◌++◌, map, find, slice_get, Contains, Option, Some, None, option_map, refl, sym, ap, ◌∙◌}
+use Rattle.std.proofs.Common.{◌≡◌, ◌==◌, Bool, true, List, [], ◌∷◌, ◌++◌, slice_get, Contains, Option, Some, None, option_map, refl, sym, ap, ◌∙◌}
 use Rattle.std.specs.Prelude.{option_and_then}
-use Rattle.std.specs.Option.{option_map_or}
 use Rattle.std.proofs.lemmas.Option.{same_Some}
 use Rattle.jk_model.specs.declared.identifiers.ThreadNo.{ThreadNo}
-use Rattle.jk_model_domains.specs.OwnStates.{OwnState}
 use Rattle.jk_model_sharing.specs.Segments.{SharedSegment, SharedThread, thread_numbered, top_of}
 use Rattle.jk_model_machine_state.specs.Machines.{Segment}
 use Rattle.jk_model_machine_state.specs.Places.{LiveDomain, RunningSegment}
 use Rattle.list_lemmas.proofs.FoundItems.{Finds, finds}
 use Rattle.list_lemmas.proofs.ItemsByPlace.{mapped_at}
-use Rattle.list_lemmas.proofs.ItemsOfLists.{Contains-at, Contains-here, Contains-there}
+use Rattle.list_lemmas.proofs.ItemsOfLists.{Contains-at, Contains-there}
 use Rattle.class_init.specs.KeptStates.{KeptState}
-use Rattle.frame_store.specs.FrameContents.{StoredSegment}
 use Rattle.machine_parts.specs.FittingParts.{HaveOneList, HaveSegments}
 use Rattle.machine_parts.specs.MachineParts.{frames_in, segment_with_frames}
 use Rattle.machine_parts.specs.RunningParts.{StandsOnTop}

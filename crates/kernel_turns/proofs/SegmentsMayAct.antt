@@ -1,5 +1,5 @@
 -- What a thread's top segment may rest on where it acts, or where something is raised in it, from what is known of the parts.
-use Rattle.std.proofs.Common.{◌≡◌, ℕ, ◌+◌, ◌-◌, ◌≤◌, inl, inr, false, List, [], ◌∷◌, ◌++◌, find, slice_get, Contains, Option, Some, None, option_map, refl, sym, ap, subst, ◌∙◌, sum_by, arith}
+use Rattle.std.proofs.Common.{◌≡◌, ℕ, ◌+◌, ◌-◌, ◌≤◌, inl, inr, false, List, [], find, slice_get, Contains, Option, Some, None, option_map, refl, sym, ap, subst, ◌∙◌, sum_by, arith}
 use Rattle.std.specs.Prelude.{count_by, option_and_then}
 use Rattle.std.proofs.lemmas.List.Sums.{sum_by_push}
 use Rattle.jk_model.specs.declared.identifiers.CapId.{CapId}
@@ -7,7 +7,7 @@ use Rattle.jk_model.specs.declared.identifiers.ClassId.{ClassId}
 use Rattle.jk_model.specs.declared.identifiers.DomainId.{DomainId}
 use Rattle.jk_model.specs.declared.identifiers.ThreadNo.{ThreadNo}
 use Rattle.jk_model_frames.specs.Frames.{FrameState}
-use Rattle.jk_model_heaps.specs.Capabilities.{CapRange, Capability, IsGivenOut, OwnedCapability, capability_in, capability_numbered, has_number}
+use Rattle.jk_model_heaps.specs.Capabilities.{CapRange, Capability, IsGivenOut, OwnedCapability, capability_in, has_number}
 use Rattle.jk_model_sealing.specs.ClassesInProgress.{initialises, progress_by}
 use Rattle.jk_model_sealing.specs.FittingFrames.{FitsAsTop}
 use Rattle.jk_model_sealing.specs.SealedInsides.{Surroundings}

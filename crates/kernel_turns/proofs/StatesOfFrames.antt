@@ -1,7 +1,7 @@
 -- Each class that a frame of a segment initialises has a state in the domain, since it is in progress.
 use Rattle.std.proofs.Common.{inl, inr, ◌≡◌, ◌+◌, ◌≤◌, ◌==◌, ℕ, Bool, cond, List, [], ◌∷◌, Contains, Option, Some, None, refl, ap, ◌∙◌, arith}
 use Rattle.std.specs.Option.{option_map_or}
-use Rattle.std.specs.Prelude.{if◌then◌else◌, true, false}
+use Rattle.std.specs.Prelude.{if◌then◌else◌, false}
 use Rattle.std.proofs.lemmas.Bool.{eq-eqb}
 use Rattle.std.proofs.lemmas.List.Sums.{sum_by-cons}
 use Rattle.list_lemmas.proofs.ItemsOfLists.{Contains-cases, Contains-none}

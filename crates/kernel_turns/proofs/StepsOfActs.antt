@@ -1,36 +1,30 @@
 -- Where a thread's top segment acted over the contents of the stores, and what follows of its thread is done, that is a step of the machine, and the
 -- parts are sound after it.
-use Rattle.std.proofs.Common.{◌≡◌, ◌≢◌, ℕ, false, true, Bool, inl, inr, List, [], ◌∷◌, ◌++◌, slice_get, Contains, Option, Some, refl, sym, ap, subst, ◌∙◌}
-use Rattle.std.proofs.lemmas.Option.{same_Some}
-use Rattle.jk_model.specs.declared.identifiers.ClassId.{ClassId}
+use Rattle.std.proofs.Common.{◌≡◌, ◌≢◌, ℕ, false, true, Bool, inl, inr, List, [], ◌∷◌, ◌++◌, Option, Some, refl, sym, ap, subst, ◌∙◌}
 use Rattle.jk_model.specs.declared.identifiers.DomainId.{DomainId}
 use Rattle.jk_model.specs.declared.identifiers.ThreadNo.{ThreadNo}
 use Rattle.jk_model.specs.declared.output.Line.{Line}
 use Rattle.jk_model.specs.declared.output.Line.TheVariants as Says
 use Rattle.jk_model.specs.declared.values.Value.{Value}
-use Rattle.jk_model_classes.specs.Worlds.{DomainRecord}
-use Rattle.jk_model_domains.specs.Objects.{NamedObject, Plain, object_named}
-use Rattle.jk_model_heaps.specs.Heaps.{named}
-use Rattle.jk_model_heaps.specs.Workings.{Inside, Run}
+use Rattle.jk_model_heaps.specs.Workings.{Run}
 use Rattle.jk_model_running.specs.LocalSteps.{LocalStep}
 use Rattle.jk_model_running.specs.Ways as Way
 use Rattle.jk_model_sharing.specs.SharedStates.{SharedState, popped}
 use Rattle.jk_model_crossings.specs.Answers.{Returns}
 use Rattle.jk_model_crossings.specs.Answers as Answer
 use Rattle.jk_model_crossings.specs.Throwing.{Throws}
-use Rattle.jk_model_crossings.specs.Throwing as Throw
 use Rattle.jk_model_machine_state.specs.Machines.{Machine, caps_of}
-use Rattle.jk_model_machine_state.specs.Places.{RunningSegment, run_of, setting_of, with_run}
+use Rattle.jk_model_machine_state.specs.Places.{RunningSegment, run_of, setting_of}
 use Rattle.jk_model_runs.specs.Sealed.{surroundings}
 use Rattle.jk_model_runs.specs.Steps.{Acts, Deed, Ensues, IsHeld, LeftSegments, Steps, StepsBy, Worked}
 use Rattle.jk_model_runs.specs.Steps as Ran
-use Rattle.list_lemmas.proofs.ItemsByPlace.{item_there}
 use Rattle.frame_store.specs.FrameContents.{Ends, FrameContent}
 use Rattle.heap_laws.specs.RaisableObjects.{IsThrowable}
+use Rattle.machine_laws.proofs.StepsWithinDomains.{StaysWithin}
 use Rattle.machine_laws.specs.KnownMachines.{IsKnownMachine, RunsNoPackageJk}
 use Rattle.machine_parts.specs.ChangedParts.{AreSegmentsApart}
 use Rattle.machine_parts.specs.FittingParts.{AreFittingParts}
-use Rattle.machine_parts.specs.MachineParts.{MachineParts, frames_in, machine_of}
+use Rattle.machine_parts.specs.MachineParts.{frames_in}
 use Rattle.row_laws.specs.KeptRuns.{KeepsRun}
 use Rattle.row_laws.specs.LocalStepLaws.{LocalStepsKeep}
 use Rattle.step_contents.specs.Contents.{Becomes, Contents, LeftBehind}
@@ -39,7 +33,7 @@ use Rattle.segment_steps.specs.declared.went.Went.{Went}
 use Rattle.segment_steps.specs.declared.went.Went.TheVariants as Goes
 use Rattle.kernel_parts.specs.SoundKernels.{AreKernelParts, AreSoundParts, KernelContent, kernel_machine, parts_of}
 use Rattle.kernel_turns.specs.RunningPlaces.{HasNothingPending, RunsAt, contents_at, here_in, paying, runs}
-use Rattle.kernel_turns.specs.SteppedParts.{ActsAs, EndsByThrow, EndsThread, Follows, HasRoomsForLiterals, IsEmptied, IsThrownIn, MayFollow, MayStep, StaysInside, StaysWithoutJk, is_left, is_orphan, with_left}
+use Rattle.kernel_turns.specs.SteppedParts.{ActsAs, EndsByThrow, Follows, HasRoomsForLiterals, IsEmptied, IsThrownIn, MayFollow, MayStep, with_left}
 use Rattle.kernel_turns.proofs.DomainsByPlace.{names_there, shared_found, shared_there}
 use Rattle.kernel_turns.proofs.EndedThreads.{AreSingle}
 use Rattle.kernel_turns.proofs.KeptParts.{becoming, kept_parts, single_threads}
@@ -47,8 +41,9 @@ use Rattle.kernel_turns.proofs.PaidParts.{is_paid, jk_paid, known_after, parts_p
 use Rattle.kernel_turns.proofs.PlacedThreads.{own_at, place, stored}
 use Rattle.kernel_turns.proofs.SegmentsApart.{sealed_apart}
 use Rattle.kernel_turns.proofs.SegmentsMayAct.{acts as acts_well, may_act}
-use Rattle.kernel_turns.proofs.SegmentsThatRan.{at_ran, emptied_by, fit_left_off, fit_ran, gone, is_ran, left_off, only, place_ran, ran, same_name, throws}
+use Rattle.kernel_turns.proofs.SegmentsThatRan.{emptied_by, fit_left_off, fit_ran, gone, is_ran, left_off, only, place_ran, ran, same_name, throws}
 use Rattle.kernel_turns.proofs.SettingsOfPlaces.{is_setting}
+use Rattle.kernel_turns.proofs.StaysWithoutJk.{StaysWithoutJk}
 use Rattle.kernel_turns.proofs.ThrownObjects.{thrown_in}
 
 never_both : (b : Bool) → b ≡ false → b ≡ true → ⊥
@@ -143,7 +138,7 @@ module _ (k : KernelContent) (t : ThreadNo) (at : RunsAt k t) (ms : MayStep k at
       (run_of (place_paid k t at ms)) run went
       (acts_well (paying at.segment.domain k) t (at_paid k t at ms) (sound_paid k t at ms) (without_jk k t at ms) (known_paid k t at ms) calm.1) step
 
-  inside : StaysInside went
+  inside : StaysWithin went
   inside =
       sw.inside (kernel_machine (paying at.segment.domain k)) t (place_paid k t at ms) run went (known_paid k t at ms) (without_jk k t at ms) calm.1 step
 
@@ -230,7 +225,7 @@ module _ (k : KernelContent) (t : ThreadNo) (at : RunsAt k t) (ms : MayStep k at
   may_do = may_act (paying at.segment.domain k) t (at_paid k t at ms) (sound_paid k t at ms) (without_jk k t at ms) (known_paid k t at ms) calm.1
 
   stays_inside : (run : Run) (went : Way.Went) → LocalStep (setting_of (place_paid k t at ms)) t (run_of (place_paid k t at ms)) run went
-      → StaysInside went
+      → StaysWithin went
   stays_inside run went step =
       sw.inside (kernel_machine (paying at.segment.domain k)) t (place_paid k t at ms) run went (known_paid k t at ms) (without_jk k t at ms) calm.1 step
 
@@ -306,9 +301,9 @@ module _ (k : KernelContent) (t : ThreadNo) (at : RunsAt k t) (ms : MayStep k at
   is_step went lines after new (is_denied run other request r unwound step answers raises becomes) rooms follows =
       absurd (stays_inside run (Way.Asks request) step)
 
-pub acts_as : LocalStepsKeep → (k : KernelContent) (t : ThreadNo) (at : RunsAt k t) (left : LeftBehind) (went : Went) → StaysWithoutJk → MayStep k at
+pub acts_as : LocalStepsKeep → StaysWithoutJk → (k : KernelContent) (t : ThreadNo) (at : RunsAt k t) (left : LeftBehind) (went : Went) → MayStep k at
     → HasNothingPending at.segment → ActsAs k at left went
-acts_as keep k t at left went sw ms calm = record {
+acts_as keep sw k t at left went ms calm = record {
   setting = setting_of (place_paid k t at ms);
   may = may_do k t at ms calm sw keep left;
   is_setting = is_setting (paying at.segment.domain k) t (at_paid k t at ms) (fit_paid k t at ms) ms.parts.stubs;

@@ -1,6 +1,6 @@
 -- What one step of a thread's top segment over the contents of the stores is to the machine, as long as no class refers to package jk: each
 -- thread has one segment, and no step leaves its domain.
-use Rattle.std.specs.Prelude.{◌≡◌, ℕ, ⊤, false, true, List, [], ◌∷◌, ◌++◌, Contains, Option, Some, slice_set}
+use Rattle.std.specs.Prelude.{◌≡◌, ℕ, ⊤, false, true, List, [], ◌∷◌, ◌++◌, Contains, Some, slice_set}
 use Rattle.jk_model.specs.declared.identifiers.ClassId.{ClassId}
 use Rattle.jk_model.specs.declared.identifiers.DomainId.{DomainId}
 use Rattle.jk_model.specs.declared.identifiers.ThreadNo.{ThreadNo}
@@ -14,20 +14,16 @@ use Rattle.jk_model_classes.specs.declared.records.ClassRecord.{ClassRecord}
 use Rattle.jk_model_classes.specs.Classes.{record_of}
 use Rattle.jk_model_domains.specs.Objects.{Plain, object_named}
 use Rattle.jk_model_domains.specs.OwnStates.{Literal}
-use Rattle.jk_model_heaps.specs.Workings.{Run, Setting}
-use Rattle.jk_model_running.specs.LocalSteps.{LocalStep}
-use Rattle.jk_model_running.specs.Ways as Way
+use Rattle.jk_model_heaps.specs.Workings.{Setting}
 use Rattle.jk_model_sharing.specs.Segments.{SharedSegment, with_revoked, with_stop}
 use Rattle.jk_model_sharing.specs.SharedStates.{popped, with_flags}
-use Rattle.jk_model_machine_state.specs.Machines.{Machine}
-use Rattle.jk_model_machine_state.specs.Places.{RunningSegment, run_of, setting_of}
 use Rattle.jk_model_runs.specs.Steps.{Steps}
 use Rattle.class_init.specs.KeptStates.{KeptState}
 use Rattle.frame_store.specs.FrameContents.{Ends}
+use Rattle.step_contents.specs.Conditions.{MayRaise}
 use Rattle.step_contents.specs.Contents.{LeftBehind}
 use Rattle.step_contents.specs.Settings.{IsSetting}
-use Rattle.machine_laws.specs.KnownMachines.{IsKnownMachine, IsKnownWithoutJk, RunsNoPackageJk}
-use Rattle.machine_laws.specs.SealedSteps.{StepsStayWithoutJk}
+use Rattle.machine_laws.specs.KnownMachines.{IsKnownWithoutJk}
 use Rattle.segment_steps.specs.declared.meeting.Runs.{Runs}
 use Rattle.segment_steps.specs.declared.went.Went.{Went}
 use Rattle.segment_steps.specs.declared.went.Went.TheVariants as Goes
@@ -35,20 +31,6 @@ use Rattle.segment_steps.specs.ActingSegments.{Acted, MayAct}
 use Rattle.segment_steps.specs.RaisingHere.{RaisedHere}
 use Rattle.kernel_parts.specs.SoundKernels.{AreKernelParts, KernelContent, kernel_machine}
 use Rattle.kernel_turns.specs.RunningPlaces.{GoesAhead, HasNothingPending, RunsAt, contents_at, here_in, paying, runs}
-
--- ---- What is kept without package jk, until whole steps are proved to keep all that is known of machines.
-
--- it isn't a call through a capability, a request, or the end of the domain
-abbrev pub StaysInside : Way.Went → Type 0
-StaysInside (Way.Crosses k m) = ⊥
-StaysInside (Way.Asks request) = ⊥
-StaysInside Way.Terminates = ⊥
-StaysInside went = ⊤
-
-pub record StaysWithoutJk : Type 0 where
-  pub inside : (m : Machine) (t : ThreadNo) (p : RunningSegment m t) (run : Run) (went : Way.Went) → IsKnownMachine m → RunsNoPackageJk m
-      → p.segment.shared.revoked ≡ false → LocalStep (setting_of p) t (run_of p) run went → StaysInside went
-  pub steps : StepsStayWithoutJk
 
 -- ---- The parts after it.
 
@@ -124,7 +106,7 @@ pub record ActsAs (k : KernelContent) {t : ThreadNo} (at : RunsAt k t) (left : L
 
 abbrev pub ActsAreSteps : Type 0
 ActsAreSteps =
-    (k : KernelContent) (t : ThreadNo) (at : RunsAt k t) (left : LeftBehind) (went : Went) → StaysWithoutJk → MayStep k at
+    (k : KernelContent) (t : ThreadNo) (at : RunsAt k t) (left : LeftBehind) (went : Went) → MayStep k at
     → HasNothingPending at.segment → ActsAs k at left went
 
 -- ---- Something was pending, and is raised: stop before revoked. The flag falls.
@@ -137,15 +119,19 @@ pub data IsPending (s : SharedSegment) : Raise → (SharedSegment → SharedSegm
 abbrev pub flagged : SharedSegment → (SharedSegment → SharedSegment) → KernelContent → KernelContent
 flagged s change k = record k { shared = with_flags s.number change k.shared }
 
-pub record RaisesAreSteps : Type 0 where
-  pub may : (k : KernelContent) (t : ThreadNo) (at : RunsAt k t) (raise : Raise) (change : SharedSegment → SharedSegment) (left : LeftBehind)
-      (went : Went) → StaysWithoutJk → MayStep k at → IsPending at.segment raise change
+-- what is raised there leads on
+pub record RaisesAs (k : KernelContent) {t : ThreadNo} (at : RunsAt k t) (raise : Raise) (change : SharedSegment → SharedSegment) : Type 0 where
+  pub may : MayRaise (contents_at at) (here_in (flagged at.segment change (paying at.segment.domain k)) at.segment)
+  pub follows : (left : LeftBehind) (went : Went)
       → RaisedHere (contents_at at) left.contents (here_in (flagged at.segment change (paying at.segment.domain k)) at.segment) raise went
-      → left.shared ≡ (flagged at.segment change (paying at.segment.domain k)).shared
       → MayFollow (with_left at.segment.domain left k) (runs t at.segment) went
-  pub steps : (k new : KernelContent) (t : ThreadNo) (at : RunsAt k t) (raise : Raise) (change : SharedSegment → SharedSegment)
-      (left : LeftBehind) (went : Went) (after : List Line) → StaysWithoutJk → MayStep k at → IsPending at.segment raise change
+  pub steps : (left : LeftBehind) (went : Went) (after : List Line) (new : KernelContent)
       → RaisedHere (contents_at at) left.contents (here_in (flagged at.segment change (paying at.segment.domain k)) at.segment) raise went
       → left.shared ≡ (flagged at.segment change (paying at.segment.domain k)).shared → HasRoomsForLiterals left.contents.own
       → Follows (with_left at.segment.domain left k) (runs t at.segment) at.segment went after new
       → Steps (kernel_machine k) t after (kernel_machine new) × AreKernelParts new
+
+abbrev pub RaisesAreSteps : Type 0
+RaisesAreSteps =
+    (k : KernelContent) (t : ThreadNo) (at : RunsAt k t) (raise : Raise) (change : SharedSegment → SharedSegment) → MayStep k at
+    → IsPending at.segment raise change → RaisesAs k at raise change

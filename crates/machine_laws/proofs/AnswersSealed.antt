@@ -155,7 +155,7 @@ module _ (m : Machine) (t : ThreadNo) (sealed : IsSealed m) (sound : HasSoundCla
 -- ---- What is taken.
 
 -- the caller that awaits is the one that receives
-suits_by : (m : Machine) (table : List NamedClass) (caps : List CapRange) (heap target : List NamedObject) (frames callers : List FrameState) (caller : FrameState)
+pub suits_by : (m : Machine) (table : List NamedClass) (caps : List CapRange) (heap target : List NamedObject) (frames callers : List FrameState) (caller : FrameState)
     (v w : Option Value) → (a : Awaits m.classes heap frames v) → frames ≡ callers ++ caller ∷ []
     → ((o : Option TypeRef) → IsAnswerOf m.classes heap o v → IsResult (record { classes = m.classes; table = table; caps = caps }) target o w)
     → SuitsCall (record { classes = m.classes; table = table; caps = caps }) target caller w
@@ -166,12 +166,12 @@ suits_by m table caps heap target frames callers caller v w a are turn = record 
   is = turn a.result a.answer;
 }
 
-no_answer : (classes : List ClassRecord) (heap target : List NamedObject) (taking : Surroundings) (o : Option TypeRef) → IsAnswerOf classes heap o None
+pub no_answer : (classes : List ClassRecord) (heap target : List NamedObject) (taking : Surroundings) (o : Option TypeRef) → IsAnswerOf classes heap o None
     → IsResult taking target o None
 no_answer classes heap target taking None h = tt
 no_answer classes heap target taking (Some t) h = absurd h
 
-an_answer : (classes : List ClassRecord) (heap target : List NamedObject) (taking : Surroundings) (v w : Value)
+pub an_answer : (classes : List ClassRecord) (heap target : List NamedObject) (taking : Surroundings) (v w : Value)
     → ((t : TypeRef) → HoldsDeclared classes heap v t → HoldsDeclared taking.classes target w t) → IsKnownValue taking.caps target w
     → (o : Option TypeRef) → IsAnswerOf classes heap o (Some v) → IsResult taking target o (Some w)
 an_answer classes heap target taking v w fits known (Some t) h = (fits t h, known)

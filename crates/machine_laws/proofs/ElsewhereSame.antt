@@ -103,8 +103,8 @@ own_changed m t change keeps e is of_t =
 
 pub others_left : (m : Machine) (t u : ThreadNo) → u ≢ t → thread_numbered (without_thread t m) u ≡ thread_numbered m u
 others_left m t u differ =
-    found_still (λ (x : Thread). not (x.number.0 == t.0)) (λ (x : Thread). x.number.0 == u.0)
-    (λ x is. ap not (not_numbered x.number.0 t.0 u.0 (numbers_differ t u differ) is)) m.threads
+    found_still (λ (x : Thread). not (x.number.0 == t.0)) (λ (x : Thread). x.number.0 == u.0) m.threads
+    (λ x there is. ap not (not_numbered x.number.0 t.0 u.0 (numbers_differ t u differ) is))
 
 pub thread_gone : (m : Machine) (t : ThreadNo) → thread_numbered (without_thread t m) t ≡ None
 thread_gone m t = none_found (λ (x : Thread). x.number.0 == t.0) m.threads

@@ -111,6 +111,9 @@ module _ {X : Type 0} (p : X → Bool) where
   found_by false true y rest xs test e keeps h = let both : false ≡ true = keeps refl in absurd cc
   found_by false false y rest xs test e keeps h = h
 
-  pub found_still : (test : X → Bool) → ((x : X) → test x ≡ true → p x ≡ true) → (xs : List X) → find test (filter p xs) ≡ find test xs
-  found_still test keeps [] = refl
-  found_still test keeps (y ∷ xs) = found_by (p y) (test y) y (filter p xs) xs test refl (keeps y) (found_still test keeps xs)
+  pub found_still : (test : X → Bool) (xs : List X) → ((x : X) → Contains xs x → test x ≡ true → p x ≡ true)
+      → find test (filter p xs) ≡ find test xs
+  found_still test [] keeps = refl
+  found_still test (y ∷ xs) keeps =
+      found_by (p y) (test y) y (filter p xs) xs test refl (keeps y (Contains-here y xs))
+      (found_still test xs (λ x on. keeps x (Contains-there x y xs on)))

@@ -1,8 +1,11 @@
 pub mod AnswersSealed
 pub mod BodiesOfMethods
+pub mod CallsArrive
 pub mod CallsDecided
+pub mod CallsSealed
 pub mod CallsStayAnswered
 pub mod CapabilitiesAfterRuns
+pub mod CapabilitiesChanged
 pub mod ChangedItems
 pub mod ConfinedCalls
 pub mod ConfinedEnds
@@ -13,7 +16,9 @@ pub mod ConstantsOfFields
 pub mod CopiesTaken
 pub mod DeniedRequests
 pub mod DomainsAfterRuns
+pub mod DomainsChanged
 pub mod ElsewhereSame
+pub mod EndsSealed
 pub mod EventsGoOn
 pub mod FallsSoFar
 pub mod FieldsNamedWell
@@ -24,6 +29,7 @@ pub mod FirstMachineWhole
 pub mod FirstMachines
 pub mod FirstObjects
 pub mod FirstParts
+pub mod FlagsChanged
 pub mod FlagsOfMembers
 pub mod FoundAmongFiltered
 pub mod FramesStaySealed
@@ -32,6 +38,7 @@ pub mod InsidesStaySealed
 pub mod InstructionsKeepHeads
 pub mod InstructionsOfFiles
 pub mod InstructionsThatAsk
+pub mod KillsKnown
 pub mod LeavingChanges
 pub mod LinkedAgain
 pub mod LowestFramesStay
@@ -43,6 +50,7 @@ pub mod MeaningsOfNames
 pub mod MethodsNamedWell
 pub mod MethodsOfPackageJk
 pub mod MethodsThatAsk
+pub mod NamesChanged
 pub mod NamesOfNewCode
 pub mod NamesOfOthers
 pub mod NamesStay
@@ -69,13 +77,18 @@ pub mod RaisesKeep
 pub mod RaisesSealed
 pub mod RaisesWhereMet
 pub mod RanInSteps
+pub mod RequestsAnswered
 pub mod RequestsGranted
+pub mod RequestsSealed
 pub mod RunningSegmentsFit
 pub mod RunsAgain
 pub mod RunsAnswered
 pub mod RunsGoOn
 pub mod SealedAfterRuns
+pub mod SegmentsAdded
 pub mod SegmentsAnswered
+pub mod SegmentsCut
+pub mod SegmentsCutFit
 pub mod SegmentsRunAgain
 pub mod SegmentsStillFit
 pub mod SegmentsThatRan

@@ -41,7 +41,7 @@ raises_answered m t r n lines new h (RaisesInThread.goes_down p run a k said end
 -- ---- In a machine that is sealed but for the thread.
 
 module _ (m : Machine) (t : ThreadNo) (p : RunningSegment m t) (waits : IsSealedAtCall m t) (sound : HasSoundClasses m) where
-  abbrev waiting : Segment
+  abbrev pub waiting : Segment
   waiting = record p.segment { shared = with_revoked true p.segment.shared }
 
   -- where a RevokedException is pending for the segment
@@ -57,7 +57,7 @@ module _ (m : Machine) (t : ThreadNo) (p : RunningSegment m t) (waits : IsSealed
   abbrev pub place : RunningSegment flagged t
   place = running_then m t p waiting p.home.inside refl
 
-  numbered : (i : ℕ) (e : DomainState) → slice_get m.domains i ≡ Some e → e.number.0 ≡ i
+  pub numbered : (i : ℕ) (e : DomainState) → slice_get m.domains i ≡ Some e → e.number.0 ≡ i
   numbered i e at =
       sym (domain_number p.segment.shared.domain p.home.inside e)
       ∙ sealed.domains.numbered i (set_inside p.segment.shared.domain p.home.inside e)

@@ -130,7 +130,7 @@ module _ (m : Machine) (t : ThreadNo) where
 
     found_there : (u : ThreadNo) → u.0 ≢ t.0 → IsLiveThread m u → IsLiveThread new u
     found_there u differ (e, is) =
-        (e, found_still rests (λ (x : Thread). x.number.0 == u.0) stays m.threads ∙ is)
+        (e, found_still rests (λ (x : Thread). x.number.0 == u.0) m.threads (λ x on. stays x) ∙ is)
       where
         stays : (x : Thread) → (x.number.0 == u.0) ≡ true → rests x ≡ true
         stays x same = ap not (ne_eqb x.number.0 t.0 (λ one. differ (sym (eqb-true x.number.0 u.0 same) ∙ one)))

@@ -43,13 +43,13 @@ pub record Thins (m : Machine) (g : Thread → Thread) : Type 0 where
   pub initialisers : (e : Thread) (d : DomainId) (c : ClassId) → Contains m.threads e → initialisers_of d c (g e) ≡ initialisers_of d c e
 
 -- sums of items that are no greater
-sums_less : {X : Type 0} (g : X → X) (f : X → ℕ) (xs : List X) → ((x : X) → Contains xs x → f (g x) ≤ f x) → sum_by f (map g xs) ≤ sum_by f xs
-sums_less g f [] h = omega arith
-sums_less g f (x ∷ xs) h =
+pub sums_no_more : {X : Type 0} (g : X → X) (f : X → ℕ) (xs : List X) → ((x : X) → Contains xs x → f (g x) ≤ f x) → sum_by f (map g xs) ≤ sum_by f xs
+sums_no_more g f [] h = omega arith
+sums_no_more g f (x ∷ xs) h =
     omega (
       arith,
       h x (Contains-here x xs),
-      sums_less g f xs (λ y on. h y (Contains-there y x xs on)),
+      sums_no_more g f xs (λ y on. h y (Contains-there y x xs on)),
       sum_by-cons f (g x) (map g xs),
       sum_by-cons f x xs,
     )
@@ -73,7 +73,7 @@ module _ (m : Machine) (g : Thread → Thread) (h : Thins m g) where
     insides = h.sealed.domains.insides;
     chunks = λ d on.
         at_most (chunks_used new d.number) (chunks_used m d.number) d.quotas.chunks
-        (sums_less g (λ (e : Thread). sum_by (chunks_of d.number) e.segments) m.threads (λ e there. h.chunks e d.number there))
+        (sums_no_more g (λ (e : Thread). sum_by (chunks_of d.number) e.segments) m.threads (λ e there. h.chunks e d.number there))
         (h.sealed.domains.chunks d on);
     budgets = h.sealed.domains.budgets;
     started = λ d on.

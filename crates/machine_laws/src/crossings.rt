@@ -1,7 +1,7 @@
 //! The laws. The functions have no bodies: each stands for its clause.
 
 ghost use Rattle.machine_laws.specs.KeptWorlds.{StepsDrawNumbers, StepsKeepWorlds};
-ghost use Rattle.machine_laws.specs.SealedCrossings.{AnswersStaySealed, RaisesStaySealed, ThrowablesStaySealed};
+ghost use Rattle.machine_laws.specs.SealedCrossings.{AnswersStaySealed, CallsStaySealed, EndsStaySealed, RaisesStaySealed, RequestsStaySealed, ThrowablesStaySealed};
 
 /// No step and no end of a domain changes the pools, the classes, what domains are opened with, or the number of the next thread.
 pub fn steps_keep_worlds()
@@ -28,4 +28,20 @@ pub fn raises_stay_sealed()
 /// are answered.
 pub fn answers_stay_sealed()
     ensures { AnswersStaySealed }
+{}
+
+/// Where a domain ends, the machine is sealed, and calls stay answered.
+pub fn ends_stay_sealed()
+    ensures { EndsStaySealed }
+{}
+
+/// Where a call through a capability enters the domain of the capability's owner, the machine is sealed after it, and calls are answered.
+pub fn calls_stay_sealed()
+    ensures { CallsStaySealed }
+{}
+
+/// Where what a program asks of package jk is done, or its answer taken, the machine is sealed as it was: but for the thread that asks, and also
+/// there once that thread has the answer.
+pub fn requests_stay_sealed()
+    ensures { RequestsStaySealed }
 {}

@@ -5,7 +5,7 @@ ghost use Rattle.machine_laws.specs.KnownMachines.{IsKnownMachine, IsKnownWithou
 ghost use Rattle.machine_laws.specs.LowestFrames.{LowestFramesGiveStill};
 ghost use Rattle.machine_laws.specs.MachinesOfRuns.{FirstMachinesAreWithoutJk, IsOfRunWithoutJk, KillsMayGrow, RoundsGoOn, StartsMayGrow, StartsStayOfRuns, StepsMayGrow, StepsStayOfRuns, ThreadsGoOn, TurnsGoOn};
 ghost use Rattle.machine_laws.specs.RunsInMachines.{AnsweringRunsStayWhole, FirstMachinesAreWhole, KeptRunsStaySealed, PaidMachinesStayKnown};
-ghost use Rattle.machine_laws.specs.SealedSteps.{FirstMachinesAreKnown, LeftRunsStaySealed, RunningSegmentsActWell, StartsStayKnown, StartsStaySealed, StartsStayWithoutJk, StepsStayWithoutJk, WaitingRunsStaySealed};
+ghost use Rattle.machine_laws.specs.SealedSteps.{FirstMachinesAreKnown, KillsStayKnown, LeftRunsStaySealed, RunningSegmentsActWell, StartsStayKnown, StartsStaySealed, StartsStayWithoutJk, StepsStayWithoutJk, WaitingRunsStaySealed};
 ghost use Rattle.machine_laws.specs.StepProgress.{GoingIsThere, RoundsAreThere, StepsAreThereWithoutJk, TurnsAreThere};
 
 use crate::confined::steps_are_confined;
@@ -124,3 +124,8 @@ pub fn runs_go_on_without_jk()
     steps_stay_known_without_jk();
     machines_may_grow();
 }
+
+/// Where a domain is killed, all is known of the machine that was known.
+pub fn kills_stay_known()
+    ensures { KillsStayKnown }
+{}

@@ -1,4 +1,4 @@
--- What an instruction on numbers leaves undone: it needs no class, and where it neither goes on nor returns it changed nothing.
+-- Which instructions compute or jump within their frame; that they need no class, go on at an instruction, and change nothing where they don't.
 use Rattle.std.proofs.Common.{inl, inr, ◌≡◌, ℕ, ◌+◌, ◌<◌, ◌≤◌, ◌⊎◌, IsTrue, List, length, Some, None, pos, slice_get, refl, sym, ap, subst, ◌∙◌, lit<, arith}
 use Rattle.std.specs.List.{AllByRecursion}
 use Rattle.std.proofs.lemmas.Grind.{common_steps}
@@ -13,17 +13,22 @@ use Rattle.jk_model.specs.declared.steps.After.{After}
 use Rattle.jk_model.specs.declared.steps.After.TheVariants as Next
 use Rattle.jk_model.proofs.EachItem.{all_at}
 use Rattle.jk_model_classes.specs.declared.records.ClassRecord.{ClassRecord}
+use Rattle.jk_model_classes.specs.Items.{HasItem}
 use Rattle.jk_model_typing.specs.Scopes.{CodeScope, IsScopeOf}
 use Rattle.typing_lemmas.proofs.OneScope.{one-scope}
 use Rattle.jk_model_frames.specs.Frames.{FrameState}
 use Rattle.jk_model_domains.specs.NumberRows.{IsOfNumbers, NumberRow, divides_by_zero, exchanges, is_return_of_value, jumps, number_opcodes, returns, returns_nothing, switches, uses_local}
+use Rattle.jk_model_heap_rows.specs.HeapRows.{heap_opcodes}
 use Rattle.jk_model_heaps.specs.RunningCode.{InstrNeeds}
 use Rattle.frame_store.specs.FrameContents.{FrameContent, SetsTop}
 use Rattle.number_laws.specs.FrameLaws.{IsTyped, with_head}
 use Rattle.number_laws.proofs.TypesKept.{rows_kept}
 use Rattle.number_ops.specs.NumberSteps.{DoesNumbers, IsReady}
 use Rattle.number_ops.proofs.TopFrames.{same_top}
+use Rattle.step_contents.specs.InstructionKinds.{HasRow}
+use Rattle.step_contents.specs.Operands.{LeadsToText}
 use Rattle.step_contents.specs.PlacesInCode.{IsPlaceIn, PlaceInCode}
+use Rattle.step_contents.proofs.KindsByOpcode.{constant_of_numbers, listed_item, one_of_kinds, row_group}
 use Rattle.segment_steps.specs.InFrameTurns.{IsInFrame, StaysAsItIs}
 
 -- ---- It needs no class.
@@ -72,6 +77,85 @@ needs_no_class s i numbers c (inl (inl op, by)) = out_of i.op 0xb2 (opcode_apart
 needs_no_class s i numbers c (inl (inr op, by)) = out_of i.op 0xb3 (opcode_apart s i numbers) op (omega arith) (omega arith)
 needs_no_class s i numbers c (inr (inl (op, by))) = out_of i.op 0xb8 (opcode_apart s i numbers) op (omega arith) (omega arith)
 needs_no_class s i numbers c (inr (inr (op, by))) = out_of i.op 0xbb (opcode_apart s i numbers) op (omega arith) (omega arith)
+
+-- ---- It is told by its opcode.
+
+-- up to aload; istore to astore; pop to lookupswitch; ifnull and ifnonnull
+abbrev pub IsQuick : ℕ → Type 0
+IsQuick op =
+    (op ≤ 0x19) ⊎ ((0x36 ≤ op) × (op ≤ 0x3a)) ⊎ ((0x57 ≤ op) × (op ≤ 0xab)) ⊎ ((0xc6 ≤ op) × (op ≤ 0xc7))
+
+-- a row of the table of opcodes on objects lies between those
+abbrev LiesBetween : ℕ × ℕ → Type 0
+LiesBetween r = ((0x19 < r.0) × (r.1 < 0x36)) ⊎ ((0x3a < r.0) × (r.1 < 0x57)) ⊎ ((0xab < r.0) × (r.1 < 0xc6))
+
+heaps_lie_between : AllByRecursion LiesBetween heap_opcodes
+heaps_lie_between = (
+  inl (lit< tt, lit< tt),
+  (
+    inl (lit< tt, lit< tt),
+    (
+      inr (inl (lit< tt, lit< tt)),
+      (
+        inr (inl (lit< tt, lit< tt)),
+        (
+          inr (inr (lit< tt, lit< tt)),
+          (inr (inr (lit< tt, lit< tt)), (inr (inr (lit< tt, lit< tt)), tt)),
+        ),
+      ),
+    ),
+  ),
+)
+
+quick_is_low : (op : ℕ) → IsQuick op → op < 256
+quick_is_low op (inl low) = omega (arith, low)
+quick_is_low op (inr (inl (from, to))) = omega (arith, to)
+quick_is_low op (inr (inr (inl (from, to)))) = omega (arith, to)
+quick_is_low op (inr (inr (inr (from, to)))) = omega (arith, to)
+
+quick_is_no_call : (op : ℕ) → IsQuick op → 0xb6 ≤ op → op ≤ 0xb9 → ⊥
+quick_is_no_call op (inl low) a b = absurd (omega (arith, low, a))
+quick_is_no_call op (inr (inl (from, to))) a b = absurd (omega (arith, to, a))
+quick_is_no_call op (inr (inr (inl (from, to)))) a b = absurd (omega (arith, to, a))
+quick_is_no_call op (inr (inr (inr (from, to)))) a b = absurd (omega (arith, from, b))
+
+quick_is_no_return : (op : ℕ) → IsQuick op → 0xac ≤ op → op ≤ 0xb1 → ⊥
+quick_is_no_return op (inl low) a b = absurd (omega (arith, low, a))
+quick_is_no_return op (inr (inl (from, to))) a b = absurd (omega (arith, to, a))
+quick_is_no_return op (inr (inr (inl (from, to)))) a b = absurd (omega (arith, to, a))
+quick_is_no_return op (inr (inr (inr (from, to)))) a b = absurd (omega (arith, from, b))
+
+in_no_gap : (op first last : ℕ) → IsQuick op → LiesBetween (first, last) → first ≤ op → op ≤ last → ⊥
+in_no_gap op first last (inl low) (inl (x, y)) a b = absurd (omega (arith, low, x, a))
+in_no_gap op first last (inl low) (inr (inl (x, y))) a b = absurd (omega (arith, low, x, a))
+in_no_gap op first last (inl low) (inr (inr (x, y))) a b = absurd (omega (arith, low, x, a))
+in_no_gap op first last (inr (inl (from, to))) (inl (x, y)) a b = absurd (omega (arith, from, y, b))
+in_no_gap op first last (inr (inl (from, to))) (inr (inl (x, y))) a b = absurd (omega (arith, to, x, a))
+in_no_gap op first last (inr (inl (from, to))) (inr (inr (x, y))) a b = absurd (omega (arith, to, x, a))
+in_no_gap op first last (inr (inr (inl (from, to)))) (inl (x, y)) a b = absurd (omega (arith, from, y, b))
+in_no_gap op first last (inr (inr (inl (from, to)))) (inr (inl (x, y))) a b = absurd (omega (arith, from, y, b))
+in_no_gap op first last (inr (inr (inl (from, to)))) (inr (inr (x, y))) a b = absurd (omega (arith, to, x, a))
+in_no_gap op first last (inr (inr (inr (from, to)))) (inl (x, y)) a b = absurd (omega (arith, from, y, b))
+in_no_gap op first last (inr (inr (inr (from, to)))) (inr (inl (x, y))) a b = absurd (omega (arith, from, y, b))
+in_no_gap op first last (inr (inr (inr (from, to)))) (inr (inr (x, y))) a b = absurd (omega (arith, from, y, b))
+
+quick_is_no_heap : (op : ℕ) → IsQuick op → HasItem (λ (r : ℕ × ℕ). (r.0 ≤ op) × (op ≤ r.1)) heap_opcodes → ⊥
+quick_is_no_heap op quick (k, r, there, within) =
+    in_no_gap op r.0 r.1 quick (all_at LiesBetween heap_opcodes k r heaps_lie_between there) within.0 within.1
+
+pub quick_in_frame : (at : PlaceInCode) → HasRow at → (at.instr.op ≡ 0x13 → ⊥) → IsQuick at.instr.op → IsInFrame at
+quick_in_frame at row no_ldc quick = (
+  elim (one_of_kinds at.instr.op (quick_is_low at.instr.op quick) (row_group at row)) [
+    | inl ldc ↦ absurd (no_ldc ldc)
+    | inr (inl call) ↦ absurd (quick_is_no_call at.instr.op quick call.0 call.1)
+    | inr (inr (inl heap)) ↦ absurd (quick_is_no_heap at.instr.op quick (listed_item heap_opcodes at.instr.op heap))
+    | inr (inr (inr number)) ↦ inl (listed_item number_opcodes at.instr.op number)
+  ],
+  quick_is_no_return at.instr.op quick,
+)
+
+pub constant_in_frame : (at : PlaceInCode) → HasRow at → at.instr.op ≡ 0x13 → LeadsToText at None → IsInFrame at
+constant_in_frame at row op no_text = (constant_of_numbers at row op no_text, λ low high. absurd (omega (arith, op, low)))
 
 -- ---- Where it doesn't go on, and is no return, its frame stands as it stood.
 

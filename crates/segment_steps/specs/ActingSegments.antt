@@ -26,26 +26,7 @@ use Rattle.segment_steps.specs.declared.went.Went.{Went}
 use Rattle.segment_steps.specs.declared.went.Went.TheVariants as Goes
 use Rattle.segment_steps.specs.RaisingHere.{went_of}
 
--- pub fn act<H: ObjectStore, F: FrameStore, S: Sink>(w: &World, heap: &mut H, frames: &mut F, own: &mut Own, shared: &mut Shared, r: Runs,
---     met: &Meeting<'_>, out: &mut S) -> Result<Went, SinkFailed>
---   requires may { MayAct (contents_of (H.content heap.old) (F.content frames.old) own.old) (here_at w.now shared.old r.domain r.segment) }
---   requires met { (f : FrameState) × TopFrame (F.content frames.old) r.segment f × Meets w.now.classes own.old.state r f met.now }
---   requires free { met.now.look ≢ Sees.Waits }
---   ensures ok { IfOk result (λ went. ActsSo (contents_of (H.content heap.old) (F.content frames.old) own.old)
---       (here_at w.now shared.old r.domain r.segment) r.thread
---       (left_behind (contents_of (H.content heap.new) (F.content frames.new) own.new) shared.new) went
---       (λ lines. PrintsLines (S.bytes out.old) (S.bytes out.new) (S.pieces out.old) (S.pieces out.new) (S.faults out.old) (S.faults out.new)
---       (printed result) lines)) }
---   ensures err { OnErr result (ActsSo (contents_of (H.content heap.old) (F.content frames.old) own.old)
---       (here_at w.now shared.old r.domain r.segment) r.thread
---       (left_behind (contents_of (H.content heap.new) (F.content frames.new) own.new) shared.new) Goes.GoesOn
---       (λ lines. PrintsLines (S.bytes out.old) (S.bytes out.new) (S.pieces out.old) (S.pieces out.new) (S.faults out.old) (S.faults out.new)
---       (printed result) lines)) }
---   ensures cause { OnErr result (HasRisen (S.faults out.old) (S.faults out.new)) }
---   ensures calm { OnOk result (S.faults out.new ≡ S.faults out.old) }
---   ensures faults { NeverFalls (S.faults out.old) (S.faults out.new) }
--- Where the sink fails, the whole step is done, and its line went out in part. It takes no memory.
-
+-- What is known of a segment that acts.
 pub record MayAct (c : Contents) (here : Here) : Type 0 where
   pub domain : KnowsDomain c here
   pub run : Run

@@ -1,6 +1,11 @@
 -- What one step of a segment makes of the stores and of what domains share, and what it comes to.
 pub mod ActingSegments
+pub mod CallsOnSystem
+pub mod FollowedCalls
 pub mod InFrameSteps
 pub mod InFrameTurns
+pub mod Initialisers
 pub mod Meetings
 pub mod RaisingHere
+pub mod Returning
+pub mod StepsAlone

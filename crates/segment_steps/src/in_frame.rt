@@ -17,9 +17,9 @@ ghost use Rattle.segment_steps.specs.InFrameTurns.{GoesOnInFrame, IsInFrame, IsR
 
 use domain_resolver::World;
 use frame_store::FrameStore;
-use jk_model::opcodes::{IRETURN, RETURN};
+use jk_model::opcodes::{ALOAD, ASTORE, IFNONNULL, IFNULL, ISTORE, LDC_W, LOOKUPSWITCH, NOP, POP};
 use jk_model::{After, Instr, SegmentNo};
-use step_contents::{Kind, StandsAt, kind_of, stands_at};
+use step_contents::{StandsAt, stands_at, text_of};
 
 /// Where a frame goes on: at this instruction of its code.
 #[derive(Clone, Copy)]
@@ -86,6 +86,7 @@ fn run_from<F: FrameStore>(
 
 /// Does the instruction at which the top frame stands, where it computes or jumps within the frame, and answers where the frame goes on.
 /// None, and nothing changed, where it is another one or raises something.
+#[inline(always)]
 fn next_in_frame<'a, F: FrameStore>(
     w: &World,
     frames: &mut F,
@@ -111,13 +112,16 @@ fn next_in_frame<'a, F: FrameStore>(
     }
 }
 
-/// Whether the instruction at which a frame stands computes or jumps within the frame, unless it raises something.
+/// Whether the instruction at which a frame stands computes or jumps within the frame, unless it raises something. It is told by the
+/// opcode, the most frequent ones first: constants and loads; stores; what works on the stack, arithmetic and jumps.
+#[inline(always)]
 fn stays_in_frame(at: &StandsAt<'_>) -> bool
     requires { HasRow (place_of at.now) }
     ensures { result ≡ true → IsInFrame (place_of at.now) }
 {
-    match kind_of(at) {
-        Kind::Numbers => !matches!(at.instr.op, IRETURN..=RETURN),
+    match at.instr.op {
+        LDC_W => text_of(at).is_none(),
+        NOP..=ALOAD | ISTORE..=ASTORE | POP..=LOOKUPSWITCH | IFNULL..=IFNONNULL => true,
         _ => false,
     }
 }

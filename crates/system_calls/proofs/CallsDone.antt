@@ -176,7 +176,9 @@ module _ (heaps : HeapContent) (frames : FrameContent) (own : KeptState) (shared
     -- ---- Nothing happens to the heap.
 
     heap_same : HeapBecomes heaps heaps h.domain (heaps.heap h.domain) (heap_words h.world.now.classes (heaps.heap h.domain))
-    heap_same = counted_still heaps heaps h.world.now.classes h.domain (ready heaps shared h own frames (may_change heaps frames own shared h at may)) (same_self heaps)
+    heap_same =
+        counted_still heaps heaps h.world.now.classes h.domain (ready heaps shared h own frames (may_change heaps frames own shared h at may))
+        (same_self heaps)
 
     pub said : (text : List ℕ) → Finds heaps h.domain meaning given (Tells text) → (new_frames : FrameContent)
         → TakesOff frames new_frames h.segment (given_count meaning)

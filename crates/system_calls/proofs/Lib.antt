@@ -1,8 +1,10 @@
 -- Lemmas on the table of meanings, on numbers as text, on texts in a store, and on calls of methods.
 mod BufferRows
+mod BytesWritten
 mod CallsBegin
 mod CallsDone
 mod CallsFound
+mod CapabilitiesAsked
 mod ClassesOfMeanings
 mod CopiedArrays
 mod DigitsInTurn
@@ -10,16 +12,20 @@ mod DoneAsGiven
 mod GivenByKind
 mod GivenRead
 mod GivenTaken
+mod GroupsOfMethods
 mod HiddenRows
 mod LinesSaid
 mod MethodsAreDone
 mod MethodsMayBeDone
+mod NamesAsked
 mod NumbersRead
 mod OwnDomain
 mod PackageOfMeanings
+mod RemoteClasses
 mod RoomForAnswers
 mod RowsOfNewObjects
 mod StoresBecome
+mod TasksAsked
 mod TextRows
 mod TextsJoined
 mod UnitsRead

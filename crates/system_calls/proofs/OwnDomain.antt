@@ -1,18 +1,26 @@
 -- Rows of methods that ask of their own domain: its free words, and a handle of its running segment.
-use Rattle.std.proofs.Common.{◌≡◌, ℕ, ◌-◌, ◌<◌, ◌≤◌, List, [], Option, Some, None, to_z, pos, w32, ℤ, refl, sym, ap, ◌∙◌, subst, arith}
+use Rattle.std.proofs.Common.{◌≡◌, ℕ, ◌-◌, ◌<◌, ◌≤◌, List, [], Option, Some, None, Result, to_z, pos, w32, ℤ, refl, sym, ap, ◌∙◌, subst, arith}
 use Rattle.std.specs.Option.{option_map_or}
 use Rattle.std.proofs.lemmas.Int.{to_z_pos}
 use Rattle.jk_model.specs.declared.identifiers.DomainId.{DomainId}
 use Rattle.jk_model.specs.declared.identifiers.SegmentNo.{SegmentNo}
+use Rattle.jk_model.specs.declared.steps.Raise.{Raise}
+use Rattle.jk_model.specs.declared.values.Value.{Value}
 use Rattle.jk_model.specs.declared.values.Value.TheVariants as Held
 use Rattle.jk_model_classes.specs.declared.records.ClassRecord.{ClassRecord}
+use Rattle.jk_model_classes.specs.Worlds.{DomainRecord, domain_of}
 use Rattle.jk_model_domains.specs.Objects.{Task}
 use Rattle.jk_model_heaps.specs.Heaps.{free_words, heap_words}
 use Rattle.jk_model_heaps.specs.Workings.{Inside, Setting, with_heap}
+use Rattle.jk_model_sharing.specs.SharedStates.{SharedState}
+use Rattle.jk_model_system_rows.specs.declared.meanings.SystemMeaning.{SystemMeaning}
 use Rattle.jk_model_system_rows.specs.declared.meanings.SystemMeaning.TheVariants as Means
 use Rattle.jk_model_system_rows.specs.Answers.{AnswersNew, fails_for_memory, gives_int, gives_value, with_answer}
-use Rattle.object_store.specs.HeapContents.{HeapContent, IsHeapContent, IsSame, MakesObject, words_left}
-use Rattle.system_calls.specs.DoneRows.{Does, IsFor, IsReady}
+use Rattle.jk_model_system_rows.specs.SystemRows.{SystemRow}
+use Rattle.object_store.specs.HeapContents.{HeapBecomes, HeapContent, IsHeapContent, IsSame, MakesObject, words_left}
+use Rattle.system_calls.specs.declared.here.Here.{Here}
+use Rattle.system_calls.specs.DoneRows.{Does, IsFor, IsReady, answer_of}
+use Rattle.system_calls.specs.MethodsDone.{MethodDone, answers}
 use Rattle.system_calls.proofs.RowsOfNewObjects.{answers_lack, answers_new, counted_still, same_inside}
 use Rattle.system_calls.proofs.TextRows.{same_self}
 
@@ -57,3 +65,19 @@ module _ (c new : HeapContent) (classes : List ClassRecord) (d : DomainId) (read
   task_lacks_room kept lacks =
       subst (λ (n : SegmentNo). AnswersNew x inside (Task n) (with_answer (with_heap inside (new.heap d)) fails_for_memory)) (sym same)
       (answers_lack c new classes d ready (Task s) lacks kept x inside is)
+
+-- ---- The domain's name.
+
+module _ (old new : HeapContent) (shared : SharedState) (h : Here) (meaning : SystemMeaning) (given : List Value) (same : meaning ≡ Means.NamesDomain)
+    (result : Result (Option Value) Raise) where
+  pub name_answered : HeapBecomes old new h.domain (new.heap h.domain) (heap_words h.world.now.classes (new.heap h.domain))
+      → ((x : Setting) (inside : Inside) (names : DomainRecord) → IsFor old h.world.now.classes h.domain x inside
+      → domain_of h.world.now h.domain ≡ Some names → x.name ≡ names.name
+      → SystemRow x Means.NamesDomain [] inside (with_answer (with_heap inside (new.heap h.domain)) (answer_of result)))
+      → MethodDone old new shared shared h meaning given result
+  name_answered becomes rows = record {
+    becomes = becomes;
+    row = λ x inside is. answers (subst (λ (m : SystemMeaning). SystemRow x m given inside
+        (with_answer (with_heap inside (new.heap h.domain)) (answer_of result))) (sym same)
+        (rows x inside is.names is.own is.is_domain is.name)) refl;
+  }

@@ -45,6 +45,6 @@ Prints m = (m ≡ Means.PrintsEmptyLine) ⊎ ((shown : Shown) × (m ≡ Means.Pr
 abbrev pub IsOfJk : SystemMeaning → Type 0
 IsOfJk m = IsOfOwnDomain m ⊎ IsOfCapabilities m ⊎ IsOfRepository m ⊎ IsOfTasks m ⊎ (m ≡ Means.TerminatesDomain)
 
--- it prints nothing, and isn't of package jk
+-- it prints nothing, and its domain goes on
 abbrev pub IsAnswered : SystemMeaning → Type 0
-IsAnswered m = (Prints m → ⊥) × (IsOfJk m → ⊥)
+IsAnswered m = (Prints m → ⊥) × (m ≡ Means.TerminatesDomain → ⊥)

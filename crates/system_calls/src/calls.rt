@@ -1,10 +1,11 @@
 //! A call of a method of the system, which is done in one step and has no frame of its own.
 
-ghost use Rattle.std.specs.Prelude.{◌≡◌, ◌+◌, ◌<◌, ◌^◌, [], ◌∷◌, IfOk, OnOk, OnErr, List, Some, ℕ};
+ghost use Rattle.std.specs.Prelude.{◌≡◌, ◌≢◌, ◌+◌, ◌<◌, ◌^◌, [], ◌∷◌, IfOk, OnOk, OnErr, List, Some, ℕ};
 ghost use Rattle.jk_model.specs.Outside.{HasRisen, NeverFalls};
 ghost use Rattle.jk_model.specs.declared.output.Line.TheVariants as line;
 ghost use Rattle.jk_model.specs.declared.steps.After.TheVariants as Next;
 ghost use Rattle.jk_model_classes.specs.Worlds.{DomainRecord, domain_of};
+ghost use Rattle.jk_model_system_rows.specs.declared.meanings.SystemMeaning.TheVariants as Means;
 ghost use Rattle.jk_model_system_rows.specs.Answers.{Tells};
 ghost use Rattle.jk_outside.specs.SeveralLines.{PrintsLines};
 ghost use Rattle.class_init.specs.KeptStates.{KeptState};
@@ -14,19 +15,23 @@ ghost use Rattle.step_contents.specs.Contents.{contents_of, here_at, left_behind
 ghost use Rattle.step_contents.specs.StandingFrames.{place_of};
 ghost use Rattle.system_calls.specs.DoneRows.{Finds};
 ghost use Rattle.system_calls.specs.GivenOnTop.{FramesAfter, HasGiven, HasRoomAfter, next_after};
-ghost use Rattle.system_calls.specs.MethodGroups.{IsAnswered, Prints};
+ghost use Rattle.system_calls.specs.MethodGroups.{IsAnswered, IsOfCapabilities, IsOfJk, Prints};
 ghost use Rattle.system_calls.specs.MethodsDone.{MayAnswer, MethodDone};
-ghost use Rattle.system_calls.specs.PackageJk.{IsOfPackageJk};
+ghost use Rattle.system_calls.specs.PackageJk.{HasNoRemote, IsOfPackageJk};
 ghost use Rattle.system_calls.specs.SystemSteps.{MayCall, SystemDone, call_site, printed};
 ghost use Rattle.system_calls.specs.Wordings.{IsWorded};
 
 use crate::answers::Answer;
+use crate::capabilities::capability_answer;
 use crate::given::{count_given, drop_given, put_answer, read_given, two_values};
 use crate::here::Here;
 use crate::meanings::meaning;
+use crate::own_domain::domain_answer;
 use crate::own_methods::{buffer_answer, copy_answer, object_answer, text_answer};
 use crate::printing::print_said;
+use crate::repository::repository_answer;
 use crate::short_texts::no_text;
+use crate::tasks::task_answer;
 use crate::wordings::{Wording, wording_of};
 use domain_resolver::World;
 use frame_store::FrameStore;
@@ -44,6 +49,9 @@ use thread_segments::Shared;
 /// doesn't fit. After `Terminate` nothing changed: the running domain is to be killed. A line that is printed goes out in pieces; where
 /// the sink fails, all else is done, as after `Goto`, and the text went out in part. Nothing here takes memory. A call takes time in
 /// proportion to the texts and the items that it reads and writes.
+///
+/// Of a method of package jk one thing more is asked: no object is of the interface jk/Remote itself, which would be remote but has no
+/// stub. A caller that runs no method of package jk has nothing to show.
 pub fn call<H: ObjectStore, F: FrameStore, S: Sink>(
     heap: &mut H,
     frames: &mut F,
@@ -57,7 +65,7 @@ pub fn call<H: ObjectStore, F: FrameStore, S: Sink>(
 ) -> Result<After, SinkFailed>
     requires may { (own : KeptState) × MayCall (contents_of (H.content heap.old) (F.content frames.old) own)
         (call_site (here_at w.now shared.old d s) (place_of at.now) m) }
-    requires without_jk { IsOfPackageJk w.now.classes m.class → ⊥ }
+    requires without_jk { IsOfPackageJk w.now.classes m.class → HasNoRemote (H.content heap.old) d }
     ensures ok { IfOk result (λ after. (own : KeptState)
         → SystemDone (contents_of (H.content heap.old) (F.content frames.old) own) (call_site (here_at w.now shared.old d s) (place_of at.now) m)
         (left_behind (contents_of (H.content heap.new) (F.content frames.new) own) shared.new) after
@@ -84,6 +92,7 @@ pub fn call<H: ObjectStore, F: FrameStore, S: Sink>(
         segment: s,
     };
     match meaning {
+        SystemMeaning::TerminatesDomain => Ok(After::Terminate),
         SystemMeaning::PrintsEmptyLine | SystemMeaning::Prints(_) => {
             let line = print_line(heap, &here, meaning, given, out);
             drop_given(frames, s, count);
@@ -132,6 +141,7 @@ fn answer<H: ObjectStore>(
 ) -> Answer
     requires may { MayAnswer (H.content heap.old) shared.old here.now meaning given.now }
     requires answered { IsAnswered meaning }
+    requires no_remote { IsOfCapabilities meaning → HasNoRemote (H.content heap.old) here.now.domain }
     ensures { MethodDone (H.content heap.old) (H.content heap.new) shared.old shared.new here.now meaning given.now result }
 {
     let (t, d) = (here.world.classes(), here.domain);
@@ -153,6 +163,37 @@ fn answer<H: ObjectStore>(
         | SystemMeaning::SetsMessage
         | SystemMeaning::GetsMessage => object_answer(heap, t, d, meaning, given),
         SystemMeaning::CopiesArray => copy_answer(heap, shared, t, d, given),
+        _ => jk_answer(heap, shared, here, meaning, given),
+    }
+}
+
+/// What a method of package jk answers.
+fn jk_answer<H: ObjectStore>(
+    heap: &mut H,
+    shared: &mut Shared,
+    here: &Here<'_>,
+    meaning: SystemMeaning,
+    given: &[Value],
+) -> Answer
+    requires may { MayAnswer (H.content heap.old) shared.old here.now meaning given.now }
+    requires group { IsOfJk meaning }
+    requires goes_on { meaning ≢ Means.TerminatesDomain }
+    requires no_remote { IsOfCapabilities meaning → HasNoRemote (H.content heap.old) here.now.domain }
+    ensures { MethodDone (H.content heap.old) (H.content heap.new) shared.old shared.new here.now meaning given.now result }
+{
+    match meaning {
+        SystemMeaning::NamesDomain | SystemMeaning::CountsFreeWords | SystemMeaning::GetsTask => {
+            domain_answer(heap, here, meaning, given)
+        }
+        SystemMeaning::CreatesCapability | SystemMeaning::RevokesCapability => {
+            capability_answer(heap, shared, here, meaning, given)
+        }
+        SystemMeaning::BindsName | SystemMeaning::LooksUpName | SystemMeaning::UnbindsName => {
+            repository_answer(heap, shared, here, meaning, given)
+        }
+        SystemMeaning::SuspendsTask | SystemMeaning::ResumesTask | SystemMeaning::StopsTask => {
+            task_answer(heap, shared, here, meaning, given)
+        }
         _ => unreachable!(),
     }
 }

@@ -1,10 +1,10 @@
 -- The call begins as its meaning asks, and what is done is what comes of it.
-use Rattle.std.proofs.Common.{◌≡◌, ◌∙◌, [], Some, take, sym, subst, refl, rules}
+use Rattle.std.proofs.Common.{◌≡◌, ◌∙◌, inl, inr, [], Some, take, sym, subst, refl, rules}
 use Rattle.jk_model.proofs.CountsNeverFall.{NeverFalls-refl}
 use Rattle.jk_model_system_rows.specs.Meanings.{meaning_of}
 use Rattle.step_contents.specs.StandingFrames.{place_of}
 use Rattle.system_calls.specs.GivenOnTop.{HasGiven, TakesOff}
-use Rattle.system_calls.proofs.CallsBegin.{as_read, comes_so, has_given, jk_class, line_comes, may_answer, place_fits, room_if, some_meaning}
+use Rattle.system_calls.proofs.CallsBegin.{as_read, comes_so, end_comes, has_given, jk_class, line_comes, may_answer, place_fits, room_if, some_meaning}
 use Rattle.system_calls.proofs.LinesSaid.{err_printed, none_printed, ok_printed}
 use Rattle.system_calls.proofs.calls.call.Goals as goal
 
@@ -53,12 +53,11 @@ answer-answer-requires g c =
           may_answer (g.H.ObjectStore.content c.args.heap.now) (g.F.FrameStore.content c.args.frames.now) c.args.shared.now
           (record { world = c.args.w; domain = c.args.d; segment = c.args.s }) (place_of c.args.at.now) c.args.m
           c.requires.may c.in-Some.meaning means (take c.from.result c.read_given-values.result) read.0 read.1;
-      answered = (
-        search rules,
-        (λ jk. c.requires.without_jk (jk_class (g.H.ObjectStore.content c.args.heap.now) (g.F.FrameStore.content c.args.frames.now) c.args.shared.now
-            (record { world = c.args.w; domain = c.args.d; segment = c.args.s }) (place_of c.args.at.now) c.args.m
-            c.requires.may c.in-Some.meaning means jk)),
-      );
+      answered = (search rules, search rules);
+      no_remote = λ caps.
+          c.requires.without_jk (jk_class (g.H.ObjectStore.content c.args.heap.now) (g.F.FrameStore.content c.args.frames.now) c.args.shared.now
+          (record { world = c.args.w; domain = c.args.d; segment = c.args.s }) (place_of c.args.at.now) c.args.m
+          c.requires.may c.in-Some.meaning means (inr (inl caps)));
     }
 
 pub finish-requires : goal.finish-requires
@@ -142,3 +141,17 @@ returns-in_default-meaning g c =
       calm = refl;
       faults = NeverFalls-refl (g.S.Sink.faults c.args.out.now) (g.met.S.Sink.faults_fit c.args.out.now);
     }
+
+pub returns-in-TerminatesDomain-clause-ok : goal.returns-in-TerminatesDomain-clause-ok
+returns-in-TerminatesDomain-clause-ok g c = λ own.
+    let same : c.from.result ≡ c.count_given-count.result = search rules in
+    let means : meaning_of c.args.m ≡ Some c.in-Some.meaning = sym c.meaning.ensures ∙ c.in-Some.is in
+    let read = as_read (g.H.ObjectStore.content c.args.heap.now) (g.F.FrameStore.content c.args.frames.now) c.args.shared.now
+    (record { world = c.args.w; domain = c.args.d; segment = c.args.s }) (place_of c.args.at.now) c.args.m
+    c.in-Some.meaning c.read_given-values.result c.count_given-count.result c.from.result same c.count_given-count.ensures
+    c.read_given-values.ensures.given c.read_given-values.ensures.many in
+    end_comes (g.H.ObjectStore.content c.args.heap.now) (g.F.FrameStore.content c.args.frames.now) c.args.shared.now
+    (record { world = c.args.w; domain = c.args.d; segment = c.args.s }) (place_of c.args.at.now) c.args.m
+    c.in-Some.meaning means (take c.from.result c.read_given-values.result) read.0 read.1 own _ c.in-TerminatesDomain.is
+    (none_printed [] [] (g.S.Sink.bytes c.args.out.now) (g.S.Sink.pieces c.args.out.now) (g.S.Sink.faults c.args.out.now)
+    (g.met.S.Sink.faults_fit c.args.out.now))

@@ -1,0 +1,116 @@
+//! Domains that are opened.
+
+ghost use Rattle.std.specs.Prelude.{◌≡◌, ◌<◌, ◌≤◌, length, vec_len, vec_capacity, IfErr, OnErr, OnOk};
+ghost use Rattle.kernel_openings.specs.OpenedParts.{AreAsked, IsWhyNot, KeepsParts, MayOpen, OpenParts as Parts, OpensParts};
+
+use crate::answers::AddAnswer;
+use crate::joining::{Newcomer, enter};
+use crate::package_jk::refers_to_package_jk;
+use crate::standing_objects::make_standing;
+use crate::store_rooms::admit_stores;
+use class_init::Own;
+use domain_resolver::World;
+use folder_loader::Loaded;
+use frame_store::FrameStore;
+use jk_model::{AdmitError, Bytes, DomainId, OutOfMemory, Place, Quotas, Rule};
+use object_store::ObjectStore;
+use std::alloc::Global;
+use thread_segments::Shared;
+
+/// Adds the domain of a folder whose classes are loaded. After an error all is as before; the classes stay.
+pub(crate) fn open<H: ObjectStore, F: FrameStore>(
+    alloc: Global,
+    world: &mut World,
+    owns: &mut Vec<Option<Own>>,
+    shared: &mut Shared,
+    heap: &mut H,
+    frames: &mut F,
+    loaded: Loaded,
+    name: &str,
+    quotas: &Quotas,
+) -> Result<(), AddAnswer>
+    requires may { let old : Parts = record {
+      world = world.old;
+      owns = owns.old.items;
+      shared = shared.old;
+      heap = H.content heap.old;
+      frames = F.content frames.old;
+    } in MayOpen old loaded name.now }
+    requires asked { AreAsked quotas.now }
+    ensures ok { let old : Parts = record {
+      world = world.old;
+      owns = owns.old.items;
+      shared = shared.old;
+      heap = H.content heap.old;
+      frames = F.content frames.old;
+    } in let new : Parts = record {
+      world = world.new;
+      owns = owns.new.items;
+      shared = shared.new;
+      heap = H.content heap.new;
+      frames = F.content frames.new;
+    } in OnOk result (OpensParts old new loaded name.now quotas.now) }
+    ensures err { let old : Parts = record {
+      world = world.old;
+      owns = owns.old.items;
+      shared = shared.old;
+      heap = H.content heap.old;
+      frames = F.content frames.old;
+    } in let new : Parts = record {
+      world = world.new;
+      owns = owns.new.items;
+      shared = shared.new;
+      heap = H.content heap.new;
+      frames = F.content frames.new;
+    } in OnErr result (KeepsParts old new) }
+    ensures cause { let old : Parts = record {
+      world = world.old;
+      owns = owns.old.items;
+      shared = shared.old;
+      heap = H.content heap.old;
+      frames = F.content frames.old;
+    } in IfErr result (IsWhyNot old loaded quotas.now) }
+{
+    let Loaded {
+        first,
+        table,
+        offers,
+        stubs,
+    } = loaded;
+    if refers_to_package_jk(world.classes(), first) {
+        return Err(AddAnswer::Refused(Rule::X1, Place::Whole));
+    }
+    let mut own = Own::make(alloc, world.classes(), &table)?;
+    let name = Bytes::from_slice(alloc, name.as_bytes())?;
+    reserve_own(owns)?;
+    let d = DomainId(world.domain_count() as u32);
+    match admit_stores(heap, frames, d, quotas) {
+        Ok(()) => {}
+        Err(AdmitError::NoExtent) => return Err(AddAnswer::NoRoom),
+        Err(AdmitError::OutOfMemory) => return Err(AddAnswer::OutOfMemory),
+    }
+    let newcomer = Newcomer {
+        name,
+        table,
+        offers,
+        stubs,
+    };
+    if let Err(e) = enter(world, shared, d, newcomer, quotas) {
+        heap.close(d);
+        frames.close(d);
+        return Err(e);
+    }
+    own.holds();
+    make_standing(heap, world.classes(), d, &mut own);
+    owns.push_reserved(Some(own));
+    Ok(())
+}
+
+/// Makes room for another own state.
+fn reserve_own(owns: &mut Vec<Option<Own>>) -> Result<(), OutOfMemory>
+    ensures items { owns.new.items ≡ owns.old.items }
+    ensures room { OnOk result (vec_len owns.new < vec_capacity owns.new) }
+{
+    owns.reserve(1)?;
+    Ok(())
+}
