@@ -1,5 +1,5 @@
 -- A step sets or clears flags of a segment: it is one of its own domain, on whatever thread it stands.
-use Rattle.std.proofs.Common.{◌≡◌, ◌≢◌, ◌⊎◌, inl, inr, ℕ, ◌==◌, Bool, true, false, cond, List, [], ◌∷◌, ◌++◌, map, Contains, Option, Some, None, Ok, refl, sym, ap, subst, ◌∙◌, eqb-true}
+use Rattle.std.proofs.Common.{◌≡◌, ◌≢◌, inl, inr, ℕ, ◌==◌, Bool, true, false, cond, List, [], ◌∷◌, ◌++◌, map, Contains, Option, Some, None, refl, sym, ap, subst, ◌∙◌, eqb-true}
 use Rattle.std.specs.List.{AllZip}
 use Rattle.std.specs.Option.{option_map}
 use Rattle.std.proofs.lemmas.List.{map-append}
@@ -12,28 +12,25 @@ use Rattle.jk_model.specs.declared.values.Value.{Value}
 use Rattle.jk_model_domains.specs.Objects.{NamedObject, Task, object_named}
 use Rattle.jk_model_frames.specs.Frames.{FrameState}
 use Rattle.jk_model_heaps.specs.CalledFrames.{resumed}
-use Rattle.jk_model_heaps.specs.Workings.{Inside, Request, Run, with_heap}
-use Rattle.jk_model_heaps.specs.Workings.{Binds as AsksToBind, Creates as AsksToCreate, LooksUp as AsksToLookUp, Resumes as AsksToResume, Revokes as AsksToRevoke, Stops as AsksToStop, Suspends as AsksToSuspend, Unbinds as AsksToUnbind}
+use Rattle.jk_model_heaps.specs.Workings.{Inside, Request, with_heap}
 use Rattle.jk_model_sealing.specs.SealedInsides.{Surroundings}
 use Rattle.jk_model_sharing.specs.Answers.{Granted}
 use Rattle.jk_model_sharing.specs.BoundNames.{without_names_of}
 use Rattle.jk_model_sharing.specs.Segments.{SharedSegment, with_revoked, with_stop, with_suspended}
 use Rattle.jk_model_machine_state.specs.Machines.{DomainState, IsLiveThread, Machine, Segment, Thread, domain_at, thread_numbered, with_stacks}
-use Rattle.jk_model_machine_state.specs.Places.{RunningSegment, with_flags, with_running}
+use Rattle.jk_model_machine_state.specs.Places.{RunningSegment, with_running}
 use Rattle.jk_model_crossings.specs.Answers.{Receives}
 use Rattle.jk_model_crossings.specs.Requests.{Grants}
-use Rattle.jk_model_runs.specs.Confined.{HasFlags, HasOtherTop, OthersChange, OwnChange, StepOf, ThreadChanges}
-use Rattle.jk_model_runs.specs.Sealed.{IsSealed}
+use Rattle.jk_model_runs.specs.Confined.{HasFlags, OthersChange, OwnChange, ThreadChanges}
 use Rattle.jk_model_runs.specs.Steps.{Flagged, deed_of_request}
-use Rattle.list_lemmas.proofs.ItemsByPlace.{slice_get-longer}
-use Rattle.list_lemmas.proofs.ItemsOfLists.{Contains-at, Contains-cases, Contains-here, Contains-there, place_of}
+use Rattle.list_lemmas.proofs.ItemsOfLists.{Contains-at, Contains-here, Contains-there}
 use Rattle.list_lemmas.proofs.LastItems.{one_last}
 use Rattle.heap_laws.proofs.ObjectsAfterChanges.{found_stands}
 use Rattle.heap_laws.specs.FittingOutcomes.{IsKnownRequest}
 use Rattle.machine_laws.specs.SoundMachines.{IsSealedAtCall}
 use Rattle.machine_laws.proofs.ElsewhereSame.{other_insides, other_running}
 use Rattle.machine_laws.proofs.InitialisersAfterRuns.{found_still}
-use Rattle.machine_laws.proofs.RanInSteps.{ChangesHere, live_same, unchanged}
+use Rattle.machine_laws.proofs.RanInSteps.{ChangesHere, unchanged}
 use Rattle.machine_laws.proofs.RunningSegmentsFit.{same_thread_number, thread_place}
 use Rattle.machine_laws.proofs.RunsAgain.{home_set_there, thread_set}
 use Rattle.machine_laws.proofs.ThreadsEnded.{thread_found}

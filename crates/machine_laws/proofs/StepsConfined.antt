@@ -8,7 +8,7 @@ use Rattle.jk_model.specs.declared.steps.Raise.{Raise}
 use Rattle.jk_model.specs.declared.steps.Raise.TheVariants as Raised
 use Rattle.jk_model.specs.declared.steps.Standing.TheVariants as Stands
 use Rattle.jk_model.specs.declared.values.Value.{Value}
-use Rattle.jk_model_domains.specs.Objects.{Task, object_named}
+use Rattle.jk_model_domains.specs.Objects.{object_named}
 use Rattle.jk_model_heaps.specs.Workings.{Inside, Request, Run}
 use Rattle.jk_model_heaps.specs.Workings.{Binds as AsksToBind, Creates as AsksToCreate, LooksUp as AsksToLookUp, Resumes as AsksToResume, Revokes as AsksToRevoke, Stops as AsksToStop, Suspends as AsksToSuspend, Unbinds as AsksToUnbind}
 use Rattle.jk_model_running.specs.Ways.{Asks, Went}
@@ -20,8 +20,7 @@ use Rattle.jk_model_crossings.specs.Requests.{Grants}
 use Rattle.jk_model_crossings.specs.Throwing.{RaisesInThread, Throws}
 use Rattle.jk_model_runs.specs.Confined.{Confined}
 use Rattle.jk_model_runs.specs.Sealed.{surroundings}
-use Rattle.jk_model_runs.specs.Steps.{Acts, Deed, Ensues, Flagged, LeftSegments, Rested, StepsBy, Worked, deed_of_raise, deed_of_request}
-use Rattle.heap_laws.specs.FittingOutcomes.{IsKnownRequest}
+use Rattle.jk_model_runs.specs.Steps.{Acts, Deed, Ensues, Flagged, Rested, StepsBy, Worked, deed_of_raise, deed_of_request}
 use Rattle.heap_laws.specs.RaisableObjects.{IsThrowable, MayBeRaised}
 use Rattle.row_laws.specs.HeapRowLaws.{HeapRowsKeep}
 use Rattle.row_laws.specs.KeptRuns.{KeepsRun}
@@ -40,11 +39,11 @@ use Rattle.machine_laws.proofs.PaidSteps.{known_paid}
 use Rattle.machine_laws.proofs.RaisesSealed.{flagged, is_met, met_there}
 use Rattle.machine_laws.proofs.RaisesWhereMet.{IsMet, meets_at, met}
 use Rattle.machine_laws.proofs.RanInSteps.{ChangesHere, confined_by, thread_same, unchanged}
-use Rattle.machine_laws.proofs.RunningSegmentsFit.{acts_well, same_thread_number, thread_place}
+use Rattle.machine_laws.proofs.RunningSegmentsFit.{acts_well}
 use Rattle.machine_laws.proofs.RunsAgain.{inside_there, of_home, running_then, runs_on, runs_there}
 use Rattle.machine_laws.proofs.SealedAfterRuns.{left_sealed, running_sealed}
 use Rattle.machine_laws.proofs.WaitingRuns.{waiting_sealed}
-use Rattle.machine_laws.proofs.WorkedSoFar.{WorkedSo, starts, worked_changes, works_on}
+use Rattle.machine_laws.proofs.WorkedSoFar.{WorkedSo, worked_changes, works_on}
 use Rattle.machine_laws.proofs.WorldsKept.{running_keeps, sound_classes_stay}
 
 -- a throwable leaves one segment or more
