@@ -8,6 +8,7 @@ ghost use Rattle.machine_laws.specs.RunsInMachines.{AnsweringRunsStayWhole, Firs
 ghost use Rattle.machine_laws.specs.SealedSteps.{FirstMachinesAreKnown, KillsStayKnown, LeftRunsStaySealed, RunningSegmentsActWell, StartsStayKnown, StartsStaySealed, StartsStayWithoutJk, StepsStayKnown, StepsStayWithoutJk, WaitingRunsStaySealed};
 ghost use Rattle.machine_laws.specs.StepProgress.{GoingIsThere, RoundsAreThere, StepsAreThere, StepsAreThereWithoutJk, TurnsAreThere};
 
+use crate::confined::steps_are_confined;
 use crate::folders::system_classes_are_sound;
 use row_laws::heap_rows::heap_rows_keep;
 use row_laws::running::{local_steps_are_there, local_steps_keep};
@@ -72,7 +73,7 @@ pub fn steps_stay_known_without_jk()
 pub fn steps_are_confined_without_jk()
     ensures { StepsAreConfinedWithoutJk }
 {
-    heap_rows_keep();
+    steps_are_confined();
 }
 
 /// All is known of the machine to which a step leads of which all is known: whatever the step was, also where the thread entered another domain,
