@@ -24,3 +24,4 @@ mod StaysWithoutJk
 mod StepsOfActs
 mod StepsOfRaises
 mod ThrownObjects
+pub mod NoCapabilityCalled
