@@ -79,7 +79,7 @@ frames_resume m sound table caps heap callers caller v frames suits =
 
 -- ---- The segment below stands at its call.
 
-calls_from : (m : Machine) (front : List Segment) (s above : Segment) → SegmentsFit m (front ++ s ∷ above ∷ []) → IsSealedSegment m (CallerFits m) s
+pub calls_from : (m : Machine) (front : List Segment) (s above : Segment) → SegmentsFit m (front ++ s ∷ above ∷ []) → IsSealedSegment m (CallerFits m) s
 calls_from m [] s above h = h.0
 calls_from m (a ∷ []) s above h = h.1.0
 calls_from m (a ∷ b ∷ front) s above h = calls_from m (b ∷ front) s above h.1

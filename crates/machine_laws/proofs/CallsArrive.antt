@@ -1,5 +1,5 @@
 -- A call through a capability enters the domain of its owner: the target is there, and a frame of its method begins well with what it is given.
-use Rattle.std.proofs.Common.{◌≡◌, ℕ, ◌-◌, inl, inr, false, List, [], ◌∷◌, map, find, Contains, Option, Some, None, slice_get, refl, sym, ap, subst, ◌∙◌}
+use Rattle.std.proofs.Common.{◌≡◌, ℕ, ◌-◌, ◌≤◌, inl, inr, false, List, [], ◌∷◌, length, map, find, Contains, Option, Some, None, slice_get, refl, sym, ap, subst, ◌∙◌}
 use Rattle.std.specs.List.{AllByRecursion}
 use Rattle.std.specs.Option.{option_and_then}
 use Rattle.std.specs.Prelude.{IsFalse}
@@ -204,6 +204,12 @@ module _ (m : Machine) (sealed : IsSealed m) (sound : HasSoundClasses m) {t : Th
       (c.known.capability.class, runs heap is, alike.1),
       subst (λ (ts : List TypeRef). AreOfTypes around heap ts values) (sym params_same) typed,
     )
+
+    pub arguments_fit : length (locals_of (Held.Obj c.known.capability.target ∷ values)) ≤ h.code.max_locals
+    arguments_fit =
+        let given = Held.Obj c.known.capability.target ∷ values in
+        let fits = given_fits around sound.codes heap h.target h.target_method h.code h.is_target h.body given (inr begins) in
+        has_room around sound.codes heap h.target h.target_method h.code h.is_target h.body given fits
 
     abbrev pub begun : FrameState
     begun = called_frame (call_head h.target h.code) (Held.Obj c.known.capability.target ∷ values)

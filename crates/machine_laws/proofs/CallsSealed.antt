@@ -138,7 +138,7 @@ module _ (m : Machine) (t : ThreadNo) (sealed : IsSealed m) (sound : HasSoundCla
     comes_to = inr (inr (inr (stands.interface, inl (stands.not_object, refl))));
   }
 
-  typed : AreOfTypes around heap c.named.params c.given
+  pub typed : AreOfTypes around heap c.named.params c.given
   unfolding call
   typed =
       let g : CallGiven around x stands.code.scope stands.code.instr w call =
@@ -146,7 +146,7 @@ module _ (m : Machine) (t : ThreadNo) (sealed : IsSealed m) (sound : HasSoundCla
       (λ method. ap (λ (k : ℕ). given_count k method) stands.interface) in
       subst (AreOfTypes around heap c.named.params) (sym (tail_is (Held.Cap c.capability) g.receiver c.given g.arguments g.given_is)) g.of_types
 
-  given_known : AllByRecursion (IsKnownValue (caps_of m) heap) c.given
+  pub given_known : AllByRecursion (IsKnownValue (caps_of m) heap) c.given
   given_known =
       (known-parts (IsKnownValue (caps_of m) heap) c.below given
       (subst (AllByRecursion (IsKnownValue (caps_of m) heap)) c.stack top_known.1)).1.1

@@ -8,7 +8,7 @@ use Rattle.jk_model.specs.declared.identifiers.ThreadNo.{ThreadNo}
 use Rattle.jk_model.specs.declared.output.Line.{Line}
 use Rattle.jk_model_heaps.specs.Workings.{Inside}
 use Rattle.jk_model_sharing.specs.BoundNames.{BoundName, without_names_of}
-use Rattle.jk_model_sharing.specs.Segments.{SharedSegment, changed, is_of, left_above, segments_left, top_is_of, top_of, with_revoked, with_top}
+use Rattle.jk_model_sharing.specs.Segments.{as_orphan, changed, is_of, left_above, segments_left, top_is_of, top_of, with_revoked, with_top}
 use Rattle.jk_model_machine_state.specs.Machines.{DomainState, IsLiveThread, Machine, Segment, Thread, domain_at, paid, segment_form, thread_numbered, with_domain}
 use Rattle.jk_model_machine_state.specs.Places.{RunningSegment}
 use Rattle.jk_model_crossings.specs.DomainEnds.{Terminates, ended_domain, has_segments, without_segments_of}
@@ -28,20 +28,21 @@ use Rattle.machine_laws.proofs.ThreadsEnded.{thread_found}
 -- ---- The top segment of a thread is one of the domain: whatever it is, what is left is the same.
 
 module _ (n : DomainId) where
+  -- a segment that stays, where the one below it was taken out or not
+  abbrev stays : Bool → Segment → Segment
+  stays gap s = cond gap (changed segment_form as_orphan s) s
+
   cut_top : (gap b : Bool) (a : Segment) → is_of segment_form n a ≡ b → b ≡ true → left_above segment_form n gap (a ∷ []) ≡ []
   cut_top gap true a e h =
-      ap (λ (b : Bool). cond b (left_above segment_form n true []) (cond gap (record a { shared = record a.shared { orphan = true } }) a ∷ left_above segment_form n false []))
-      e
+      ap (λ (b : Bool). cond b (left_above segment_form n true []) (stays gap a ∷ left_above segment_form n false [])) e
   cut_top gap false a e h = absurd cc
 
   cut_by : (b gap : Bool) (s a c : Segment) (lower : List Segment)
       → ((g : Bool) → left_above segment_form n g (lower ++ a ∷ []) ≡ left_above segment_form n g (lower ++ c ∷ []))
-      → cond b (left_above segment_form n true (lower ++ a ∷ []))
-      (cond gap (changed segment_form (λ (x : SharedSegment). record x { orphan = true }) s) s ∷ left_above segment_form n false (lower ++ a ∷ []))
-      ≡ cond b (left_above segment_form n true (lower ++ c ∷ []))
-      (cond gap (changed segment_form (λ (x : SharedSegment). record x { orphan = true }) s) s ∷ left_above segment_form n false (lower ++ c ∷ []))
+      → cond b (left_above segment_form n true (lower ++ a ∷ [])) (stays gap s ∷ left_above segment_form n false (lower ++ a ∷ []))
+      ≡ cond b (left_above segment_form n true (lower ++ c ∷ [])) (stays gap s ∷ left_above segment_form n false (lower ++ c ∷ []))
   cut_by true gap s a c lower h = h true
-  cut_by false gap s a c lower h = λ i. cond gap (changed segment_form (λ (x : SharedSegment). record x { orphan = true }) s) s ∷ h false i
+  cut_by false gap s a c lower h = λ i. stays gap s ∷ h false i
 
   cut_same : (a c : Segment) → is_of segment_form n a ≡ true → is_of segment_form n c ≡ true → (lower : List Segment) (gap : Bool)
       → left_above segment_form n gap (lower ++ a ∷ []) ≡ left_above segment_form n gap (lower ++ c ∷ [])

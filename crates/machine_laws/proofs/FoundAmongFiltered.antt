@@ -43,7 +43,8 @@ module _ {X : Type 0} (test has : X → Bool) where
 
 -- ---- A filter twice.
 
-twice_by : {X : Type 0} (has : X → Bool) (b : Bool) (x : X) (rest : List X) → has x ≡ b → filter has rest ≡ rest → filter has (cond b (x ∷ rest) rest) ≡ cond b (x ∷ rest) rest
+twice_by : {X : Type 0} (has : X → Bool) (b : Bool) (x : X) (rest : List X) → has x ≡ b → filter has rest ≡ rest
+    → filter has (cond b (x ∷ rest) rest) ≡ cond b (x ∷ rest) rest
 twice_by has true x rest e later = ap (λ (b : Bool). cond b (x ∷ filter has rest) (filter has rest)) e ∙ ap (λ (xs : List _). x ∷ xs) later
 twice_by has false x rest e later = later
 

@@ -33,7 +33,7 @@ not_none : {X : Type 0} (xs : List X) (x : X) → xs ++ x ∷ [] ≡ [] → ⊥
 not_none [] x e = cc
 not_none (y ∷ xs) x e = cc
 
-pub no_two : (m : Machine) (t : ThreadNo) → IsAlone m t → TopTwo m t → ⊥
+no_two : (m : Machine) (t : ThreadNo) → IsAlone m t → TopTwo m t → ⊥
 no_two m t alone s =
     let below : s.below.thread ≡ record s.left.thread { segments = s.left.lower } =
     same_Some s.below.thread (record s.left.thread { segments = s.left.lower }) (sym s.below.is_thread ∙ thread_set m t s.left.lower s.left) in

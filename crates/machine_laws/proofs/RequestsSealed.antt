@@ -38,7 +38,7 @@ use Rattle.machine_laws.proofs.TopSegmentsTaken.{inside_stays}
 
 -- ---- Whichever place of the running segment is taken.
 
-abbrev revoked_too : Segment → Segment
+abbrev pub revoked_too : Segment → Segment
 revoked_too s = record s { shared = with_revoked true s.shared }
 
 module _ (mid : Machine) (t : ThreadNo) (numbers : (i : ℕ) (e : DomainState) → slice_get mid.domains i ≡ Some e → e.number.0 ≡ i) (q : RunningSegment mid t) where
@@ -133,14 +133,14 @@ as_many_revoked (x ∷ made) place = as_many_by (place == 0) x made (revoked_at 
 -- ---- In a machine that is sealed but for a thread.
 
 module _ (m : Machine) (t : ThreadNo) (p : RunningSegment m t) (waits : IsSealedAtCall m t) (sound : HasSoundClasses m) where
-  abbrev stack : List Segment
+  abbrev pub stack : List Segment
   stack = p.lower ++ revoked_too p.segment ∷ []
 
   -- where a RevokedException is pending for the running segment
-  abbrev there : Machine
+  abbrev pub there : Machine
   there = record m { threads = map (set_segments t stack) m.threads }
 
-  sealed : IsSealed there
+  pub sealed : IsSealed there
   sealed =
       subst IsSealed
       (λ i. record there {

@@ -76,7 +76,7 @@ caps_by : (b : Bool) (left : Option ℕ) (e : DomainState) → (cond b (record e
 caps_by true left e = refl
 caps_by false left e = refl
 
-pub no_jk_paid : (m : Machine) (d : DomainId) → RunsNoPackageJk m → RunsNoPackageJk (paid d m)
+no_jk_paid : (m : Machine) (d : DomainId) → RunsNoPackageJk m → RunsNoPackageJk (paid d m)
 no_jk_paid m d without = record {
   fields = without.fields;
   methods = without.methods;

@@ -162,7 +162,7 @@ enters_keep {m = m} {t = t} c new h = subst (λ (x : Machine). KeepsWorld m x) (
       next_thread = refl;
     }
 
-grants_keep : {m : Machine} {t : ThreadNo} (p : RunningSegment m t) (request : Request) (granted : Granted) (mid : Machine)
+pub grants_keep : {m : Machine} {t : ThreadNo} (p : RunningSegment m t) (request : Request) (granted : Granted) (mid : Machine)
     → Grants p request granted mid → KeepsWorld m mid
 grants_keep {m = m} p request granted mid (Grants.creates class target answer range g created is) =
     domain_keeps p.home.domain.number (λ (e : DomainState). record e { caps = range }) m (λ e. refl)

@@ -1,12 +1,14 @@
-//! The laws. The functions have no bodies: each stands for its clauses.
+//! The laws. The functions have no bodies: each stands for its clause.
 
-ghost use Rattle.machine_laws.specs.ConfinedSteps.{AreConfinedIf, WasCall, WasEnd, WasRest, WasWork};
+ghost use Rattle.machine_laws.specs.ConfinedSteps.{StepsAreConfined};
 
-/// What a step changes outside of the domain in which its thread runs is what its deed says: where nothing changed,
-/// where its own thread and domain alone did, where another domain was entered, and where the domain ended.
+use row_laws::heap_rows::heap_rows_keep;
+
+/// What a step changes outside of the domain in which its thread runs is what its deed says: another domain that is called gets objects, one to which
+/// an answer or a throwable comes gets objects and may lose initialisers, flags of the domain's own segments are set or cleared on any thread, and with
+/// the end of the domain its segments and names go.
 pub fn steps_are_confined()
-    ensures rests { AreConfinedIf WasRest }
-    ensures works { AreConfinedIf WasWork }
-    ensures calls { AreConfinedIf WasCall }
-    ensures ends { AreConfinedIf WasEnd }
-{}
+    ensures { StepsAreConfined }
+{
+    heap_rows_keep();
+}

@@ -5,9 +5,10 @@ ghost use Rattle.machine_laws.specs.KnownMachines.{IsKnownMachine, IsKnownWithou
 ghost use Rattle.machine_laws.specs.LowestFrames.{LowestFramesGiveStill};
 ghost use Rattle.machine_laws.specs.MachinesOfRuns.{FirstMachinesAreWithoutJk, IsOfRunWithoutJk, KillsMayGrow, RoundsGoOn, StartsMayGrow, StartsStayOfRuns, StepsMayGrow, StepsStayOfRuns, ThreadsGoOn, TurnsGoOn};
 ghost use Rattle.machine_laws.specs.RunsInMachines.{AnsweringRunsStayWhole, FirstMachinesAreWhole, KeptRunsStaySealed, PaidMachinesStayKnown};
-ghost use Rattle.machine_laws.specs.SealedSteps.{FirstMachinesAreKnown, KillsStayKnown, LeftRunsStaySealed, RunningSegmentsActWell, StartsStayKnown, StartsStaySealed, StartsStayWithoutJk, StepsStayWithoutJk, WaitingRunsStaySealed};
-ghost use Rattle.machine_laws.specs.StepProgress.{GoingIsThere, RoundsAreThere, StepsAreThereWithoutJk, TurnsAreThere};
+ghost use Rattle.machine_laws.specs.SealedSteps.{FirstMachinesAreKnown, KillsStayKnown, LeftRunsStaySealed, RunningSegmentsActWell, StartsStayKnown, StartsStaySealed, StartsStayWithoutJk, StepsStayKnown, StepsStayWithoutJk, WaitingRunsStaySealed};
+ghost use Rattle.machine_laws.specs.StepProgress.{GoingIsThere, RoundsAreThere, StepsAreThere, StepsAreThereWithoutJk, TurnsAreThere};
 
+use crate::confined::steps_are_confined;
 use crate::folders::system_classes_are_sound;
 use row_laws::heap_rows::heap_rows_keep;
 use row_laws::running::{local_steps_are_there, local_steps_keep};
@@ -72,8 +73,21 @@ pub fn steps_stay_known_without_jk()
 pub fn steps_are_confined_without_jk()
     ensures { StepsAreConfinedWithoutJk }
 {
+    steps_are_confined();
+}
+
+/// All is known of the machine to which a step leads of which all is known: whatever the step was, also where the thread entered another domain,
+/// came back from one or asked for something, and where a domain ended.
+pub fn steps_stay_known()
+    ensures { StepsStayKnown }
+{
     heap_rows_keep();
 }
+
+/// Where a domain is killed, all is known of the machine that was known.
+pub fn kills_stay_known()
+    ensures { KillsStayKnown }
+{}
 
 /// A start leads from a machine of which all is known to such a machine, from a sealed one to a sealed one where classes and names are sound, and
 /// from one without package jk to one without it.
@@ -109,6 +123,15 @@ pub fn steps_are_there_without_jk()
     local_steps_keep();
 }
 
+/// Each thread of a machine of which all is known has a step.
+pub fn steps_are_there()
+    ensures { StepsAreThere }
+{
+    heap_rows_keep();
+    local_steps_are_there();
+    local_steps_keep();
+}
+
 /// In a run without package jk each step leads to a machine of the run, and there are whole turns and rounds, which lead to machines of the run.
 /// There are also from each machine without package jk of which all is known.
 pub fn runs_go_on_without_jk()
@@ -123,8 +146,3 @@ pub fn runs_go_on_without_jk()
     steps_stay_known_without_jk();
     machines_may_grow();
 }
-
-/// Where a domain is killed, all is known of the machine that was known.
-pub fn kills_stay_known()
-    ensures { KillsStayKnown }
-{}
