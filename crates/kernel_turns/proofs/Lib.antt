@@ -3,13 +3,17 @@ mod DomainsByPlace
 mod EndedThreads
 mod FitsAgain
 mod FittingRuns
+mod FrameSteps
+mod FramesOfThreads
 mod FlaggedParts
 mod EitherAnswer
 mod FollowedThreads
 mod KeptParts
 mod NeededClasses
 mod PaidParts
+mod PaidTimes
 mod PlacedThreads
+mod PrintedSteps
 mod RaisingSteps
 mod RanParts
 mod ReadyThreads
@@ -25,3 +29,4 @@ mod StepsOfActs
 mod StepsOfRaises
 mod ThrownObjects
 pub mod NoCapabilityCalled
+mod WholeSteps

@@ -1,6 +1,7 @@
 -- What one step of one thread over the parts of a kernel is to the machine.
 pub mod FollowingLines
 pub mod LiveThreads
+pub mod PaidSteps
 pub mod RunningPlaces
 pub mod SteppedParts
 pub mod StepsOfThreads

@@ -5,8 +5,13 @@
 //! `thread_ends`: a thread whose only segment was left.
 #![tactic(auto)]
 
+mod frame_steps;
 pub mod laws;
 mod own_states;
 mod running;
 mod stepping;
 mod thread_ends;
+mod whole_steps;
+
+pub use frame_steps::steps_in_frame;
+pub use whole_steps::step;

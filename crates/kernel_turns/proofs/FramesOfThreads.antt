@@ -1,0 +1,155 @@
+-- Where a live thread runs, and what it does where its steps stay in its frame.
+use Rattle.std.proofs.Common.{◌≡◌, ◌==◌, ℕ, ◌≤◌, false, find, List, [], ◌∷◌, map, slice_get, Option, Some, None, option_map, refl, sym, ap, subst, ◌∙◌, arith}
+use Rattle.std.specs.Prelude.{option_and_then}
+use Rattle.std.proofs.lemmas.Option.{same_Some}
+use Rattle.list_lemmas.proofs.FoundItems.{Finds, finds}
+use Rattle.list_lemmas.proofs.ItemsByPlace.{comes_from}
+use Rattle.list_lemmas.proofs.ItemsOfLists.{Contains-at}
+use Rattle.list_lemmas.proofs.TestsAndOrders.{mapped_option}
+use Rattle.jk_model.specs.declared.identifiers.DomainId.{DomainId}
+use Rattle.jk_model.specs.declared.identifiers.ThreadNo.{ThreadNo}
+use Rattle.jk_model_sharing.specs.Segments.{SharedSegment, SharedThread, top_of, top_segment}
+use Rattle.jk_model_sharing.specs.SharedStates.{SharedState}
+use Rattle.jk_model_machine_state.specs.Places.{LiveDomain, run_of, setting_of}
+use Rattle.jk_model_runs.specs.Events.{Turns}
+use Rattle.jk_model_runs.specs.Sealed.{SegmentsFit}
+use Rattle.class_init.specs.KeptStates.{KeptState}
+use Rattle.frame_store.specs.FrameContents.{FrameContent}
+use Rattle.heap_laws.proofs.MappedLists.{mapped}
+use Rattle.object_store.specs.HeapContents.{HeapContent}
+use Rattle.kernel_parts.specs.SoundKernels.{AreKernelParts, KernelContent, kernel_machine, parts_of}
+use Rattle.machine_laws.specs.KnownMachines.{IsKnownWithoutJk}
+use Rattle.machine_parts.specs.MachineParts.{segment_with_frames, thread_with_frames}
+use Rattle.row_laws.specs.LocalStepLaws.{LocalStepsKeep}
+use Rattle.segment_steps.specs.declared.meeting.Runs.{Runs}
+use Rattle.segment_steps.specs.ActingSegments.{MayAct}
+use Rattle.segment_steps.specs.InFrameSteps.{RunsInFrame}
+use Rattle.step_contents.specs.Contents.{contents_of, here_at}
+use Rattle.thread_segments.specs.Asked.{IsLiveDomain}
+use Rattle.kernel_turns.specs.declared.running.Running.{Running}
+use Rattle.kernel_turns.specs.LiveThreads.{IsRunning}
+use Rattle.kernel_turns.specs.PaidSteps.{HasSteps}
+use Rattle.kernel_turns.specs.RunningPlaces.{RunsAt, runs}
+use Rattle.kernel_turns.specs.SteppedParts.{HasRoomsForLiterals}
+use Rattle.kernel_turns.proofs.DomainsByPlace.{names_there, own_of_live, shared_found, shared_is_live, shared_there}
+use Rattle.kernel_turns.proofs.FrameSteps.{after_steps, frame_steps}
+use Rattle.kernel_turns.proofs.KeptParts.{single_threads}
+use Rattle.kernel_turns.proofs.PlacedThreads.{own_at, place}
+use Rattle.kernel_turns.proofs.SegmentsMayAct.{holds, may_act}
+use Rattle.kernel_turns.proofs.SettingsOfPlaces.{is_setting}
+use Rattle.kernel_turns.proofs.StaysWithoutJk.{StaysWithoutJk}
+
+-- ---- The own state of the domain in which a thread's only segment runs.
+
+pub record OwnAt (k : KernelContent) (d : DomainId) : Type 0 where
+  pub own : KeptState
+  pub is_own : slice_get k.owns d.0 ≡ Some (Some own)
+
+pub own_of : (k : KernelContent) (d : DomainId) → AreKernelParts k → LiveDomain (kernel_machine k) d → OwnAt k d
+own_of k d parts live =
+    let found = own_of_live (parts_of k) parts.sound.fitting.domains d live in
+    let from = comes_from (option_map (λ (own : KeptState). own.state)) k.owns d.0 (Some found.0) found.1 in
+    let kept = mapped_option (λ (own : KeptState). own.state) from.from found.0 from.gives in
+    record { own = kept.0; is_own = from.there ∙ ap Some kept.1 }
+
+module _ (k : KernelContent) (t : ThreadNo) (parts : AreKernelParts k) (known : IsKnownWithoutJk (kernel_machine k)) where
+  only_fits : (s r : SharedSegment) (segments : List SharedSegment) → segments ≡ r ∷ [] → top_of segments ≡ Some s
+      → SegmentsFit (kernel_machine k) (map (segment_with_frames k.frames) segments) → LiveDomain (kernel_machine k) s.domain
+  only_fits s r segments is top fits =
+      let one = subst (λ (xs : List SharedSegment). SegmentsFit (kernel_machine k) (map (segment_with_frames k.frames) xs)) is fits in
+      let same : r ≡ s = same_Some r s (sym (ap top_of is) ∙ top) in
+      subst (λ (x : SharedSegment). LiveDomain (kernel_machine k) x.domain) same one.home
+
+  pub top_home : (s : SharedSegment) → top_segment k.shared.threads t ≡ Some s → LiveDomain (kernel_machine k) s.domain
+  top_home s is = by (find (λ (e : SharedThread). e.number.0 == t.0) k.shared.threads)
+      (finds (λ (e : SharedThread). e.number.0 == t.0) k.shared.threads) is
+    where
+      by : (o : Option SharedThread) → Finds (λ (e : SharedThread). e.number.0 == t.0) k.shared.threads o
+          → option_and_then (λ (e : SharedThread). top_of e.segments) o ≡ Some s → LiveDomain (kernel_machine k) s.domain
+      by None h top = absurd cc
+      by (Some e) h top =
+          let there = Contains-at k.shared.threads h.0 e h.1 in
+          let one = single_threads k known.1 e there in
+          only_fits s one.0 e.segments one.1 top
+          (known.0.0.0.threads.segments (thread_with_frames k.frames e) (mapped (thread_with_frames k.frames) k.shared.threads e there))
+
+  unfoldable pub runs_at : (s : SharedSegment) → top_segment k.shared.threads t ≡ Some s → RunsAt k t
+  runs_at s is =
+      let own = own_of k s.domain parts (top_home s is) in
+      record { segment = s; is_top = is; own = own.own; is_own = own.is_own }
+
+  -- ---- As code is told it.
+
+  module _ (x : Running) (is : IsRunning k.shared.threads t x) where
+    abbrev pub at : RunsAt k t
+    at = runs_at is.segment is.is_top
+
+    -- what holds of the place holds of the one that code has
+    there : (P : Runs → Type 0) → P (runs t is.segment) → P x.runs
+    there P = subst P (sym is.runs_there)
+
+    pub lives : IsLiveDomain k.shared x.runs.domain
+    unfolding runs_at
+    lives =
+        let one = parts.sound.fitting.domains in
+        let own = own_at k t at one in
+        let s = shared_there (parts_of k) one is.segment.domain at.own.state own in
+        there (λ r. IsLiveDomain k.shared r.domain)
+        (s.0, shared_found (parts_of k) one is.segment.domain s.0 s.1, shared_is_live (parts_of k) one is.segment.domain at.own.state own)
+
+    pub acts : x.info.revoked ≡ false → (heaps : HeapContent) × (own : KeptState) × (shared : SharedState) × (d : DomainId)
+        × MayAct (contents_of heaps k.frames own) (here_at k.world shared d x.runs.segment)
+    unfolding runs_at
+    acts calm = (
+      k.heap,
+      at.own,
+      k.shared,
+      is.segment.domain,
+      there (λ r. MayAct (contents_of k.heap k.frames at.own) (here_at k.world k.shared is.segment.domain r.segment))
+          (may_act k t at parts.sound known.1 known.0 (sym is.revoked ∙ calm)),
+    )
+
+    -- so many steps that stay in the frame
+    pub go_in_frame : LocalStepsKeep → StaysWithoutJk → (n most : ℕ) (frames : FrameContent) → x.info.suspended ≡ false → x.info.stop ≡ false
+        → x.info.revoked ≡ false → HasSteps most x.runs.domain k.shared → n ≤ most
+        → ((heaps : HeapContent) (own : KeptState) (shared : SharedState) (d : DomainId)
+        → RunsInFrame (contents_of heaps k.frames own) (contents_of heaps frames own) (here_at k.world shared d x.runs.segment) n)
+        → Turns n t (kernel_machine k) [] (kernel_machine (after_steps n x.runs.domain frames k)) × AreKernelParts (after_steps n x.runs.domain frames k)
+    unfolding runs_at
+    go_in_frame keep sw n most frames awake stop calm has few ran =
+        let here = is.segment.domain in
+        let revoked : is.segment.revoked ≡ false = sym is.revoked ∙ calm in
+        let fit = parts.sound.fitting in
+        let setting = setting_of (place k t at fit.domains) in
+        let ran_here = subst
+        (λ (r : Runs). RunsInFrame (contents_of k.heap k.frames at.own) (contents_of k.heap frames at.own) (here_at k.world k.shared here r.segment) n)
+        is.runs_there (ran k.heap at.own k.shared here) in
+        let went = ran_here setting t (may_act k t at parts.sound known.1 known.0 revoked) (is_setting k t at fit parts.stubs) in
+        let has_here : HasSteps most here k.shared = subst (λ (r : Runs). HasSteps most r.domain k.shared) is.runs_there has in
+        let enough : HasSteps n here k.shared = record {
+          entry = has_here.entry;
+          is_there = has_here.is_there;
+          live = has_here.live;
+          enough = λ left is. (let all = has_here.enough left is in omega (arith, all, few));
+        } in
+        there
+        (λ r. Turns n t (kernel_machine k) [] (kernel_machine (after_steps n r.domain frames k)) × AreKernelParts (after_steps n r.domain frames k))
+        (frame_steps keep sw t setting n k at (run_of (place k t at fit.domains)) went.0 frames
+        (record {
+          parts = parts;
+          known = known;
+          awake = sym is.suspended ∙ awake;
+          calm = (sym is.stop ∙ stop, revoked);
+          rooms = rooms_here;
+          setting = is_setting k t at fit parts.stubs;
+          alone = refl;
+          holds = holds k t at parts.sound known.1;
+        })
+        enough went.1 went.2)
+      where
+        rooms_here : HasRoomsForLiterals (runs_at is.segment is.is_top).own
+        rooms_here =
+            let one = parts.sound.fitting.domains in
+            let own = own_at k t at one in
+            let names = names_there (parts_of k) one is.segment.domain at.own.state own in
+            (parts.sound.rooms is.segment.domain.0 names.0 at.own names.1 at.is_own).literals

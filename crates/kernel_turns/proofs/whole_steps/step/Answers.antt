@@ -1,0 +1,333 @@
+-- A thread that rests does nothing, and the step of each other one is taken.
+use Rattle.std.proofs.Common.{◌≡◌, Bool, Result, [], Ok, Err, refl, sym, ap, subst, ◌∙◌}
+use Rattle.std.proofs.lemmas.Result.{err_from_is_err_and}
+use Rattle.jk_model.specs.declared.identifiers.ThreadNo.{ThreadNo}
+use Rattle.jk_model_machine_state.specs.Machines.{Machine}
+use Rattle.jk_model_runs.specs.Steps.{Steps}
+use Rattle.jk_model_sharing.specs.SharedStates.{spent}
+use Rattle.jk_outside.specs.declared.sinks.SinkFailed.{SinkFailed}
+use Rattle.step_contents.specs.Contents.{contents_of, here_at}
+use Rattle.kernel_events.specs.PrintedLines.{Prints, SinkState, as_done}
+use Rattle.kernel_parts.specs.SoundKernels.{KernelContent, kernel_machine, parts_of}
+use Rattle.machine_laws.specs.KnownMachines.{IsKnownWithoutJk}
+use Rattle.kernel_turns.proofs.FramesOfThreads.{lives, runs_at}
+use Rattle.kernel_turns.proofs.SegmentsApart.{apart_in_shared, sealed_apart}
+use Rattle.kernel_turns.proofs.NoCapabilityCalled.{lacks_remote}
+use Rattle.kernel_turns.proofs.PrintedSteps.{failed_as, printed_none}
+use Rattle.kernel_turns.proofs.WholeSteps.{none_steps, own_there, ready_so, rests_so, running_there, same_thread, top_there}
+use Rattle.kernel_turns.proofs.whole_steps.step.Goals as goal
+
+pub run_of-requires : goal.run_of-requires
+run_of-requires g c =
+    let k : KernelContent = record {
+      world = c.k.inside.world;
+      owns = c.k.inside.owns.items;
+      shared = c.k.inside.shared;
+      heap = g.H.ObjectStore.content c.k.inside.heap;
+      frames = g.F.FrameStore.content c.k.inside.frames;
+      main_kind = c.k.inside.main_kind;
+    } in
+    apart_in_shared (parts_of k) (sealed_apart (kernel_machine k) c.k.invariant.sound.sealed)
+
+pub returns-in_default-clause-event : goal.returns-in_default-clause-event
+returns-in_default-clause-event g c =
+    let k : KernelContent = record {
+      world = c.k.inside.world;
+      owns = c.k.inside.owns.items;
+      shared = c.k.inside.shared;
+      heap = g.H.ObjectStore.content c.k.inside.heap;
+      frames = g.F.FrameStore.content c.k.inside.frames;
+      main_kind = c.k.inside.main_kind;
+    } in
+    let known : IsKnownWithoutJk (kernel_machine k) = subst IsKnownWithoutJk (sym c.k.view_is) c.requires.known in
+    let a : SinkState = record { bytes = g.S.Sink.bytes c.args.out.now; pieces = g.S.Sink.pieces c.args.out.now; faults = g.S.Sink.faults c.args.out.now } in
+    let rests = none_steps k c.args.t c.k.invariant known (c.in_default.ensures.none) in
+    let there : Steps c.args.k.now c.args.t [] c.args.k.now =
+    subst (λ (m : Machine). Steps m c.args.t [] m) c.k.view_is rests in
+    ([], printed_none a (g.met.S.Sink.faults_fit c.args.out.now), there)
+
+pub returns-in_default-clause-rests : goal.returns-in_default-clause-rests
+returns-in_default-clause-rests g c =
+    let k : KernelContent = record {
+      world = c.k.inside.world;
+      owns = c.k.inside.owns.items;
+      shared = c.k.inside.shared;
+      heap = g.H.ObjectStore.content c.k.inside.heap;
+      frames = g.F.FrameStore.content c.k.inside.frames;
+      main_kind = c.k.inside.main_kind;
+    } in
+    let known : IsKnownWithoutJk (kernel_machine k) = subst IsKnownWithoutJk (sym c.k.view_is) c.requires.known in
+    let rests = none_steps k c.args.t c.k.invariant known (c.in_default.ensures.none) in
+    let there : Steps c.args.k.now c.args.t [] c.args.k.now =
+    subst (λ (m : Machine). Steps m c.args.t [] m) c.k.view_is rests in
+    λ _. (refl, there)
+
+pub meet_in-met-requires-clause-own : goal.meet_in-met-requires-clause-own
+meet_in-met-requires-clause-own g c =
+    let k : KernelContent = record {
+      world = c.k.inside.world;
+      owns = c.k.inside.owns.items;
+      shared = c.k.inside.shared;
+      heap = g.H.ObjectStore.content c.k.inside.heap;
+      frames = g.F.FrameStore.content c.k.inside.frames;
+      main_kind = c.k.inside.main_kind;
+    } in
+    let known : IsKnownWithoutJk (kernel_machine k) = subst IsKnownWithoutJk (sym c.k.view_is) c.requires.known in
+    let x = c.in-Some.running in
+    let is = c.in-Some.ensures.some in
+    ((runs_at k c.args.t c.k.invariant known is.segment is.is_top).own, own_there k c.args.t c.k.invariant known x is)
+
+pub meet_in-met-requires-clause-top : goal.meet_in-met-requires-clause-top
+meet_in-met-requires-clause-top g c =
+    let k : KernelContent = record {
+      world = c.k.inside.world;
+      owns = c.k.inside.owns.items;
+      shared = c.k.inside.shared;
+      heap = g.H.ObjectStore.content c.k.inside.heap;
+      frames = g.F.FrameStore.content c.k.inside.frames;
+      main_kind = c.k.inside.main_kind;
+    } in
+    let known : IsKnownWithoutJk (kernel_machine k) = subst IsKnownWithoutJk (sym c.k.view_is) c.requires.known in
+    let x = c.in-Some.running in
+    let is = c.in-Some.ensures.some in
+    top_there k c.args.t c.k.invariant known x is
+
+pub rests-requires : goal.rests-requires
+rests-requires g c =
+    let k : KernelContent = record {
+      world = c.k.inside.world;
+      owns = c.k.inside.owns.items;
+      shared = c.k.inside.shared;
+      heap = g.H.ObjectStore.content c.k.inside.heap;
+      frames = g.F.FrameStore.content c.k.inside.frames;
+      main_kind = c.k.inside.main_kind;
+    } in
+    let known : IsKnownWithoutJk (kernel_machine k) = subst IsKnownWithoutJk (sym c.k.view_is) c.requires.known in
+    let x = c.in-Some.running in
+    let is = c.in-Some.ensures.some in
+    lives k c.args.t c.k.invariant known x is
+
+pub returns-then-rests-clause-event : goal.returns-then-rests-clause-event
+returns-then-rests-clause-event g c =
+    let k : KernelContent = record {
+      world = c.k.inside.world;
+      owns = c.k.inside.owns.items;
+      shared = c.k.inside.shared;
+      heap = g.H.ObjectStore.content c.k.inside.heap;
+      frames = g.F.FrameStore.content c.k.inside.frames;
+      main_kind = c.k.inside.main_kind;
+    } in
+    let known : IsKnownWithoutJk (kernel_machine k) = subst IsKnownWithoutJk (sym c.k.view_is) c.requires.known in
+    let x = c.in-Some.running in
+    let is = c.in-Some.ensures.some in
+    let a : SinkState = record { bytes = g.S.Sink.bytes c.args.out.now; pieces = g.S.Sink.pieces c.args.out.now; faults = g.S.Sink.faults c.args.out.now } in
+    let top = top_there k c.args.t c.k.invariant known x is in
+    let own = own_there k c.args.t c.k.invariant known x is in
+    let meets = c.meet_in-met.ensures (runs_at k c.args.t c.k.invariant known is.segment is.is_top).own own top.0 top.1 in
+    let rests = rests_so k c.args.t c.k.invariant known x is top.0 c.meet_in-met.result top.1 meets (c.rests.ensures.yes c.if-rests.true) in
+    let there : Steps c.args.k.now c.args.t [] c.args.k.now =
+    subst (λ (m : Machine). Steps m c.args.t [] m) c.k.view_is rests in
+    ([], printed_none a (g.met.S.Sink.faults_fit c.args.out.now), there)
+
+pub returns-then-rests-clause-rests : goal.returns-then-rests-clause-rests
+returns-then-rests-clause-rests g c =
+    let k : KernelContent = record {
+      world = c.k.inside.world;
+      owns = c.k.inside.owns.items;
+      shared = c.k.inside.shared;
+      heap = g.H.ObjectStore.content c.k.inside.heap;
+      frames = g.F.FrameStore.content c.k.inside.frames;
+      main_kind = c.k.inside.main_kind;
+    } in
+    let known : IsKnownWithoutJk (kernel_machine k) = subst IsKnownWithoutJk (sym c.k.view_is) c.requires.known in
+    let x = c.in-Some.running in
+    let is = c.in-Some.ensures.some in
+    let top = top_there k c.args.t c.k.invariant known x is in
+    let own = own_there k c.args.t c.k.invariant known x is in
+    let meets = c.meet_in-met.ensures (runs_at k c.args.t c.k.invariant known is.segment is.is_top).own own top.0 top.1 in
+    let rests = rests_so k c.args.t c.k.invariant known x is top.0 c.meet_in-met.result top.1 meets (c.rests.ensures.yes c.if-rests.true) in
+    let there : Steps c.args.k.now c.args.t [] c.args.k.now =
+    subst (λ (m : Machine). Steps m c.args.t [] m) c.k.view_is rests in
+    λ _. (refl, there)
+
+pub take_step-requires-clause-ready : goal.take_step-requires-clause-ready
+take_step-requires-clause-ready g c =
+    let k : KernelContent = record {
+      world = c.k.inside.world;
+      owns = c.k.inside.owns.items;
+      shared = c.k.inside.shared;
+      heap = g.H.ObjectStore.content c.k.inside.heap;
+      frames = g.F.FrameStore.content c.k.inside.frames;
+      main_kind = c.k.inside.main_kind;
+    } in
+    let known : IsKnownWithoutJk (kernel_machine k) = subst IsKnownWithoutJk (sym c.k.view_is) c.requires.known in
+    let x = c.in-Some.running in
+    let is = c.in-Some.ensures.some in
+    let here = running_there k c.args.t x is in
+    let u = x.runs.thread in
+    let top = top_there k u c.k.invariant known x here in
+    let own = own_there k u c.k.invariant known x here in
+    let meets = c.meet_in-met.ensures (runs_at k u c.k.invariant known here.segment here.is_top).own own top.0 top.1 in
+    let no = c.rests.ensures.no c.if-rests.false in
+    let ready = ready_so k x c.k.invariant known here top.0 c.meet_in-met.result top.1 meets no.0 no.1 no.2 in
+    (c.k.inside.main_kind, ready)
+
+pub take_step-requires-clause-met : goal.take_step-requires-clause-met
+take_step-requires-clause-met g c =
+    let k : KernelContent = record {
+      world = c.k.inside.world;
+      owns = c.k.inside.owns.items;
+      shared = c.k.inside.shared;
+      heap = g.H.ObjectStore.content c.k.inside.heap;
+      frames = g.F.FrameStore.content c.k.inside.frames;
+      main_kind = c.k.inside.main_kind;
+    } in
+    let known : IsKnownWithoutJk (kernel_machine k) = subst IsKnownWithoutJk (sym c.k.view_is) c.requires.known in
+    let x = c.in-Some.running in
+    let is = c.in-Some.ensures.some in
+    let here = running_there k c.args.t x is in
+    let u = x.runs.thread in
+    let top = top_there k u c.k.invariant known x here in
+    let own = own_there k u c.k.invariant known x here in
+    let meets = c.meet_in-met.ensures (runs_at k u c.k.invariant known here.segment here.is_top).own own top.0 top.1 in
+    let no = c.rests.ensures.no c.if-rests.false in
+    let ready = ready_so k x c.k.invariant known here top.0 c.meet_in-met.result top.1 meets no.0 no.1 no.2 in
+    ((runs_at k u c.k.invariant known here.segment here.is_top).own, own, (top.0, top.1, meets))
+
+pub take_step-requires-clause-no_remote : goal.take_step-requires-clause-no_remote
+take_step-requires-clause-no_remote g c =
+    let k : KernelContent = record {
+      world = c.k.inside.world;
+      owns = c.k.inside.owns.items;
+      shared = c.k.inside.shared;
+      heap = g.H.ObjectStore.content c.k.inside.heap;
+      frames = g.F.FrameStore.content c.k.inside.frames;
+      main_kind = c.k.inside.main_kind;
+    } in
+    let known : IsKnownWithoutJk (kernel_machine k) = subst IsKnownWithoutJk (sym c.k.view_is) c.requires.known in
+    let runs = c.in-Some.running.runs in
+    λ own is.
+    lacks_remote (kernel_machine k) (contents_of k.heap k.frames own) (here_at k.world (spent runs.domain k.shared) runs.domain runs.segment) refl known.1
+
+pub invariant_of-k : goal.invariant_of-k
+invariant_of-k g c =
+    let k : KernelContent = record {
+      world = c.k.inside.world;
+      owns = c.k.inside.owns.items;
+      shared = c.k.inside.shared;
+      heap = g.H.ObjectStore.content c.k.inside.heap;
+      frames = g.F.FrameStore.content c.k.inside.frames;
+      main_kind = c.k.inside.main_kind;
+    } in
+    let known : IsKnownWithoutJk (kernel_machine k) = subst IsKnownWithoutJk (sym c.k.view_is) c.requires.known in
+    let x = c.in-Some.running in
+    let is = c.in-Some.ensures.some in
+    let here = running_there k c.args.t x is in
+    let u = x.runs.thread in
+    let top = top_there k u c.k.invariant known x here in
+    let own = own_there k u c.k.invariant known x here in
+    let meets = c.meet_in-met.ensures (runs_at k u c.k.invariant known here.segment here.is_top).own own top.0 top.1 in
+    let no = c.rests.ensures.no c.if-rests.false in
+    let ready = ready_so k x c.k.invariant known here top.0 c.meet_in-met.result top.1 meets no.0 no.1 no.2 in
+    let took = c.take_step.ensures c.k.inside.main_kind ready in
+    took.3
+
+pub returns-in_err-take_step-clause-event : goal.returns-in_err-take_step-clause-event
+returns-in_err-take_step-clause-event g c =
+    let k : KernelContent = record {
+      world = c.k.inside.world;
+      owns = c.k.inside.owns.items;
+      shared = c.k.inside.shared;
+      heap = g.H.ObjectStore.content c.k.inside.heap;
+      frames = g.F.FrameStore.content c.k.inside.frames;
+      main_kind = c.k.inside.main_kind;
+    } in
+    let known : IsKnownWithoutJk (kernel_machine k) = subst IsKnownWithoutJk (sym c.k.view_is) c.requires.known in
+    let x = c.in-Some.running in
+    let is = c.in-Some.ensures.some in
+    let here = running_there k c.args.t x is in
+    let u = x.runs.thread in
+    let top = top_there k u c.k.invariant known x here in
+    let own = own_there k u c.k.invariant known x here in
+    let meets = c.meet_in-met.ensures (runs_at k u c.k.invariant known here.segment here.is_top).own own top.0 top.1 in
+    let no = c.rests.ensures.no c.if-rests.false in
+    let ready = ready_so k x c.k.invariant known here top.0 c.meet_in-met.result top.1 meets no.0 no.1 no.2 in
+    let took = c.in_err-take_step.ensures c.k.inside.main_kind ready in
+    let a : SinkState = record { bytes = g.S.Sink.bytes c.args.out.now; pieces = g.S.Sink.pieces c.args.out.now; faults = g.S.Sink.faults c.args.out.now } in
+    let out = c.take_step.new.out in
+    let b : SinkState = record { bytes = g.S.Sink.bytes out; pieces = g.S.Sink.pieces out; faults = g.S.Sink.faults out } in
+    let n : KernelContent = record {
+      world = c.k.inside.world;
+      owns = c.take_step.new.owns.items;
+      shared = c.take_step.new.shared;
+      heap = g.H.ObjectStore.content c.take_step.new.heap;
+      frames = g.F.FrameStore.content c.take_step.new.frames;
+      main_kind = c.k.inside.main_kind;
+    } in
+    let by_thread : Steps (kernel_machine k) c.args.t took.0 (kernel_machine n) =
+    subst (λ (t : ThreadNo). Steps (kernel_machine k) t took.0 (kernel_machine n)) (same_thread k c.args.t c.k.invariant known x is) took.2 in
+    let there : Steps c.args.k.now c.args.t took.0 (kernel_machine n) =
+    subst (λ (m : Machine). Steps m c.args.t took.0 (kernel_machine n)) c.k.view_is by_thread in
+    let failed = err_from_is_err_and c.from_residual.result c.from_residual.ensures.1 in
+    let prints : Prints a b (as_done c.from_residual.result) took.0 =
+    subst (λ (r : Result Bool SinkFailed). Prints a b (as_done r) took.0) (sym failed.1)
+    (failed_as a b took.0 c.in_err-take_step.field-0.0 failed.0 took.1) in
+    (took.0, prints, there)
+
+pub invariant_of-k-2 : goal.invariant_of-k-2
+invariant_of-k-2 g c =
+    let k : KernelContent = record {
+      world = c.k.inside.world;
+      owns = c.k.inside.owns.items;
+      shared = c.k.inside.shared;
+      heap = g.H.ObjectStore.content c.k.inside.heap;
+      frames = g.F.FrameStore.content c.k.inside.frames;
+      main_kind = c.k.inside.main_kind;
+    } in
+    let known : IsKnownWithoutJk (kernel_machine k) = subst IsKnownWithoutJk (sym c.k.view_is) c.requires.known in
+    let x = c.in-Some.running in
+    let is = c.in-Some.ensures.some in
+    let here = running_there k c.args.t x is in
+    let u = x.runs.thread in
+    let top = top_there k u c.k.invariant known x here in
+    let own = own_there k u c.k.invariant known x here in
+    let meets = c.meet_in-met.ensures (runs_at k u c.k.invariant known here.segment here.is_top).own own top.0 top.1 in
+    let no = c.rests.ensures.no c.if-rests.false in
+    let ready = ready_so k x c.k.invariant known here top.0 c.meet_in-met.result top.1 meets no.0 no.1 no.2 in
+    let took = c.take_step.ensures c.k.inside.main_kind ready in
+    took.3
+
+pub returns-clause-event : goal.returns-clause-event
+returns-clause-event g c =
+    let k : KernelContent = record {
+      world = c.k.inside.world;
+      owns = c.k.inside.owns.items;
+      shared = c.k.inside.shared;
+      heap = g.H.ObjectStore.content c.k.inside.heap;
+      frames = g.F.FrameStore.content c.k.inside.frames;
+      main_kind = c.k.inside.main_kind;
+    } in
+    let known : IsKnownWithoutJk (kernel_machine k) = subst IsKnownWithoutJk (sym c.k.view_is) c.requires.known in
+    let x = c.in-Some.running in
+    let is = c.in-Some.ensures.some in
+    let here = running_there k c.args.t x is in
+    let u = x.runs.thread in
+    let top = top_there k u c.k.invariant known x here in
+    let own = own_there k u c.k.invariant known x here in
+    let meets = c.meet_in-met.ensures (runs_at k u c.k.invariant known here.segment here.is_top).own own top.0 top.1 in
+    let no = c.rests.ensures.no c.if-rests.false in
+    let ready = ready_so k x c.k.invariant known here top.0 c.meet_in-met.result top.1 meets no.0 no.1 no.2 in
+    let took = c.in_ok-take_step.ensures c.k.inside.main_kind ready in
+    let n : KernelContent = record {
+      world = c.k.inside.world;
+      owns = c.take_step.new.owns.items;
+      shared = c.take_step.new.shared;
+      heap = g.H.ObjectStore.content c.take_step.new.heap;
+      frames = g.F.FrameStore.content c.take_step.new.frames;
+      main_kind = c.k.inside.main_kind;
+    } in
+    let by_thread : Steps (kernel_machine k) c.args.t took.0 (kernel_machine n) =
+    subst (λ (t : ThreadNo). Steps (kernel_machine k) t took.0 (kernel_machine n)) (same_thread k c.args.t c.k.invariant known x is) took.2 in
+    let there : Steps c.args.k.now c.args.t took.0 (kernel_machine n) =
+    subst (λ (m : Machine). Steps m c.args.t took.0 (kernel_machine n)) c.k.view_is by_thread in
+    (took.0, took.1, there)
