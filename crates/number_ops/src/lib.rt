@@ -32,6 +32,7 @@ const ARITHMETIC_EXCEPTION: ClassId = ClassId(19);
 /// another place, an exception is raised, or the frame returns. The stored head stays as it is. A division by 0 leaves
 /// its operands on the stack, and a return takes the value off. The frame stands where the head says that is handed in, which
 /// is the stored one but for the place: the caller may go on from place to place, and store the last one alone.
+#[inline(always)]
 pub fn step<F: FrameStore>(
     frames: &mut F,
     w: &World,
