@@ -1,31 +1,15 @@
-//! The kernel: the machine's classes, domains and threads, and the calls that make the events of a script happen. Its
-//! contracts say that each call does what the definition of its event says, and that the machine is sealed at every moment:
-//! what a domain holds names nothing of another's heap. So far programs run whole-number code: no objects but texts of
-//! literals, no class initialisers, no exceptions that are caught.
+//! The kernel: classes, domains with heaps of their own, and threads, and the calls that make the events of a script happen. Its contracts
+//! say that each call does what the definition of its event says, and that the machine is whole at every moment: it is sealed, so that what
+//! a domain holds names nothing of another's heap, and its calls are answered. So far no folder is accepted that refers to package jk.
 #![tactic(auto)]
 
-mod advancing;
-mod answers;
-mod apart;
-mod built_code;
-mod calls;
-mod domain_parts;
-mod executing;
-mod happened;
-mod initialising;
 mod kernel;
-mod known_objects;
+mod laws;
+mod next_threads;
 mod opening;
-mod places;
-mod println;
 mod rounds;
-mod sound_machines;
-mod spoken;
 mod starting;
-mod stepping;
-mod system_classes;
-mod telling;
-mod throwing;
+mod turns;
 
-pub use answers::{AddAnswer, EventAnswer};
 pub use kernel::Kernel;
+pub use kernel_openings::AddAnswer;

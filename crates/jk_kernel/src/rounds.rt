@@ -1,37 +1,41 @@
 //! Rounds: all live threads take steps, in rising order.
 
-ghost use Rattle.std.specs.Prelude.{◌≡◌, ℕ, List, [], length, Ok, false, OnOk, OnErr};
+ghost use Rattle.std.specs.Prelude.{◌≡◌, ◌*◌, [], List, length, Ok, false, OnErr, OnOk};
 ghost use Rattle.jk_model.specs.declared.output.Line.{Line};
-ghost use Rattle.jk_model.specs.Outside.{Appends, AppendsPart, HasRisen, NeverFalls};
-ghost use Rattle.jk_model.specs.Output.{text_of};
-ghost use Rattle.jk_model_machine.specs.Machine.{Machine};
-ghost use Rattle.jk_model_machine.specs.Run.{Goes, Rounds};
-ghost use Rattle.jk_model_machine.specs.Sealed.{IsSealed};
-ghost use Rattle.step_progress.specs.WholeEvents.{MayGoOn};
+ghost use Rattle.jk_model_runs.specs.Events.{Goes, Rounds};
+ghost use Rattle.jk_outside.specs.SeveralLines.{PrintsLines};
+ghost use Rattle.kernel_events.specs.KernelCalls.{MayDraw, steps_of};
+ghost use Rattle.kernel_events.specs.PrintedLines.{as_done};
+ghost use Rattle.kernel_events.specs.StepsInTurn.{GoesSoFar, NumbersRise, RoundsSoFar, StopsIn};
 
 use crate::kernel::Kernel;
-use crate::sound_machines::rounds_go_on;
 use frame_store::FrameStore;
 use jk_outside::{Sink, SinkFailed};
+use kernel_events::laws::numbers_rise;
+use machine_laws::machines::runs_go_on_without_jk;
+use object_store::ObjectStore;
 
-impl<F: FrameStore + Drop> Kernel<F> {
-    /// So many rounds: in each the threads that are live as their places come take so many steps, in rising order. Rounds in which
-    /// nothing changes cost nothing but the first. A round takes time for the live threads and for their steps alone.
+impl<H: ObjectStore + Drop, F: FrameStore + Drop> Kernel<H, F> {
+    /// So many rounds: in each the threads that are live as their places come take so many steps, in rising order. It takes no memory.
+    /// Rounds in which nothing changes cost nothing but the first, and a round takes time for the live threads and for their steps alone.
+    /// Where the sink fails, the machine is as after the step that failed.
     pub fn rounds<S: Sink>(&mut self, count: u32, steps: u32, out: &mut S) -> Result<(), SinkFailed>
-        ensures event { OnOk result ((lines : List Line) × Rounds count steps self.old lines self.new
-            × Appends (S.bytes out.old) (S.bytes out.new) (text_of lines)) }
-        // The definition's rounds go on to their end, though no more of their text goes out. The kernel stops in the step that failed.
-        ensures failed { OnErr result ((lines : List Line) × (last : Machine) × Rounds count steps self.old lines last × IsSealed last
-            × AppendsPart (S.bytes out.old) (S.bytes out.new) (text_of lines) × HasRisen (S.faults out.old) (S.faults out.new)) }
-        ensures calm { OnOk result (S.faults out.new ≡ S.faults out.old) }
-        ensures faults { NeverFalls (S.faults out.old) (S.faults out.new) }
-        ensures counts { (self.new.next_thread ≡ self.old.next_thread) × (self.new.next_segment ≡ self.old.next_segment)
-            × (length self.new.domains ≡ length self.old.domains) }
+        requires numbers { MayDraw self.old (steps_of count steps self.old) }
+        ensures event { OnOk result ((lines : List Line)
+            × PrintsLines (S.bytes out.old) (S.bytes out.new) (S.pieces out.old) (S.pieces out.new) (S.faults out.old) (S.faults out.new) result lines
+            × Rounds count steps self.old lines self.new) }
+        // The other rounds are there too, though the kernel stops in the step that failed, and no more of their text goes out.
+        ensures failed { OnErr result ((lines : List Line)
+            × PrintsLines (S.bytes out.old) (S.bytes out.new) (S.pieces out.old) (S.pieces out.new) (S.faults out.old) (S.faults out.new) result lines
+            × StopsIn (RoundsSoFar count steps) (Rounds count steps) self.old lines self.new) }
+        ensures counts { NumbersRise self.old (steps_of count steps self.old) self.new × (length self.new.domains ≡ length self.old.domains) }
     {
-        rounds_go_on();
+        numbers_rise();
+        runs_go_on_without_jk();
+        self.is_sound();
         for _ in 0..count {
             let changed = self.one_round(steps, out)?;
-            self.holds();
+            self.is_sound();
             if !changed {
                 return Ok(());
             }
@@ -41,27 +45,28 @@ impl<F: FrameStore + Drop> Kernel<F> {
 
     /// One round, and whether anything changed.
     fn one_round<S: Sink>(&mut self, steps: u32, out: &mut S) -> Result<bool, SinkFailed>
-        ensures event { OnOk result ((lines : List Line) × Goes steps 1 self.old lines self.new
-            × Appends (S.bytes out.old) (S.bytes out.new) (text_of lines)) }
+        requires numbers { MayDraw self.old (steps * self.old.next_thread) }
+        ensures event { OnOk result ((lines : List Line)
+            × PrintsLines (S.bytes out.old) (S.bytes out.new) (S.pieces out.old) (S.pieces out.new) (S.faults out.old) (S.faults out.new)
+            (as_done result) lines
+            × Goes steps 1 self.old lines self.new) }
+        ensures failed { OnErr result ((lines : List Line)
+            × PrintsLines (S.bytes out.old) (S.bytes out.new) (S.pieces out.old) (S.pieces out.new) (S.faults out.old) (S.faults out.new)
+            (as_done result) lines
+            × StopsIn (GoesSoFar steps 1) (Goes steps 1) self.old lines self.new) }
         // A round in which nothing changed is there again.
         ensures rests { result ≡ Ok false → (self.new ≡ self.old) × Goes steps 1 self.old [] self.old }
-        ensures failed { OnErr result ((lines : List Line) × (last : Machine) × Goes steps 1 self.old lines last × MayGoOn last
-            × AppendsPart (S.bytes out.old) (S.bytes out.new) (text_of lines) × HasRisen (S.faults out.old) (S.faults out.new)) }
-        ensures calm { OnOk result (S.faults out.new ≡ S.faults out.old) }
-        ensures faults { NeverFalls (S.faults out.old) (S.faults out.new) }
-        ensures counts { (self.new.next_thread ≡ self.old.next_thread) × (self.new.next_segment ≡ self.old.next_segment)
-            × (length self.new.domains ≡ length self.old.domains) }
     {
-        rounds_go_on();
+        numbers_rise();
+        runs_go_on_without_jk();
+        self.is_sound();
         let mut changed = false;
         let mut above = 0;
         while let Some(thread) = self.next_live(above) {
-            self.is_sound();
             changed |= self.turns(thread, steps, out)?;
             self.is_sound();
             above = thread;
         }
-        self.is_sound();
         Ok(changed)
     }
 }

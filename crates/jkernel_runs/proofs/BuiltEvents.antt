@@ -1,18 +1,18 @@
 -- Each event of a script is built: its name has a name's form, and its numbers are within their ranges.
-use Rattle.std.proofs.Common.{◌≡◌, ℕ, suc, ◌≤◌, Bool, true, false, List, [], ◌∷◌, length, Option, Some, None, Result, Ok, Err, refl, sym, subst, bytes_eq, nat_le, nat_lt, ◌||◌, ◌&&◌, find, codes, arith, if◌then◌else◌}
+use Rattle.std.proofs.Common.{◌≡◌, ℕ, zero, suc, ◌*◌, ◌≤◌, Bool, true, false, List, [], ◌∷◌, length, Option, Some, None, Result, Ok, Err, refl, sym, subst, bytes_eq, nat_le, ◌&&◌, find, codes, arith, if◌then◌else◌}
 use Rattle.std.specs.List.{AllByRecursion, list_all, list_any}
-use Rattle.std.proofs.lemmas.Bool.{and_parts, or_parts}
+use Rattle.std.proofs.lemmas.Bool.{and_parts}
 use Rattle.std.proofs.lemmas.Bool.Decides.{nat_tests}
 use Rattle.jk_model.specs.declared.script.Event.{Event}
 use Rattle.jk_model.specs.declared.script.Event.TheVariants.{Domain, Start, Turn, Round}
 use Rattle.jk_model.specs.declared.script.FaultKind.{FaultKind}
-use Rattle.jk_model.specs.declared.script.FaultKind.TheVariants.{BadByte, BadName, BadNumber, Extra, Missing, NotYet, UnknownWord}
+use Rattle.jk_model.specs.declared.script.FaultKind.TheVariants.{BadByte, BadName, BadNumber, Extra, Missing, NotYet, TooLong, UnknownWord}
 use Rattle.jk_model.specs.declared.script.Quotas.{Quotas}
 use Rattle.jk_model.specs.declared.script.ScriptFault.{ScriptFault}
 use Rattle.jk_model.specs.Script.{MAX_BYTES, MAX_LINES, script_lines, words, is_line_byte, is_empty_line, default_quotas}
-use Rattle.jk_model.specs.ScriptGrammar.{QuotaOption, quota_options, is_name, is_numeral, numeral_value, number_within, with_number, with_option, with_options, nothing_more, domain_line, start_class, start_line, turn_line, round_line, kill_line, command_line, line_event, then_rest, lines_events, MAX_STEPS, MAX_ROUNDS, MAX_WORD}
+use Rattle.jk_model.specs.ScriptGrammar.{QuotaOption, quota_options, is_name, is_numeral, numeral_value, number_within, with_number, with_option, with_options, nothing_more, domain_line, start_class, start_line, turn_line, round_line, kill_line, command_line, line_event, then_rest, lines_events, MAX_STEPS, MAX_ROUNDS, MAX_WORD, start_words_fault}
 use Rattle.script_reader.specs.NotBuilt.{is_not_built, built_event}
-use Rattle.jkernel_runs.specs.Events.{IsBuilt}
+use Rattle.jkernel_runs.specs.Events.{AreForKernel, IsBuilt}
 use Rattle.jkernel_runs.specs.Scripts.{IsScript}
 
 -- ---- Answers that are good.
@@ -42,6 +42,9 @@ found_has : {X : Type 0} (P : X → Type 0) (p : X → Bool) (xs : List X) (x : 
 found_has P p [] x all e = absurd cc
 found_has P p (y ∷ ys) x all e = found_in P y (p y) (find p ys) x all.0 (found_has P p ys x all.1) e
 
+at_most : (n most : ℕ) → nat_le n most ≡ true → n ≤ most
+at_most n most e = grind (arith, nat_tests)
+
 in_range : (low high : ℕ) (word : List ℕ) (n : ℕ) → number_within low high word ≡ Some n → (low ≤ n) × (n ≤ high)
 in_range low high word n e =
     let h = some_if (is_numeral word && nat_le low (numeral_value word) && nat_le (numeral_value word) high) (numeral_value word) n e in
@@ -61,20 +64,30 @@ numbered low high word next event e = by_number (number_within low high word) re
 
 -- ---- `domain`.
 
-abbrev IsInRange : Quotas → Type 0
-IsInRange q = (1 ≤ q.chunks) × (q.chunks ≤ 262144)
-
 abbrev Keeps : QuotaOption → Type 0
-Keeps o = (q : Quotas) (n : ℕ) → o.low ≤ n → n ≤ o.high → IsInRange q → IsInRange (o.set n q)
+Keeps o = (q : Quotas) (n : ℕ) → o.low ≤ n → n ≤ o.high → AreForKernel q → AreForKernel (o.set n q)
 
 all_keep : AllByRecursion Keeps quota_options
 all_keep = (
-  λ q n low high r. r,
+  λ q n low high r. record { words = (omega (arith, low), high); chunks = r.chunks; counts = r.counts },
   (
-    λ q n low high r. (omega (arith, low), high),
-    (λ q n low high r. r, (λ q n low high r. r, (λ q n low high r. r, (λ q n low high r. r, tt)))),
+    λ q n low high r. record { words = r.words; chunks = (omega (arith, low), high); counts = r.counts },
+    (
+      λ q n low high r. record { words = r.words; chunks = r.chunks; counts = r.counts },
+      (
+        λ q n low high r. record { words = r.words; chunks = r.chunks; counts = (high, r.counts.1) },
+        (
+          λ q n low high r. record { words = r.words; chunks = r.chunks; counts = (r.counts.0, high) },
+          (λ q n low high r. record { words = r.words; chunks = r.chunks; counts = r.counts }, tt),
+        ),
+      ),
+    ),
   ),
 )
+
+default_in_range : AreForKernel default_quotas
+default_in_range =
+    record { words = (omega arith, omega arith); chunks = (omega arith, omega arith); counts = (omega arith, omega arith) }
 
 new_option : (seen : List (List ℕ)) (word : List ℕ) (next : QuotaOption → Result Event FaultKind) (event : Event)
     → with_option seen word next ≡ Ok event → (o : QuotaOption) × Keeps o × (next o ≡ Ok event)
@@ -91,8 +104,8 @@ new_option seen word next event e = by_option (find (λ (o : QuotaOption). bytes
     by_option None is = no_fault UnknownWord event (rw is at e)
     by_option (Some o) is = by_seen o is (list_any (bytes_eq word) seen) refl
 
-options_built : (name : List ℕ) (seen : List (List ℕ)) (quotas : Quotas) (more : List (List ℕ)) (event : Event) → IsInRange quotas
-    → with_options name seen quotas more ≡ Ok event → (q : Quotas) × (event ≡ Domain name q) × IsInRange q
+options_built : (name : List ℕ) (seen : List (List ℕ)) (quotas : Quotas) (more : List (List ℕ)) (event : Event) → AreForKernel quotas
+    → with_options name seen quotas more ≡ Ok event → (q : Quotas) × (event ≡ Domain name q) × AreForKernel q
 options_built name seen quotas [] event r e = (quotas, cc, r)
 options_built name seen quotas (word ∷ []) event r e =
     let o = new_option seen word (λ option. Err Missing) event e in
@@ -106,25 +119,46 @@ domain_built : (more : List (List ℕ)) (event : Event) → domain_line more ≡
 domain_built [] event e = absurd cc
 domain_built (name ∷ options) event e =
     let h = ok_if (is_name name) (with_options name [] default_quotas options) BadName event e in
-    let o = options_built name [] default_quotas options event (omega arith, omega arith) h.1 in
-    subst IsBuilt (sym o.1) (h.0, o.2.0, o.2.1)
+    let o = options_built name [] default_quotas options event default_in_range h.1 in
+    subst IsBuilt (sym o.1) (h.0, o.2)
 
 -- ---- `start`.
 
-no_words : (class : List ℕ) (more : List (List ℕ)) → nat_lt 1 (length (class ∷ more)) ≡ false → more ≡ []
-no_words class [] e = refl
-no_words class (word ∷ more) e = let long : length (class ∷ word ∷ more) ≡ suc (suc (length more)) = refl in absurd (grind (arith, nat_tests))
+-- words without fault
+words_fit : (room : ℕ) (words : List (List ℕ)) → start_words_fault room words ≡ None
+    → (length words ≤ room) × AllByRecursion (λ (w : List ℕ). length w ≤ 255) words
+words_fit room [] e = (omega arith, tt)
+words_fit zero (word ∷ more) e = by_length (nat_le (length word) MAX_WORD) e
+  where
+    by_length : {P : Type 0} (b : Bool) → (if b then Some Extra else Some TooLong) ≡ None → P
+    by_length true e = absurd cc
+    by_length false e = absurd cc
+words_fit (suc room) (word ∷ more) e = by_length (words_fit room more) (nat_le (length word) MAX_WORD) refl
+  where
+    by_length : (start_words_fault room more ≡ None → (length more ≤ room) × AllByRecursion (λ (w : List ℕ). length w ≤ 255) more) → (b : Bool)
+        → nat_le (length word) MAX_WORD ≡ b
+        → (suc (length more) ≤ suc room) × ((length word ≤ 255) × AllByRecursion (λ (w : List ℕ). length w ≤ 255) more)
+    by_length rest false long = let bad : Some TooLong ≡ None = rw long at e in absurd cc
+    by_length rest true fits =
+        let h = rest (rw fits at e) in
+        (omega (arith, h.0), (at_most (length word) 255 fits, h.1))
 
-start_built : (name : List ℕ) (more : List (List ℕ)) (event : Event) → start_line (name ∷ more) ≡ Ok event → nat_lt 1 (length more) ≡ false
-    → IsBuilt event
-start_built name [] event e one = let h = ok_if (is_name name) (start_class name []) BadName event e in no_fault Missing event h.1
-start_built name (class ∷ more) event e one =
-    let none = no_words class more one in
-    let h = ok_if (is_name name) (start_class name (class ∷ [])) BadName event (rw none at e) in
-    let k = ok_if (nat_le (length class) MAX_WORD) (Ok (Start name class [])) BadName event h.1 in
-    let is : event ≡ Start name class [] = cc in
-    let short : length class ≤ 255 = grind (arith, nat_tests) in
-    subst IsBuilt (sym is) (h.0, short, refl)
+start_built : (name : List ℕ) (more : List (List ℕ)) (event : Event) → start_line (name ∷ more) ≡ Ok event → IsBuilt event
+start_built name [] event e = let h = ok_if (is_name name) (start_class name []) BadName event e in no_fault Missing event h.1
+start_built name (class ∷ words) event e = by_fault (start_words_fault 255 words) refl
+  where
+    by_fault : (o : Option FaultKind) → start_words_fault 255 words ≡ o → IsBuilt event
+    by_fault (Some kind) fault =
+        let h = ok_if (is_name name) (start_class name (class ∷ words)) BadName event e in
+        let k = ok_if (nat_le (length class) MAX_WORD) _ BadName event h.1 in
+        no_fault kind event (rw fault at k.1)
+    by_fault None fault =
+        let h = ok_if (is_name name) (start_class name (class ∷ words)) BadName event e in
+        let k = ok_if (nat_le (length class) MAX_WORD) _ BadName event h.1 in
+        let good = rw fault at k.1 in
+        let same : event ≡ Start name class words = cc in
+        let all = words_fit 255 words fault in
+        subst IsBuilt (sym same) (h.0, at_most (length class) 255 k.0, record { few = all.0; short = all.1 })
 
 -- ---- `turn` and `round`.
 
@@ -137,11 +171,11 @@ turn_built [] event e = absurd cc
 turn_built (word ∷ []) event e =
     let t = numbered 0 4294967295 word _ event e in
     let is : event ≡ Turn t.0 1 = cc in
-    subst IsBuilt (sym is) tt
+    subst IsBuilt (sym is) (omega arith)
 turn_built (word ∷ steps ∷ more) event e =
     let t = numbered 0 4294967295 word _ event e in
     let n = numbered 1 MAX_STEPS steps _ event t.3 in
-    subst IsBuilt (sym (nothing more (Turn t.0 n.0) event n.3)) tt
+    subst IsBuilt (sym (nothing more (Turn t.0 n.0) event n.3)) n.2
 
 round_built : (more : List (List ℕ)) (event : Event) → round_line more ≡ Ok event → IsBuilt event
 round_built [] event e = absurd cc
@@ -151,20 +185,14 @@ round_built (word ∷ []) event e =
 round_built (word ∷ steps ∷ more) event e =
     let r = numbered 1 MAX_ROUNDS word _ event e in
     let n = numbered 1 MAX_ROUNDS steps _ event r.3 in
-    let h = ok_if _ (nothing_more more (Round r.0 n.0)) BadNumber event n.3 in
-    subst IsBuilt (sym (nothing more (Round r.0 n.0) event h.1)) tt
+    let h = ok_if (nat_le (r.0 * n.0) MAX_STEPS) (nothing_more more (Round r.0 n.0)) BadNumber event n.3 in
+    let few : r.0 * n.0 ≤ MAX_STEPS = at_most (r.0 * n.0) MAX_STEPS h.0 in
+    subst IsBuilt (sym (nothing more (Round r.0 n.0) event h.1)) few
 
 -- ---- Lines.
 
 no_kill : (word name : List ℕ) (more : List (List ℕ)) → bytes_eq word (codes "kill") ≡ true → is_not_built (word ∷ name ∷ more) ≡ false → ⊥
 no_kill word name more is built = let bad : true ≡ false = rw is at built in absurd cc
-
-one_word : (word name : List ℕ) (more : List (List ℕ)) → bytes_eq word (codes "start") ≡ true → is_not_built (word ∷ name ∷ more) ≡ false
-    → nat_lt 1 (length more) ≡ false
-one_word word name more start built =
-    let kill_or_start = (or_parts (bytes_eq word (codes "kill") || (bytes_eq word (codes "start") && nat_lt 1 (length more))) _ built).0 in
-    let started = (or_parts (bytes_eq word (codes "kill")) (bytes_eq word (codes "start") && nat_lt 1 (length more)) kill_or_start).1 in
-    rw start at started
 
 -- the line of a command
 command_built : (word : List ℕ) (more : List (List ℕ)) (event : Event) → command_line word more ≡ Ok event → is_not_built (word ∷ more) ≡ false
@@ -191,11 +219,11 @@ command_built word more event e built = by_domain (bytes_eq word (codes "domain"
     by_turn d s false t = by_round d s t (bytes_eq word (codes "round")) refl
 
     by_start : bytes_eq word (codes "domain") ≡ false → (b : Bool) → bytes_eq word (codes "start") ≡ b → IsBuilt event
-    by_start d true s = starts more (rw (d, s) at e) built
+    by_start d true s = starts more (rw (d, s) at e)
       where
-        starts : (ws : List (List ℕ)) → start_line ws ≡ Ok event → is_not_built (word ∷ ws) ≡ false → IsBuilt event
-        starts [] e built = absurd cc
-        starts (name ∷ ws) e built = start_built name ws event e (one_word word name ws s built)
+        starts : (ws : List (List ℕ)) → start_line ws ≡ Ok event → IsBuilt event
+        starts [] e = absurd cc
+        starts (name ∷ ws) e = start_built name ws event e
     by_start d false s = by_turn d s (bytes_eq word (codes "turn")) refl
 
     by_domain : (b : Bool) → bytes_eq word (codes "domain") ≡ b → IsBuilt event

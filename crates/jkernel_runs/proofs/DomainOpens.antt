@@ -1,19 +1,20 @@
 -- What a `domain` event does, from what the kernel answers, and how events end whose lines were printed.
-use Rattle.std.proofs.Common.{◌≡◌, ℕ, zero, suc, ◌<◌, true, List, [], ◌∷◌, ◌++◌, get_or, Option, Some, None, Result, Ok, Err, refl, sym, subst, append-nil, nat_lt, nat_le, ◌&&◌, length, arith}
-use Rattle.std.specs.Prelude.{IsUtf8, slice_get}
+use Rattle.std.proofs.Common.{◌≡◌, ◌≢◌, ℕ, zero, suc, ◌<◌, true, List, [], ◌∷◌, ◌++◌, get_or, Option, Some, None, Result, Ok, Err, refl, sym, subst, append-nil, nat_lt, nat_le, ◌&&◌, length, arith}
+use Rattle.std.specs.Prelude.{IfErr, IsUtf8, OnErr, OnOk, slice_get}
 use Rattle.std.specs.List.{AllByRecursion, list_all}
 use Rattle.std.proofs.lemmas.Bool.{and_parts}
 use Rattle.std.proofs.lemmas.Bool.Decides.{nat_tests}
 use Rattle.std.proofs.lemmas.Str.{IsUtf8-from_ascii}
+use Rattle.jk_model.specs.declared.identifiers.DomainId.{DomainId}
 use Rattle.jk_model.specs.declared.output.Line.{Line}
-use Rattle.jk_model.specs.declared.output.Line.TheVariants.{Refused}
+use Rattle.jk_model.specs.declared.output.Line.TheVariants.{Loaded, Refused}
 use Rattle.jk_model.specs.declared.output.Place.{Place}
 use Rattle.jk_model.specs.declared.output.Place.TheVariants.{Whole}
 use Rattle.jk_model.specs.declared.output.Rule.{Rule}
 use Rattle.jk_model.specs.declared.script.Event.{Event}
 use Rattle.jk_model.specs.declared.script.Event.TheVariants.{Domain}
 use Rattle.jk_model.specs.declared.script.Quotas.{Quotas}
-use Rattle.jk_model.specs.Outside.{Ask, Tree, ◌/-◌}
+use Rattle.jk_model.specs.Outside.{Ask, Tree, HasRisen, ◌/-◌}
 use Rattle.jk_model.specs.Script.{is_name_byte}
 use Rattle.jk_model.specs.ScriptGrammar.{is_name}
 use Rattle.jk_model_classes.specs.Worlds.{WorldRecord}
@@ -23,21 +24,27 @@ use Rattle.jk_model_folders.specs.FolderRules.{IsFilesFault, IsFolderFault}
 use Rattle.jk_model_folders.specs.FolderRules.IsFilesFault.{bad_line, not_offered, class_file}
 use Rattle.jk_model_folders.specs.FolderRules.IsFolderFault.{name_is_live as told_live, no_folder as told_none, too_large as told_large, files as told_files}
 use Rattle.jk_model_folders.specs.FolderTrees.{AreFiles, IsClassPath, RESOLVER}
-use Rattle.jk_model_machine.specs.Machine.{Machine, world_of}
-use Rattle.jk_model_machine.specs.Run.{DomainEvent, Happens}
-use Rattle.jk_model_machine.specs.Sealed.{IsSealed}
+use Rattle.jk_model_machine_state.specs.Machines.{Machine, world_of}
+use Rattle.jk_model_openings.specs.Openings.{OpensWith}
+use Rattle.jk_model_openings.specs.Openings.OpensIn.{refused as told_refused, accepted as told_accepted}
+use Rattle.jk_model_openings.specs.Openings.OpensWith.{no_numbers, no_room, opens, too_many}
+use Rattle.jk_model_runs.specs.Events.{DomainEvent, Happens, IsWhole}
 use Rattle.folder_reader.specs.FolderAnswers.{AsksWithin}
 use Rattle.folder_loader.specs.LoadAnswers.{IsRefused}
 use Rattle.folder_loader.specs.LoadAnswers.IsRefused.{name_is_live, no_folder, too_large, files}
-use Rattle.jk_kernel.specs.Openings.{Opens, OpensWith}
-use Rattle.jk_kernel.specs.Openings.OpensWith.{many_texts, not_built, opens, too_many}
-use Rattle.jk_kernel.specs.Openings.OpensIn.{refused as told_refused, accepted as told_accepted}
-use Rattle.jk_kernel.specs.Openings.OpensSomehow.{refused, accepted}
+use Rattle.kernel_openings.specs.declared.answers.AddAnswer.{AddAnswer}
+use Rattle.kernel_openings.specs.declared.answers.AddAnswer.TheVariants as Adding
+use Rattle.kernel_openings.specs.AddedDomains.{line_of}
+use Rattle.kernel_openings.specs.FolderEvents.{Opens}
+use Rattle.kernel_openings.specs.FolderEvents.OpensSomehow.{refused, accepted}
 use Rattle.jkernel_runs.specs.declared.stop.Stop.{Stop}
 use Rattle.jkernel_runs.specs.declared.stop.Stop.TheVariants.{ReadFault, WriteFault, OutOfMemory}
+use Rattle.kernel_openings.specs.AddedWithoutJk.{OpensNow}
 use Rattle.jkernel_runs.specs.Asked.{AsksForEvent}
-use Rattle.jkernel_runs.specs.Events.{Moment, EventEnds, EventAsks, IsPrinted, GoesOut}
-use Rattle.jkernel_runs.specs.Places.{IsTextPlace}
+use Rattle.jkernel_runs.specs.DomainEvents.{OpensFolder}
+use Rattle.jkernel_runs.specs.Events.{Moment, EventEnds, EventAsks, GoesOut, IsPrinted}
+use Rattle.jkernel_runs.specs.Places.{HasTextPlace, IsTextPlace}
+use Rattle.jkernel_runs.specs.ToldAnswers.{Tells}
 
 -- ---- A name is ASCII.
 
@@ -96,10 +103,10 @@ whole_place place is = subst IsTextPlace is tt
 
 accepted_place : (f : FolderFiles) (m : Machine) (name : List ℕ) (quotas : Quotas) (rule : Rule) (place : Place) (lines : List Line) (new : Machine)
     → OpensWith f m name quotas lines new → lines ≡ Refused name rule place ∷ [] → IsTextPlace place
-accepted_place f m name quotas rule place lines new (not_built a other) e = whole_place place cc
-accepted_place f m name quotas rule place lines new (too_many a built many) e = whole_place place cc
-accepted_place f m name quotas rule place lines new (many_texts a built few many) e = whole_place place cc
-accepted_place f m name quotas rule place lines new (opens a inside built few short opened) e = absurd cc
+accepted_place f m name quotas rule place lines new (no_room a lacks) e = whole_place place cc
+accepted_place f m name quotas rule place lines new (no_numbers a room lacks) e = whole_place place cc
+accepted_place f m name quotas rule place lines new (too_many a room numbers many) e = whole_place place cc
+accepted_place f m name quotas rule place lines new (opens a inside room numbers few opened placed) e = absurd cc
 
 opened_place : (t : Option Tree) (root : List ℕ) (m : Machine) (name : List ℕ) (quotas : Quotas) (rule : Rule) (place : Place) (lines : List Line)
     (new : Machine)
@@ -113,42 +120,86 @@ opened_place (Some t) root m name quotas rule place lines new (told_refused brok
 opened_place (Some t) root m name quotas rule place lines new (told_accepted f said last are told with_files) e =
     accepted_place f m name quotas rule place lines last with_files e
 
--- where a rule refuses a folder
-pub refused_where : (t : Option Tree) (root : List ℕ) (m new : Machine) (name : List ℕ) (quotas : Quotas) (rule : Rule) (place : Place)
-    → Opens t root m name quotas (Refused name rule place ∷ []) new → IsTextPlace place
-refused_where t root m new name quotas rule place h = opened_place t root m name quotas rule place (Refused name rule place ∷ []) new h refl
+now_place : (t : Option Tree) (root : List ℕ) (m : Machine) (name : List ℕ) (quotas : Quotas) (rule : Rule) (place : Place) (lines : List Line)
+    (new : Machine)
+    → OpensFolder t root m name quotas lines new → lines ≡ Refused name rule place ∷ [] → IsTextPlace place
+now_place t root m name quotas rule place lines new (OpensNow.opens said last h) e = opened_place t root m name quotas rule place said last h e
+now_place t root m name quotas rule place lines new (OpensNow.refers h) e = whole_place place cc
 
--- a folder that is refused, in the words of the event
-pub refused_so : (t : Option Tree) (root text name : List ℕ) (quotas : Quotas) (m new : Machine) (rule : Rule) (place : Place) → text ≡ name
-    → new ≡ m → Opens t root m text quotas (Refused text rule place ∷ []) m → Opens t root m name quotas (Refused name rule place ∷ []) new
-refused_so t root text name quotas m new rule place e same h =
-    subst (λ (n : List ℕ). Opens t root m n quotas (Refused n rule place ∷ []) new) e
-    (subst (λ (x : Machine). Opens t root m text quotas (Refused text rule place ∷ []) x) (sym same) h)
+-- The event that each answer with a line stands for. It leads to the machine as it was.
+abbrev pub IsEventOf : Option Tree → List ℕ → Machine → List ℕ → Quotas → AddAnswer → Type 0
+IsEventOf t root m name quotas e = (line : Line) → line_of name e ≡ Some line → OpensFolder t root m name quotas (line ∷ []) m
 
--- ---- What happened with lines whose text went out.
+-- an answer of the kernel to a folder that breaks a rule names a place that is a text
+pub text_place : (t : Option Tree) (root : List ℕ) (m : Machine) (name : List ℕ) (quotas : Quotas) (r : Result DomainId AddAnswer)
+    → IfErr r (IsEventOf t root m name quotas) → HasTextPlace r
+text_place t root m name quotas (Ok number) h = tt
+text_place t root m name quotas (Err (Adding.Refused rule place)) h =
+    now_place t root m name quotas rule place (Refused name rule place ∷ []) m (h (Refused name rule place) refl) refl
+text_place t root m name quotas (Err Adding.NoRoom) h = tt
+text_place t root m name quotas (Err Adding.CapNumbers) h = tt
+text_place t root m name quotas (Err Adding.TooManyDomains) h = tt
+text_place t root m name quotas (Err Adding.ReadFault) h = tt
+text_place t root m name quotas (Err Adding.OutOfMemory) h = tt
 
-printed_by : (Happened : List Line → Machine → Type 0) (new : Machine) (lines : List Line) (old out : Option (List ℕ)) (faults faults' : ℕ)
-    (r : Result (Unit {0}) Stop)
-    → Happened lines new → IsSealed new → GoesOut lines old out faults faults' r → IsPrinted Happened new old out faults faults' r
-printed_by Happened new lines old out faults faults' (Ok x) happened sealed went = (lines, happened, sealed, went)
-printed_by Happened new lines old out faults faults' (Err WriteFault) happened sealed went = (lines, new, happened, sealed, went.0, went.1)
-printed_by Happened new lines old out faults faults' (Err ReadFault) happened sealed went = absurd went
-printed_by Happened new lines old out faults faults' (Err OutOfMemory) happened sealed went = absurd went
+-- ---- What an event leaves, by what the kernel answers.
 
--- What was printed is an event's end.
+-- what was printed is an event's end
 pub ends_printed : (event_opens : DomainEvent) (event : Event) (m new : Machine) (a b : Moment) (r : Result (Unit {0}) Stop)
-    → IsPrinted (Happens event_opens event m) new a.out b.out a.out_faults b.out_faults r → EventEnds event_opens event m new a b r
+    → IsPrinted (Happens event_opens event m) new a.out b.out r → EventEnds event_opens event m new a b r
 ends_printed event_opens event m new a b (Ok x) p = p
 ends_printed event_opens event m new a b (Err WriteFault) p = p
-ends_printed event_opens event m new a b (Err OutOfMemory) p = p
+ends_printed event_opens event m new a b (Err OutOfMemory) p = absurd p
 ends_printed event_opens event m new a b (Err ReadFault) p = absurd p
 
-pub ends_by_line : (event_opens : DomainEvent) (name : List ℕ) (quotas : Quotas) (m new : Machine) (a b : Moment) (lines : List Line)
-    (r : Result (Unit {0}) Stop) → event_opens m name quotas lines new → IsSealed new → GoesOut lines a.out b.out a.out_faults b.out_faults r
+-- an event with one line
+ends_by_line : (event_opens : DomainEvent) (name : List ℕ) (quotas : Quotas) (m new : Machine) (a b : Moment) (line : Line) (r : Result (Unit {0}) Stop)
+    → event_opens m name quotas (line ∷ []) new → IsWhole new → GoesOut (line ∷ []) a.out b.out r
     → EventEnds event_opens (Domain name quotas) m new a b r
-ends_by_line event_opens name quotas m new a b lines r opened sealed went =
-    ends_printed event_opens (Domain name quotas) m new a b r
-    (printed_by (Happens event_opens (Domain name quotas) m) new lines a.out b.out a.out_faults b.out_faults r opened sealed went)
+ends_by_line event_opens name quotas m new a b line (Ok x) opened whole went =
+    record { lines = line ∷ []; happened = opened; is_whole = whole; printed = went }
+ends_by_line event_opens name quotas m new a b line (Err WriteFault) opened whole went =
+    record { said = line ∷ []; more = []; last = new; happened = opened; is_whole = whole; printed = went }
+ends_by_line event_opens name quotas m new a b line (Err ReadFault) opened whole went = absurd went
+ends_by_line event_opens name quotas m new a b line (Err OutOfMemory) opened whole went = absurd went
+
+-- A `domain` event, from what the kernel answered and what was told of that.
+module _ (t : Option Tree) (root name : List ℕ) (quotas : Quotas) (m new : Machine) (a b : Moment) (whole : IsWhole new)
+    (said : Result (Unit {0}) Stop) where
+  -- a folder that isn't opened leaves the machine as it was
+  refused_line : (line : Line) → new ≡ m → OpensFolder t root m name quotas (line ∷ []) m → GoesOut (line ∷ []) a.out b.out said
+      → EventEnds (OpensFolder t root) (Domain name quotas) m new a b said
+  refused_line line same opened went =
+      ends_by_line (OpensFolder t root) name quotas m new a b line said
+      (subst (λ (x : Machine). OpensFolder t root m name quotas (line ∷ []) x) (sym same) opened) whole went
+
+  stopped : (stop : Stop) → said ≡ Err stop → EventEnds (OpensFolder t root) (Domain name quotas) m new a b (Err stop)
+      → EventEnds (OpensFolder t root) (Domain name quotas) m new a b said
+  stopped stop is h = subst (λ (r : Result (Unit {0}) Stop). EventEnds (OpensFolder t root) (Domain name quotas) m new a b r) (sym is) h
+
+  pub ends_told : (r : Result DomainId AddAnswer) → OnOk r (Opens t root m name quotas (Loaded name ∷ []) new)
+      → IfErr r (IsEventOf t root m name quotas) → OnErr r (new ≡ m) → (r ≡ Err Adding.ReadFault → HasRisen a.files_faults b.files_faults)
+      → (r ≡ Err Adding.ReadFault → b.asked ≢ a.asked) → Tells name r a.out b.out said
+      → EventEnds (OpensFolder t root) (Domain name quotas) m new a b said
+  ends_told (Ok number) ok lines same risen something told =
+      ends_by_line (OpensFolder t root) name quotas m new a b (Loaded name) said (OpensNow.opens (Loaded name ∷ []) new ok) whole told
+  ends_told (Err (Adding.Refused rule place)) ok lines same risen something told = refused_line _ same (lines _ refl) told
+  ends_told (Err Adding.NoRoom) ok lines same risen something told = refused_line _ same (lines _ refl) told
+  ends_told (Err Adding.CapNumbers) ok lines same risen something told = refused_line _ same (lines _ refl) told
+  ends_told (Err Adding.TooManyDomains) ok lines same risen something told = refused_line _ same (lines _ refl) told
+  ends_told (Err Adding.ReadFault) ok lines same risen something told = stopped ReadFault told.0 (tt, told.1, risen refl, something refl)
+  ends_told (Err Adding.OutOfMemory) ok lines same risen something told = stopped OutOfMemory told.0 (tt, told.1)
+
+-- the name as bytes and as a text
+pub ends_named : (t : Option Tree) (root text name : List ℕ) (quotas : Quotas) (m new : Machine) (a b : Moment) (whole : IsWhole new)
+    (said : Result (Unit {0}) Stop) (r : Result DomainId AddAnswer) → text ≡ name → OnOk r (Opens t root m text quotas (Loaded text ∷ []) new)
+    → IfErr r (IsEventOf t root m text quotas) → OnErr r (new ≡ m) → (r ≡ Err Adding.ReadFault → HasRisen a.files_faults b.files_faults)
+    → (r ≡ Err Adding.ReadFault → b.asked ≢ a.asked) → Tells name r a.out b.out said
+    → EventEnds (OpensFolder t root) (Domain name quotas) m new a b said
+ends_named t root text name quotas m new a b whole said r e ok lines same risen something told =
+    subst (λ (n : List ℕ). EventEnds (OpensFolder t root) (Domain n quotas) m new a b said) e
+    (ends_told t root text quotas m new a b whole said r ok lines same risen something
+    (subst (λ (n : List ℕ). Tells n r a.out b.out said) (sym e) told))
 
 -- ---- What is asked.
 

@@ -1,44 +1,43 @@
 -- What all events leave and ask, from what each of them does.
-use Rattle.std.proofs.Common.{◌≡◌, ◌≢◌, ℕ, zero, suc, ◌+◌, ◌<◌, ◌≤◌, List, [], ◌∷◌, ◌++◌, length, take, get_or, Option, Some, Ok, Err, inr, refl, sym, ap, subst, ◌∙◌, append_assoc, append-nil, arith}
+use Rattle.std.proofs.Common.{◌≡◌, ◌≢◌, ℕ, zero, suc, ◌+◌, ◌<◌, ◌≤◌, ◌^◌, List, [], ◌∷◌, ◌++◌, length, take, get_or, Some, None, Ok, Err, inr, refl, sym, ap, subst, ◌∙◌, append_assoc, append-nil, arith}
 use Rattle.std.specs.Prelude.{slice_get}
 use Rattle.std.proofs.lemmas.List.{take_more}
 use Rattle.jk_model.specs.declared.output.Line.{Line}
 use Rattle.jk_model.specs.declared.script.Event.{Event}
 use Rattle.jk_model.specs.declared.script.Event.TheVariants.{Domain, Start, Turn, Round, Kill}
-use Rattle.jk_model.specs.Outside.{Ask, Appends, NeverFalls}
-use Rattle.jk_model.specs.Output.{text_of}
-use Rattle.jk_model.proofs.AppendsInTurn.{Appends-nil, AppendsPart-whole}
+use Rattle.jk_model.specs.Outside.{Ask, NeverFalls}
 use Rattle.jk_model.proofs.CountsNeverFall.{HasRisen-after}
-use Rattle.jk_model_machine.specs.Machine.{Machine, IsFirstMachine}
-use Rattle.jk_model_machine.specs.Run.{DomainEvent, IsRun}
+use Rattle.jk_model_machine_state.specs.Machines.{Machine, IsFirstMachine}
+use Rattle.jk_model_runs.specs.Events.{DomainEvent, IsRun}
+use Rattle.kernel_events.specs.PrintedLines.{Prints, SinkState}
 use Rattle.jkernel_runs.specs.declared.stop.Stop.{Stop}
 use Rattle.jkernel_runs.specs.declared.stop.Stop.TheVariants.{ReadFault, WriteFault, OutOfMemory}
 use Rattle.jkernel_runs.specs.Asked.{AsksForEvent, AsksForEvents}
-use Rattle.jkernel_runs.specs.Events.{Moment, IsDomainEvent, EventEnds, EventAsks, FirstEvents, RunsWhole, StopsAtDomain, RunEnds, RunAsks}
-use Rattle.jkernel_runs.proofs.RunsGoOn.{run_more, goes_out_then, part_goes_out_then}
+use Rattle.jkernel_runs.specs.Events.{Moment, IsDomainEvent, EventEnds, EventAsks, FirstEvents, RunsWhole, StopsAtDomain, AsksForFirst, AsksForFirstAndFolder, RunEnds, RunAsks}
+use Rattle.jkernel_runs.proofs.RunsGoOn.{run_more, prints_nothing, prints_then}
 
 -- ---- The events so far.
 
 -- The first i events were run and led to this machine; their text went out, and this is what they asked for.
 pub record RunsSoFar (root : List ℕ) (opens : DomainEvent) (events : List Event) (i : ℕ) (m : Machine) (a b : Moment) : Type 0 where
   pub first : Machine
-  pub is_first : IsFirstMachine first
+  pub is_first : IsFirstMachine None None first
   pub lines : List Line
   pub run : IsRun opens (take i events) first lines m
-  pub text : Appends a.out b.out (text_of lines)
+  pub printed : Prints {E = Stop} a.out b.out (Ok tt) lines
   pub asks : List Ask
   pub for_events : AsksForEvents root (take i events) asks
   pub asked : b.asked ≡ a.asked ++ asks
 
 -- before the first of them
-pub runs_nothing : (root : List ℕ) (opens : DomainEvent) (events : List Event) (m : Machine) (a : Moment) → IsFirstMachine m
-    → RunsSoFar root opens events 0 m a a
-runs_nothing root opens events m a is = record {
+pub runs_nothing : (root : List ℕ) (opens : DomainEvent) (events : List Event) (m : Machine) (a : Moment) → IsFirstMachine None None m
+    → a.out.faults < 2 ^ 64 → RunsSoFar root opens events 0 m a a
+runs_nothing root opens events m a is fits = record {
   first = m;
   is_first = is;
   lines = [];
   run = (refl, refl);
-  text = Appends-nil a.out;
+  printed = prints_nothing a.out fits;
   asks = [];
   for_events = refl;
   asked = sym (append-nil a.asked);
@@ -62,10 +61,10 @@ goes_on root opens events i event m new a b c x lt is so_far ends asks =
     let longer = next_is events i event lt is in record {
       first = so_far.first;
       is_first = so_far.is_first;
-      lines = so_far.lines ++ ends.0;
-      run = subst (λ (es : List Event). IsRun opens es so_far.first (so_far.lines ++ ends.0) new) (sym longer)
-          (run_more opens (take i events) event so_far.first m new so_far.lines ends.0 so_far.run ends.1 ends.2);
-      text = goes_out_then a.out b.out c.out so_far.lines ends.0 so_far.text ends.3;
+      lines = so_far.lines ++ ends.lines;
+      run = subst (λ (es : List Event). IsRun opens es so_far.first (so_far.lines ++ ends.lines) new) (sym longer)
+          (run_more opens (take i events) event so_far.first m new so_far.lines ends.lines so_far.run ends.happened ends.is_whole);
+      printed = prints_then a.out b.out c.out so_far.lines ends.lines so_far.printed ends.printed;
       asks = so_far.asks ++ asks.0;
       for_events = subst (λ (es : List Event). AsksForEvents root es (so_far.asks ++ asks.0)) (sym longer)
           (asks_more root (take i events) event so_far.asks asks.0 so_far.for_events asks.1);
@@ -126,73 +125,91 @@ first_events root opens events i m a b within so_far = record {
   run = so_far.run;
 }
 
-stops_reading : (root : List ℕ) (opens : DomainEvent) (events : List Event) (i : ℕ) (event : Event) (m : Machine) (a b c : Moment) → i < length events
-    → event ≡ get_or events i event
-    → RunsSoFar root opens events i m a b → c.out ≡ b.out → IsDomainEvent event → c.asked ≢ b.asked → EventAsks root event b.asked c.asked
-    → StopsAtDomain root opens events a c
-stops_reading root opens events i (Domain name quotas) m a b c lt is so_far quiet domain more asks = record {
-  k = i;
-  whole = record {
-    lines = so_far.lines;
-    last = m;
-    run = first_events root opens events i m a b (omega arith) so_far;
-    text = subst (λ (o : Option (List ℕ)). Appends a.out o (text_of so_far.lines)) (sym quiet) so_far.text;
-  };
-  name = name;
-  quotas = quotas;
-  next = at_place events i (Domain name quotas) lt is;
-  before = so_far.asks;
-  asked_before = so_far.for_events;
-  at_last = asks.0;
-  asked_at_last = asks.1;
-  something = λ none. more (asks.2 ∙ ap (λ (x : List Ask). b.asked ++ x) none ∙ append-nil b.asked);
-  asked = asks.2 ∙ ap (λ (x : List Ask). x ++ asks.0) so_far.asked ∙ append_assoc a.asked so_far.asks asks.0;
+abbrev whole_so_far : (root : List ℕ) (opens : DomainEvent) (events : List Event) (i : ℕ) (m : Machine) (a b : Moment) → i ≤ length events
+    → RunsSoFar root opens events i m a b → RunsWhole opens events i a.out b.out
+whole_so_far root opens events i m a b within so_far = record {
+  lines = so_far.lines;
+  last = m;
+  run = first_events root opens events i m a b within so_far;
+  printed = so_far.printed;
 }
-stops_reading root opens events i (Start name class words) m a b c lt is so_far quiet domain more asks = absurd domain
-stops_reading root opens events i (Turn thread steps) m a b c lt is so_far quiet domain more asks = absurd domain
-stops_reading root opens events i (Round rounds steps) m a b c lt is so_far quiet domain more asks = absurd domain
-stops_reading root opens events i (Kill name) m a b c lt is so_far quiet domain more asks = absurd domain
+
+-- the run stops before a `domain` event
+abbrev IsAtDomain : List ℕ → DomainEvent → List Event → Moment → Moment → Type 0
+IsAtDomain root opens events a c =
+    (p : StopsAtDomain opens events a.out c.out) × AsksForFirstAndFolder root events p.k p.name a.asked c.asked
+
+stops_at_domain : (root : List ℕ) (opens : DomainEvent) (events : List Event) (i : ℕ) (event : Event) (m : Machine) (a b c : Moment) → i < length events
+    → event ≡ get_or events i event
+    → RunsSoFar root opens events i m a b → c.out ≡ b.out → IsDomainEvent event → EventAsks root event b.asked c.asked
+    → (h : IsAtDomain root opens events a c) × (c.asked ≢ b.asked → h.1.at_last ≢ [])
+stops_at_domain root opens events i (Domain name quotas) m a b c lt is so_far quiet domain asks = (
+  (
+    record {
+      k = i;
+      whole = subst (λ (out : SinkState). RunsWhole opens events i a.out out) (sym quiet) (whole_so_far root opens events i m a b (omega arith) so_far);
+      name = name;
+      quotas = quotas;
+      next = at_place events i (Domain name quotas) lt is;
+    },
+    record {
+      before = so_far.asks;
+      asked_before = so_far.for_events;
+      at_last = asks.0;
+      asked_at_last = asks.1;
+      asked = asks.2 ∙ ap (λ (x : List Ask). x ++ asks.0) so_far.asked ∙ append_assoc a.asked so_far.asks asks.0;
+    },
+  ),
+  λ more none. more (asks.2 ∙ ap (λ (x : List Ask). b.asked ++ x) none ∙ append-nil b.asked),
+)
+stops_at_domain root opens events i (Start name class words) m a b c lt is so_far quiet domain asks = absurd domain
+stops_at_domain root opens events i (Turn thread steps) m a b c lt is so_far quiet domain asks = absurd domain
+stops_at_domain root opens events i (Round rounds steps) m a b c lt is so_far quiet domain asks = absurd domain
+stops_at_domain root opens events i (Kill name) m a b c lt is so_far quiet domain asks = absurd domain
+
+-- what was asked up to an event, and for it
+asks_with : (root : List ℕ) (opens : DomainEvent) (events : List Event) (i : ℕ) (event : Event) (m : Machine) (a b c : Moment) → i < length events
+    → event ≡ get_or events i event
+    → RunsSoFar root opens events i m a b → EventAsks root event b.asked c.asked → AsksForFirst root events (suc i) a.asked c.asked
+asks_with root opens events i event m a b c lt is so_far more =
+    let next : i + 1 ≡ suc i = omega arith in
+    subst (λ (k : ℕ). AsksForFirst root events k a.asked c.asked) next (
+      so_far.asks ++ more.0,
+      subst (λ (es : List Event). AsksForEvents root es (so_far.asks ++ more.0)) (sym (next_is events i event lt is))
+          (asks_more root (take i events) event so_far.asks more.0 so_far.for_events more.1),
+      more.2 ∙ ap (λ (x : List Ask). x ++ more.0) so_far.asked ∙ append_assoc a.asked so_far.asks more.0,
+    )
 
 -- an event that stops the run
 pub run_stops : (root : List ℕ) (opens : DomainEvent) (events : List Event) (i : ℕ) (event : Event) (m new : Machine) (a b c : Moment) (stop : Stop)
     → i < length events → event ≡ get_or events i event
-    → RunsSoFar root opens events i m a b → NeverFalls a.files_faults b.files_faults → NeverFalls a.out_faults b.out_faults
+    → RunsSoFar root opens events i m a b → NeverFalls a.files_faults b.files_faults → NeverFalls a.out.faults b.out.faults
     → EventEnds opens event m new b c (Err stop) → EventAsks root event b.asked c.asked → RunEnds root opens events a c (Err stop)
-run_stops root opens events i event m new a b c ReadFault lt is so_far files faults ends asks = (
-  stops_reading root opens events i event m a b c lt is so_far ends.1 ends.0 ends.3 asks,
-  HasRisen-after a.files_faults b.files_faults c.files_faults files ends.2,
-)
+run_stops root opens events i event m new a b c ReadFault lt is so_far files faults ends asks =
+    let h = stops_at_domain root opens events i event m a b c lt is so_far ends.1 ends.0 asks in
+    (HasRisen-after a.files_faults b.files_faults c.files_faults files ends.2, (h.0.0, h.0.1, h.1 ends.3))
 run_stops root opens events i event m new a b c WriteFault lt is so_far files faults ends asks = (
-  record {
-    k = i + 1;
-    lines = so_far.lines ++ ends.0;
-    last = ends.1;
-    run = record {
-      within = omega arith;
-      first = so_far.first;
-      is_first = so_far.is_first;
-      run = subst (λ (es : List Event). IsRun opens es so_far.first (so_far.lines ++ ends.0) ends.1) (sym (next_is events i event lt is))
-          (run_more opens (take i events) event so_far.first m ends.1 so_far.lines ends.0 so_far.run ends.2 ends.3);
-    };
-    text = part_goes_out_then a.out b.out c.out so_far.lines ends.0 so_far.text ends.4;
-  },
-  HasRisen-after a.out_faults b.out_faults c.out_faults faults ends.5,
+  HasRisen-after a.out.faults b.out.faults c.out.faults faults ends.printed.cause,
+  (
+    record {
+      k = i;
+      between = b.out;
+      whole = whole_so_far root opens events i m a b (omega arith) so_far;
+      event = event;
+      next = at_place events i event lt is;
+      breaks_off = ends;
+    },
+    asks_with root opens events i event m a b c lt is so_far asks,
+  ),
 )
-run_stops root opens events i event m new a b c OutOfMemory lt is so_far files faults ends asks = inr (record {
-  k = i;
-  lines = so_far.lines;
-  last = m;
-  run = first_events root opens events i m a b (omega arith) so_far;
-  text = AppendsPart-whole a.out c.out (text_of so_far.lines) (subst (λ (o : Option (List ℕ)). Appends a.out o (text_of so_far.lines)) (sym ends) so_far.text);
-})
+run_stops root opens events i event m new a b c OutOfMemory lt is so_far files faults ends asks =
+    inr (stops_at_domain root opens events i event m a b c lt is so_far ends.1 ends.0 asks).0
 
 -- all events were run
 pub runs_whole : (root : List ℕ) (opens : DomainEvent) (events : List Event) (i : ℕ) (m : Machine) (a b : Moment) → length events ≤ i → i ≤ length events
-    → RunsSoFar root opens events i m a b → RunsWhole opens events (length events) a b
+    → RunsSoFar root opens events i m a b
+    → RunsWhole opens events (length events) a.out b.out × AsksForFirst root events (length events) a.asked b.asked
 runs_whole root opens events i m a b past within so_far =
-    let all : i ≡ length events = omega arith in record {
-      lines = so_far.lines;
-      last = m;
-      run = subst (λ (k : ℕ). FirstEvents opens events k so_far.lines m) all (first_events root opens events i m a b within so_far);
-      text = so_far.text;
-    }
+    let all : i ≡ length events = omega arith in
+    subst (λ (k : ℕ). RunsWhole opens events k a.out b.out × AsksForFirst root events k a.asked b.asked) all
+    (whole_so_far root opens events i m a b within so_far, (so_far.asks, so_far.for_events, so_far.asked))

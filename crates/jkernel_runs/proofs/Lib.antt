@@ -2,6 +2,7 @@
 pub mod BuiltEvents
 pub mod DomainOpens
 pub mod EventsInTurn
+pub mod EventsPrinted
 pub mod MessageTexts
 pub mod RunEndsSo
 pub mod RunsGoOn

@@ -1,15 +1,13 @@
 -- How a run ends, from what was found of its script and what became of its events.
 use Rattle.std.proofs.Common.{◌≡◌, ℕ, zero, suc, false, nat_le, ◌<◌, List, [], ◌∷◌, ◌++◌, length, Option, Some, None, Result, Ok, Err, ◌⊎◌, inl, inr, refl, ap, subst, ◌∙◌, append_assoc, arith}
 use Rattle.std.proofs.lemmas.Bool.Decides.{nat_tests}
-use Rattle.jk_model.specs.declared.output.Line.{Line}
 use Rattle.jk_model.specs.declared.script.Event.{Event}
 use Rattle.jk_model.specs.declared.script.FaultKind.TheVariants as kinds
 use Rattle.jk_model.specs.declared.script.ScriptFault.{ScriptFault}
-use Rattle.jk_model.specs.Outside.{Tree, Ask, FileIs, FileIsLong, Appends, AppendsPart, HasRisen, NeverFalls}
+use Rattle.jk_model.specs.Outside.{Tree, Ask, FileIs, FileIsLong, HasRisen, NeverFalls}
 use Rattle.jk_model.proofs.CountsNeverFall.{HasRisen-after}
 use Rattle.jk_model.specs.Script.{MAX_BYTES}
-use Rattle.jk_model_machine.specs.Machine.{Machine}
-use Rattle.jk_kernel.specs.Openings.{Opens}
+use Rattle.jkernel_runs.specs.DomainEvents.{OpensFolder}
 use Rattle.script_reader.specs.declared.error.ScriptError.{ScriptError}
 use Rattle.script_reader.specs.declared.error.ScriptError.TheVariants as errors
 use Rattle.jkernel_runs.specs.declared.ends.End.{End}
@@ -20,9 +18,10 @@ use Rattle.jkernel_runs.specs.declared.stop.Stop.TheVariants.{ReadFault, WriteFa
 use Rattle.jkernel_runs.specs.Calls.{IsCall}
 use Rattle.jkernel_runs.specs.Ends.{end_of, EndsSo, EndsRefused, HasText, IsMissing, ScriptEnds, AnswersFault, status_of}
 use Rattle.jkernel_runs.specs.Asked.{ask_for_script}
-use Rattle.jkernel_runs.specs.Events.{Moment, FirstEvents, RunsPart, RunEnds, RunAsks}
+use Rattle.jkernel_runs.specs.Events.{Moment, AsksForFirst, AsksForFirstAndFolder, RunEnds, RunAsks, RunsWhole, StopsAtDomain, StopsInLines}
 use Rattle.jkernel_runs.specs.Scripts.{IsScript, IsAtFault}
-use Rattle.jkernel_runs.specs.Statuses.{HasEvents, LacksScript, RunsTo, IsStopped, Asks}
+use Rattle.jkernel_runs.specs.Statuses.{HasEvents, LacksScript, IsDone, IsStoppedAtDomain, IsStoppedInLines, Asks, asked_script}
+use Rattle.kernel_events.specs.PrintedLines.{Prints, SinkState}
 
 -- ---- the script
 
@@ -85,68 +84,82 @@ has_events t words root script events call found =
 
 -- The run of a script's events: what was known before the script was read, after that, and at the end.
 module _ (t : Option Tree) (words : List (List ℕ)) (root script : List ℕ) (events : List Event) (a b c : Moment) (call : IsCall words root script)
-    (found : (text : List ℕ) × FileIs t script text × IsScript text events) (read : b.asked ≡ a.asked ++ ask_for_script script ∷ [])
-    (files : NeverFalls a.files_faults b.files_faults)
-    (out : b.out ≡ a.out) (out_faults : b.out_faults ≡ a.out_faults) where
+    (found : (text : List ℕ) × FileIs t script text × IsScript text events) (read : b.asked ≡ asked_script a.asked script)
+    (files : NeverFalls a.files_faults b.files_faults) (out : b.out ≡ a.out) where
   abbrev has : HasEvents t words root events
   has = has_events t words root script events call found
-
-  runs_to : (k : ℕ) (lines : List Line) (last : Machine) → FirstEvents (Opens t root) events k lines last → RunsTo t root events k lines
-  runs_to k lines last first = record { within = first.within; first = first.first; is_first = first.is_first; last = last; run = first.run }
 
   all_asked : (more : List Ask) → c.asked ≡ b.asked ++ more → c.asked ≡ a.asked ++ ask_for_script script ∷ more
   all_asked more e = e ∙ ap (λ (x : List Ask). x ++ more) read ∙ append_assoc a.asked (ask_for_script script ∷ []) more
 
-  went : (old new : Option (List ℕ)) (text : List ℕ) → old ≡ a.out → Appends old new text → Appends a.out new text
-  went old new text e h = subst (λ (o : Option (List ℕ)). Appends o new text) e h
+  first_asked : (k : ℕ) → AsksForFirst root events k b.asked c.asked → AsksForFirst root events k (asked_script a.asked script) c.asked
+  first_asked k h = subst (λ (x : List Ask). AsksForFirst root events k x c.asked) read h
 
-  went_part : (old new : Option (List ℕ)) (text : List ℕ) → old ≡ a.out → AppendsPart old new text → AppendsPart a.out new text
-  went_part old new text e h = subst (λ (o : Option (List ℕ)). AppendsPart o new text) e h
+  abbrev folder_asked : (k : ℕ) (name : List ℕ) → AsksForFirstAndFolder root events k name b.asked c.asked
+      → AsksForFirstAndFolder root events k name (asked_script a.asked script) c.asked
+  folder_asked k name h = record {
+    before = h.before;
+    asked_before = h.asked_before;
+    at_last = h.at_last;
+    asked_at_last = h.asked_at_last;
+    asked = h.asked ∙ ap (λ (x : List Ask). x ++ (h.before ++ h.at_last)) read;
+  }
 
-  stopped : RunsPart (Opens t root) events b c → IsStopped t words a.out c.out
-  stopped p = record {
+  abbrev done : RunsWhole (OpensFolder t root) events (length events) b.out c.out → IsDone t words a.out c.out
+  done h = record {
     root = root;
     events = events;
     has = has;
-    k = p.k;
-    lines = p.lines;
-    runs = runs_to p.k p.lines p.last p.run;
-    text = went_part b.out c.out _ out p.text;
+    runs = subst (λ (o : SinkState). RunsWhole (OpensFolder t root) events (length events) o c.out) out h;
   }
 
-  pub run_ends : (r : Result (Unit {0}) Stop) → RunEnds root (Opens t root) events b c r → EndsSo t words a c (end_of r)
-  run_ends (Ok x) h = record {
+  abbrev in_lines : StopsInLines (OpensFolder t root) events b.out c.out → IsStoppedInLines t words a.out c.out
+  in_lines h = record {
     root = root;
     events = events;
     has = has;
-    lines = h.lines;
-    runs = runs_to (length events) h.lines h.last h.run;
-    text = went b.out c.out _ out h.text;
+    stops = record {
+      k = h.k;
+      between = h.between;
+      whole = record {
+        lines = h.whole.lines;
+        last = h.whole.last;
+        run = h.whole.run;
+        printed = subst (λ (o : SinkState). Prints {E = Stop} o h.between (Ok tt) h.whole.lines) out h.whole.printed;
+      };
+      event = h.event;
+      next = h.next;
+      breaks_off = h.breaks_off;
+    };
   }
-  run_ends (Err ReadFault) h = (
-    inl (HasRisen-after a.files_faults b.files_faults c.files_faults files h.1),
-    inr (record {
-      root = root;
-      events = events;
-      has = has;
-      k = h.0.k;
-      name = h.0.name;
-      quotas = h.0.quotas;
-      next = h.0.next;
-      lines = h.0.whole.lines;
-      runs = runs_to h.0.k h.0.whole.lines h.0.whole.last h.0.whole.run;
-      text = went b.out c.out _ out h.0.whole.text;
-      before = h.0.before;
-      asked_before = h.0.asked_before;
-      at_last = h.0.at_last;
-      asked_at_last = h.0.asked_at_last;
-      something = h.0.something;
-      asks = all_asked (h.0.before ++ h.0.at_last) h.0.asked;
-    }),
+
+  abbrev at_domain : StopsAtDomain (OpensFolder t root) events b.out c.out → IsStoppedAtDomain t words a.out c.out
+  at_domain h = record {
+    root = root;
+    events = events;
+    has = has;
+    stops = record {
+      k = h.k;
+      whole = subst (λ (o : SinkState). RunsWhole (OpensFolder t root) events h.k o c.out) out h.whole;
+      name = h.name;
+      quotas = h.quotas;
+      next = h.next;
+    };
+  }
+
+  pub run_ends : (r : Result (Unit {0}) Stop) → RunEnds root (OpensFolder t root) events b c r → EndsSo t words a c (end_of r)
+  run_ends (Ok x) h = (done h.0, first_asked (length events) h.1)
+  run_ends (Err ReadFault) (risen, (p, q, something)) = (
+    inl (HasRisen-after a.files_faults b.files_faults c.files_faults files risen),
+    inr (at_domain p, folder_asked p.k p.name q, something),
   )
-  run_ends (Err WriteFault) h = (subst (λ (n : ℕ). HasRisen n c.out_faults) out_faults h.1, stopped h.0)
-  run_ends (Err OutOfMemory) (inl quiet) = inl (quiet ∙ out)
-  run_ends (Err OutOfMemory) (inr h) = inr (stopped h)
+  run_ends (Err WriteFault) (risen, (p, asked)) = (
+    subst (λ (o : SinkState). HasRisen o.faults c.out.faults) out risen,
+    (in_lines p, first_asked (suc p.k) asked),
+  )
+  run_ends (Err OutOfMemory) (inl (quiet, none)) =
+      inl (record { root = root; script = script; call = call; quiet = quiet ∙ out; asks = none ∙ read })
+  run_ends (Err OutOfMemory) (inr (p, q)) = inr (at_domain p, folder_asked p.k p.name q)
 
   pub run_asks : RunAsks root events b.asked c.asked → Asks t words a.asked c.asked
   run_asks h = inr (record {
@@ -162,7 +175,7 @@ module _ (t : Option Tree) (words : List (List ℕ)) (root script : List ℕ) (e
 
 -- A script that gave no events was asked for, and nothing else.
 pub script_asks : (t : Option Tree) (words : List (List ℕ)) (root script : List ℕ) (old new : List Ask) → IsCall words root script
-    → new ≡ old ++ ask_for_script script ∷ [] → Asks t words old new
+    → new ≡ asked_script old script → Asks t words old new
 script_asks t words root script old new call asked = inr (record {
   root = root;
   script = script;
@@ -176,11 +189,13 @@ script_asks t words root script old new call asked = inr (record {
 
 -- How a run ends whose script gave no events.
 pub script_ends : (t : Option Tree) (words : List (List ℕ)) (root script : List ℕ) (a b : Moment) (end : End) → IsCall words root script → b.out ≡ a.out
-    → b.asked ≡ a.asked ++ ask_for_script script ∷ [] → ScriptEnds t script a.files_faults b.files_faults (Err end) → EndsSo t words a b end
+    → b.asked ≡ asked_script a.asked script → ScriptEnds t script a.files_faults b.files_faults (Err end) → EndsSo t words a b end
 script_ends t words root script a b Done call quiet asked h = absurd h
 script_ends t words root script a b Usage call quiet asked h = absurd h
-script_ends t words root script a b (Refused fault) call quiet asked h =
-    (record { root = root; script = script; call = call; text = h.0; file = h.1; at_fault = h.2 }, quiet)
+script_ends t words root script a b (Refused fault) call quiet asked h = (
+  record { root = root; script = script; call = call; text = h.0; file = h.1; at_fault = h.2 },
+  record { root = root; script = script; call = call; quiet = quiet; asks = asked },
+)
 script_ends t words root script a b (Stopped ReadFault) call quiet asked h =
     (lacks t h, inl (record { root = root; script = script; call = call; quiet = quiet; asks = asked }))
   where
@@ -189,4 +204,5 @@ script_ends t words root script a b (Stopped ReadFault) call quiet asked h =
     lacks None (inr missing) = absurd missing
     lacks (Some tree) (inr missing) = inr (root, script, call, missing)
 script_ends t words root script a b (Stopped WriteFault) call quiet asked h = absurd h
-script_ends t words root script a b (Stopped OutOfMemory) call quiet asked h = inl quiet
+script_ends t words root script a b (Stopped OutOfMemory) call quiet asked h =
+    inl (record { root = root; script = script; call = call; quiet = quiet; asks = asked })

@@ -7,7 +7,7 @@ use Rattle.jkernel_runs.specs.Calls.{IsCall}
 use Rattle.jkernel_runs.specs.Messages.{usage_text, fault_text, read_text, write_text, memory_text}
 use Rattle.jkernel_runs.specs.Events.{Moment}
 use Rattle.jkernel_runs.specs.Scripts.{IsScript, IsAtFault}
-use Rattle.jkernel_runs.specs.Statuses.{HasFault, LacksScript, IsDone, IsStopped, IsStoppedBefore, IsUnread}
+use Rattle.jkernel_runs.specs.Statuses.{HasFault, LacksScript, EndsDone, EndsForFiles, EndsForMemory, EndsInLines, IsUnread}
 use Rattle.jkernel_runs.specs.declared.ends.End.{End}
 use Rattle.jkernel_runs.specs.declared.ends.End.TheVariants.{Done, Usage, Refused, Stopped}
 use Rattle.jkernel_runs.specs.declared.status.Status.{Status}
@@ -21,14 +21,12 @@ IsNoCall words = (root : List ℕ) (script : List ℕ) → IsCall words root scr
 
 -- What an end says of the words, the tree, the output and what was asked.
 abbrev pub EndsSo : Option Tree → List (List ℕ) → Moment → Moment → End → Type 0
-EndsSo tree words a b Done = IsDone tree words a.out b.out
-EndsSo tree words a b Usage = IsNoCall words × (b.out ≡ a.out)
-EndsSo tree words a b (Refused fault) = HasFault tree words fault × (b.out ≡ a.out)
-EndsSo tree words a b (Stopped ReadFault) =
-    (HasRisen a.files_faults b.files_faults ⊎ LacksScript tree words)
-    × (IsUnread words a.out b.out a.asked b.asked ⊎ IsStoppedBefore tree words a.out b.out a.asked b.asked)
-EndsSo tree words a b (Stopped WriteFault) = HasRisen a.out_faults b.out_faults × IsStopped tree words a.out b.out
-EndsSo tree words a b (Stopped OutOfMemory) = (b.out ≡ a.out) ⊎ IsStopped tree words a.out b.out
+EndsSo tree words a b Done = EndsDone tree words a b
+EndsSo tree words a b Usage = IsNoCall words × (b.out ≡ a.out) × (b.asked ≡ a.asked)
+EndsSo tree words a b (Refused fault) = HasFault tree words fault × IsUnread words a b
+EndsSo tree words a b (Stopped ReadFault) = (HasRisen a.files_faults b.files_faults ⊎ LacksScript tree words) × EndsForFiles tree words a b
+EndsSo tree words a b (Stopped WriteFault) = HasRisen a.out.faults b.out.faults × EndsInLines tree words a b
+EndsSo tree words a b (Stopped OutOfMemory) = EndsForMemory tree words a b
 
 -- the end of a run of events
 abbrev pub end_of : Result (Unit {0}) Stop → End

@@ -1,43 +1,49 @@
 -- What an event of a script, and all of them, leave behind, by how they ended.
-use Rattle.std.specs.Prelude.{◌≡◌, ◌≢◌, ℕ, ◌≤◌, ◌⊎◌, ⊤, true, List, [], ◌++◌, length, take, slice_get, Option, Some, Result, Ok, Err}
+use Rattle.std.specs.Prelude.{◌≡◌, ◌≢◌, ℕ, suc, ◌*◌, ◌≤◌, ◌⊎◌, ⊤, true, List, [], ◌++◌, length, take, slice_get, Option, Some, None, Result, Ok, Err}
 use Rattle.jk_model.specs.declared.output.Line.{Line}
 use Rattle.jk_model.specs.declared.script.Event.{Event}
 use Rattle.jk_model.specs.declared.script.Event.TheVariants.{Domain, Start, Turn, Round, Kill}
 use Rattle.jk_model.specs.declared.script.Quotas.{Quotas}
-use Rattle.jk_model.specs.Outside.{Ask, Appends, AppendsPart, HasRisen, ◌/-◌}
-use Rattle.jk_model.specs.Output.{text_of}
-use Rattle.jk_model.specs.ScriptGrammar.{is_name}
-use Rattle.jk_model_machine.specs.Machine.{Machine, IsFirstMachine}
-use Rattle.jk_model_machine.specs.Run.{DomainEvent, Happens, IsRun}
-use Rattle.jk_model_machine.specs.Sealed.{IsSealed}
+use Rattle.jk_model.specs.Outside.{Ask, HasRisen, ◌/-◌}
+use Rattle.jk_model.specs.ScriptGrammar.{is_name, MAX_STEPS}
+use Rattle.jk_model_machine_state.specs.Machines.{Machine, IsFirstMachine}
+use Rattle.jk_model_runs.specs.Events.{DomainEvent, Happens, IsRun, IsWhole}
+use Rattle.kernel_events.specs.PrintedLines.{Prints, SinkState}
+use Rattle.kernel_openings.specs.StartedThreads.{AreStartWords}
 use Rattle.jkernel_runs.specs.Asked.{AsksForEvent, AsksForEvents, AsksForFolder}
 use Rattle.jkernel_runs.specs.declared.stop.Stop.{Stop}
 use Rattle.jkernel_runs.specs.declared.stop.Stop.TheVariants.{ReadFault, WriteFault, OutOfMemory}
 
 -- What is known of the world outside at a moment of the run.
 pub record Moment : Type 0 where
-  -- what the output tells, and its count of faults
-  pub out : Option (List ℕ)
-  pub out_faults : ℕ
+  -- what the output tells
+  pub out : SinkState
   -- what was asked of the files, and their count of faults
   pub asked : List Ask
   pub files_faults : ℕ
 
-abbrev pub moment : Option (List ℕ) → ℕ → List Ask → ℕ → Moment
-moment out out_faults asked files_faults = record {
-  out = out;
-  out_faults = out_faults;
-  asked = asked;
-  files_faults = files_faults;
-}
+-- what a sink tells: its bytes, the pieces that it was handed, and its count of faults
+abbrev pub sink : Option (List ℕ) → List (List ℕ) → ℕ → SinkState
+sink bytes pieces faults = record { bytes = bytes; pieces = pieces; faults = faults }
 
--- What holds of each event of a script: the form of a domain's name, and the ranges of what the machine is given. Starts with
--- words, and kills, are no events of any script yet.
+abbrev pub moment : SinkState → List Ask → ℕ → Moment
+moment out asked files_faults = record { out = out; asked = asked; files_faults = files_faults }
+
+-- ---- What a script's events are like.
+
+-- what a kernel's domain may have
+pub record AreForKernel (q : Quotas) : Type 0 where
+  pub words : (44 ≤ q.heap) × (q.heap ≤ 16777216)
+  pub chunks : (1 ≤ q.chunks) × (q.chunks ≤ 262144)
+  pub counts : (q.threads ≤ 4096) × (q.names ≤ 4096)
+
+-- What holds of each event of a script: the form of a domain's name, and the ranges of what the machine is given. Kills are no
+-- events of any script yet.
 abbrev pub IsBuilt : Event → Type 0
-IsBuilt (Domain name quotas) = (is_name name ≡ true) × (1 ≤ quotas.chunks) × (quotas.chunks ≤ 262144)
-IsBuilt (Start name class words) = (is_name name ≡ true) × (length class ≤ 255) × (words ≡ [])
-IsBuilt (Turn thread steps) = ⊤
-IsBuilt (Round rounds steps) = ⊤
+IsBuilt (Domain name quotas) = (is_name name ≡ true) × AreForKernel quotas
+IsBuilt (Start name class words) = (is_name name ≡ true) × (length class ≤ 255) × AreStartWords words
+IsBuilt (Turn thread steps) = steps ≤ MAX_STEPS
+IsBuilt (Round rounds steps) = rounds * steps ≤ MAX_STEPS
 IsBuilt (Kill name) = ⊥
 
 abbrev pub IsDomainEvent : Event → Type 0
@@ -47,29 +53,44 @@ IsDomainEvent (Turn thread steps) = ⊥
 IsDomainEvent (Round rounds steps) = ⊥
 IsDomainEvent (Kill name) = ⊥
 
--- The text of lines went out, or, where the output failed, a part of it, from the front on.
-abbrev pub GoesOut : List Line → Option (List ℕ) → Option (List ℕ) → ℕ → ℕ → Result (Unit {0}) Stop → Type 0
-GoesOut lines old out faults faults' (Ok _) = Appends old out (text_of lines)
-GoesOut lines old out faults faults' (Err WriteFault) = AppendsPart old out (text_of lines) × HasRisen faults faults'
-GoesOut lines old out faults faults' (Err _) = ⊥
+-- ---- What becomes of lines.
 
--- Something happened, with lines, and led from one machine to another, which is sealed. Where it went well, the text of the
--- lines went out; where the output failed, it happened all the same, and a part of the text went out, from the front on.
--- Without memory nothing went out. The files have no part in it.
-abbrev pub IsPrinted : (List Line → Machine → Type 0) → Machine → Option (List ℕ) → Option (List ℕ) → ℕ → ℕ → Result (Unit {0}) Stop → Type 0
-IsPrinted Happened new old out faults faults' (Ok _) =
-    (lines : List Line) × Happened lines new × IsSealed new × Appends old out (text_of lines)
-IsPrinted Happened new old out faults faults' (Err WriteFault) =
-    (lines : List Line) × (last : Machine) × Happened lines last × IsSealed last × AppendsPart old out (text_of lines) × HasRisen faults faults'
-IsPrinted Happened new old out faults faults' (Err OutOfMemory) = out ≡ old
-IsPrinted Happened new old out faults faults' (Err ReadFault) = ⊥
+-- The lines went out, or the output failed among them, and nothing was printed after that.
+abbrev pub GoesOut : List Line → SinkState → SinkState → Result (Unit {0}) Stop → Type 0
+GoesOut lines old new (Ok x) = Prints {E = Stop} old new (Ok x) lines
+GoesOut lines old new (Err WriteFault) = Prints old new (Err WriteFault) lines
+GoesOut lines old new (Err _) = ⊥
 
--- One event, from one machine and moment to another. Where the files failed, nothing happened but that they were asked for something.
+-- Something happened and led to a machine, which is whole, and its lines went out.
+pub record IsTold (Happened : List Line → Machine → Type 0) (last : Machine) (old new : SinkState) : Type 0 where
+  pub lines : List Line
+  pub happened : Happened lines last
+  pub is_whole : IsWhole last
+  pub printed : Prints {E = Stop} old new (Ok tt) lines
+
+-- Something happened, and its lines went out up to one that failed. Those after it are there too, though nothing more was printed.
+pub record BreaksOffIn (Happened : List Line → Machine → Type 0) (old new : SinkState) : Type 0 where
+  pub said : List Line
+  pub more : List Line
+  pub last : Machine
+  pub happened : Happened (said ++ more) last
+  pub is_whole : IsWhole last
+  pub printed : Prints old new (Err WriteFault) said
+
+-- Something happened whose lines were printed. Neither memory nor files have a part in it.
+abbrev pub IsPrinted : (List Line → Machine → Type 0) → Machine → SinkState → SinkState → Result (Unit {0}) Stop → Type 0
+IsPrinted Happened last old new (Ok x) = IsTold Happened last old new
+IsPrinted Happened last old new (Err WriteFault) = BreaksOffIn Happened old new
+IsPrinted Happened last old new (Err OutOfMemory) = ⊥
+IsPrinted Happened last old new (Err ReadFault) = ⊥
+
+-- ---- One event, from one machine and moment to another. Where the files failed, nothing happened but that they were asked for
+-- something, and where memory ran out, nothing but that they may have been.
+
 abbrev pub EventEnds : DomainEvent → Event → Machine → Machine → Moment → Moment → Result (Unit {0}) Stop → Type 0
-EventEnds opens event m new a b (Ok x) = IsPrinted (Happens opens event m) new a.out b.out a.out_faults b.out_faults (Ok x)
-EventEnds opens event m new a b (Err WriteFault) =
-    IsPrinted (Happens opens event m) new a.out b.out a.out_faults b.out_faults (Err WriteFault)
-EventEnds opens event m new a b (Err OutOfMemory) = b.out ≡ a.out
+EventEnds opens event m new a b (Ok x) = IsTold (Happens opens event m) new a.out b.out
+EventEnds opens event m new a b (Err WriteFault) = BreaksOffIn (Happens opens event m) a.out b.out
+EventEnds opens event m new a b (Err OutOfMemory) = IsDomainEvent event × (b.out ≡ a.out)
 EventEnds opens event m new a b (Err ReadFault) =
     IsDomainEvent event × (b.out ≡ a.out) × HasRisen a.files_faults b.files_faults × (b.asked ≢ a.asked)
 
@@ -77,48 +98,66 @@ EventEnds opens event m new a b (Err ReadFault) =
 abbrev pub EventAsks : List ℕ → Event → List Ask → List Ask → Type 0
 EventAsks root event old new = (asks : List Ask) × AsksForEvent root event asks × (new ≡ old ++ asks)
 
+-- ---- The first of some events.
+
 -- The first k events lead from a machine without domains to this one, and print these lines.
 pub record FirstEvents (opens : DomainEvent) (events : List Event) (k : ℕ) (lines : List Line) (last : Machine) : Type 0 where
   pub within : k ≤ length events
   pub first : Machine
-  pub is_first : IsFirstMachine first
+  pub is_first : IsFirstMachine None None first
   pub run : IsRun opens (take k events) first lines last
 
 -- The first k events were run, and their whole text went out.
-pub record RunsWhole (opens : DomainEvent) (events : List Event) (k : ℕ) (a b : Moment) : Type 0 where
+pub record RunsWhole (opens : DomainEvent) (events : List Event) (k : ℕ) (old new : SinkState) : Type 0 where
   pub lines : List Line
   pub last : Machine
   pub run : FirstEvents opens events k lines last
-  pub text : Appends a.out b.out (text_of lines)
+  pub printed : Prints {E = Stop} old new (Ok tt) lines
 
--- The first k events are run, and a part of their text went out, from the front on.
-pub record RunsPart (opens : DomainEvent) (events : List Event) (a b : Moment) : Type 0 where
+-- The first k events were run, and their whole text went out. The event after them is a `domain` event, of which nothing went out.
+pub record StopsAtDomain (opens : DomainEvent) (events : List Event) (old new : SinkState) : Type 0 where
   pub k : ℕ
-  pub lines : List Line
-  pub last : Machine
-  pub run : FirstEvents opens events k lines last
-  pub text : AppendsPart a.out b.out (text_of lines)
-
--- The first k events were run, and what was asked last is what the next event, a `domain` event, asked for, which is something.
-pub record StopsAtDomain (root : List ℕ) (opens : DomainEvent) (events : List Event) (a b : Moment) : Type 0 where
-  pub k : ℕ
-  pub whole : RunsWhole opens events k a b
+  pub whole : RunsWhole opens events k old new
   pub name : List ℕ
   pub quotas : Quotas
   pub next : slice_get events k ≡ Some (Domain name quotas)
+
+-- The first k events were run, and their whole text went out. The event after them happened too, and its lines went out up to one that
+-- failed.
+pub record StopsInLines (opens : DomainEvent) (events : List Event) (old new : SinkState) : Type 0 where
+  pub k : ℕ
+  pub between : SinkState
+  pub whole : RunsWhole opens events k old between
+  pub event : Event
+  pub next : slice_get events k ≡ Some event
+  pub breaks_off : BreaksOffIn (Happens opens event whole.last) between new
+
+-- What was asked of the files after some asks: what the first k events ask for, and nothing else.
+abbrev pub AsksForFirst : List ℕ → List Event → ℕ → List Ask → List Ask → Type 0
+AsksForFirst root events k old new = (asks : List Ask) × AsksForEvents root (take k events) asks × (new ≡ old ++ asks)
+
+-- What was asked of the files after some asks: what the first k events ask for, and last what is asked for a folder of this name.
+pub record AsksForFirstAndFolder (root : List ℕ) (events : List Event) (k : ℕ) (name : List ℕ) (old new : List Ask) : Type 0 where
   pub before : List Ask
   pub asked_before : AsksForEvents root (take k events) before
   pub at_last : List Ask
   pub asked_at_last : AsksForFolder (root /- name) at_last
-  pub something : at_last ≢ []
-  pub asked : b.asked ≡ a.asked ++ (before ++ at_last)
+  pub asked : new ≡ old ++ (before ++ at_last)
 
--- All events, from a machine without domains. There may be no memory even for that one.
+-- ---- All events, from a machine without domains. There may be no memory even for that one.
+
 abbrev pub RunEnds : List ℕ → DomainEvent → List Event → Moment → Moment → Result (Unit {0}) Stop → Type 0
-RunEnds root opens events a b (Ok _) = RunsWhole opens events (length events) a b
-RunEnds root opens events a b (Err ReadFault) = StopsAtDomain root opens events a b × HasRisen a.files_faults b.files_faults
-RunEnds root opens events a b (Err WriteFault) = RunsPart opens events a b × HasRisen a.out_faults b.out_faults
-RunEnds root opens events a b (Err OutOfMemory) = (b.out ≡ a.out) ⊎ RunsPart opens events a b
+RunEnds root opens events a b (Ok x) =
+    RunsWhole opens events (length events) a.out b.out × AsksForFirst root events (length events) a.asked b.asked
+RunEnds root opens events a b (Err ReadFault) =
+    HasRisen a.files_faults b.files_faults
+    × ((p : StopsAtDomain opens events a.out b.out) × (q : AsksForFirstAndFolder root events p.k p.name a.asked b.asked) × (q.at_last ≢ []))
+RunEnds root opens events a b (Err WriteFault) =
+    HasRisen a.out.faults b.out.faults
+    × ((p : StopsInLines opens events a.out b.out) × AsksForFirst root events (suc p.k) a.asked b.asked)
+RunEnds root opens events a b (Err OutOfMemory) =
+    ((b.out ≡ a.out) × (b.asked ≡ a.asked))
+    ⊎ ((p : StopsAtDomain opens events a.out b.out) × AsksForFirstAndFolder root events p.k p.name a.asked b.asked)
 
 -- what all of them asked of the files
 abbrev pub RunAsks : List ℕ → List Event → List Ask → List Ask → Type 0

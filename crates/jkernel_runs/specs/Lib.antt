@@ -1,9 +1,12 @@
 pub mod Asked
 pub mod Calls
 pub mod Codes
+pub mod DomainEvents
+pub mod DrawnNumbers
 pub mod Ends
 pub mod Events
 pub mod Messages
 pub mod Places
 pub mod Scripts
 pub mod Statuses
+pub mod ToldAnswers

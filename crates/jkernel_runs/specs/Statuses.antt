@@ -1,21 +1,19 @@
 -- What each status of the program says of its run. A tree is told or not, and so are the bytes of a sink.
-use Rattle.std.specs.Prelude.{◌≡◌, ◌≢◌, ℕ, ◌≤◌, ◌⊎◌, List, [], ◌∷◌, ◌++◌, Option, Some, None, take, slice_get, length}
-use Rattle.jk_model.specs.declared.output.Line.{Line}
+use Rattle.std.specs.Prelude.{◌≡◌, ◌≢◌, ℕ, suc, ◌⊎◌, List, [], ◌∷◌, ◌++◌, Option, Some, None, length}
 use Rattle.jk_model.specs.declared.script.Event.{Event}
-use Rattle.jk_model.specs.declared.script.Event.TheVariants.{Domain}
-use Rattle.jk_model.specs.declared.script.Quotas.{Quotas}
 use Rattle.jk_model.specs.declared.script.ScriptFault.{ScriptFault}
-use Rattle.jk_model.specs.Outside.{Tree, Ask, FileIs, Appends, AppendsPart, ◌/-◌}
-use Rattle.jk_model.specs.Output.{text_of}
-use Rattle.jk_model_machine.specs.Machine.{Machine, IsFirstMachine}
-use Rattle.jk_model_machine.specs.Run.{IsRun}
-use Rattle.jk_kernel.specs.Openings.{Opens}
-use Rattle.jkernel_runs.specs.Asked.{ask_for_script, AsksForEvents, AsksForFolder}
+use Rattle.jk_model.specs.Outside.{Tree, Ask, FileIs, Appends, AppendsPart}
+use Rattle.kernel_events.specs.PrintedLines.{SinkState}
+use Rattle.jkernel_runs.specs.DomainEvents.{OpensFolder}
+use Rattle.jkernel_runs.specs.Asked.{ask_for_script, AsksForEvents}
 use Rattle.jkernel_runs.specs.Calls.{IsCall}
+use Rattle.jkernel_runs.specs.Events.{Moment, AsksForFirst, AsksForFirstAndFolder, RunsWhole, StopsAtDomain, StopsInLines}
 use Rattle.jkernel_runs.specs.Messages.{usage_text, fault_text, read_text, write_text, memory_text}
 use Rattle.jkernel_runs.specs.Scripts.{IsScript, IsAtFault}
 use Rattle.jkernel_runs.specs.declared.status.Status.{Status}
 use Rattle.jkernel_runs.specs.declared.status.Status.TheVariants.{Done, Usage, ScriptRefused, ReadFault, WriteFault, OutOfMemory}
+
+-- ---- The script.
 
 -- The words name a root and a script, and these are the script's events. (A tree that isn't told
 -- doesn't say which script it was.)
@@ -41,60 +39,68 @@ LacksScript None words = ⊥
 LacksScript (Some tree) words =
     (root : List ℕ) × (script : List ℕ) × IsCall words root script × (tree.file script ≡ None)
 
--- The first k events were run from a machine without domains, and printed these lines.
-pub record RunsTo (tree : Option Tree) (root : List ℕ) (events : List Event) (k : ℕ) (lines : List Line) : Type 0 where
-  pub within : k ≤ length events
-  pub first : Machine
-  pub is_first : IsFirstMachine first
-  pub last : Machine
-  pub run : IsRun (Opens tree root) (take k events) first lines last
+-- ---- What went out, by how far the events were run.
 
--- Done: all events were run, and the text of their lines went out.
-pub record IsDone (tree : Option Tree) (words : List (List ℕ)) (old new : Option (List ℕ)) : Type 0 where
+-- All events were run, and the text of their lines went out.
+pub record IsDone (tree : Option Tree) (words : List (List ℕ)) (old new : SinkState) : Type 0 where
   pub root : List ℕ
   pub events : List Event
   pub has : HasEvents tree words root events
-  pub lines : List Line
-  pub runs : RunsTo tree root events (length events) lines
-  pub text : Appends old new (text_of lines)
+  pub runs : RunsWhole (OpensFolder tree root) events (length events) old new
 
--- Stopped in the middle: a front of the text of the first k events went out.
-pub record IsStopped (tree : Option Tree) (words : List (List ℕ)) (old new : Option (List ℕ)) : Type 0 where
+-- The text of the events before some event went out whole. That event happened too, and its lines went out up to one that failed, after
+-- which nothing was printed.
+pub record IsStoppedInLines (tree : Option Tree) (words : List (List ℕ)) (old new : SinkState) : Type 0 where
   pub root : List ℕ
   pub events : List Event
   pub has : HasEvents tree words root events
-  pub k : ℕ
-  pub lines : List Line
-  pub runs : RunsTo tree root events k lines
-  pub text : AppendsPart old new (text_of lines)
+  pub stops : StopsInLines (OpensFolder tree root) events old new
 
--- Stopped at a `domain` event: the whole text of the events before it went out, and what was asked last is what that
--- event asked for, which is something.
-pub record IsStoppedBefore (tree : Option Tree) (words : List (List ℕ)) (old new : Option (List ℕ)) (asked asked' : List Ask) : Type 0 where
+-- The text of the events before some `domain` event went out whole, and nothing else.
+pub record IsStoppedAtDomain (tree : Option Tree) (words : List (List ℕ)) (old new : SinkState) : Type 0 where
   pub root : List ℕ
   pub events : List Event
   pub has : HasEvents tree words root events
-  pub k : ℕ
-  pub name : List ℕ
-  pub quotas : Quotas
-  pub next : slice_get events k ≡ Some (Domain name quotas)
-  pub lines : List Line
-  pub runs : RunsTo tree root events k lines
-  pub text : Appends old new (text_of lines)
-  pub before : List Ask
-  pub asked_before : AsksForEvents root (take k events) before
-  pub at_last : List Ask
-  pub asked_at_last : AsksForFolder (root /- name) at_last
-  pub something : at_last ≢ []
-  pub asks : asked' ≡ asked ++ ask_for_script has.script ∷ (before ++ at_last)
+  pub stops : StopsAtDomain (OpensFolder tree root) events old new
+
+-- ---- And what was asked of the files.
+
+-- The script was asked for after some asks.
+abbrev pub asked_script : List Ask → List ℕ → List Ask
+asked_script asked script = asked ++ ask_for_script script ∷ []
 
 -- Nothing but the script was asked for, and nothing went out.
-pub record IsUnread (words : List (List ℕ)) (old new : Option (List ℕ)) (asked asked' : List Ask) : Type 0 where
+pub record IsUnread (words : List (List ℕ)) (a b : Moment) : Type 0 where
   pub root : List ℕ
   pub script : List ℕ
   pub call : IsCall words root script
-  pub quiet : new ≡ old
-  pub asks : asked' ≡ asked ++ ask_for_script script ∷ []
+  pub quiet : b.out ≡ a.out
+  pub asks : b.asked ≡ asked_script a.asked script
+
+-- Done: the script was asked for, and what its events ask for.
+abbrev pub EndsDone : Option Tree → List (List ℕ) → Moment → Moment → Type 0
+EndsDone tree words a b =
+    (p : IsDone tree words a.out b.out) × AsksForFirst p.root p.events (length p.events) (asked_script a.asked p.has.script) b.asked
+
+-- The output failed: the script was asked for, and what its events ask for up to the one in whose lines it failed, and nothing after that.
+abbrev pub EndsInLines : Option Tree → List (List ℕ) → Moment → Moment → Type 0
+EndsInLines tree words a b =
+    (p : IsStoppedInLines tree words a.out b.out)
+    × AsksForFirst p.root p.events (suc p.stops.k) (asked_script a.asked p.has.script) b.asked
+
+-- Memory ran out: before any event was run, or at a `domain` event, and what was asked last is what that event asked for.
+abbrev pub EndsForMemory : Option Tree → List (List ℕ) → Moment → Moment → Type 0
+EndsForMemory tree words a b =
+    IsUnread words a b
+    ⊎ ((p : IsStoppedAtDomain tree words a.out b.out)
+    × AsksForFirstAndFolder p.root p.events p.stops.k p.stops.name (asked_script a.asked p.has.script) b.asked)
+
+-- The files failed: at the script, or at a `domain` event, and what was asked last is what that event asked for, which is something.
+abbrev pub EndsForFiles : Option Tree → List (List ℕ) → Moment → Moment → Type 0
+EndsForFiles tree words a b =
+    IsUnread words a b
+    ⊎ ((p : IsStoppedAtDomain tree words a.out b.out)
+    × (q : AsksForFirstAndFolder p.root p.events p.stops.k p.stops.name (asked_script a.asked p.has.script) b.asked) × (q.at_last ≢ []))
 
 -- What was asked for: with words that are no call nothing; else the script, and for its events, where it has any,
 -- what they ask for.
@@ -111,6 +117,8 @@ pub record AsksForRun (tree : Option Tree) (words : List (List ℕ)) (asked aske
 abbrev pub Asks : Option Tree → List (List ℕ) → List Ask → List Ask → Type 0
 Asks tree words asked asked' =
     (((root : List ℕ) (script : List ℕ) → IsCall words root script → ⊥) × (asked' ≡ asked)) ⊎ AsksForRun tree words asked asked'
+
+-- ---- Messages.
 
 -- What was said on the error sink, by the status. At a script that is refused it is that script's fault.
 abbrev pub Says : Option Tree → List (List ℕ) → Option (List ℕ) → Option (List ℕ) → Status → Type 0

@@ -1,24 +1,28 @@
 //! The events of a script, one by one and all of them.
 
-ghost use Rattle.std.specs.Prelude.{◌≡◌, ℕ, suc, ◌<◌, ◌≤◌, ◌^◌, ◌-◌, List, [], true, length, Err, IsSome};
+ghost use Rattle.std.specs.Prelude.{◌≡◌, ◌≤◌, length, true, Err, IsSome};
 ghost use Rattle.std.specs.List.{AllByRecursion};
 ghost use Rattle.jk_model.specs.Outside.{NeverFalls};
 ghost use Rattle.jk_model.specs.ScriptGrammar.{is_name};
-ghost use Rattle.jk_model_machine.specs.Run.{Rounds, Turns};
-ghost use Rattle.jk_model_machine.specs.Starts.{Starts};
-ghost use Rattle.jk_kernel.specs.Openings.{Opens};
-ghost use Rattle.jkernel_runs.specs.Events.{IsBuilt, IsPrinted, EventEnds, EventAsks, RunEnds, RunAsks, moment};
+ghost use Rattle.jk_model_runs.specs.Events.{Rounds, Turns};
+ghost use Rattle.jk_model_runs.specs.Starts.{Starts};
+ghost use Rattle.kernel_events.specs.KernelCalls.{MayDraw, steps_of};
+ghost use Rattle.jkernel_runs.specs.DomainEvents.{OpensFolder};
+ghost use Rattle.kernel_openings.specs.StartedThreads.{AreStartWords};
+ghost use Rattle.jkernel_runs.specs.DrawnNumbers.{MOST_DRAWN, MOST_THREADS, RiseInEvent};
+ghost use Rattle.jkernel_runs.specs.Events.{IsBuilt, IsPrinted, EventEnds, EventAsks, RunEnds, RunAsks, moment, sink};
 
 use crate::opening::open_domain;
 use crate::stop::Stop;
 use frame_store::PlainFrames;
-use jk_kernel::{EventAnswer, Kernel};
+use jk_kernel::Kernel;
 use jk_model::{Bytes, Event};
 use jk_outside::{Files, Sink, SinkFailed};
+use plain_store::PlainStore;
 use std::alloc::Global;
 
-/// The machine over frames in vectors.
-pub type PlainKernel = Kernel<PlainFrames>;
+/// The machine over objects and frames in vectors.
+pub type PlainKernel = Kernel<PlainStore, PlainFrames>;
 
 /// A `round` event: so many rounds, in each of which the live threads take so many steps.
 fn run_rounds<S: Sink>(
@@ -27,11 +31,14 @@ fn run_rounds<S: Sink>(
     steps: u32,
     out: &mut S,
 ) -> Result<(), Stop>
+    requires numbers { MayDraw kernel.old (steps_of rounds steps kernel.old) }
+    requires few { steps_of rounds steps kernel.old ≤ MOST_DRAWN }
     ensures ends { IsPrinted (Rounds rounds steps kernel.old) kernel.new
-        (S.bytes out.old) (S.bytes out.new) (S.faults out.old) (S.faults out.new) result }
+        (sink (S.bytes out.old) (S.pieces out.old) (S.faults out.old))
+        (sink (S.bytes out.new) (S.pieces out.new) (S.faults out.new)) result }
     ensures calm_out { (result ≡ Err Stop.WriteFault → ⊥) → S.faults out.new ≡ S.faults out.old }
     ensures faults { NeverFalls (S.faults out.old) (S.faults out.new) }
-    ensures counts { (kernel.new.next_thread ≡ kernel.old.next_thread) × (kernel.new.next_segment ≡ kernel.old.next_segment) }
+    ensures counts { RiseInEvent kernel.old kernel.new }
 {
     let went = kernel.rounds(rounds, steps, out);
     kernel.holds();
@@ -48,11 +55,14 @@ fn turn_thread<S: Sink>(
     steps: u32,
     out: &mut S,
 ) -> Result<(), Stop>
-    ensures ends { IsPrinted (Turns steps thread kernel.old) kernel.new
-        (S.bytes out.old) (S.bytes out.new) (S.faults out.old) (S.faults out.new) result }
+    requires numbers { MayDraw kernel.old steps }
+    requires few { steps ≤ MOST_DRAWN }
+    ensures ends { IsPrinted (Turns steps (record { 0 = thread }) kernel.old) kernel.new
+        (sink (S.bytes out.old) (S.pieces out.old) (S.faults out.old))
+        (sink (S.bytes out.new) (S.pieces out.new) (S.faults out.new)) result }
     ensures calm_out { (result ≡ Err Stop.WriteFault → ⊥) → S.faults out.new ≡ S.faults out.old }
     ensures faults { NeverFalls (S.faults out.old) (S.faults out.new) }
-    ensures counts { (kernel.new.next_thread ≡ kernel.old.next_thread) × (kernel.new.next_segment ≡ kernel.old.next_segment) }
+    ensures counts { RiseInEvent kernel.old kernel.new }
 {
     let went = kernel.turns(thread, steps, out);
     kernel.holds();
@@ -71,22 +81,22 @@ fn start_thread<S: Sink>(
     out: &mut S,
 ) -> Result<(), Stop>
     requires named { is_name name.now ≡ true }
-    requires no_words { words.now ≡ [] }
-    requires class { length class.now ≤ 255 }
-    requires thread { kernel.old.next_thread < 2 ^ 32 - 1 }
-    requires segment { kernel.old.next_segment < 2 ^ 64 - 1 }
-    ensures ends { IsPrinted (Starts kernel.old name.now class.now words.now) kernel.new
-        (S.bytes out.old) (S.bytes out.new) (S.faults out.old) (S.faults out.new) result }
+    requires short { length class.now ≤ 255 }
+    requires words { AreStartWords words.now }
+    requires threads { kernel.old.next_thread ≤ MOST_THREADS }
+    requires numbers { MayDraw kernel.old MOST_DRAWN }
+    ensures ends { IsPrinted (Starts kernel.old (record { domain = name.now; class = class.now; words = words.now })) kernel.new
+        (sink (S.bytes out.old) (S.pieces out.old) (S.faults out.old))
+        (sink (S.bytes out.new) (S.pieces out.new) (S.faults out.new)) result }
     ensures calm_out { (result ≡ Err Stop.WriteFault → ⊥) → S.faults out.new ≡ S.faults out.old }
     ensures faults { NeverFalls (S.faults out.old) (S.faults out.new) }
-    ensures counts { (kernel.new.next_thread ≤ suc kernel.old.next_thread) × (kernel.new.next_segment ≤ suc kernel.old.next_segment) }
+    ensures counts { RiseInEvent kernel.old kernel.new }
 {
     let went = kernel.start(name, class, words, out);
     kernel.holds();
     match went {
         Ok(()) => Ok(()),
-        Err(EventAnswer::SinkFailed) => Err(Stop::WriteFault),
-        Err(EventAnswer::OutOfMemory) => Err(Stop::OutOfMemory),
+        Err(SinkFailed) => Err(Stop::WriteFault),
     }
 }
 
@@ -99,19 +109,18 @@ fn happen<F: Files, S: Sink>(
     out: &mut S,
 ) -> Result<(), Stop>
     requires built { IsBuilt event.now }
-    requires thread { kernel.old.next_thread < 2 ^ 32 - 1 }
-    requires segment { kernel.old.next_segment < 2 ^ 64 - 1 }
-    ensures ends { EventEnds (Opens (F.tree files.old) root.now) event.now kernel.old kernel.new
-        (moment (S.bytes out.old) (S.faults out.old) (F.asked files.old) (F.faults files.old))
-        (moment (S.bytes out.new) (S.faults out.new) (F.asked files.new) (F.faults files.new)) result }
+    requires threads { kernel.old.next_thread ≤ MOST_THREADS }
+    requires numbers { MayDraw kernel.old MOST_DRAWN }
+    ensures ends { EventEnds (OpensFolder (F.tree files.old) root.now) event.now kernel.old kernel.new
+        (moment (sink (S.bytes out.old) (S.pieces out.old) (S.faults out.old)) (F.asked files.old) (F.faults files.old))
+        (moment (sink (S.bytes out.new) (S.pieces out.new) (S.faults out.new)) (F.asked files.new) (F.faults files.new)) result }
     ensures asks { EventAsks root.now event.now (F.asked files.old) (F.asked files.new) }
     ensures calm { (result ≡ Err Stop.ReadFault → ⊥) → IsSome (F.tree files.old) → F.faults files.new ≡ F.faults files.old }
     ensures stays { F.tree files.new ≡ F.tree files.old }
     ensures files_faults { NeverFalls (F.faults files.old) (F.faults files.new) }
     ensures calm_out { (result ≡ Err Stop.WriteFault → ⊥) → S.faults out.new ≡ S.faults out.old }
     ensures faults { NeverFalls (S.faults out.old) (S.faults out.new) }
-    // An event gives out one number of each kind at most.
-    ensures counts { (kernel.new.next_thread ≤ suc kernel.old.next_thread) × (kernel.new.next_segment ≤ suc kernel.old.next_segment) }
+    ensures counts { RiseInEvent kernel.old kernel.new }
 {
     match event {
         Event::Domain { name, quotas } => open_domain(
@@ -148,9 +157,9 @@ pub fn run_events<F: Files, S: Sink>(
 ) -> Result<(), Stop>
     requires built { AllByRecursion IsBuilt events.now }
     requires few { length events.now ≤ 65536 }
-    ensures ends { RunEnds root.now (Opens (F.tree files.old) root.now) events.now
-        (moment (S.bytes out.old) (S.faults out.old) (F.asked files.old) (F.faults files.old))
-        (moment (S.bytes out.new) (S.faults out.new) (F.asked files.new) (F.faults files.new)) result }
+    ensures ends { RunEnds root.now (OpensFolder (F.tree files.old) root.now) events.now
+        (moment (sink (S.bytes out.old) (S.pieces out.old) (S.faults out.old)) (F.asked files.old) (F.faults files.old))
+        (moment (sink (S.bytes out.new) (S.pieces out.new) (S.faults out.new)) (F.asked files.new) (F.faults files.new)) result }
     ensures asks { RunAsks root.now events.now (F.asked files.old) (F.asked files.new) }
     ensures calm { (result ≡ Err Stop.ReadFault → ⊥) → IsSome (F.tree files.old) → F.faults files.new ≡ F.faults files.old }
     ensures stays { F.tree files.new ≡ F.tree files.old }
@@ -158,7 +167,7 @@ pub fn run_events<F: Files, S: Sink>(
     ensures calm_out { (result ≡ Err Stop.WriteFault → ⊥) → S.faults out.new ≡ S.faults out.old }
     ensures faults { NeverFalls (S.faults out.old) (S.faults out.new) }
 {
-    let Ok(mut kernel) = Kernel::new(alloc, PlainFrames::new(alloc)) else {
+    let Ok(mut kernel) = Kernel::new(alloc, PlainStore::new(alloc), PlainFrames::new(alloc)) else {
         return Err(Stop::OutOfMemory);
     };
     for event in events {

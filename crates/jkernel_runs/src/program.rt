@@ -7,9 +7,9 @@ ghost use Rattle.jk_model.specs.declared.script.FaultKind.TheVariants.{TooLong};
 ghost use Rattle.jkernel_runs.specs.Calls.{IsCall};
 ghost use Rattle.jkernel_runs.specs.declared.stop.Stop.TheVariants.{ReadFault, WriteFault};
 ghost use Rattle.jkernel_runs.specs.Ends.{EndsSo, EndsWell, EndsRefused, HasText, IsNoCall};
-ghost use Rattle.jkernel_runs.specs.Events.{moment};
+ghost use Rattle.jkernel_runs.specs.Events.{moment, sink};
 ghost use Rattle.jkernel_runs.specs.Scripts.{IsScript, IsAtFault};
-ghost use Rattle.jkernel_runs.specs.Statuses.{HasFault, LacksScript, IsDone, IsStopped, IsStoppedBefore, IsUnread, Asks, Says, BeginsToSay};
+ghost use Rattle.jkernel_runs.specs.Statuses.{HasFault, LacksScript, EndsDone, EndsForFiles, EndsForMemory, EndsInLines, IsUnread, Asks, Says, BeginsToSay};
 
 use crate::calls::call_of;
 use crate::ends::{End, report};
@@ -23,8 +23,8 @@ use std::alloc::Global;
 /// Runs what the words say, and says nothing of it.
 fn run<F: Files, S: Sink>(alloc: Global, words: &[String], files: &mut F, out: &mut S) -> End
     ensures ends { EndsSo (F.tree files.old) (map string_bytes words.now)
-        (moment (S.bytes out.old) (S.faults out.old) (F.asked files.old) (F.faults files.old))
-        (moment (S.bytes out.new) (S.faults out.new) (F.asked files.new) (F.faults files.new)) result }
+        (moment (sink (S.bytes out.old) (S.pieces out.old) (S.faults out.old)) (F.asked files.old) (F.faults files.old))
+        (moment (sink (S.bytes out.new) (S.pieces out.new) (S.faults out.new)) (F.asked files.new) (F.faults files.new)) result }
     ensures asks { Asks (F.tree files.old) (map string_bytes words.now) (F.asked files.old) (F.asked files.new) }
     ensures calm { (result ≡ End.Stopped ReadFault → ⊥) → IsSome (F.tree files.old)
         → F.faults files.new ≡ F.faults files.old }
@@ -64,20 +64,28 @@ pub fn jkernel<F: Files, S: Sink, E: Sink>(
     out: &mut S,
     err: &mut E,
 ) -> Status
-    // All events of the script were run, and what went out is the text of that run.
-    ensures done { result ≡ Status.Done
-        → IsDone (F.tree files.old) (map string_bytes words.now) (S.bytes out.old) (S.bytes out.new) }
+    // All events of the script were run, their lines went out, and the files were asked for the script and for what its events need.
+    ensures done { result ≡ Status.Done → EndsDone (F.tree files.old) (map string_bytes words.now)
+        (moment (sink (S.bytes out.old) (S.pieces out.old) (S.faults out.old)) (F.asked files.old) (F.faults files.old))
+        (moment (sink (S.bytes out.new) (S.pieces out.new) (S.faults out.new)) (F.asked files.new) (F.faults files.new)) }
 
-    // A run that stopped early put out a front of the text of a run of the first events.
-    ensures early_write { result ≡ Status.WriteFault
-        → IsStopped (F.tree files.old) (map string_bytes words.now) (S.bytes out.old) (S.bytes out.new) }
-    ensures early_memory { result ≡ Status.OutOfMemory → (S.bytes out.new ≡ S.bytes out.old)
-        ⊎ IsStopped (F.tree files.old) (map string_bytes words.now) (S.bytes out.old) (S.bytes out.new) }
-    ensures early_read { result ≡ Status.ReadFault
-        → IsUnread (map string_bytes words.now) (S.bytes out.old) (S.bytes out.new) (F.asked files.old) (F.asked files.new)
-        ⊎ IsStoppedBefore (F.tree files.old) (map string_bytes words.now) (S.bytes out.old) (S.bytes out.new)
-        (F.asked files.old) (F.asked files.new) }
-    ensures early_none { (result ≡ Status.Usage) ⊎ (result ≡ Status.ScriptRefused) → S.bytes out.new ≡ S.bytes out.old }
+    // Where the output failed in the lines of an event, those of the events before it went out whole, and nothing was printed or asked for after it.
+    ensures early_write { result ≡ Status.WriteFault → EndsInLines (F.tree files.old) (map string_bytes words.now)
+        (moment (sink (S.bytes out.old) (S.pieces out.old) (S.faults out.old)) (F.asked files.old) (F.faults files.old))
+        (moment (sink (S.bytes out.new) (S.pieces out.new) (S.faults out.new)) (F.asked files.new) (F.faults files.new)) }
+    // Memory wants, and files fail, before all events or at a `domain` event: the lines of those before it went out whole.
+    ensures early_memory { result ≡ Status.OutOfMemory → EndsForMemory (F.tree files.old) (map string_bytes words.now)
+        (moment (sink (S.bytes out.old) (S.pieces out.old) (S.faults out.old)) (F.asked files.old) (F.faults files.old))
+        (moment (sink (S.bytes out.new) (S.pieces out.new) (S.faults out.new)) (F.asked files.new) (F.faults files.new)) }
+    ensures early_read { result ≡ Status.ReadFault → EndsForFiles (F.tree files.old) (map string_bytes words.now)
+        (moment (sink (S.bytes out.old) (S.pieces out.old) (S.faults out.old)) (F.asked files.old) (F.faults files.old))
+        (moment (sink (S.bytes out.new) (S.pieces out.new) (S.faults out.new)) (F.asked files.new) (F.faults files.new)) }
+    ensures early_script { result ≡ Status.ScriptRefused → IsUnread (map string_bytes words.now)
+        (moment (sink (S.bytes out.old) (S.pieces out.old) (S.faults out.old)) (F.asked files.old) (F.faults files.old))
+        (moment (sink (S.bytes out.new) (S.pieces out.new) (S.faults out.new)) (F.asked files.new) (F.faults files.new)) }
+    ensures early_usage { result ≡ Status.Usage
+        → (sink (S.bytes out.new) (S.pieces out.new) (S.faults out.new) ≡ sink (S.bytes out.old) (S.pieces out.old) (S.faults out.old))
+        × (F.asked files.new ≡ F.asked files.old) }
 
     // The files are asked for nothing but the script, and what the `domain` events need of their folders.
     ensures asks { Asks (F.tree files.old) (map string_bytes words.now) (F.asked files.old) (F.asked files.new) }

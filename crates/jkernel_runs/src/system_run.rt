@@ -4,7 +4,8 @@ ghost use Rattle.std.specs.Prelude.{◌≡◌, ◌≢◌, ◌⊎◌, ℕ, List, 
 ghost use Rattle.std.specs.IoError.{error_kind};
 ghost use Rattle.std.specs.declared.io.ErrorKind.TheVariants.{OutOfMemory as NoMemory};
 ghost use Rattle.jk_model.specs.Outside.{HasRisen};
-ghost use Rattle.jkernel_runs.specs.Statuses.{IsDone, IsStopped, Says, BeginsToSay};
+ghost use Rattle.jkernel_runs.specs.Events.{sink};
+ghost use Rattle.jkernel_runs.specs.Statuses.{IsDone, IsStoppedAtDomain, IsStoppedInLines, Says, BeginsToSay};
 
 use crate::ends::{End, report};
 use crate::program::jkernel;
@@ -47,15 +48,28 @@ pub fn run_on<R: Env + rt::Files + AllocGlobal + Clone + Drop, S: Sink, E: Sink>
     out: &mut S,
     err: &mut E,
 ) -> Status
-    // All events of a script were run, and what went out is the text of that run.
-    ensures done { result ≡ Status.Done → (words : List (List ℕ)) × IsDone None words (S.bytes out.old) (S.bytes out.new) }
+    // All events of a script were run, and their lines went out.
+    ensures done { result ≡ Status.Done → (words : List (List ℕ)) × IsDone None words
+        (sink (S.bytes out.old) (S.pieces out.old) (S.faults out.old))
+        (sink (S.bytes out.new) (S.pieces out.new) (S.faults out.new)) }
 
-    // A run that stopped early put out a front of the text of a run of the first events.
-    ensures early_write { result ≡ Status.WriteFault
-        → (words : List (List ℕ)) × IsStopped None words (S.bytes out.old) (S.bytes out.new) }
-    ensures early_memory { result ≡ Status.OutOfMemory → (S.bytes out.new ≡ S.bytes out.old)
-        ⊎ ((words : List (List ℕ)) × IsStopped None words (S.bytes out.old) (S.bytes out.new)) }
-    ensures early_none { (result ≡ Status.Usage) ⊎ (result ≡ Status.ScriptRefused) → S.bytes out.new ≡ S.bytes out.old }
+    // Where the output failed in the lines of an event, those of the events before it went out whole, and nothing was printed after it.
+    ensures early_write { result ≡ Status.WriteFault → (words : List (List ℕ)) × IsStoppedInLines None words
+        (sink (S.bytes out.old) (S.pieces out.old) (S.faults out.old))
+        (sink (S.bytes out.new) (S.pieces out.new) (S.faults out.new)) }
+    // Memory wants, and files fail, before all events or at a `domain` event: the lines of those before it went out whole.
+    ensures early_memory { result ≡ Status.OutOfMemory
+        → (sink (S.bytes out.new) (S.pieces out.new) (S.faults out.new) ≡ sink (S.bytes out.old) (S.pieces out.old) (S.faults out.old))
+        ⊎ ((words : List (List ℕ)) × IsStoppedAtDomain None words
+        (sink (S.bytes out.old) (S.pieces out.old) (S.faults out.old))
+        (sink (S.bytes out.new) (S.pieces out.new) (S.faults out.new))) }
+    ensures early_read { result ≡ Status.ReadFault
+        → (sink (S.bytes out.new) (S.pieces out.new) (S.faults out.new) ≡ sink (S.bytes out.old) (S.pieces out.old) (S.faults out.old))
+        ⊎ ((words : List (List ℕ)) × IsStoppedAtDomain None words
+        (sink (S.bytes out.old) (S.pieces out.old) (S.faults out.old))
+        (sink (S.bytes out.new) (S.pieces out.new) (S.faults out.new))) }
+    ensures early_none { (result ≡ Status.Usage) ⊎ (result ≡ Status.ScriptRefused)
+        → sink (S.bytes out.new) (S.pieces out.new) (S.faults out.new) ≡ sink (S.bytes out.old) (S.pieces out.old) (S.faults out.old) }
 
     // No write failed that did not end the run, and none ended it that did not fail.
     ensures calm_out { (result ≡ Status.WriteFault → ⊥) → S.faults out.new ≡ S.faults out.old }

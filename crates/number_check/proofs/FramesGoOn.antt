@@ -18,15 +18,15 @@ use Rattle.jk_model_frames.specs.Frames.{FrameState}
 use Rattle.jk_model_domains.specs.NumberRows.{NumberRow}
 use Rattle.jk_model_domains.specs.Objects.{NamedObject}
 use Rattle.jk_model_domains.specs.ValueTypes.{FrameHolds}
-use Rattle.jk_model_machine.specs.Initialising.{RunsCode}
-use Rattle.jk_model_machine.specs.Sealed.{FitsHere}
+use Rattle.jk_model_heaps.specs.RunningCode.{RunsCode}
 use Rattle.frame_store.specs.FrameContents.{FrameContent, SetsTop, TopFrame}
 use Rattle.number_laws.specs.FrameLaws.{IsTyped}
 use Rattle.number_ops.specs.NumberSteps.{DoesNumbers, IsReady}
 use Rattle.number_ops.proofs.HeadAsStored.{DoesInPlace, in_place}
 use Rattle.number_laws.proofs.HeadsStay.{number-head}
 use Rattle.number_ops.proofs.TopFrames.{same_top, top_after}
-use Rattle.sealed_steps.proofs.StandsHere.{Stands, fits-on, stands-here}
+use Rattle.number_check.proofs.StandsHere.{Stands, fits-on, stands-here}
+use Rattle.number_check.specs.TypedFrames.{FitsHere}
 use Rattle.number_check.specs.RunFrames.{HEAP, HasNumbersAt, LeadsOn, RunsCodeOf, RunsIn, gone_to}
 
 -- What the rows of instructions on numbers say of types.

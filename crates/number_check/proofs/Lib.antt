@@ -5,3 +5,4 @@ pub mod FramesGoOn
 pub mod LocalsRead
 pub mod OpcodesOfNumbers
 pub mod ReferencesFit
+mod StandsHere

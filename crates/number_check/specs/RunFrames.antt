@@ -19,8 +19,8 @@ use Rattle.jk_model_frames.specs.Frames.{FrameState}
 use Rattle.jk_model_domains.specs.NumberRows.{IsOfNumbers}
 use Rattle.jk_model_domains.specs.Objects.{NamedObject, Plain}
 use Rattle.jk_model_domains.specs.ValueTypes.{EachValueFits}
-use Rattle.jk_model_machine.specs.Sealed.{FitsHere}
 use Rattle.frame_store.specs.FrameContents.{FrameContent, HasTop, TopFrame}
+use Rattle.number_check.specs.TypedFrames.{FitsHere}
 
 -- two objects of java/lang/Object
 abbrev pub HEAP : List NamedObject

@@ -1,23 +1,27 @@
 //! The kernel's calls, as a host makes them that has no script.
 
-ghost use Rattle.std.specs.Prelude.{◌≡◌, IfOk};
+ghost use Rattle.std.specs.Prelude.{◌≡◌, ◌+◌, ◌≤◌, IfOk};
 
 use crate::test_classes::SHORT_HELLO;
 use frame_store::PlainFrames;
 use jk_kernel::{AddAnswer, Kernel};
 use jk_model::{DomainId, OutOfMemory, Place, Quotas, Rule};
-use jk_outside::{MemoryFiles, MemorySink};
+use jk_outside::{MemoryFiles, MemorySink, SinkFailed};
 use jkasm::assemble;
+use plain_store::PlainStore;
 use std::alloc::Global;
 use std::process::Abort;
 use std::test::Fail;
 
+/// A kernel over objects and frames in vectors.
+type PlainKernel = Kernel<PlainStore, PlainFrames>;
+
 /// What each domain may have here.
 const QUOTAS: Quotas = Quotas {
     heap: 65536,
-    chunks: 4,
+    chunks: 8,
     caps: 0,
-    threads: 1,
+    threads: 2,
     names: 0,
     steps: None,
 };
@@ -40,11 +44,11 @@ fn with_domain(
     rt: &impl Abort,
     alloc: Global,
     files: &mut MemoryFiles,
-) -> Result<Kernel<PlainFrames>, OutOfMemory>
+) -> Result<PlainKernel, OutOfMemory>
     ensures thread { IfOk result (λ k. k.next_thread ≡ 1) }
     ensures segment { IfOk result (λ k. k.next_segment ≡ 1) }
 {
-    let mut kernel = Kernel::new(alloc, PlainFrames::new(alloc))?;
+    let mut kernel = Kernel::new(alloc, PlainStore::new(alloc), PlainFrames::new(alloc))?;
     match kernel.add_domain(files, "root", "b", QUOTAS) {
         Err(AddAnswer::Refused(rule, Place::Whole)) => assert!(rt; rule == Rule::L2),
         _ => assert!(rt; false, "a folder that isn't there is a domain"),
@@ -56,24 +60,67 @@ fn with_domain(
     Ok(kernel)
 }
 
+/// Starts a thread at `Hello`, which draws a number of a thread and one of a segment at most.
+fn begin(kernel: &mut PlainKernel, out: &mut MemorySink) -> Result<(), SinkFailed>
+    requires { (kernel.old.next_thread ≤ 100) × (kernel.old.next_segment ≤ 100) }
+    ensures thread { kernel.new.next_thread ≤ 1 + kernel.old.next_thread }
+    ensures segment { kernel.new.next_segment ≤ 1 + kernel.old.next_segment }
+{
+    kernel.start(b"a", b"Hello", &[], out)
+}
+
+/// A first thread, until its line is out: its sixth step prints.
+fn print_first(
+    rt: &impl Abort,
+    kernel: &mut PlainKernel,
+    out: &mut MemorySink,
+) -> Result<(), SinkFailed>
+    requires { (kernel.old.next_thread ≤ 10) × (kernel.old.next_segment ≤ 10) }
+    ensures thread { kernel.new.next_thread ≤ 1 + kernel.old.next_thread }
+    ensures segment { kernel.new.next_segment ≤ 10 + kernel.old.next_segment }
+{
+    assert!(rt; kernel.next_live(0).is_none());
+    begin(kernel, out)?;
+    assert!(rt; kernel.next_live(0) == Some(1));
+    assert!(rt; kernel.next_live(1).is_none());
+    kernel.turn(1, out)?;
+    let changed = kernel.turns(1, 4, out)?;
+    assert!(rt; changed);
+    assert!(rt; out.bytes() == b"* thread 1 started in a\n".as_slice());
+    kernel.turn(1, out)
+}
+
+/// A second thread beside it, until both have ended. The first has its return left, and the second finds its class ready: after one step
+/// for the need that falls it has four.
+fn end_both(
+    rt: &impl Abort,
+    kernel: &mut PlainKernel,
+    out: &mut MemorySink,
+) -> Result<(), SinkFailed>
+    requires { (kernel.old.next_thread ≤ 20) × (kernel.old.next_segment ≤ 20) }
+{
+    begin(kernel, out)?;
+    assert!(rt; kernel.next_live(0) == Some(1));
+    assert!(rt; kernel.next_live(1) == Some(2));
+    kernel.turn(1, out)?;
+    kernel.turn(1, out)?;
+    assert!(rt; kernel.next_live(0) == Some(2));
+    kernel.rounds(2, 3, out)?;
+    assert!(rt; kernel.next_live(0).is_none());
+    kernel.rounds(1, 100, out)
+}
+
 #[test]
-fn a_host_turns_a_thread(rt: HostRuntime) -> Result<(), Fail> {
+fn a_host_runs_two_threads(rt: HostRuntime) -> Result<(), Fail> {
     let mut files = tree(&rt, rt.alloc(), "root/a/Hello.class")?;
     let mut out = MemorySink::with_room(rt.alloc(), 1000, &[])?;
     let mut kernel = with_domain(&rt, rt.alloc(), &mut files)?;
-    assert!(rt; kernel.next_live(0).is_none());
-    assert!(rt; kernel.start(b"a", b"Hello", &[], &mut out).is_ok());
-    assert!(rt; kernel.next_live(0) == Some(1));
-    assert!(rt; kernel.next_live(1).is_none());
-    for _step in 0..6 {
-        kernel.turn(1, &mut out)?;
-    }
+    print_first(&rt, &mut kernel, &mut out)?;
     assert!(rt; out.bytes() == b"* thread 1 started in a\na: Hello\n".as_slice());
-    assert!(rt; kernel.next_live(0) == Some(1));
-    // The seventh step is the return, and an eighth does nothing.
-    kernel.turn(1, &mut out)?;
-    kernel.turn(1, &mut out)?;
-    assert!(rt; kernel.next_live(0).is_none());
-    assert!(rt; out.bytes() == b"* thread 1 started in a\na: Hello\n* thread 1 ended\n".as_slice());
+    end_both(&rt, &mut kernel, &mut out)?;
+    assert!(rt;
+        out.bytes()
+            == b"* thread 1 started in a\na: Hello\n* thread 2 started in a\n* thread 1 ended\na: Hello\n* thread 2 ended\n".as_slice()
+    );
     Ok(())
 }

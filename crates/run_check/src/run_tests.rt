@@ -2,8 +2,8 @@
 
 use crate::test_classes::{
     BASE, CALLER, CHOICE, COUNT, DEEP, DIVISION, EMPTY_CLASS, ESCAPES, FORMS, HELLO, INITIALISED,
-    INNER, LESS_WIDE, LOWER, MEETING, NAMES_NODE, NODE, OWN_PARENT, PACKAGED, PROTECTED,
-    SHORT_HELLO, TABLE_SWITCH, TWO, UNMADE, UPPER, WIDE, WITH_STATIC,
+    INNER, LESS_WIDE, LOWER, MEETING, NAMES_NODE, NODE, OWN_PARENT, PACKAGED, PROTECTED, REMOTE,
+    SHORT_HELLO, STACK, STACK_USER, SUM, TABLE_SWITCH, TWO, UNMADE, UPPER, WIDE, WITH_STATIC,
 };
 use jk_model::OutOfMemory;
 use jk_outside::{MemoryFiles, MemorySink};
@@ -238,6 +238,20 @@ fn classes_run(rt: HostRuntime) -> Result<(), Fail> {
             "p/q/Forms",
             "a: \na: -5\na: -9223372036854775808\na: \\u03bb\na: true\na: false\na: text\n* thread 1 ended\n",
         ),
+        (
+            [
+                ("root/a/Main.class", Class(STACK_USER)),
+                ("root/a/Stack.class", Class(STACK)),
+            ]
+            .as_slice(),
+            "Main",
+            "a: 5\na: 7\na: empty\n* thread 1 ended by java/lang/ArrayIndexOutOfBoundsException\n",
+        ),
+        (
+            [("root/a/I.class", Class(INITIALISED))].as_slice(),
+            "I",
+            "a: init\na: 3\n* thread 1 ended\n",
+        ),
     ] {
         let script = format!(in rt.alloc(); "domain a\nstart a {class}\nround 1 100000\n")?;
         let all = format!(in rt.alloc(); "{begun}{wanted}")?;
@@ -277,7 +291,43 @@ const STARTS_TREE: Files<'static> = &[
     ("root/a/Wide.class", Class(WIDE)),
     ("root/a/LessWide.class", Class(LESS_WIDE)),
     ("root/a/Two.class", Class(TWO)),
+    ("root/a/Sum.class", Class(SUM)),
 ];
+
+#[test]
+fn words_are_handed_on(rt: HostRuntime) -> Result<(), Fail> {
+    // The words of the second start are no numbers, and the third has none.
+    prints(
+        &rt,
+        rt.alloc(),
+        STARTS_TREE,
+        b"domain a\nstart a Sum 40 -38 \nround 1 1000\nstart a Sum 4x 2\nstart a Sum\nround 1 1000\n",
+        b"* domain a loaded\n* thread 1 started in a\na: 2\n* thread 1 ended\n* thread 2 started in a\n* thread 3 started in a\n* thread 2 ended by java/lang/NumberFormatException\n* thread 3 ended by java/lang/ArrayIndexOutOfBoundsException\n",
+    )?;
+    Ok(())
+}
+
+#[test]
+fn heaps_run_out(rt: HostRuntime) -> Result<(), Fail> {
+    // Of 64 words 44 are used. An array of two words and texts of three units and of one cost 18, and a thread of other words runs on.
+    let began =
+        b"* domain a loaded\n* thread 1 started in a\n* start a refused S5\na: 101\n* thread 1 ended\n".as_slice();
+    prints(
+        &rt,
+        rt.alloc(),
+        STARTS_TREE,
+        b"domain a heap 64\nstart a Sum 100 1\nstart a Sum\nround 1 1000\n",
+        began,
+    )?;
+    prints(
+        &rt,
+        rt.alloc(),
+        STARTS_TREE,
+        b"domain hello heap 64\nstart hello Hello abcdefgh abcdefgh\nstart hello Hello\nround 1 100\n",
+        b"* domain hello loaded\n* start hello refused S5\n* thread 1 started in hello\nhello: Hello\n* thread 1 ended\n",
+    )?;
+    Ok(())
+}
 
 #[test]
 fn starts_are_refused(rt: HostRuntime) -> Result<(), Fail> {
@@ -331,7 +381,7 @@ const REFUSED: &[(Files<'static>, &str)] = &[
         )],
         "L7 resolver.txt 2",
     ),
-    (&[("root/a/I.class", Class(INITIALISED))], "X1"),
+    (&[("root/a/R.class", Class(REMOTE))], "X1"),
     (&[("root/b/I.class", Class(INITIALISED))], "L2"),
 ];
 
@@ -471,6 +521,18 @@ fn words_and_scripts_are_refused(rt: HostRuntime) -> Result<(), Fail> {
             b"domain hello\nkill hello\n",
             Status::ScriptRefused,
             b"jkernel: script line 2: NotYet\n",
+        ),
+        (
+            ["root", "script"].as_slice(),
+            b"domain hello heap 64 caps 1\n",
+            Status::ScriptRefused,
+            b"jkernel: script line 1: NotYet\n",
+        ),
+        (
+            ["root", "script"].as_slice(),
+            b"domain hello heap 63\n",
+            Status::ScriptRefused,
+            b"jkernel: script line 1: BadNumber\n",
         ),
     ] {
         let end = run_words(

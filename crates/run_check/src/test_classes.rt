@@ -285,8 +285,112 @@ pub(crate) const PACKAGED: &[u8] = b"class 0021 p/A java/lang/Object";
 
 pub(crate) const OWN_PARENT: &[u8] = b"class 0021 A A";
 
-/// A class with an initialiser.
+/// A class whose initialiser prints and sets a field, which `main` prints.
 pub(crate) const INITIALISED: &[u8] = b"class 0021 I java/lang/Object
-method 0008 <clinit> ()V 0 0
+field 0008 value I
+method 0008 <clinit> ()V 2 0
+        getstatic java/lang/System out Ljava/io/PrintStream;
+        ldc_w text \"init\"
+        invokevirtual java/io/PrintStream println (Ljava/lang/String;)V
+        sipush 3
+        putstatic I value I
+        return
+end
+method 0009 main ([Ljava/lang/String;)V 2 1
+        getstatic java/lang/System out Ljava/io/PrintStream;
+        getstatic I value I
+        invokevirtual java/io/PrintStream println (I)V
+        return
+end";
+
+/// A class that refers to package jk.
+pub(crate) const REMOTE: &[u8] = b"class 0021 R java/lang/Object jk/Remote";
+
+/// A stack of two numbers in an array.
+pub(crate) const STACK: &[u8] = b"class 0021 Stack java/lang/Object
+field 0000 numbers [I
+field 0000 height I
+method 0001 <init> ()V 2 1
+        aload 0
+        invokespecial java/lang/Object <init> ()V
+        aload 0
+        sipush 2
+        newarray 10
+        putfield Stack numbers [I
+        return
+end
+method 0001 push (I)V 3 2
+        aload 0
+        getfield Stack numbers [I
+        aload 0
+        getfield Stack height I
+        iload 1
+        iastore
+        aload 0
+        aload 0
+        getfield Stack height I
+        sipush 1
+        iadd
+        putfield Stack height I
+        return
+end
+method 0001 pop ()I 3 1
+        aload 0
+        aload 0
+        getfield Stack height I
+        sipush 1
+        isub
+        putfield Stack height I
+        aload 0
+        getfield Stack numbers [I
+        aload 0
+        getfield Stack height I
+        iaload
+        ireturn
+end";
+
+/// Pushes 7 and 5, prints what it pops, catches what a third pop raises, prints of it, and pops once more.
+pub(crate) const STACK_USER: &[u8] = b"class 0021 Main java/lang/Object
+method 0009 main ([Ljava/lang/String;)V 3 2
+        new Stack
+        dup
+        invokespecial Stack <init> ()V
+        astore 1
+        aload 1
+        sipush 7
+        invokevirtual Stack push (I)V
+        aload 1
+        sipush 5
+        invokevirtual Stack push (I)V
+from:   getstatic java/lang/System out Ljava/io/PrintStream;
+        aload 1
+        invokevirtual Stack pop ()I
+        invokevirtual java/io/PrintStream println (I)V
+        goto from
+to:     pop
+        getstatic java/lang/System out Ljava/io/PrintStream;
+        ldc_w text \"empty\"
+        invokevirtual java/io/PrintStream println (Ljava/lang/String;)V
+        aload 1
+        invokevirtual Stack pop ()I
+        pop
+        return
+catch from to to java/lang/RuntimeException
+end";
+
+/// Prints the sum of its first two words.
+pub(crate) const SUM: &[u8] = b"class 0021 Sum java/lang/Object
+method 0009 main ([Ljava/lang/String;)V 4 1
+        getstatic java/lang/System out Ljava/io/PrintStream;
+        aload 0
+        sipush 0
+        aaload
+        invokestatic java/lang/Integer parseInt (Ljava/lang/String;)I
+        aload 0
+        sipush 1
+        aaload
+        invokestatic java/lang/Integer parseInt (Ljava/lang/String;)I
+        iadd
+        invokevirtual java/io/PrintStream println (I)V
         return
 end";

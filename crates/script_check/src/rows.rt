@@ -61,6 +61,7 @@ domain a threads 0 -> 1 BadNumber\n\
 domain a threads 4097 -> 1 BadNumber\n\
 domain a steps 1000000001 -> 1 BadNumber\n\
 domain a steps 00 -> 1 BadNumber\n\
+domain a steps 5 heap 16777216 -> domain a 16777216 256 64 16 16 Some(5)\n\
 domain a heap 63 -> 1 BadNumber\n\
 domain a heap 16777217 -> 1 BadNumber\n\
 domain a caps 1000001 -> 1 BadNumber\n\
@@ -80,9 +81,9 @@ turn  -> 1 Missing\n\
 round -> 1 Missing\n\
 round 1 -> 1 Missing\n\
 kill -> 1 Missing\n\
-start a B c -> 1 NotYet\n\
+start a B c -> start a B c\n\
 kill a -> 1 NotYet\n\
-domain a heap 65536 -> 1 NotYet\n\
+domain a heap 64 -> domain a 64 256 64 16 16 None\n\
 domain a caps 0 -> 1 NotYet\n\
 domain a stack 2 names 0 -> 1 NotYet\n\
 turn 1||kill a|fly -> 3 NotYet";

@@ -1,6 +1,6 @@
 -- The lines of the grammar that aren't built yet. Once all are, `line_event` stands for `built_event`, and this
 -- module goes.
-use Rattle.std.specs.Prelude.{ℕ, Bool, false, ◌||◌, ◌&&◌, List, [], ◌∷◌, length, bytes_eq, nat_lt, codes, if◌then◌else◌, Option, Result, Ok, Err}
+use Rattle.std.specs.Prelude.{ℕ, Bool, false, ◌||◌, ◌&&◌, List, [], ◌∷◌, bytes_eq, codes, if◌then◌else◌, Option, Result, Ok, Err}
 use Rattle.std.specs.List.{list_any}
 use Rattle.jk_model.specs.declared.script.Event.{Event}
 use Rattle.jk_model.specs.declared.script.FaultKind.{FaultKind}
@@ -10,15 +10,14 @@ use Rattle.jk_model.specs.ScriptGrammar.{line_event}
 
 -- an option that isn't built
 abbrev pub is_later_option : List ℕ → Bool
-is_later_option word = bytes_eq word (codes "heap") || bytes_eq word (codes "caps") || bytes_eq word (codes "names")
+is_later_option word = bytes_eq word (codes "caps") || bytes_eq word (codes "names")
 
--- a line that isn't built: `kill`, `start` with a word after the class, or `domain` with such an option
+-- a line that isn't built: `kill`, or `domain` with such an option
 abbrev pub is_not_built : List (List ℕ) → Bool
 is_not_built [] = false
 is_not_built (command ∷ []) = false
 is_not_built (command ∷ name ∷ more) =
     bytes_eq command (codes "kill")
-    || (bytes_eq command (codes "start") && nat_lt 1 (length more))
     || (bytes_eq command (codes "domain") && list_any is_later_option more)
 
 abbrev pub if_built : List (List ℕ) → Result (Option Event) FaultKind → Result (Option Event) FaultKind

@@ -1,7 +1,7 @@
 //! The refusal of the lines that aren't built yet. Once all are, `line_event` stands for `built_event`, and
 //! this file goes.
 
-ghost use Rattle.std.specs.Prelude.{◌≡◌, length, nat_lt};
+ghost use Rattle.std.specs.Prelude.{◌≡◌};
 ghost use Rattle.std.specs.List.{list_any};
 ghost use Rattle.jk_model.specs.Script.{words};
 ghost use Rattle.script_reader.specs.Answers.{Gives};
@@ -17,7 +17,7 @@ use text_lines::next_word;
 fn is_later_option(word: &[u8]) -> bool
     ensures { result ≡ not_built.is_later_option word.now }
 {
-    matches!(word, b"heap" | b"caps" | b"names")
+    matches!(word, b"caps" | b"names")
 }
 
 /// Whether a word of a text names an option that isn't built.
@@ -34,13 +34,6 @@ fn has_later_option(text: &[u8]) -> bool
     false
 }
 
-/// Whether a text has two words or more.
-fn has_two_words(text: &[u8]) -> bool
-    ensures { result ≡ nat_lt 1 (length (words text.now)) }
-{
-    next_word(text).is_some_and(|(_, rest)| next_word(rest).is_some())
-}
-
 /// Whether a line of the grammar isn't built.
 fn is_not_built(line: &[u8]) -> bool
     ensures { result ≡ not_built.is_not_built (words line.now) }
@@ -53,7 +46,6 @@ fn is_not_built(line: &[u8]) -> bool
     };
     match command {
         b"kill" => true,
-        b"start" => has_two_words(rest),
         b"domain" => has_later_option(rest),
         _ => false,
     }

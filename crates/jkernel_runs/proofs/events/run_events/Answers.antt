@@ -4,8 +4,9 @@ use Rattle.std.specs.Prelude.{IsSome}
 use Rattle.std.proofs.lemmas.Result.{err_from_is_err_and}
 use Rattle.jk_model.specs.Outside.{Tree}
 use Rattle.jk_model.proofs.CountsNeverFall.{NeverFalls-after, NeverFalls-refl}
-use Rattle.jk_kernel.specs.Openings.{Opens}
-use Rattle.jkernel_runs.specs.Events.{EventEnds, moment}
+use Rattle.jkernel_runs.specs.DomainEvents.{OpensFolder}
+use Rattle.jkernel_runs.specs.Events.{EventEnds, moment, sink}
+use Rattle.jkernel_runs.proofs.EventsPrinted.{drawn_more}
 use Rattle.jkernel_runs.proofs.EventsInTurn.{runs_nothing, goes_on, run_stops, runs_whole, asks_so_far, asks_nothing, asks_to_stop}
 use Rattle.jkernel_runs.proofs.events.run_events.Goals as goal
 
@@ -14,30 +15,32 @@ returns-in_err-happen-clause-ends g c =
     let t = g.F.Files.tree c.args.files.now in
     let root = c.args.root.now in
     let exit = err_from_is_err_and c.from_residual.result c.from_residual.ensures.1 in
-    let ends = subst (λ (o : Option Tree). EventEnds (Opens o root) c.event-item.result c.loop-event.kernel c.happen.new.kernel
-    (moment (g.S.Sink.bytes c.loop-event.out) (g.S.Sink.faults c.loop-event.out) (g.F.Files.asked c.loop-event.files)
+    let ends = subst (λ (o : Option Tree). EventEnds (OpensFolder o root) c.event-item.result c.loop-event.kernel c.happen.new.kernel
+    (moment (sink (g.S.Sink.bytes c.loop-event.out) (g.S.Sink.pieces c.loop-event.out) (g.S.Sink.faults c.loop-event.out)) (g.F.Files.asked c.loop-event.files)
     (g.F.Files.faults c.loop-event.files))
-    (moment (g.S.Sink.bytes c.happen.new.out) (g.S.Sink.faults c.happen.new.out) (g.F.Files.asked c.happen.new.files)
+    (moment (sink (g.S.Sink.bytes c.happen.new.out) (g.S.Sink.pieces c.happen.new.out) (g.S.Sink.faults c.happen.new.out)) (g.F.Files.asked c.happen.new.files)
     (g.F.Files.faults c.happen.new.files))
     (Err c.in_err-happen.field-0.0)) c.loop-event.invariant.stays c.in_err-happen.ensures.ends in
     rw (exit.1, exit.2)
-    (run_stops root (Opens t root) c.args.events.now c.loop-event.event-index c.event-item.result c.loop-event.kernel c.happen.new.kernel
-    (moment (g.S.Sink.bytes c.args.out.now) (g.S.Sink.faults c.args.out.now) (g.F.Files.asked c.args.files.now) (g.F.Files.faults c.args.files.now))
-    (moment (g.S.Sink.bytes c.loop-event.out) (g.S.Sink.faults c.loop-event.out) (g.F.Files.asked c.loop-event.files)
+    (run_stops root (OpensFolder t root) c.args.events.now c.loop-event.event-index c.event-item.result c.loop-event.kernel c.happen.new.kernel
+    (moment (sink (g.S.Sink.bytes c.args.out.now) (g.S.Sink.pieces c.args.out.now) (g.S.Sink.faults c.args.out.now))
+    (g.F.Files.asked c.args.files.now) (g.F.Files.faults c.args.files.now))
+    (moment (sink (g.S.Sink.bytes c.loop-event.out) (g.S.Sink.pieces c.loop-event.out) (g.S.Sink.faults c.loop-event.out)) (g.F.Files.asked c.loop-event.files)
     (g.F.Files.faults c.loop-event.files))
-    (moment (g.S.Sink.bytes c.happen.new.out) (g.S.Sink.faults c.happen.new.out) (g.F.Files.asked c.happen.new.files)
+    (moment (sink (g.S.Sink.bytes c.happen.new.out) (g.S.Sink.pieces c.happen.new.out) (g.S.Sink.faults c.happen.new.out)) (g.F.Files.asked c.happen.new.files)
     (g.F.Files.faults c.happen.new.files))
     c.in_err-happen.field-0.0 c.loop-event-test.true c.event-item.is c.loop-event.invariant.run c.loop-event.invariant.files_faults
     c.loop-event.invariant.faults ends c.in_err-happen.ensures.asks)
 
 pub returns-in_err-happen-clause-asks : goal.returns-in_err-happen-clause-asks
 returns-in_err-happen-clause-asks g c =
-    asks_to_stop c.args.root.now (Opens (g.F.Files.tree c.args.files.now) c.args.root.now) c.args.events.now c.loop-event.event-index
+    asks_to_stop c.args.root.now (OpensFolder (g.F.Files.tree c.args.files.now) c.args.root.now) c.args.events.now c.loop-event.event-index
     c.event-item.result c.loop-event.kernel
-    (moment (g.S.Sink.bytes c.args.out.now) (g.S.Sink.faults c.args.out.now) (g.F.Files.asked c.args.files.now) (g.F.Files.faults c.args.files.now))
-    (moment (g.S.Sink.bytes c.loop-event.out) (g.S.Sink.faults c.loop-event.out) (g.F.Files.asked c.loop-event.files)
+    (moment (sink (g.S.Sink.bytes c.args.out.now) (g.S.Sink.pieces c.args.out.now) (g.S.Sink.faults c.args.out.now))
+    (g.F.Files.asked c.args.files.now) (g.F.Files.faults c.args.files.now))
+    (moment (sink (g.S.Sink.bytes c.loop-event.out) (g.S.Sink.pieces c.loop-event.out) (g.S.Sink.faults c.loop-event.out)) (g.F.Files.asked c.loop-event.files)
     (g.F.Files.faults c.loop-event.files))
-    (moment (g.S.Sink.bytes c.happen.new.out) (g.S.Sink.faults c.happen.new.out) (g.F.Files.asked c.happen.new.files)
+    (moment (sink (g.S.Sink.bytes c.happen.new.out) (g.S.Sink.pieces c.happen.new.out) (g.S.Sink.faults c.happen.new.out)) (g.F.Files.asked c.happen.new.files)
     (g.F.Files.faults c.happen.new.files))
     c.loop-event-test.true c.event-item.is c.loop-event.invariant.run c.in_err-happen.ensures.asks
 
@@ -58,24 +61,24 @@ loop-event-preserved g c =
     let t = g.F.Files.tree c.args.files.now in
     let root = c.args.root.now in
     let test = c.loop-event-test.true in
-    let ends = subst (λ (o : Option Tree). EventEnds (Opens o root) c.event-item.result c.loop-event.kernel c.happen.new.kernel
-    (moment (g.S.Sink.bytes c.loop-event.out) (g.S.Sink.faults c.loop-event.out) (g.F.Files.asked c.loop-event.files)
+    let ends = subst (λ (o : Option Tree). EventEnds (OpensFolder o root) c.event-item.result c.loop-event.kernel c.happen.new.kernel
+    (moment (sink (g.S.Sink.bytes c.loop-event.out) (g.S.Sink.pieces c.loop-event.out) (g.S.Sink.faults c.loop-event.out)) (g.F.Files.asked c.loop-event.files)
     (g.F.Files.faults c.loop-event.files))
-    (moment (g.S.Sink.bytes c.happen.new.out) (g.S.Sink.faults c.happen.new.out) (g.F.Files.asked c.happen.new.files)
+    (moment (sink (g.S.Sink.bytes c.happen.new.out) (g.S.Sink.pieces c.happen.new.out) (g.S.Sink.faults c.happen.new.out)) (g.F.Files.asked c.happen.new.files)
     (g.F.Files.faults c.happen.new.files))
     (Ok tt)) c.loop-event.invariant.stays c.in_ok-happen.ensures.ends in
     record {
-      run = goes_on root (Opens t root) c.args.events.now c.loop-event.event-index c.event-item.result c.loop-event.kernel c.happen.new.kernel
-          (moment (g.S.Sink.bytes c.args.out.now) (g.S.Sink.faults c.args.out.now) (g.F.Files.asked c.args.files.now)
+      run = goes_on root (OpensFolder t root) c.args.events.now c.loop-event.event-index c.event-item.result c.loop-event.kernel c.happen.new.kernel
+          (moment (sink (g.S.Sink.bytes c.args.out.now) (g.S.Sink.pieces c.args.out.now) (g.S.Sink.faults c.args.out.now)) (g.F.Files.asked c.args.files.now)
           (g.F.Files.faults c.args.files.now))
-          (moment (g.S.Sink.bytes c.loop-event.out) (g.S.Sink.faults c.loop-event.out) (g.F.Files.asked c.loop-event.files)
-          (g.F.Files.faults c.loop-event.files))
-          (moment (g.S.Sink.bytes c.happen.new.out) (g.S.Sink.faults c.happen.new.out) (g.F.Files.asked c.happen.new.files)
-          (g.F.Files.faults c.happen.new.files))
+          (moment (sink (g.S.Sink.bytes c.loop-event.out) (g.S.Sink.pieces c.loop-event.out) (g.S.Sink.faults c.loop-event.out))
+          (g.F.Files.asked c.loop-event.files) (g.F.Files.faults c.loop-event.files))
+          (moment (sink (g.S.Sink.bytes c.happen.new.out) (g.S.Sink.pieces c.happen.new.out) (g.S.Sink.faults c.happen.new.out))
+          (g.F.Files.asked c.happen.new.files) (g.F.Files.faults c.happen.new.files))
           tt test c.event-item.is c.loop-event.invariant.run ends c.in_ok-happen.ensures.asks;
       within = omega arith;
-      threads = omega (arith, c.in_ok-happen.ensures.counts.0, c.loop-event.invariant.threads);
-      segments = omega (arith, c.in_ok-happen.ensures.counts.1, c.loop-event.invariant.segments);
+      threads = omega (arith, c.in_ok-happen.ensures.counts.threads, c.loop-event.invariant.threads);
+      segments = drawn_more c.loop-event.event-index c.loop-event.kernel c.happen.new.kernel c.loop-event.invariant.segments c.in_ok-happen.ensures.counts;
       stays = c.in_ok-happen.ensures.stays ∙ c.loop-event.invariant.stays;
       calm = λ told. c.in_ok-happen.ensures.calm (λ e. absurd cc) (subst (λ (o : Option Tree). IsSome o) (sym c.loop-event.invariant.stays) told)
           ∙ c.loop-event.invariant.calm told;
@@ -88,17 +91,19 @@ loop-event-preserved g c =
 
 pub returns-clause-ends : goal.returns-clause-ends
 returns-clause-ends g c =
-    runs_whole c.args.root.now (Opens (g.F.Files.tree c.args.files.now) c.args.root.now) c.args.events.now c.loop-event.event-index c.loop-event.kernel
-    (moment (g.S.Sink.bytes c.args.out.now) (g.S.Sink.faults c.args.out.now) (g.F.Files.asked c.args.files.now) (g.F.Files.faults c.args.files.now))
-    (moment (g.S.Sink.bytes c.loop-event.out) (g.S.Sink.faults c.loop-event.out) (g.F.Files.asked c.loop-event.files)
+    runs_whole c.args.root.now (OpensFolder (g.F.Files.tree c.args.files.now) c.args.root.now) c.args.events.now c.loop-event.event-index c.loop-event.kernel
+    (moment (sink (g.S.Sink.bytes c.args.out.now) (g.S.Sink.pieces c.args.out.now) (g.S.Sink.faults c.args.out.now))
+    (g.F.Files.asked c.args.files.now) (g.F.Files.faults c.args.files.now))
+    (moment (sink (g.S.Sink.bytes c.loop-event.out) (g.S.Sink.pieces c.loop-event.out) (g.S.Sink.faults c.loop-event.out)) (g.F.Files.asked c.loop-event.files)
     (g.F.Files.faults c.loop-event.files))
     (omega arith) c.loop-event.invariant.within c.loop-event.invariant.run
 
 pub returns-clause-asks : goal.returns-clause-asks
 returns-clause-asks g c =
-    asks_so_far c.args.root.now (Opens (g.F.Files.tree c.args.files.now) c.args.root.now) c.args.events.now c.loop-event.event-index c.loop-event.kernel
-    (moment (g.S.Sink.bytes c.args.out.now) (g.S.Sink.faults c.args.out.now) (g.F.Files.asked c.args.files.now) (g.F.Files.faults c.args.files.now))
-    (moment (g.S.Sink.bytes c.loop-event.out) (g.S.Sink.faults c.loop-event.out) (g.F.Files.asked c.loop-event.files)
+    asks_so_far c.args.root.now (OpensFolder (g.F.Files.tree c.args.files.now) c.args.root.now) c.args.events.now c.loop-event.event-index c.loop-event.kernel
+    (moment (sink (g.S.Sink.bytes c.args.out.now) (g.S.Sink.pieces c.args.out.now) (g.S.Sink.faults c.args.out.now))
+    (g.F.Files.asked c.args.files.now) (g.F.Files.faults c.args.files.now))
+    (moment (sink (g.S.Sink.bytes c.loop-event.out) (g.S.Sink.pieces c.loop-event.out) (g.S.Sink.faults c.loop-event.out)) (g.F.Files.asked c.loop-event.files)
     (g.F.Files.faults c.loop-event.files))
     c.loop-event.invariant.run
 
@@ -107,9 +112,10 @@ returns-in_default-clause-asks g c = asks_nothing c.args.root.now c.args.events.
 
 pub loop-event-init : goal.loop-event-init
 loop-event-init g c = record {
-  run = runs_nothing c.args.root.now (Opens (g.F.Files.tree c.args.files.now) c.args.root.now) c.args.events.now c.in-Ok.kernel
-      (moment (g.S.Sink.bytes c.args.out.now) (g.S.Sink.faults c.args.out.now) (g.F.Files.asked c.args.files.now) (g.F.Files.faults c.args.files.now))
-      c.in-Ok.ensures;
+  run = runs_nothing c.args.root.now (OpensFolder (g.F.Files.tree c.args.files.now) c.args.root.now) c.args.events.now c.in-Ok.kernel
+      (moment (sink (g.S.Sink.bytes c.args.out.now) (g.S.Sink.pieces c.args.out.now) (g.S.Sink.faults c.args.out.now))
+      (g.F.Files.asked c.args.files.now) (g.F.Files.faults c.args.files.now))
+      c.in-Ok.ensures (g.met.S.Sink.faults_fit c.args.out.now);
   within = omega arith;
   threads = omega (arith, c.in-Ok.ensures.threads_from);
   segments = omega (arith, c.in-Ok.ensures.segments_from);

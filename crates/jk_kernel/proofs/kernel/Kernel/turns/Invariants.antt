@@ -1,8 +1,14 @@
--- So many steps were done and printed, and the thread is live.
-use Rattle.jk_kernel.proofs.TurnsSoFar.{TurnsSoFar}
+-- So many steps were done and printed.
+use Rattle.std.proofs.Common.{◌-◌, ◌≤◌}
+use Rattle.jk_kernel.proofs.TurnsSoFar.{Went}
 use Rattle.jk_kernel.proofs.kernel.Kernel.turns.Given as goal
 
 abbrev pub invariant-loop-done : goal.invariant-loop-done
 invariant-loop-done g l =
-    TurnsSoFar l.fn.thread l.r l.done l.fn.self l.self (g.S.Sink.bytes l.fn.out) (g.S.Sink.bytes l.out) (g.S.Sink.faults l.fn.out)
-    (g.S.Sink.faults l.out)
+    Went (record { 0 = l.thread }) l.done l.fn.self l.self
+    (record { bytes = g.S.Sink.bytes l.fn.out; pieces = g.S.Sink.pieces l.fn.out; faults = g.S.Sink.faults l.fn.out })
+    (record { bytes = g.S.Sink.bytes l.out; pieces = g.S.Sink.pieces l.out; faults = g.S.Sink.faults l.out })
+    × (l.done ≤ l.steps)
+
+abbrev pub decreases-loop-done : goal.decreases-loop-done
+decreases-loop-done g l = l.steps - l.done

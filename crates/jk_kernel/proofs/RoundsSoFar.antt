@@ -1,0 +1,139 @@
+-- So many rounds were gone and printed.
+use Rattle.std.proofs.Common.{◌≡◌, inl, inr, ℕ, zero, suc, ◌+◌, ◌*◌, ◌-◌, ◌<◌, ◌≤◌, List, [], ◌++◌, Ok, Err, refl, sym, ap, subst, ◌∙◌, append_assoc, arith}
+use Rattle.std.proofs.Math.Nat.{add-mul, suc-mul}
+use Rattle.jk_model.specs.declared.output.Line.{Line}
+use Rattle.jk_model_machine_state.specs.Machines.{Machine}
+use Rattle.jk_model_runs.specs.Events.{Goes, Rounds}
+use Rattle.jk_outside.specs.declared.sinks.SinkFailed.{SinkFailed}
+use Rattle.kernel_events.specs.KernelCalls.{MayDraw, steps_of}
+use Rattle.kernel_events.specs.PrintedLines.{Prints, SinkState}
+use Rattle.kernel_events.specs.RisingNumbers.{NumbersRiseInEvents, Rises}
+use Rattle.kernel_events.specs.StepsInTurn.{GoesSoFar, RoundsSoFar, StopsIn}
+use Rattle.machine_laws.specs.MachinesOfRuns.{IsOfRunWithoutJk, RoundsGoOn, StepsStayOfRuns}
+use Rattle.jk_kernel.specs.SoundMachines.{IsSoundMachine}
+use Rattle.jk_kernel.proofs.LinesJoined.{Fits, printed_both, printed_none}
+use Rattle.jk_kernel.proofs.MachinesStaySound.{whole_machine}
+use Rattle.jk_kernel.proofs.NumbersLeft.{may_draw}
+use Rattle.jk_kernel.proofs.OneRound.{RoundStopped, Rounded, numbered}
+use Rattle.jk_kernel.proofs.WaysJoined.{RoundOf, RoundsOf, StepOf, TurnsOf, rounds_repeat, turns_repeat, ways_join, ways_keep, ways_more, ways_then_rest}
+
+-- what a run keeps from step to step, it keeps all along a round
+goes_keep : StepsStayOfRuns → (steps thread : ℕ) (m new : Machine) (lines : List Line) → IsOfRunWithoutJk m → Goes steps thread m lines new
+    → IsOfRunWithoutJk new
+goes_keep keep steps thread m new lines run (Goes.over k w past) = run
+goes_keep keep steps thread m new lines run (Goes.on k w mid end before after below turns whole rest) =
+    goes_keep keep steps (suc k) mid end after
+    (ways_keep (StepOf (numbered k)) (TurnsOf (numbered k)) (turns_repeat (numbered k)) IsOfRunWithoutJk
+    (λ x last said kept one. keep x last (numbered k) said kept one) steps w mid before run turns) rest
+
+-- rounds, and then a part of a round
+then_some : (done left steps : ℕ) (m now new : Machine) (lines after : List Line) → Rounds done steps m lines now
+    → RoundsSoFar left steps now after new → RoundsSoFar (done + left) steps m (lines ++ after) new
+then_some zero left steps m now new lines after (none, same) some =
+    let e : left ≡ zero + left = omega arith in
+    let here : RoundsSoFar left steps m after new = subst (λ (x : Machine). RoundsSoFar left steps x after new) same some in
+    subst (λ (n : ℕ). RoundsSoFar n steps m (lines ++ after) new) e
+    (subst (λ (ls : List Line). RoundsSoFar left steps m (ls ++ after) new) (sym none) here)
+then_some (suc done) left steps m now new lines after (mid, first, rest, goes, whole, rounds, joined) some =
+    let e : suc (done + left) ≡ suc done + left = omega arith in
+    subst (λ (n : ℕ). RoundsSoFar n steps m (lines ++ after) new) e
+    (inr (
+      mid,
+      first,
+      rest ++ after,
+      goes,
+      whole,
+      then_some done left steps mid now new rest after rounds some,
+      ap (λ (ls : List Line). ls ++ after) joined ∙ append_assoc first rest after,
+    ))
+
+-- ---- So many rounds lead from the first machine to this one, and their lines went out.
+
+pub record Gone (steps done : ℕ) (first now : Machine) (a b : SinkState) : Type 0 where
+  pub lines : List Line
+  pub rounds : Rounds done steps first lines now
+  pub prints : Prints {E = SinkFailed} a b (Ok tt) lines
+  pub before : IsSoundMachine first
+  pub sound : IsSoundMachine now
+
+pub gone_none : (steps : ℕ) (m : Machine) (a : SinkState) → Fits a → IsSoundMachine m → Gone steps 0 m m a a
+gone_none steps m a fits sound = record { lines = []; rounds = (refl, refl); prints = printed_none a fits; before = sound; sound = sound }
+
+pub gone_more : (steps done : ℕ) (first now next : Machine) (a b c : SinkState) → Gone steps done first now a b → Rounded steps now next b c
+    → IsSoundMachine next → Gone steps (done + 1) first next a c
+gone_more steps done first now next a b c gone (lines, out, goes) sound = record {
+  lines = gone.lines ++ lines;
+  rounds = ways_more (RoundOf steps) (RoundsOf steps) (rounds_repeat steps) done first now next gone.lines lines gone.rounds goes
+      (whole_machine next sound);
+  prints = printed_both a b c gone.lines lines (Ok tt) gone.prints out;
+  before = gone.before;
+  sound = sound;
+}
+
+-- the rest of them, where nothing changes in the next one
+pub gone_rest : (steps done count : ℕ) (first now : Machine) (a b : SinkState) → done ≤ count → Gone steps done first now a b
+    → Goes steps 1 now [] now → Gone steps count first now a b
+gone_rest steps done count first now a b few gone goes = record {
+  lines = gone.lines;
+  rounds = ways_then_rest (RoundOf steps) (RoundsOf steps) (rounds_repeat steps) done count first now gone.lines few gone.rounds
+      (whole_machine now gone.sound) goes;
+  prints = gone.prints;
+  before = gone.before;
+  sound = gone.sound;
+}
+
+pub gone_rises : NumbersRiseInEvents → (steps done : ℕ) (first now : Machine) (a b : SinkState) → Gone steps done first now a b
+    → Rises first (steps_of done steps first) now
+gone_rises law steps done first now a b gone = law.rounds done steps first now gone.lines gone.rounds
+
+-- one round more is within them
+one_more_round : (done count most : ℕ) → done < count → done * most + most ≤ count * most
+one_more_round done count most less =
+    let e : count ≡ suc done + (count - suc done) = omega (arith, less) in
+    let split : count * most ≡ suc done * most + (count - suc done) * most =
+    ap (λ (n : ℕ). n * most) e ∙ add-mul (suc done) (count - suc done) most in
+    omega (arith, split, suc-mul done most)
+
+pub may_go : NumbersRiseInEvents → (steps done count : ℕ) (first now : Machine) (a b : SinkState) → done < count → Gone steps done first now a b
+    → MayDraw first (steps_of count steps first) → MayDraw now (steps * now.next_thread)
+may_go law steps done count first now a b less gone may =
+    let rises = gone_rises law steps done first now a b gone in
+    subst (λ (n : ℕ). MayDraw now (steps * n)) (sym rises.numbers.threads)
+    (may_draw first now (steps_of done steps first) (steps * first.next_thread) (steps_of count steps first)
+    (one_more_round done count (steps * first.next_thread) less) rises may)
+
+-- ---- The lines of a round didn't all go out: the others are there all the same.
+
+abbrev pub RoundsStopped : ℕ → ℕ → Machine → Machine → SinkState → SinkState → SinkFailed → Type 0
+RoundsStopped count steps first now a b e =
+    (lines : List Line) × Prints a b (Err e) lines × StopsIn (RoundsSoFar count steps) (Rounds count steps) first lines now
+
+pub gone_failed : StepsStayOfRuns → RoundsGoOn IsOfRunWithoutJk → (steps done count : ℕ) (first now next : Machine) (a b c : SinkState)
+    (e : SinkFailed) → done < count → Gone steps done first now a b → RoundStopped steps now next b c e
+    → RoundsStopped count steps first next a c e
+gone_failed keep law steps done count first now next a b c e less gone (lines, out, stops) =
+    let left = count - done - 1 in
+    let run = goes_keep keep steps 1 now stops.last (lines ++ stops.more) gone.sound.run stops.all in
+    let rest = law left steps stops.last run in
+    let some = ways_more (RoundOf steps) (RoundsOf steps) (rounds_repeat steps) done first now stops.last gone.lines (lines ++ stops.more)
+    gone.rounds stops.all stops.whole in
+    let all = ways_join (RoundOf steps) (RoundsOf steps) (rounds_repeat steps) (done + 1) left first stops.last rest.1
+    (gone.lines ++ (lines ++ stops.more)) rest.0 some rest.2 in
+    let joined : (gone.lines ++ (lines ++ stops.more)) ++ rest.0 ≡ (gone.lines ++ lines) ++ (stops.more ++ rest.0) =
+    append_assoc gone.lines (lines ++ stops.more) rest.0
+    ∙ ap (λ (ls : List Line). gone.lines ++ ls) (append_assoc lines stops.more rest.0)
+    ∙ sym (append_assoc gone.lines lines (stops.more ++ rest.0)) in
+    let so_far : done + suc left ≡ count = omega (arith, less) in
+    let number : (done + 1) + left ≡ count = omega (arith, less) in (
+      gone.lines ++ lines,
+      printed_both a b c gone.lines lines (Err e) gone.prints out,
+      record {
+        so_far = subst (λ (n : ℕ). RoundsSoFar n steps first (gone.lines ++ lines) next) so_far
+            (then_some done (suc left) steps first now next gone.lines lines gone.rounds (inl stops.so_far));
+        more = stops.more ++ rest.0;
+        last = rest.1;
+        all = subst (λ (n : ℕ). Rounds n steps first ((gone.lines ++ lines) ++ (stops.more ++ rest.0)) rest.1) number
+            (subst (λ (ls : List Line). Rounds ((done + 1) + left) steps first ls rest.1) joined all);
+        whole = rest.3.0.0.0;
+      },
+    )

@@ -1,7 +1,0 @@
--- It leads to nothing.
-use Rattle.jk_kernel.proofs.InstructionsWithoutLink.{no_out, never}
-use Rattle.type_rows.specs.CodeViews.{scope_of}
-use Rattle.jk_kernel.proofs.built_code.gets_system_out.Goals as goal
-
-pub returns-in-None : goal.returns-in-None
-returns-in-None c = (λ f. absurd (never f), no_out (scope_of c.args.at.now.code) c.args.at.now.instr.now c.in-None.ensures)

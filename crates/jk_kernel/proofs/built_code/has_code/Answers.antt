@@ -1,6 +1,0 @@
--- There is no such method.
-use Rattle.jk_kernel.proofs.InstructionsWithoutLink.{never}
-use Rattle.jk_kernel.proofs.built_code.has_code.Goals as goal
-
-pub returns-in-None : goal.returns-in-None
-returns-in-None c = (λ f. absurd (never f), λ h. absurd (c.in-None.ensures.none h.0 h.2))

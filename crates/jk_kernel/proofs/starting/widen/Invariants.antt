@@ -1,6 +1,0 @@
--- The first units are the first bytes.
-use Rattle.std.proofs.Common.{◌≡◌, take}
-use Rattle.jk_kernel.proofs.starting.widen.Given as goal
-
-abbrev pub invariant-loop-i : goal.invariant-loop-i
-invariant-loop-i l = take l.i l.units ≡ take l.i l.bytes

@@ -1,0 +1,103 @@
+//! Steps of one thread.
+
+ghost use Rattle.std.specs.Prelude.{◌≡◌, ◌≤◌, [], List, length, Ok, false, OnErr, OnOk};
+ghost use Rattle.jk_model.specs.declared.output.Line.{Line};
+ghost use Rattle.jk_model_runs.specs.Events.{Turns};
+ghost use Rattle.jk_model_runs.specs.Steps.{Steps};
+ghost use Rattle.jk_outside.specs.SeveralLines.{PrintsLines};
+ghost use Rattle.kernel_events.specs.KernelCalls.{MayDraw};
+ghost use Rattle.kernel_events.specs.PrintedLines.{as_done};
+ghost use Rattle.kernel_events.specs.StepsInTurn.{NumbersRise, Rests, StepsApart, StopsIn, TurnsApart, TurnsSoFar};
+ghost use Rattle.jk_kernel.specs.SoundMachines.{IsSoundMachine};
+
+use crate::kernel::Kernel;
+use crate::laws::{machines_stay_sound, steps_are_apart};
+use frame_store::FrameStore;
+use jk_model::ThreadNo;
+use jk_outside::{Sink, SinkFailed};
+use kernel_events::laws::numbers_rise;
+use kernel_turns::steps_in_frame;
+use machine_laws::machines::runs_go_on_without_jk;
+use object_store::ObjectStore;
+
+impl<H: ObjectStore + Drop, F: FrameStore + Drop> Kernel<H, F> {
+    /// One step of a thread, whose lines are printed. A thread that isn't live does nothing. It takes no memory. Where the sink fails, the
+    /// step has happened whole.
+    pub fn turn<S: Sink>(&mut self, thread: u32, out: &mut S) -> Result<(), SinkFailed>
+        requires numbers { MayDraw self.old 1 }
+        // Also where the sink failed, the step has happened. It is confined to what its deed may change.
+        ensures event { (lines : List Line)
+            × PrintsLines (S.bytes out.old) (S.bytes out.new) (S.pieces out.old) (S.pieces out.new) (S.faults out.old) (S.faults out.new) result lines
+            × StepsApart self.old (record { 0 = thread }) lines self.new }
+        ensures counts { NumbersRise self.old 1 self.new × (length self.new.domains ≡ length self.old.domains) }
+    {
+        numbers_rise();
+        steps_are_apart();
+        let _changed = self.step(ThreadNo(thread), out)?;
+        Ok(())
+    }
+
+    /// So many steps of a thread. It answers false only where no step of the thread changes anything until another thread acts. It takes no
+    /// memory. Steps that change nothing cost nothing but the first. Where the sink fails, the machine is as after the step that failed.
+    pub fn turns<S: Sink>(
+        &mut self,
+        thread: u32,
+        steps: u32,
+        out: &mut S,
+    ) -> Result<bool, SinkFailed>
+        requires numbers { MayDraw self.old steps }
+        ensures event { OnOk result ((lines : List Line)
+            × PrintsLines (S.bytes out.old) (S.bytes out.new) (S.pieces out.old) (S.pieces out.new) (S.faults out.old) (S.faults out.new)
+            (as_done result) lines
+            × TurnsApart steps (record { 0 = thread }) self.old lines self.new) }
+        // The other steps are there too, though the kernel stops in the one that failed, and no more of their text goes out.
+        ensures failed { OnErr result ((lines : List Line)
+            × PrintsLines (S.bytes out.old) (S.bytes out.new) (S.pieces out.old) (S.pieces out.new) (S.faults out.old) (S.faults out.new)
+            (as_done result) lines
+            × StopsIn (TurnsSoFar steps (record { 0 = thread })) (Turns steps (record { 0 = thread })) self.old lines self.new) }
+        ensures rests { result ≡ Ok false → (self.new ≡ self.old) × Rests self.old (record { 0 = thread }) }
+        ensures counts { NumbersRise self.old steps self.new × (length self.new.domains ≡ length self.old.domains) }
+    {
+        numbers_rise();
+        runs_go_on_without_jk();
+        steps_are_apart();
+        machines_stay_sound();
+        self.is_sound();
+        let mut done = 0;
+        while done < steps {
+            done += self.step_in_frame(ThreadNo(thread), steps - done);
+            if done == steps {
+                return Ok(true);
+            }
+            if !self.step(ThreadNo(thread), out)? {
+                return Ok(done > 0);
+            }
+            done += 1;
+        }
+        Ok(true)
+    }
+
+    /// One step of a thread, whose lines are printed. It answers false only where it changes nothing.
+    fn step<S: Sink>(&mut self, t: ThreadNo, out: &mut S) -> Result<bool, SinkFailed>
+        requires numbers { MayDraw self.old 1 }
+        ensures event { (lines : List Line)
+            × PrintsLines (S.bytes out.old) (S.bytes out.new) (S.pieces out.old) (S.pieces out.new) (S.faults out.old) (S.faults out.new)
+            (as_done result) lines
+            × Steps self.old t lines self.new }
+        ensures rests { result ≡ Ok false → (self.new ≡ self.old) × Steps self.old t [] self.old }
+        ensures sound { IsSoundMachine self.old × IsSoundMachine self.new }
+    {
+        machines_stay_sound();
+        kernel_turns::step(&mut self.parts, t, out)
+    }
+
+    /// At most so many steps of a thread that stay in a frame, and how many they were.
+    fn step_in_frame(&mut self, t: ThreadNo, most: u32) -> u32
+        ensures few { result ≤ most }
+        ensures event { Turns result t self.old [] self.new }
+        ensures sound { IsSoundMachine self.old × IsSoundMachine self.new }
+    {
+        machines_stay_sound();
+        steps_in_frame(&mut self.parts, t, most)
+    }
+}

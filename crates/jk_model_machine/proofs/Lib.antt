@@ -1,2 +1,0 @@
--- What follows from the definitions of the whole machine alone.
-pub mod TablesOfDomains

@@ -1,0 +1,2 @@
+-- Lemmas on the numbers that starts draw.
+pub mod StartsDrawn

@@ -1,3 +1,0 @@
-pub mod FieldConstants
-pub mod NewDomains
-pub mod OpenedDomains

@@ -1,2 +1,0 @@
-pub mod FirstNumbers
-pub mod TopChanges

@@ -1,2 +1,0 @@
-pub mod BuiltCodes
-pub mod WholeEvents
