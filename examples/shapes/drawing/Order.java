@@ -1,0 +1,3 @@
+interface Order {
+    boolean isBefore(Shape a, Shape b);
+}

@@ -1,0 +1,5 @@
+interface Shape {
+    int area();
+
+    String name();
+}
