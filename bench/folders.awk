@@ -69,16 +69,22 @@ function string(text) { return once(u1(8) u2(utf8(text))) }
 function pair(name, kind) { return once(u1(12) u2(utf8(name)) u2(utf8(kind))) }
 function field_ref(of, name, kind) { return once(u1(9) u2(class(of)) u2(pair(name, kind))) }
 function method_ref(of, name, kind) { return once(u1(10) u2(class(of)) u2(pair(name, kind))) }
+function interface_ref(of, name, kind) { return once(u1(11) u2(class(of)) u2(pair(name, kind))) }
 
 function implement(name) { interfaces[++interface_count] = u2(class(name)) }
 function field(flags, name, kind) { fields[++field_count] = u2(flags) u2(utf8(name)) u2(utf8(kind)) u2(0) }
 function method(flags, name, kind) { methods[++method_count] = u2(flags) u2(utf8(name)) u2(utf8(kind)) u2(0) }
 
-# A public static method with a code, and with so many catch entries, each of eight bytes.
-function method_with(name, kind, stack, locals, code, count, catches) {
-    methods[++method_count] = u2(9) u2(utf8(name)) u2(utf8(kind)) u2(1) \
+# A method with a code, and with so many catch entries, each of eight bytes.
+function coded(flags, name, kind, stack, locals, code, count, catches) {
+    methods[++method_count] = u2(flags) u2(utf8(name)) u2(utf8(kind)) u2(1) \
         u2(utf8("Code")) u4(12 + length(code) + length(catches)) u2(stack) u2(locals) \
         u4(length(code)) code u2(count) catches u2(0)
+}
+
+# A public static one.
+function method_with(name, kind, stack, locals, code, count, catches) {
+    coded(9, name, kind, stack, locals, code, count, catches)
 }
 
 function print_all(list, count,    i) {
@@ -319,6 +325,121 @@ function catches(n) {
     finish()
 }
 
+# ---- Classes that are run, each by a main.
+
+# aload_0, a constant, aaload, invokestatic: the number that a word of the start says, up to the sixth.
+function number(word) {
+    return u1(42) u1(3 + word) u1(50) u1(184) u2(method_ref("java/lang/Integer", "parseInt", "(Ljava/lang/String;)I"))
+}
+
+# new, dup, invokespecial: an object of a class, made by the constructor without arguments that it has or inherits.
+function made(name) { return u1(187) u2(class(name)) u1(89) u1(183) u2(method_ref(name, "<init>", "()V")) }
+
+# A main that does a body as often as its first word says, and then prints what local 3 has. Local 1 says how often, local 2 counts.
+# Both of these, and local 3 with a 0, are there before what comes first. What the body throws of a class that is named between 0
+# and `to` goes on at `handler`, where these are places in the body.
+function add_main(first, body, stack, locals, to, handler, caught,    all, at) {
+    all = number(0) u1(60) u1(3) u1(61) u1(3) u1(62) first
+    at = length(all) + 5
+    # iload_2, iload_1, if_icmpge; the body; iinc, goto; getstatic, iload_3, invokevirtual, return.
+    all = all u1(28) u1(27) u1(162) u2(length(body) + 9) body u1(132) u1(2) u1(1) u1(167) u2(65536 - length(body) - 8)
+    all = all u1(178) u2(field_ref("java/lang/System", "out", "Ljava/io/PrintStream;")) u1(29)
+    all = all u1(182) u2(method_ref("java/io/PrintStream", "println", "(I)V")) u1(177)
+    method_with("main", "([Ljava/lang/String;)V", stack, locals, all, caught ? 1 : 0, \
+        caught ? u2(at) u2(at + to) u2(at + handler) u2(class(caught)) : "")
+}
+
+function count_one() { return u1(132) u1(3) u1(1) }
+
+# Of ten pairs so many are new and pop, and the others aconst_null and pop. Before them as many arrays are made as the second word
+# says.
+function news(n,    first) {
+    begin_class("News")
+    field(1, "left", "I")
+    field(1, "right", "I")
+    # iconst_0, multianewarray of two dimensions, astore
+    first = number(1) u1(3) u1(197) u2(class("[[I")) u1(2) u1(58) u1(4)
+    add_main(first, times(u1(187) u2(own_class) u1(87), n) times(u1(1) u1(87), 10 - n) count_one(), 3, 5)
+    finish()
+}
+
+# The first class of the chain has the method and main.
+function calls(n,    low) {
+    add_chain(n)
+    low = "C" (n - 1)
+    begin_class("C0")
+    coded(1, "same", "(I)I", 1, 2, u1(27) u1(172), 0, "")
+    # astore; aload, iload_2, invokevirtual, istore_3
+    add_main(made(low) u1(58) u1(4), u1(25) u1(4) u1(28) u1(182) u2(method_ref(low, "same", "(I)I")) u1(62), 3, 5)
+    finish()
+}
+
+# The class below the diamonds has main. Its object is called by the first interface, asked whether it is of one that it doesn't
+# implement, and cast to the first.
+function asks(n) {
+    diamonds(n)
+    begin_interface("I0")
+    method(1025, "same", "(I)I")
+    finish()
+    add_interface("J")
+    begin_class("Z")
+    implement("I" n)
+    coded(1, "same", "(I)I", 1, 2, u1(27) u1(172), 0, "")
+    # astore; aload, iload_2, invokeinterface, istore_3; aload, instanceof, pop; aload, checkcast, pop
+    add_main(made("Z") u1(58) u1(4), \
+        u1(25) u1(4) u1(28) u1(185) u2(interface_ref("I0", "same", "(I)I")) u1(2) u1(0) u1(62) \
+        u1(25) u1(4) u1(193) u2(class("J")) u1(87) u1(25) u1(4) u1(192) u2(class("I0")) u1(87), 3, 5)
+    finish()
+}
+
+# Each call of a method calls it once more, as often as the second word says, and the last one throws. All is covered by as many
+# catch entries, none of which catches it. main catches it, and counts. The method calls from one place, or from two in turn.
+function unwinding(n, places,    down, again, all, ends) {
+    begin_class("U")
+    down = u2(method_ref("U", "down", "(ILjava/lang/Throwable;)V"))
+    # iload_0, ifne, aload_1, athrow; iload_0, iconst_1, iand, ifne; then iload_0, iconst_1, isub, aload_1, invokestatic, return; the
+    # handler: pop, return.
+    again = u1(26) u1(4) u1(100) u1(43) u1(184) down u1(177)
+    all = u1(26) u1(154) u2(5) u1(43) u1(191) (places == 2 ? u1(26) u1(4) u1(126) u1(154) u2(11) again again : again)
+    ends = length(all)
+    method_with("down", "(ILjava/lang/Throwable;)V", 3, 2, all u1(87) u1(177), n, \
+        times(u2(0) u2(ends) u2(ends) u2(class("java/lang/ArithmeticException")), n))
+    # astore, istore; iload, aload, invokestatic, goto; the handler: pop, iinc.
+    add_main(made("java/lang/IllegalStateException") u1(58) u1(4) number(1) u1(54) u1(5), \
+        u1(21) u1(5) u1(25) u1(4) u1(184) down u1(167) u2(7) u1(87) count_one(), \
+        3, 6, 7, 10, "java/lang/IllegalStateException")
+    finish()
+}
+
+# The next so many of the texts as the constants of a method that adds up their lengths: ldc_w, invokevirtual, iadd.
+function lengths(name, from, n,    i, text) {
+    for (i = from; i < from + n; i++) {
+        text = i <= 10 ? texts_of_pool[i] : sprintf("text%05d", i)
+        put(u1(19) u2(string(text)) u1(182) u2(method_ref("java/lang/String", "length", "()I")) u1(96))
+    }
+    method_with(name, "()I", 2, 0, u1(3) taken() u1(172), 0, "")
+}
+
+# A pool has room for 32,764 such texts because what it names itself are ten of them.
+function constants(n,    i, name, body) {
+    split("T java/lang/Object Code a b c d ()I java/lang/String length", texts_of_pool, " ")
+    begin_class("T")
+    for (i = 0; i < 4; i++) lengths(substr("abcd", i + 1, 1), i * n / 4 + 1, n / 4)
+    finish()
+    begin_class("Main")
+    body = ""
+    for (i = 0; i < 4; i++) body = body u1(184) u2(method_ref("T", substr("abcd", i + 1, 1), "()I")) (i ? u1(96) : "")
+    add_main("", body u1(62), 2, 4)
+    finish()
+}
+
+# iconst_1 for each dimension, multianewarray, pop.
+function dimensions(n) {
+    begin_class("D")
+    add_main("", times(u1(4), n) u1(197) u2(class(times("[", n) "I")) u1(n) u1(87) count_one(), n, 4)
+    finish()
+}
+
 # ---- Damaged class files.
 
 # The bytes of the input, as numbers.
@@ -380,6 +501,13 @@ BEGIN {
     else if (family == "locals") many_locals(size)
     else if (family == "cases") cases(size)
     else if (family == "catches") catches(size)
+    else if (family == "news") news(size)
+    else if (family == "calls") calls(size)
+    else if (family == "asks") asks(size)
+    else if (family == "unwinding") unwinding(size, 1)
+    else if (family == "zigzag") unwinding(size, 2)
+    else if (family == "constants") constants(size)
+    else if (family == "dimensions") dimensions(size)
     else if (family == "cuts") cuts(size)
     else if (family == "flips") flips(size)
     else {

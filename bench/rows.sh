@@ -1,4 +1,4 @@
-# What bench/run and bench/hostile share, which source it: the rows of their tables, and how they end.
+# What bench/run, bench/hostile and bench/objects share, which source it: the rows of their tables, and how they end.
 # shellcheck shell=bash disable=SC2034,SC2154
 
 # 1 where a bound is not kept.
@@ -36,4 +36,14 @@ needs_program() {
     command -v valgrind >/dev/null || stop 'valgrind is not installed'
     ./jkernel </dev/null 2>&1 >/dev/null | grep -v '^usage: ' >&2
     [ -x "$program" ] || stop 'the program is not built: ./jkernel says why'
+}
+
+# count_of ROOT SCRIPT: sets `counted` to the instructions of a run, which must end with status 0. What it prints is in $room/out.
+# Cachegrind without its caches counts what callgrind counts, in less than half the time.
+count_of() {
+    valgrind --tool=cachegrind --cache-sim=no --cachegrind-out-file=/dev/null --log-file="$room/log" \
+        "$program" "$1" "$2" </dev/null >"$room/out" 2>"$room/err" ||
+        stop "the run of $2 on $1 ended with status $?: $(head -n 1 "$room/err")"
+    counted=$(awk '/ I +refs: / { gsub(",", ""); print $NF }' "$room/log")
+    [ -n "$counted" ] || stop "cachegrind said nothing of the run of $2 on $1"
 }

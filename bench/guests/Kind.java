@@ -1,0 +1,4 @@
+/** What `Ops` calls through an interface. */
+public interface Kind {
+    int same(int n);
+}
