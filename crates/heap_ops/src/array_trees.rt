@@ -108,6 +108,7 @@ fn make_read<H: ObjectStore, F: FrameStore>(
 
 /// Takes counts, and pushes a new array of the type that the instruction names, with all arrays below it that they ask for. Where
 /// one of the counts is below 0, or all of the arrays don't fit together, nothing is made.
+#[inline(never)]
 pub(crate) fn make_array_tree<H: ObjectStore, F: FrameStore>(
     heap: &mut H,
     frames: &mut F,

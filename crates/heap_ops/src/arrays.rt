@@ -23,6 +23,7 @@ use object_store::ObjectStore;
 use row_laws::heap_rows::heap_rows_keep;
 
 /// The element type and the length of an array.
+#[inline(always)]
 fn array_at<H: ObjectStore>(heap: &H, d: DomainId, a: u32) -> (TypeRef, u32)
     requires { (element : AType) × (count : ℕ) × IsArrayAt (H.content heap.now) d a element count }
     ensures is { IsArrayAt (H.content heap.now) d a result.0 result.1 }
@@ -36,6 +37,7 @@ fn array_at<H: ObjectStore>(heap: &H, d: DomainId, a: u32) -> (TypeRef, u32)
 
 /// The place that an index means in an array of so many elements; an ArrayIndexOutOfBoundsException where it is below 0 or not
 /// below the length.
+#[inline(always)]
 fn place_at(index: i32, len: u32) -> Result<u32, Raise>
     ensures { MatchResult result (λ place. (index ≡ pos place) × (place < len)) (λ r. HasNoPlace index len × (r ≡ Raised.Fresh ARRAY_INDEX_EXCEPTION)) }
 {
@@ -54,6 +56,7 @@ fn int_of(len: u32) -> i32
 }
 
 /// Takes an array, and pushes its length.
+#[inline(always)]
 pub(crate) fn array_length<H: ObjectStore, F: FrameStore>(
     heap: &H,
     frames: &mut F,
@@ -70,6 +73,7 @@ pub(crate) fn array_length<H: ObjectStore, F: FrameStore>(
 }
 
 /// Takes an array and an index, and pushes the element there.
+#[inline(always)]
 pub(crate) fn load_element<H: ObjectStore, F: FrameStore>(
     heap: &H,
     frames: &mut F,
@@ -89,6 +93,7 @@ pub(crate) fn load_element<H: ObjectStore, F: FrameStore>(
 }
 
 /// Takes an array, an index and a whole number, and stores the number there, as the array's own element type says.
+#[inline(always)]
 pub(crate) fn store_element<H: ObjectStore, F: FrameStore>(
     heap: &mut H,
     frames: &mut F,
@@ -114,6 +119,7 @@ pub(crate) fn store_element<H: ObjectStore, F: FrameStore>(
 
 /// Takes an array, an index and a reference, and stores the reference there. An ArrayStoreException is raised where it is neither
 /// null nor an instance of the array's own element type.
+#[inline(never)]
 pub(crate) fn store_reference<H: ObjectStore, F: FrameStore, C: CapabilityTests>(
     heap: &mut H,
     frames: &mut F,

@@ -19,6 +19,7 @@ use object_store::ObjectStore;
 use step_contents::type_named;
 
 /// Raises the object on top, or a NullPointerException where that is null.
+#[inline(never)]
 pub(crate) fn throw<F: FrameStore>(frames: &F, here: &Here<'_>) -> Result<(), Raise>
     requires op { (place_in here.now).instr.op ≡ ATHROW }
     requires may { (heaps : HeapContent) × MayStep heaps (F.content frames.now) here.now }
@@ -65,6 +66,7 @@ pub(crate) fn may_be_cast<H: ObjectStore, C: CapabilityTests>(
 }
 
 /// Leaves the top entry, which is null or an instance of the type that the instruction names; else a ClassCastException is raised.
+#[inline(never)]
 pub(crate) fn cast<H: ObjectStore, F: FrameStore, C: CapabilityTests>(
     heap: &H,
     frames: &F,
@@ -85,6 +87,7 @@ pub(crate) fn cast<H: ObjectStore, F: FrameStore, C: CapabilityTests>(
 }
 
 /// Takes a reference, and pushes 1 where it is an instance of the type that the instruction names, else 0. Null is none.
+#[inline(never)]
 pub(crate) fn test_instance<H: ObjectStore, F: FrameStore, C: CapabilityTests>(
     heap: &H,
     frames: &mut F,

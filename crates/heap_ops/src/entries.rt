@@ -12,6 +12,7 @@ use jk_model::{Raise, SegmentNo, Value};
 use jk_model_heaps::system_classes::NULL_POINTER_EXCEPTION;
 
 /// Takes so many entries off the top.
+#[inline(always)]
 pub(crate) fn drop_entries<F: FrameStore>(frames: &mut F, s: SegmentNo, count: u16)
     requires { HasEntries (F.content frames.old) s count }
     ensures { TakesOff (F.content frames.old) (F.content frames.new) s count }
@@ -22,6 +23,7 @@ pub(crate) fn drop_entries<F: FrameStore>(frames: &mut F, s: SegmentNo, count: u
 }
 
 /// Puts a value in the place of so many entries on top, one or more.
+#[inline(always)]
 pub(crate) fn replace<F: FrameStore>(frames: &mut F, s: SegmentNo, count: u16, v: Value)
     requires many { HasEntries (F.content frames.old) s count }
     requires some { 1 ≤ count }
@@ -32,6 +34,7 @@ pub(crate) fn replace<F: FrameStore>(frames: &mut F, s: SegmentNo, count: u16, v
 }
 
 /// The value that stands below so many entries.
+#[inline(always)]
 pub(crate) fn value_at<F: FrameStore>(frames: &F, s: SegmentNo, above: u16) -> Value
     requires { (v : AValue) × StandsBelow (F.content frames.now) s above v }
     ensures { StandsBelow (F.content frames.now) s above result }
@@ -40,6 +43,7 @@ pub(crate) fn value_at<F: FrameStore>(frames: &F, s: SegmentNo, above: u16) -> V
 }
 
 /// The int that stands below so many entries.
+#[inline(always)]
 pub(crate) fn int_at<F: FrameStore>(frames: &F, s: SegmentNo, above: u16) -> i32
     requires { (n : ℤ) × StandsBelow (F.content frames.now) s above (Held.Int n) }
     ensures { StandsBelow (F.content frames.now) s above (Held.Int result) }
@@ -51,6 +55,7 @@ pub(crate) fn int_at<F: FrameStore>(frames: &F, s: SegmentNo, above: u16) -> i32
 }
 
 /// The object that stands below so many entries; a NullPointerException where that is null.
+#[inline(always)]
 pub(crate) fn object_at<F: FrameStore>(frames: &F, s: SegmentNo, above: u16) -> Result<u32, Raise>
     requires { (v : AValue) × StandsBelow (F.content frames.now) s above v × IsNullOrName v }
     ensures { MatchResult result (λ a. StandsBelow (F.content frames.now) s above (Held.Obj a))

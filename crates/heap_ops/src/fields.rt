@@ -20,6 +20,7 @@ use row_laws::heap_rows::heap_rows_keep;
 use step_contents::field_of;
 
 /// The place of an instance field in the objects of its class and of all classes below it.
+#[inline(always)]
 fn place_of(t: &ClassTable, m: MemberId) -> u32
     requires field { (field : AField) × FieldIs t.now m field × IsFalse (has field.flags STATIC) }
     requires small { (place : ℕ) → IsOwnPlace t.now m place → place < 2 ^ 32 }
@@ -32,6 +33,7 @@ fn place_of(t: &ClassTable, m: MemberId) -> u32
 }
 
 /// Takes an object, and pushes the value of the field that the instruction names. A NullPointerException is raised at null.
+#[inline(always)]
 pub(crate) fn get_field<H: ObjectStore, F: FrameStore>(
     heap: &H,
     frames: &mut F,
@@ -52,6 +54,7 @@ pub(crate) fn get_field<H: ObjectStore, F: FrameStore>(
 
 /// Takes an object and a value above it, and stores the value into the field that the instruction names. A NullPointerException
 /// is raised at null.
+#[inline(always)]
 pub(crate) fn put_field<H: ObjectStore, F: FrameStore>(
     heap: &mut H,
     frames: &mut F,

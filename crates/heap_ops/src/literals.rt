@@ -64,6 +64,7 @@ pub(crate) fn literal_object<H: ObjectStore>(
 }
 
 /// Pushes the object of the text that the instruction loads.
+#[inline(never)]
 pub(crate) fn load_text<H: ObjectStore, F: FrameStore>(
     heap: &mut H,
     frames: &mut F,

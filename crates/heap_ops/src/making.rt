@@ -24,6 +24,7 @@ use object_store::ObjectStore;
 use step_contents::{StandsAt, type_named};
 
 /// Pushes a new object of the class that the instruction names.
+#[inline(always)]
 pub(crate) fn make_object<H: ObjectStore, F: FrameStore>(
     heap: &mut H,
     frames: &mut F,
@@ -100,6 +101,7 @@ fn make_array_of<H: ObjectStore, F: FrameStore>(
 }
 
 /// Takes a count, and pushes a new array of so many whole numbers.
+#[inline(never)]
 pub(crate) fn make_array<H: ObjectStore, F: FrameStore>(
     heap: &mut H,
     frames: &mut F,
@@ -114,6 +116,7 @@ pub(crate) fn make_array<H: ObjectStore, F: FrameStore>(
 }
 
 /// Takes a count, and pushes a new array of so many references of the type that the instruction names.
+#[inline(never)]
 pub(crate) fn make_reference_array<H: ObjectStore, F: FrameStore>(
     heap: &mut H,
     frames: &mut F,

@@ -41,6 +41,7 @@ fn is_system_out(t: &ClassTable, m: MemberId) -> bool
 }
 
 /// Pushes the value of the static field that the instruction names.
+#[inline(always)]
 pub(crate) fn get_static<F: FrameStore>(
     frames: &mut F,
     own: &Own,
@@ -61,6 +62,7 @@ pub(crate) fn get_static<F: FrameStore>(
 }
 
 /// Takes the top entry, and stores it into the static field that the instruction names.
+#[inline(always)]
 pub(crate) fn put_static<F: FrameStore>(
     frames: &mut F,
     own: &mut Own,

@@ -33,6 +33,7 @@ use thread_segments::Shared;
 /// Does the instruction at which the top frame of a segment stands, one that works on objects, static fields or literals, and
 /// answers what is done next: the frame goes on behind it, or an exception is raised. The stored head stays as it is. Where
 /// something is raised, heap, own state and stack are as before.
+#[inline(always)]
 pub fn step<H: ObjectStore, F: FrameStore>(
     heap: &mut H,
     frames: &mut F,
@@ -61,6 +62,7 @@ pub fn step<H: ObjectStore, F: FrameStore>(
 }
 
 /// Does the instruction; the error is what is raised, and all is as before then.
+#[inline(always)]
 fn execute<H: ObjectStore, F: FrameStore, C: CapabilityTests>(
     heap: &mut H,
     frames: &mut F,

@@ -21,6 +21,7 @@ fn local_of(i: &Instr, max_locals: u16) -> u16
 }
 
 /// Pushes the value of a local.
+#[inline(always)]
 pub(crate) fn load<F: FrameStore>(frames: &mut F, s: SegmentNo, max_locals: u16, i: &Instr)
     requires op { IsTrue (is_load i.now.op) }
     requires most { HasAtMostLocals (F.content frames.old) s max_locals }
@@ -32,6 +33,7 @@ pub(crate) fn load<F: FrameStore>(frames: &mut F, s: SegmentNo, max_locals: u16,
 }
 
 /// Takes the top entry, and puts it into a local; the local after a long is unset then.
+#[inline(always)]
 pub(crate) fn store<F: FrameStore>(frames: &mut F, s: SegmentNo, max_locals: u16, i: &Instr)
     requires op { IsTrue (is_store_of_top i.now.op) }
     requires most { HasAtMostLocals (F.content frames.old) s max_locals }

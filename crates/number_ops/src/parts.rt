@@ -55,6 +55,7 @@ pub(crate) enum Part {
 }
 
 /// What kind of work an opcode asks for.
+#[inline(always)]
 pub(crate) fn part_of(op: u8) -> Part
     ensures { IsTrue (is_part op result) }
 {
@@ -63,6 +64,7 @@ pub(crate) fn part_of(op: u8) -> Part
 
 /// The kind of an opcode, by tests.
 #[tactic(auto, unfolding(crate::specs::Parts::part_at))]
+#[inline(always)]
 fn part_at(op: u8) -> Part
     ensures { result ≡ part_at op }
 {
@@ -77,6 +79,7 @@ fn part_at(op: u8) -> Part
 
 /// Constants, loads and stores.
 #[tactic(auto, unfolding(crate::specs::Parts::local_part))]
+#[inline(always)]
 fn local_part(op: u8) -> Part
     ensures { result ≡ local_part op }
 {
@@ -91,6 +94,7 @@ fn local_part(op: u8) -> Part
 
 /// Arithmetic.
 #[tactic(auto, unfolding(crate::specs::Parts::number_part))]
+#[inline(always)]
 fn number_part(op: u8) -> Part
     ensures { result ≡ number_part op }
 {
@@ -112,6 +116,7 @@ fn number_part(op: u8) -> Part
 
 /// Jumps, switches and returns.
 #[tactic(auto, unfolding(crate::specs::Parts::jump_part))]
+#[inline(always)]
 fn jump_part(op: u8) -> Part
     ensures { result ≡ jump_part op }
 {

@@ -96,6 +96,7 @@ impl DomainHeap {
     }
 
     /// What an object is of.
+    #[inline(always)]
     pub(crate) fn shape(&self, a: u32) -> Shape
         requires { IsNamed self.now a }
         ensures { (object : AnObject) → IsObject self.now a object → result ≡ shape_of object }
@@ -104,6 +105,7 @@ impl DomainHeap {
     }
 
     /// The value at a place of an object.
+    #[inline(always)]
     pub(crate) fn read(&self, a: u32, i: u32) -> Value
         requires { HasItemAt self.now a i }
         ensures { (object : AnObject) → IsObject self.now a object → item_of object i ≡ Some result }
@@ -117,6 +119,7 @@ impl DomainHeap {
     }
 
     /// Sets the value at a place of an object.
+    #[inline(always)]
     pub(crate) fn write(&mut self, a: u32, i: u32, v: Value)
         requires { TakesItemAt self.old a i v }
         ensures { (object new : AnObject) → IsObject self.old a object → IsWritten object i v new → WritesIn self.old self.new a new }

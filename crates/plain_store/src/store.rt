@@ -37,6 +37,7 @@ impl PlainStore {
 
     /// The heap of a domain. It stands at the domain's own number where none was closed before it, so that most look-ups want no
     /// hash.
+    #[inline(always)]
     fn heap(&self, d: u32) -> &DomainHeap
         requires { IsSome (get nat_eq self.now.heaps d) }
         ensures { get nat_eq self.now.heaps d ≡ Some result.now }
@@ -46,10 +47,21 @@ impl PlainStore {
                 return heap;
             }
         }
+        self.far_heap(d)
+    }
+
+    /// As `heap`, where it stands elsewhere.
+    #[cold]
+    #[inline(never)]
+    fn far_heap(&self, d: u32) -> &DomainHeap
+        requires { IsSome (get nat_eq self.now.heaps d) }
+        ensures { get nat_eq self.now.heaps d ≡ Some result.now }
+    {
         self.heaps.get(&d).unwrap()
     }
 
     /// Where the heap of a domain stands in the map.
+    #[inline(always)]
     fn place_of(&self, d: u32) -> usize
         requires { IsSome (get nat_eq self.now.heaps d) }
         ensures { StandsAt self.now.heaps d result }
@@ -59,6 +71,16 @@ impl PlainStore {
                 return d as usize;
             }
         }
+        self.far_place_of(d)
+    }
+
+    /// As `place_of`, where it stands elsewhere.
+    #[cold]
+    #[inline(never)]
+    fn far_place_of(&self, d: u32) -> usize
+        requires { IsSome (get nat_eq self.now.heaps d) }
+        ensures { StandsAt self.now.heaps d result }
+    {
         match self.heaps.get_full(&d) {
             Some((place, _, _)) => place,
             None => unreachable!(),
@@ -97,14 +119,17 @@ impl ObjectStore for PlainStore {
         heap.make(t, shape)
     }
 
+    #[inline(always)]
     fn shape(&self, d: DomainId, a: u32) -> Shape {
         self.heap(d.0).shape(a)
     }
 
+    #[inline(always)]
     fn read(&self, _t: &ClassTable, d: DomainId, a: u32, i: u32) -> Value {
         self.heap(d.0).read(a, i)
     }
 
+    #[inline(always)]
     fn write(&mut self, _t: &ClassTable, d: DomainId, a: u32, i: u32, v: Value) {
         let place = self.place_of(d.0);
         let (_, heap) = self.heaps.pair_mut(place);

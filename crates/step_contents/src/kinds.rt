@@ -25,6 +25,7 @@ pub enum Kind {
 }
 
 /// What the instruction works on at which a frame stands.
+#[inline(always)]
 pub fn kind_of(at: &StandsAt<'_>) -> Kind
     requires { HasRow (place_of at.now) }
     ensures { IsOfKind (place_of at.now) result }
@@ -46,6 +47,7 @@ pub fn kind_of(at: &StandsAt<'_>) -> Kind
 }
 
 /// Whether an opcode other than that of ldc works on objects or static fields.
+#[inline(always)]
 fn works_on_heap(op: u8) -> bool
     ensures { result ≡ is_listed heap_opcodes op }
 {

@@ -19,6 +19,7 @@ use jk_model_classes::{BaseRef, Link, TypeRef};
 use shared_values::Text;
 
 /// An operand that isn't negative, as a number.
+#[inline(always)]
 fn number_of(operand: i32) -> Option<u32>
     ensures { MatchOption result ((n : ℕ) → operand ≡ pos n → ⊥) (λ n. operand ≡ pos n) }
 {
@@ -30,6 +31,7 @@ fn number_of(operand: i32) -> Option<u32>
 }
 
 /// What the first operand of an instruction leads to, and that it leads to nothing else.
+#[inline(always)]
 fn only_link<'a>(at: &StandsAt<'a>) -> Option<&'a Link>
     ensures { MatchOption result (HasNoLink (scope_of at.now.code) at.now.instr.now) (λ link. IsLink (scope_of at.now.code) at.now.instr.now link.now) }
 {
@@ -60,6 +62,7 @@ pub fn text_of<'a>(at: &StandsAt<'a>) -> Option<&'a Text>
 }
 
 /// The field that an instruction names: the one that was found. The operand leads to a field.
+#[inline(always)]
 pub fn field_of(at: &StandsAt<'_>) -> MemberId
     requires { (m : AMemberId) × LeadsToField (place_of at.now) m }
     ensures { LeadsToField (place_of at.now) result }
@@ -102,6 +105,7 @@ pub fn type_named<'a>(at: &StandsAt<'a>) -> &'a TypeRef
 }
 
 /// The class of the field that an instruction names; none where it names no field.
+#[inline(always)]
 fn field_class(at: &StandsAt<'_>) -> Option<ClassId>
     ensures none { IfNone result ((c : AClassId) (m : AMemberId) → LeadsToLink (scope_of at.now.code) at.now.instr.now (To.Field c m) → ⊥) }
     ensures some { IfSome result (λ class. (c : AClassId) × (m : AMemberId) × LeadsToLink (scope_of at.now.code) at.now.instr.now (To.Field c m)
@@ -117,6 +121,7 @@ fn field_class(at: &StandsAt<'_>) -> Option<ClassId>
 }
 
 /// The class of the method that an instruction names; none where it names no method.
+#[inline(always)]
 fn method_class(at: &StandsAt<'_>) -> Option<ClassId>
     ensures none { IfNone result ((c : AClassId) (m : AMemberId) → LeadsToLink (scope_of at.now.code) at.now.instr.now (To.Method c m) → ⊥) }
     ensures some { IfSome result (λ class. (c : AClassId) × (m : AMemberId) × LeadsToLink (scope_of at.now.code) at.now.instr.now (To.Method c m)
@@ -132,6 +137,7 @@ fn method_class(at: &StandsAt<'_>) -> Option<ClassId>
 }
 
 /// The class that an instruction names; none where it names none, or an array.
+#[inline(always)]
 fn named_class(at: &StandsAt<'_>) -> Option<ClassId>
     ensures none { IfNone result ((c : AClassId) → NamesClass (scope_of at.now.code) at.now.instr.now c → ⊥) }
     ensures some { IfSome result (λ class. NamesClass (scope_of at.now.code) at.now.instr.now class) }
@@ -152,6 +158,7 @@ fn named_class(at: &StandsAt<'_>) -> Option<ClassId>
 
 /// The class that an instruction needs before it is done: `new` its class, and getstatic, putstatic and invokestatic the class of
 /// the member that was found; none where it needs none.
+#[inline(always)]
 pub fn needed_by(at: &StandsAt<'_>) -> Option<ClassId>
     ensures { NeedsClass (place_of at.now) result }
 {

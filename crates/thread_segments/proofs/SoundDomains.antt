@@ -14,6 +14,7 @@ use Rattle.jk_model_sharing.specs.CapabilityCalls.{count_numbers}
 use Rattle.jk_model_sharing.specs.SharedStates.{SharedDomain, SharedState, caps_of, domain_numbered, ranges_of, spent, stub_for}
 use Rattle.list_lemmas.proofs.ItemsByPlace.{comes_from, item_there}
 use Rattle.list_lemmas.proofs.ItemsOfLists.{Contains-at, place_of}
+use Rattle.thread_segments.specs.Answers.{spent_steps}
 use Rattle.thread_segments.specs.SoundStates.{AreNumbered, AreSound, IsWithin, all_segments}
 use Rattle.thread_segments.proofs.Remaining.{all_remain}
 use Rattle.thread_segments.proofs.SoundThreads.{KeepsDomains, SameSegment, SameThread, segment_is, segments_left, thread_is, threads_left}
@@ -244,6 +245,31 @@ module _ (d : DomainId) (change : SharedDomain → SharedDomain) (r : Refits cha
 less_within : (quota left : Option ℕ) → IsWithin quota left → IsWithin quota (option_map (λ (n : ℕ). n - 1) left)
 less_within None left h = ap (option_map (λ (n : ℕ). n - 1)) h
 less_within (Some steps) left (n, is, low) = (n - 1, ap (option_map (λ (n : ℕ). n - 1)) is, omega (arith, low))
+
+less_by_within : (n : ℕ) (quota left : Option ℕ) → IsWithin quota left → IsWithin quota (option_map (λ (k : ℕ). k - n) left)
+less_by_within n None left h = ap (option_map (λ (k : ℕ). k - n)) h
+less_by_within n (Some steps) left (k, is, low) = (k - n, ap (option_map (λ (k : ℕ). k - n)) is, omega (arith, low))
+
+abbrev paid_steps : ℕ → SharedDomain → SharedDomain
+paid_steps n e = record e { steps_left = option_map (λ (k : ℕ). k - n) e.steps_left }
+
+paid_steps_refits : (n : ℕ) → Refits (paid_steps n)
+paid_steps_refits n = record {
+  number = λ e. refl;
+  live = λ e. refl;
+  quotas = λ e. refl;
+  owner = λ e. refl;
+  first = λ e. refl;
+  count = λ e. refl;
+  made = λ e. omega arith;
+}
+
+pub sound_spent_steps : (n : ℕ) (s : SharedState) (d : DomainId) → AreSound s → AreSound (spent_steps n d s)
+sound_spent_steps n s d h =
+    sound_one d (paid_steps n) (paid_steps_refits n) s
+    (λ e there number.
+    let x = sound_domain s h e there in
+    record { budget = less_by_within n e.quotas.steps e.steps_left x.budget; made = x.made; dead = x.dead; have_stubs = x.have_stubs }) h
 
 abbrev paid : SharedDomain → SharedDomain
 paid e = record e { steps_left = option_map (λ (n : ℕ). n - 1) e.steps_left }

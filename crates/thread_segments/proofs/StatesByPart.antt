@@ -1,5 +1,5 @@
 -- The shared state as its parts have it, and what the calls make of it.
-use Rattle.std.proofs.Common.{◌≡◌, ◌≢◌, ℕ, suc, true, false, ◌-◌, ◌<◌, IsTrue, List, [], ◌∷◌, ◌++◌, length, nat_lt, set, find, Option, Some, None, slice_get, refl, sym, ap, subst, ◌∙◌, arith, map, Result, Ok, Err}
+use Rattle.std.proofs.Common.{◌≡◌, ◌≢◌, ℕ, suc, true, false, ◌-◌, ◌<◌, ◌≤◌, IsTrue, List, [], ◌∷◌, ◌++◌, length, nat_lt, set, find, Option, Some, None, slice_get, refl, sym, ap, subst, ◌∙◌, arith, map, Result, Ok, Err}
 use Rattle.std.specs.Prelude.{◌==◌, option_and_then, option_map}
 use Rattle.std.proofs.lemmas.Bool.{lt-ltb, ltb-true}
 use Rattle.std.proofs.lemmas.Option.{same_Some, slice_get_within}
@@ -19,8 +19,8 @@ use Rattle.jk_model_sharing.specs.CapabilityCalls.{LacksNumbers, count_numbers, 
 use Rattle.jk_model_sharing.specs.Segments.{live_threads, new_segment, with_stack, without_top}
 use Rattle.jk_model_sharing.specs.SharedStates.{MayBegin, SharedDomain, SharedState, admitted, begun, caps_of, domain_numbered, popped, spent, stub_for, stub_of, with_caps}
 use Rattle.thread_segments.specs.ClassedRanges.{CreatesIn, has_room_in, revoked_in, used_up_in}
-use Rattle.thread_segments.specs.Asked.{IsAdmitted, IsLiveDomain, IsNext, MaySpend}
-use Rattle.thread_segments.specs.Answers.{CreatesFor, RevokesFor, count_numbers_left, has_stub, known_status, quotas_of, steps_left_of}
+use Rattle.thread_segments.specs.Asked.{IsAdmitted, IsLiveDomain, IsNext, MaySpend, MaySpendSteps}
+use Rattle.thread_segments.specs.Answers.{CreatesFor, RevokesFor, count_numbers_left, has_stub, known_status, quotas_of, spent_steps, steps_left_of}
 use Rattle.thread_segments.specs.declared.domains.DomainEntry.{DomainEntry}
 use Rattle.thread_segments.specs.DomainEntries.{AreCounted, domain_with, domains_with, state_of}
 use Rattle.thread_segments.specs.NameEntries.{NameList}
@@ -77,6 +77,9 @@ module _ (es : List DomainEntry) (rs : List CapRange) (stubs : List Stub) (ns : 
   pub may_spend : (d : DomainId) (a : Admitted d) → MaySpend here d → a.entry.steps_left ≢ Some 0
   may_spend d a may = may (domain_with d.0 a.entry a.range) a.is
 
+  pub may_spend_steps : (n : ℕ) (d : DomainId) (a : Admitted d) → MaySpendSteps here d n → (left : ℕ) → a.entry.steps_left ≡ Some left → n ≤ left
+  may_spend_steps n d a may left is = may (domain_with d.0 a.entry a.range) left a.is is
+
   -- ---- Threads that may begin.
 
   pub may_begin : (d : DomainId) (a : Admitted d) → a.entry.threads < a.entry.quotas.threads → MayBegin here d
@@ -129,6 +132,14 @@ module _ (es : List DomainEntry) (rs : List CapRange) (stubs : List Stub) (ns : 
       → record here { domains = domains_with 0 (set es d.0 new) rs } ≡ spent d here
   spent_is d a new quotas steps =
       let change : SharedDomain → SharedDomain = λ e. record e { steps_left = option_map (λ (n : ℕ). n - 1) e.steps_left } in
+      ap (λ (ds : List SharedDomain). record here { domains = ds })
+      (changed_at change d.0 0 d.0 es rs a.entry new a.there (omega arith) (λ r. rw (quotas, steps) refl))
+
+  pub spent_steps_is : (n : ℕ) (d : DomainId) (a : Admitted d) (new : DomainEntry) → new.quotas ≡ a.entry.quotas
+      → new.steps_left ≡ option_map (λ (k : ℕ). k - n) a.entry.steps_left
+      → record here { domains = domains_with 0 (set es d.0 new) rs } ≡ spent_steps n d here
+  spent_steps_is n d a new quotas steps =
+      let change : SharedDomain → SharedDomain = λ e. record e { steps_left = option_map (λ (k : ℕ). k - n) e.steps_left } in
       ap (λ (ds : List SharedDomain). record here { domains = ds })
       (changed_at change d.0 0 d.0 es rs a.entry new a.there (omega arith) (λ r. rw (quotas, steps) refl))
 

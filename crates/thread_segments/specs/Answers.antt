@@ -16,10 +16,14 @@ use Rattle.jk_model_heaps.specs.SystemClasses.{ILLEGAL_ARGUMENT_EXCEPTION}
 use Rattle.jk_model_sharing.specs.BoundNames.{Binds, BoundName, Unbinds}
 use Rattle.jk_model_sharing.specs.CapabilityCalls.{Creates, Revokes, count_numbers, status_of}
 use Rattle.jk_model_sharing.specs.Segments.{PlacedSegment, SharedSegment, SharedThread, segment_below, segment_numbered, segments_left, shared_form, top_segment}
-use Rattle.jk_model_sharing.specs.SharedStates.{MayBegin, SharedDomain, SharedState, begun, caps_of, domain_numbered, stub_for, with_caps}
+use Rattle.jk_model_sharing.specs.SharedStates.{MayBegin, SharedDomain, SharedState, begun, caps_of, domain_numbered, stub_for, with_caps, with_domain}
 use Rattle.thread_segments.specs.declared.segments.SegmentInfo.{SegmentInfo}
 
 -- ---- Domains.
+
+-- so many steps are paid at once: a domain with a budget has so many fewer
+abbrev pub spent_steps : ℕ → DomainId → SharedState → SharedState
+spent_steps n d s = with_domain d (λ (e : SharedDomain). record e { steps_left = option_map (λ (k : ℕ). k - n) e.steps_left }) s
 
 abbrev pub quotas_of : SharedState → DomainId → Option Quotas
 quotas_of s d = option_map (λ (e : SharedDomain). e.quotas) (domain_numbered s d)

@@ -1,5 +1,5 @@
 -- What the calls ask of the state that domains share, and of what they are given.
-use Rattle.std.specs.Prelude.{◌≡◌, ◌≢◌, ◌-◌, ◌<◌, ◌≤◌, ◌^◌, true, length, Some}
+use Rattle.std.specs.Prelude.{◌≡◌, ◌≢◌, ℕ, ◌-◌, ◌<◌, ◌≤◌, ◌^◌, true, length, Some}
 use Rattle.jk_model.specs.declared.identifiers.DomainId.{DomainId}
 use Rattle.jk_model.specs.declared.identifiers.SegmentNo.{SegmentNo}
 use Rattle.jk_model.specs.declared.identifiers.ThreadNo.{ThreadNo}
@@ -29,6 +29,10 @@ pub record AreWithin (q : Quotas) : Type 0 where
 -- its budget, where it has one, isn't 0
 abbrev pub MaySpend : SharedState → DomainId → Type 0
 MaySpend s d = (e : SharedDomain) → domain_numbered s d ≡ Some e → e.steps_left ≢ Some 0
+
+-- its budget, where it has one, isn't less than so many steps
+abbrev pub MaySpendSteps : SharedState → DomainId → ℕ → Type 0
+MaySpendSteps s d n = (e : SharedDomain) (left : ℕ) → domain_numbered s d ≡ Some e → e.steps_left ≡ Some left → n ≤ left
 
 -- ---- Threads and segments.
 

@@ -1,6 +1,6 @@
 //! What domains share, and how a domain gets its part of it.
 
-ghost use Rattle.std.specs.Prelude.{◌≡◌, ◌≢◌, ◌⊎◌, ◌-◌, ◌↔◌, ◌<◌, Contains, MatchOption, false, None, IsTrue, IsSome, Err, OnOk, OnErr, IfOk, Some, option_copied, option_map, vec_capacity, vec_len, ◌≤◌, length, slice_get, ◌==◌};
+ghost use Rattle.std.specs.Prelude.{◌≡◌, ◌≢◌, ◌⊎◌, ℕ, ◌-◌, ◌↔◌, ◌<◌, Contains, MatchOption, false, None, IsTrue, IsSome, Err, OnOk, OnErr, IfOk, Some, option_copied, option_map, vec_capacity, vec_len, ◌≤◌, length, slice_get, ◌==◌};
 ghost use Rattle.jk_model.specs.declared.identifiers.ClassId.{ClassId as Class};
 ghost use Rattle.jk_model_classes.specs.declared.records.BaseRef.TheVariants as Base;
 ghost use Rattle.jk_model_classes.specs.declared.sharing.Stub.{Stub as AStub};
@@ -10,8 +10,8 @@ ghost use Rattle.jk_model_sharing.specs.CapabilityCalls.{LacksNumbers};
 ghost use Rattle.jk_model_sharing.specs.KnownStubs.{AreRising};
 ghost use Rattle.jk_model_sharing.specs.Segments.{with_revoked, with_stop};
 ghost use Rattle.jk_model_sharing.specs.SharedStates.{MayBegin, Resumes, SharedDomain as Domain, Stops, Suspends, admitted, caps_of, domain_numbered, first_state, popped, spent, stub_of, with_flags};
-ghost use Rattle.thread_segments.specs.Answers.{Begins, BindsFor, CreatesFor, IsLeastAbove, IsLiveNumber, RevokesFor, UnbindsFor, count_numbers_left, known_status, number_below, quotas_of, segment_info, steps_left_of, top_number};
-ghost use Rattle.thread_segments.specs.Asked.{AreWithin, HasRoomForSegment, IsAdmitted, IsLiveDomain, IsLiveThread, IsNext, IsThere, MayDrawSegment, MayDrawThread, MaySpend};
+ghost use Rattle.thread_segments.specs.Answers.{Begins, BindsFor, CreatesFor, IsLeastAbove, IsLiveNumber, RevokesFor, UnbindsFor, count_numbers_left, known_status, number_below, quotas_of, segment_info, spent_steps, steps_left_of, top_number};
+ghost use Rattle.thread_segments.specs.Asked.{AreWithin, HasRoomForSegment, IsAdmitted, IsLiveDomain, IsLiveThread, IsNext, IsThere, MayDrawSegment, MayDrawThread, MaySpend, MaySpendSteps};
 ghost use Rattle.thread_segments.specs.SoundStates.{AreSound};
 
 use crate::capabilities::Capabilities;
@@ -142,6 +142,16 @@ impl Shared {
     {
         let entry = &mut self.domains[d.0 as usize];
         entry.steps_left = one_less(entry.steps_left);
+    }
+
+    /// Counts so many steps of a live domain. Where it has a budget, that isn't less; where it has none, nothing changes.
+    pub fn spend_steps(&mut self, d: DomainId, steps: u32)
+        requires live { IsLiveDomain self.old d }
+        requires budget { MaySpendSteps self.old d steps }
+        ensures { self.new ≡ spent_steps steps d self.old }
+    {
+        let entry = &mut self.domains[d.0 as usize];
+        entry.steps_left = fewer(entry.steps_left, steps);
     }
 
     /// Whether a live domain may begin a thread: fewer live ones were started in it than its quota allows.
@@ -430,6 +440,17 @@ fn one_less(left: Option<u32>) -> Option<u32>
 {
     match left {
         Some(n) => Some(n - 1),
+        None => None,
+    }
+}
+
+/// So many fewer, where there is a number.
+fn fewer(left: Option<u32>, steps: u32) -> Option<u32>
+    requires { (n : ℕ) → left ≡ Some n → steps ≤ n }
+    ensures { result ≡ option_map (λ n. n - steps) left }
+{
+    match left {
+        Some(n) => Some(n - steps),
         None => None,
     }
 }

@@ -1,0 +1,64 @@
+-- The budget alone is changed, of one domain, by so many steps.
+use Rattle.std.proofs.Common.{◌∙◌, ◌-◌, ℕ, option_map, ap, arith, subst, sym}
+use Rattle.std.proofs.lemmas.Option.{get_or_from_slice_get}
+use Rattle.jk_model_sharing.specs.SharedStates.{SharedState}
+use Rattle.thread_segments.specs.declared.domains.DomainEntry.{DomainEntry}
+use Rattle.thread_segments.specs.Asked.{IsLiveDomain, MaySpendSteps}
+use Rattle.thread_segments.specs.DomainEntries.{state_of}
+use Rattle.thread_segments.specs.SoundStates.{AreSound}
+use Rattle.thread_segments.proofs.CountsAreKept.{recounted, recounts_paid}
+use Rattle.thread_segments.proofs.SoundDomains.{sound_spent_steps}
+use Rattle.thread_segments.proofs.StatesByPart.{live_at, low_of, may_spend_steps, spent_steps_is}
+use Rattle.thread_segments.proofs.NamesAreCounted.{named_same}
+use Rattle.thread_segments.proofs.shared.Shared.spend_steps.Goals as goal
+
+pub index_mut-entry-requires : goal.index_mut-entry-requires
+index_mut-entry-requires c =
+    let s = c.self.inside in
+    let P : SharedState → Type 0 = λ x. IsLiveDomain x c.args.d in
+    let a = live_at s.domains.items s.caps s.stubs.stubs s.names s.threads c.self.invariant.counted c.args.d (subst P (sym c.self.view_is) c.requires.live) in
+    omega (arith, low_of s.domains.items s.caps s.stubs.stubs s.names s.threads c.self.invariant.counted c.args.d a, s.domains.ok.0)
+
+pub fewer-entry-requires : goal.fewer-entry-requires
+fewer-entry-requires c =
+    let s = c.self.inside in
+    let P : SharedState → Type 0 = λ x. IsLiveDomain x c.args.d in
+    let Q : SharedState → Type 0 = λ x. MaySpendSteps x c.args.d c.args.steps in
+    let a = live_at s.domains.items s.caps s.stubs.stubs s.names s.threads c.self.invariant.counted c.args.d (subst P (sym c.self.view_is) c.requires.live) in
+    let read = c.index_mut-entry.ensures.value ∙ get_or_from_slice_get s.domains.items c.args.d.0 a.entry c.index_mut-entry.result.now a.there in
+    let may = may_spend_steps s.domains.items s.caps s.stubs.stubs s.names s.threads c.self.invariant.counted c.args.steps c.args.d a
+    (subst Q (sym c.self.view_is) c.requires.budget) in
+    λ left is. may left (sym (ap (λ (e : DomainEntry). e.steps_left) read) ∙ is)
+
+pub invariant_of-self : goal.invariant_of-self
+invariant_of-self c =
+    let s = c.self.inside in
+    let P : SharedState → Type 0 = λ x. IsLiveDomain x c.args.d in
+    let a = live_at s.domains.items s.caps s.stubs.stubs s.names s.threads c.self.invariant.counted c.args.d (subst P (sym c.self.view_is) c.requires.live) in
+    let read = c.index_mut-entry.ensures.value ∙ get_or_from_slice_get s.domains.items c.args.d.0 a.entry c.index_mut-entry.result.now a.there in
+    let V : SharedState → Type 0 = λ x. AreSound x in
+    let now = state_of s.domains.items s.caps s.stubs.stubs s.names s.threads in
+    record {
+      counted =
+          recounted s.domains.items s.caps s.threads s.threads c.args.d.0 a.entry _ c.self.invariant.counted
+          (recounts_paid s.domains.items s.caps s.threads c.args.d.0 a.entry _ c.self.invariant.counted a.there
+          (ap (λ (e : DomainEntry). e.quotas) read) (ap (λ (e : DomainEntry). e.threads) read));
+      named =
+          named_same s.domains.items s.names c.args.d.0 a.entry _ c.self.invariant.named a.there (ap (λ (e : DomainEntry). e.quotas) read)
+          (ap (λ (e : DomainEntry). e.names) read);
+      sound =
+          subst V
+          (sym (spent_steps_is s.domains.items s.caps s.stubs.stubs s.names s.threads c.self.invariant.counted c.args.steps c.args.d a _ (ap (λ (e : DomainEntry). e.quotas) read)
+          (c.fewer-entry.ensures ∙ ap (λ (e : DomainEntry). option_map (λ (k : ℕ). k - c.args.steps) e.steps_left) read)))
+          (sound_spent_steps c.args.steps now c.args.d c.self.invariant.sound);
+    }
+
+pub returns : goal.returns
+returns c =
+    let s = c.self.inside in
+    let P : SharedState → Type 0 = λ x. IsLiveDomain x c.args.d in
+    let a = live_at s.domains.items s.caps s.stubs.stubs s.names s.threads c.self.invariant.counted c.args.d (subst P (sym c.self.view_is) c.requires.live) in
+    let read = c.index_mut-entry.ensures.value ∙ get_or_from_slice_get s.domains.items c.args.d.0 a.entry c.index_mut-entry.result.now a.there in
+    rw (← c.self.view_is)
+    (spent_steps_is s.domains.items s.caps s.stubs.stubs s.names s.threads c.self.invariant.counted c.args.steps c.args.d a _ (ap (λ (e : DomainEntry). e.quotas) read)
+    (c.fewer-entry.ensures ∙ ap (λ (e : DomainEntry). option_map (λ (k : ℕ). k - c.args.steps) e.steps_left) read))
