@@ -7,6 +7,8 @@ ghost use Rattle.machine_laws.specs.KnownMachines.{IsKnownWithoutJk};
 ghost use Rattle.kernel_turns.specs.PaidSteps.{HasSteps, spent_times};
 
 use crate::running::{Running, run_of};
+use class_init::Own;
+use domain_resolver::World;
 use frame_store::FrameStore;
 use jk_model::{DomainId, ThreadNo};
 use kernel_parts::KernelParts;
@@ -14,7 +16,7 @@ use machine_laws::machines::steps_stay_known_without_jk;
 use object_store::ObjectStore;
 use row_laws::heap_rows::heap_rows_keep;
 use row_laws::running::local_steps_keep;
-use segment_steps::run_in_frame;
+use segment_steps::{Runs, Worked, run_in_frame, stand, work};
 use thread_segments::Shared;
 
 /// At most so many steps of a thread, as long as each only computes or jumps within the thread's top frame, and how many they were. It stops
@@ -39,8 +41,63 @@ pub fn steps_in_frame<H: ObjectStore + Drop, F: FrameStore + Drop>(
     }
     let runs = running.runs;
     let most = within_budget(&k.shared, runs.domain, most);
-    let done = run_in_frame(&k.world, &mut k.frames, runs.segment, most);
-    pay(&mut k.shared, runs.domain, done);
+    go_on_in(
+        &k.world,
+        &mut k.owns,
+        &mut k.shared,
+        &mut k.heap,
+        &mut k.frames,
+        runs,
+        most,
+    )
+}
+
+fn go_on_in<H: ObjectStore, F: FrameStore>(
+    w: &World,
+    owns: &mut Vec<Option<Own>>,
+    shared: &mut Shared,
+    heap: &mut H,
+    frames: &mut F,
+    r: Runs,
+    most: u32,
+) -> u32
+{
+    match &mut owns[r.domain.0 as usize] {
+        Some(own) => {
+            let done = go_on(w, own, shared, heap, frames, r, most);
+            own.holds();
+            pay(shared, r.domain, done);
+            done
+        }
+        None => unreachable!(),
+    }
+}
+
+fn go_on<H: ObjectStore, F: FrameStore>(
+    w: &World,
+    own: &mut Own,
+    shared: &Shared,
+    heap: &mut H,
+    frames: &mut F,
+    r: Runs,
+    most: u32,
+) -> u32
+{
+    let Some(mut at) = stand(w, frames, r.segment) else {
+        return 0;
+    };
+    let mut done = 0;
+    while done < most {
+        done += run_in_frame(w, frames, r.segment, &mut at, most - done);
+        if done == most {
+            return done;
+        }
+        match work(w, heap, frames, own, shared, r, &mut at) {
+            Worked::Not => return done,
+            Worked::On => done += 1,
+            Worked::Off => return done + 1,
+        }
+    }
     done
 }
 
@@ -69,7 +126,5 @@ fn pay(shared: &mut Shared, d: DomainId, steps: u32)
     requires { HasSteps steps d shared.old }
     ensures { shared.new ≡ spent_times steps d shared.old }
 {
-    for _ in 0..steps {
-        shared.spend_step(d);
-    }
+    shared.spend_steps(d, steps);
 }

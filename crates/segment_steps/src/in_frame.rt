@@ -2,10 +2,9 @@
 
 ghost use Rattle.std.specs.Prelude.{◌≡◌, ◌≤◌, ℕ, None, true, IfNone, IfSome};
 ghost use Rattle.jk_model.specs.declared.identifiers.DomainId.{DomainId as ADomain};
-ghost use Rattle.jk_model_frames.specs.Frames.{FrameState as AFrame};
 ghost use Rattle.jk_model_sharing.specs.SharedStates.{SharedState};
 ghost use Rattle.class_init.specs.KeptStates.{KeptState};
-ghost use Rattle.frame_store.specs.FrameContents.{TopFrame};
+ghost use Rattle.frame_store.specs.FrameContents.{HasTop};
 ghost use Rattle.object_store.specs.HeapContents.{HeapContent};
 ghost use Rattle.step_contents.specs.Contents.{contents_of, here_at};
 ghost use Rattle.step_contents.specs.InstructionKinds.{HasRow};
@@ -14,6 +13,7 @@ ghost use Rattle.step_contents.specs.StandingFrames.{place_of};
 ghost use Rattle.segment_steps.specs.ActingSegments.{MayAct};
 ghost use Rattle.segment_steps.specs.InFrameSteps.{RunsInFrame};
 ghost use Rattle.segment_steps.specs.InFrameTurns.{GoesOnInFrame, IsInFrame, IsReadyAt, StaysAsItIs};
+ghost use Rattle.segment_steps.specs.StandingTops.{StandsThere};
 
 use domain_resolver::World;
 use frame_store::FrameStore;
@@ -28,59 +28,52 @@ struct NextInstr<'a> {
     instr: &'a Instr,
 }
 
-/// Takes at most so many steps of a segment's top frame, as long as each computes or jumps within the frame, and answers how many it
-/// took. It stops before a frame's need, an instruction of another kind, and a division by 0. It takes no memory, and neither heap nor
-/// own state: the frame and its code are found once, so that such a step costs less than another.
-pub fn run_in_frame<F: FrameStore>(w: &World, frames: &mut F, s: SegmentNo, steps: u32) -> u32
-    requires { (heaps : HeapContent) × (own : KeptState) × (shared : SharedState) × (d : ADomain)
-        × MayAct (contents_of heaps (F.content frames.old) own) (here_at w.now shared d s) }
-    ensures few { result ≤ steps }
-    ensures runs { (heaps : HeapContent) (own : KeptState) (shared : SharedState) (d : ADomain)
-        → RunsInFrame (contents_of heaps (F.content frames.old) own) (contents_of heaps (F.content frames.new) own)
-        (here_at w.now shared d s) result }
+/// Where the top frame of a segment stands; none where it has a need, or no code.
+#[inline(always)]
+pub fn stand<'a, F: FrameStore>(w: &'a World, frames: &F, s: SegmentNo) -> Option<StandsAt<'a>>
+    requires { HasTop (F.content frames.now) s }
+    ensures { IfSome result (λ at. StandsThere (F.content frames.now) w.now.classes s (place_of at)) }
 {
     let head = frames.head(s);
     if head.need.is_some() {
-        return 0;
+        return None;
     }
-    match stands_at(w.classes(), &head) {
-        Some(at) => run_from(w, frames, s, at, steps),
-        None => 0,
-    }
+    stands_at(w.classes(), &head)
 }
 
-/// As `run_in_frame`, where the top frame stands there and has no need.
-fn run_from<F: FrameStore>(
-    w: &World,
+/// Takes at most so many steps of a segment's top frame, which stands there, as long as each computes or jumps within the frame, and answers
+/// how many it took. It stops before an instruction of another kind, and before a division by 0, and says where. It takes no memory, and
+/// neither heap nor own state: the frame and its code aren't looked up again, so that such a step costs less than another.
+#[inline(always)]
+pub fn run_in_frame<'a, F: FrameStore>(
+    w: &'a World,
     frames: &mut F,
     s: SegmentNo,
-    at: StandsAt<'_>,
+    at: &mut StandsAt<'a>,
     steps: u32,
 ) -> u32
     requires may { (heaps : HeapContent) × (own : KeptState) × (shared : SharedState) × (d : ADomain)
         × MayAct (contents_of heaps (F.content frames.old) own) (here_at w.now shared d s) }
-    requires head { (f : AFrame) → TopFrame (F.content frames.old) s f → at.head ≡ f.head }
-    requires no_need { at.head.need ≡ None }
-    requires place { IsPlaceIn w.now.classes (place_of at) }
+    requires stands { StandsThere (F.content frames.old) w.now.classes s (place_of at.old) }
     ensures few { result ≤ steps }
     ensures runs { (heaps : HeapContent) (own : KeptState) (shared : SharedState) (d : ADomain)
         → RunsInFrame (contents_of heaps (F.content frames.old) own) (contents_of heaps (F.content frames.new) own)
         (here_at w.now shared d s) result }
+    ensures stands { StandsThere (F.content frames.new) w.now.classes s (place_of at.new) }
 {
-    let mut here = at;
     for done in 0..steps {
-        match next_in_frame(w, frames, s, &here) {
+        match next_in_frame(w, frames, s, at) {
             Some(next) => {
-                here.head.at = next.at;
-                here.instr = next.instr;
+                at.head.at = next.at;
+                at.instr = next.instr;
             }
             None => {
-                frames.go(s, here.head.at, None);
+                frames.go(s, at.head.at, None);
                 return done;
             }
         }
     }
-    frames.go(s, here.head.at, None);
+    frames.go(s, at.head.at, None);
     steps
 }
 

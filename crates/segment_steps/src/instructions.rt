@@ -89,6 +89,7 @@ fn do_numbers<H: ObjectStore, F: FrameStore>(
 }
 
 /// Does an instruction on objects, by which the frame goes on, or something is raised.
+#[inline(never)]
 fn do_heap<H: ObjectStore, F: FrameStore>(
     w: &World,
     heap: &mut H,

@@ -12,9 +12,11 @@ mod needed_classes;
 mod raising;
 mod returning;
 mod went;
+mod working;
 
 pub use acting::act;
-pub use in_frame::run_in_frame;
+pub use in_frame::{run_in_frame, stand};
 pub use meeting::{Meeting, Runs, meet};
 pub use raising::raise_here;
 pub use went::Went;
+pub use working::{Worked, work};

@@ -1,0 +1,168 @@
+//! Instructions that a segment does alone, one after another: they ask nothing of what domains share, print nothing, and leave the
+//! segment with a frame. The frame and its code aren't looked up again where it goes on.
+
+ghost use Rattle.std.specs.Prelude.{◌≡◌, ◌≢◌, true};
+ghost use Rattle.jk_model_sharing.specs.SharedStates.{SharedState};
+ghost use Rattle.class_init.specs.KeptStates.{KeptState};
+ghost use Rattle.frame_store.specs.FrameContents.{HasTop};
+ghost use Rattle.object_store.specs.HeapContents.{HeapContent};
+ghost use Rattle.step_contents.specs.Contents.{contents_of, here_at};
+ghost use Rattle.step_contents.specs.StandingFrames.{place_of};
+ghost use Rattle.segment_steps.specs.ActingSegments.{MayAct};
+ghost use Rattle.segment_steps.specs.StandingTops.{StandsThere, WaitsForNone};
+ghost use Rattle.segment_steps.specs.StepsAlone.{Steps};
+ghost use Rattle.segment_steps.specs.declared.went.Went.TheVariants as Goes;
+ghost use Rattle.segment_steps.specs.declared.working.Worked.TheVariants as Work;
+
+use crate::in_frame::stand;
+use crate::meeting::Runs;
+use crate::returning::give_back;
+use class_init::{Own, look};
+use domain_resolver::World;
+use frame_store::FrameStore;
+use jk_model::opcodes::{ATHROW, IRETURN, RETURN};
+use jk_model::{After, SegmentNo, ThreadNo};
+use jk_model_domains::Look;
+use object_store::ObjectStore;
+use step_contents::{Kind, StandsAt, kind_of, needed_by};
+use thread_segments::Shared;
+
+/// What came of an instruction that was tried.
+#[derive(Clone, Copy, Debug, PartialEq, Eq)]
+pub enum Worked {
+    /// It isn't done, and nothing changed: another function is to do it.
+    Undone,
+    /// It is done, and the top frame stands at an instruction.
+    AtInstruction,
+    /// It is done, and the top frame has a need, or no code.
+    AtNeed,
+}
+
+/// Does the instruction at which the top frame of a segment stands, where the class that it needs is ready, and it works on objects, calls a
+/// method with code, or returns to a frame below, and raises nothing; and says where the top frame stands then. It leaves all other
+/// instructions undone. It takes no memory, and time as the functions of the step crates say.
+#[inline(always)]
+pub fn work<'a, H: ObjectStore, F: FrameStore>(
+    w: &'a World,
+    heap: &mut H,
+    frames: &mut F,
+    own: &mut Own,
+    shared: &Shared,
+    r: Runs,
+    at: &mut StandsAt<'a>,
+) -> Worked
+    requires may { MayAct (contents_of (H.content heap.old) (F.content frames.old) own.old) (here_at w.now shared.now r.domain r.segment) }
+    requires stands { StandsThere (F.content frames.old) w.now.classes r.segment (place_of at.old) }
+    ensures undone { result ≡ Work.Undone → (H.content heap.new ≡ H.content heap.old) × (F.content frames.new ≡ F.content frames.old)
+        × (own.new ≡ own.old) }
+    ensures free { result ≢ Work.Undone → WaitsForNone (F.content frames.old) w.now.classes r.segment own.old.state r.thread }
+    ensures steps { result ≢ Work.Undone → Steps (contents_of (H.content heap.old) (F.content frames.old) own.old)
+        (contents_of (H.content heap.new) (F.content frames.new) own.new) (here_at w.now shared.now r.domain r.segment) r.thread Goes.GoesOn }
+    ensures stands { result ≡ Work.AtInstruction → StandsThere (F.content frames.new) w.now.classes r.segment (place_of at.new) }
+{
+    if !is_ready(own, r.thread, at) {
+        return Worked::Undone;
+    }
+    match kind_of(at) {
+        Kind::Heap => work_on_heap(w, heap, frames, own, shared, r, at),
+        Kind::Call => call(w, heap, frames, r, at),
+        Kind::Numbers => return_below(w, frames, own, r, at),
+    }
+}
+
+/// Whether the class that the instruction needs is ready, or it needs none.
+#[inline(always)]
+fn is_ready(own: &Own, t: ThreadNo, at: &StandsAt<'_>) -> bool {
+    match needed_by(at) {
+        Some(c) => look(own, t, c) == Look::Ready,
+        None => true,
+    }
+}
+
+/// An instruction on objects. What raises something is undone.
+#[inline(always)]
+fn work_on_heap<'a, H: ObjectStore, F: FrameStore>(
+    w: &'a World,
+    heap: &mut H,
+    frames: &mut F,
+    own: &mut Own,
+    shared: &Shared,
+    r: Runs,
+    at: &mut StandsAt<'a>,
+) -> Worked {
+    if at.instr.op == ATHROW {
+        return Worked::Undone;
+    }
+    match heap_ops::step(heap, frames, own, shared, w, r.domain, r.segment, at) {
+        After::Goto(n) => {
+            frames.go(r.segment, n, None);
+            match at.code.code.instrs.get(n as usize) {
+                Some(instr) => {
+                    at.head.at = n;
+                    at.instr = instr;
+                    Worked::AtInstruction
+                }
+                None => unreachable!(),
+            }
+        }
+        _ => Worked::Undone,
+    }
+}
+
+/// An instruction of call. What raises something, calls a method of the system, or calls through a capability is undone.
+fn call<'a, H: ObjectStore, F: FrameStore>(
+    w: &'a World,
+    heap: &H,
+    frames: &mut F,
+    r: Runs,
+    at: &mut StandsAt<'a>,
+) -> Worked {
+    match call_ops::step(heap, frames, w, r.domain, r.segment, at) {
+        After::Goto(_) => stand_anew(w, frames, r.segment, at),
+        _ => Worked::Undone,
+    }
+}
+
+/// A return to a frame below. All else is undone.
+fn return_below<'a, F: FrameStore>(
+    w: &'a World,
+    frames: &mut F,
+    own: &mut Own,
+    r: Runs,
+    at: &mut StandsAt<'a>,
+) -> Worked {
+    if at.instr.op < IRETURN || RETURN < at.instr.op {
+        return Worked::Undone;
+    }
+    if frames.depth(r.segment) < 2 {
+        return Worked::Undone;
+    }
+    match number_ops::step(frames, w, r.segment, &at.head, at.instr) {
+        After::Return(v) => {
+            let _went = give_back(own, frames, r.segment, &at.head, v);
+            stand_anew(w, frames, r.segment, at)
+        }
+        _ => unreachable!(),
+    }
+}
+
+/// Looks up where the top frame stands.
+#[inline(always)]
+fn stand_anew<'a, F: FrameStore>(
+    w: &'a World,
+    frames: &F,
+    s: SegmentNo,
+    at: &mut StandsAt<'a>,
+) -> Worked
+    requires { HasTop (F.content frames.now) s }
+    ensures done { result ≢ Work.Undone }
+    ensures stands { result ≡ Work.AtInstruction → StandsThere (F.content frames.now) w.now.classes s (place_of at.new) }
+{
+    match stand(w, frames, s) {
+        Some(there) => {
+            *at = there;
+            Worked::AtInstruction
+        }
+        None => Worked::AtNeed,
+    }
+}
