@@ -31,7 +31,7 @@ use Rattle.heap_laws.specs.KeptInsides.{IsKept}
 use Rattle.heap_laws.specs.RunningFrames.{RunsWell}
 use Rattle.number_laws.specs.FrameLaws.{with_head}
 use Rattle.number_ops.specs.NumberSteps.{DoesNumbers, IsReady}
-use Rattle.number_ops.proofs.TopFrames.{same_top}
+use Rattle.number_ops.proofs.TopFrames.{same_top, top_after}
 use Rattle.row_laws.specs.StandingFrames.{StandsTyped}
 use Rattle.row_laws.proofs.NumberRowsKept.{number_kept}
 use Rattle.row_laws.proofs.StandsHere.{goes, least, room, stands_typed, typed}
@@ -41,11 +41,12 @@ use Rattle.step_contents.specs.InstructionKinds.{HasRow}
 use Rattle.step_contents.specs.PlacesInCode.{IsPlaceIn, PlaceInCode}
 use Rattle.step_contents.specs.Settings.{IsSetting}
 use Rattle.step_contents.proofs.InstructionsBegin.{runs_well}
-use Rattle.exception_unwind.proofs.FramesChanged.{same_frames, segment_of, sets_it, then_changes, top_there}
+use Rattle.exception_unwind.proofs.FramesChanged.{segment_of, sets_it, then_changes, top_there}
 use Rattle.exception_unwind.proofs.InsidesChanged.{nothing_changed, with_frames}
 use Rattle.segment_steps.specs.ActingSegments.{MayAct}
 use Rattle.segment_steps.specs.InFrameSteps.{NeedsNoClass, StaysInFrame, StepsInFrame, none, one_more}
 use Rattle.segment_steps.specs.InFrameTurns.{GoesOnInFrame, IsReadyAt, StaysAsItIs}
+use Rattle.segment_steps.specs.StandingTops.{StandsThere}
 use Rattle.segment_steps.proofs.NeedsOfFrames.{code_at, needs_there}
 use Rattle.segment_steps.proofs.NumbersInFrame.{needs_no_class, scope_at}
 
@@ -84,10 +85,6 @@ module _ {old : Contents} {here : Here} (may : MayAct old here) where
   on_top : (callers : List FrameState) (f : FrameState) → may.run.frames ≡ callers ++ f ∷ [] → TopFrame old.frames here.segment f
   on_top callers f are =
       record { segment = segment_of here.domain may.run.frames; is_there = may.holds.frames; lower = callers; frames = are }
-
-  pub has_top : HasTop old.frames here.segment
-  has_top =
-      let top = top_of here.world.classes may.run.frames may.answers in (top.1, on_top top.0 top.1 top.2)
 
   inside_stays : InsideBecomes old old here may.run.inside
   inside_stays = subst (InsideBecomes old old here) (sym may.holds.inside) (nothing_changed old here may.domain)
@@ -129,17 +126,6 @@ module _ {old : Contents} {here : Here} (may : MayAct old here) where
             other_domains = λ e differ. refl;
           };
         }
-
-    -- none was done
-    pub nothing_done : (run : Run) × StepsInFrame x t 0 may.run run × Becomes old old here may.run run
-    nothing_done = (
-      may.run,
-      none may.run,
-      record {
-        inside = inside_stays;
-        frames = same_frames old here may.run.frames may.holds.frames;
-      },
-    )
 
     -- ---- In between.
 
@@ -387,3 +373,13 @@ module _ {old : Contents} {here : Here} (may : MayAct old here) where
             };
           },
         )
+
+        -- and there it stands then
+        pub stands_last : StandsThere new classes here.segment at
+        stands_last = record {
+          frame = m.frame;
+          top = subst (TopFrame new here.segment) as_stored (top_after now new here.segment (settled stored_frame) (stores stored_frame stored_top));
+          head = m.head;
+          no_need = ap (λ (h : FrameHead). h.need) m.head ∙ m.runs.no_need;
+          place = place;
+        }

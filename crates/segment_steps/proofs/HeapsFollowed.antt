@@ -1,14 +1,19 @@
 -- An instruction on objects was done: its frame goes on, or something is raised.
-use Rattle.std.proofs.Common.{◌≡◌, None, refl, subst, ℕ}
+use Rattle.std.proofs.Common.{◌≡◌, ℕ, List, Some, None, slice_get, refl, sym, ap, subst, ◌∙◌}
+use Rattle.std.proofs.lemmas.Option.{none-some}
+use Rattle.jk_model.specs.declared.frames.FrameHead.{FrameHead}
+use Rattle.jk_model.specs.declared.instructions.Instr.{Instr}
 use Rattle.jk_model.specs.declared.steps.After.{After}
 use Rattle.jk_model.specs.declared.steps.After.TheVariants as Next
 use Rattle.jk_model.specs.declared.steps.Raise.{Raise}
 use Rattle.jk_model_classes.specs.Worlds.{WorldRecord}
 use Rattle.jk_model_frames.specs.Frames.{FrameState}
-use Rattle.jk_model_heaps.specs.Workings.{GoesOn, Outcome, Raises, Setting, Working}
+use Rattle.jk_model_heaps.specs.CalledFrames.{at_place}
+use Rattle.jk_model_heaps.specs.Workings.{GoesOn, Outcome, Raises, Run, Setting, Working}
 use Rattle.jk_model_heap_rows.specs.HeapRows.{HeapRow}
 use Rattle.jk_model_running.specs.Executions.{heap}
 use Rattle.jk_model_sharing.specs.SharedStates.{SharedState}
+use Rattle.jk_model_typing.specs.Scopes.{CodeScope}
 use Rattle.class_init.specs.KeptStates.{HasRooms, KeptState}
 use Rattle.frame_store.specs.FrameContents.{FrameContent, HasTop, SetsTop, TopFrame}
 use Rattle.heap_laws.specs.FittingOutcomes.{FitsOutcome}
@@ -17,6 +22,7 @@ use Rattle.heap_laws.specs.RaisableObjects.{MayBeRaised}
 use Rattle.heap_ops.specs.HeapSteps.{HeapDone}
 use Rattle.object_store.specs.HeapContents.{HeapContent}
 use Rattle.row_laws.specs.HeapRowLaws.{HeapRowsKeep}
+use Rattle.row_laws.proofs.StandsHere.{code_here}
 use Rattle.step_contents.specs.AnsweredSteps.{IsAnswered}
 use Rattle.step_contents.specs.Conditions.{MayDo, MayRaise, around, working}
 use Rattle.step_contents.specs.Contents.{Becomes, Contents, Here, contents_of, with_frame}
@@ -25,14 +31,23 @@ use Rattle.step_contents.specs.Settings.{IsSetting}
 use Rattle.step_contents.proofs.InstructionsBegin.{is_some_setting, runs_code, runs_well, some_setting}
 use Rattle.segment_steps.specs.ActingSegments.{MayAct}
 use Rattle.segment_steps.specs.RaisingHere.{RaisedHere}
+use Rattle.segment_steps.specs.StandingTops.{StandsThere}
 use Rattle.segment_steps.specs.StepsAlone.{StandsReady, Stepped}
 use Rattle.segment_steps.specs.declared.meeting.Runs.{Runs}
 use Rattle.segment_steps.specs.declared.went.Went.{Went}
 use Rattle.segment_steps.specs.declared.went.Went.TheVariants as Goes
-use Rattle.segment_steps.proofs.InstructionsLeave.{goes_at, may_raise, raisable, raised_at, top_left}
+use Rattle.segment_steps.proofs.ChangesInTurn.{are_frames}
+use Rattle.segment_steps.proofs.ContentsStay.{StaySame, contents_stay}
+use Rattle.segment_steps.proofs.InstructionsLeave.{goes_at, may_raise, raisable, raised_at, stands_then, top_left}
 use Rattle.segment_steps.proofs.KnownAfterwards.{rooms_after}
 use Rattle.segment_steps.proofs.KnownAfterwards.{IsKept as IsKeptWell}
+use Rattle.segment_steps.proofs.NumbersInFrame.{scope_at}
 use Rattle.segment_steps.proofs.StandingHere.{here, may_do}
+
+-- a row by which something is raised leaves all as it was
+abbrev pub RaisesStay : Type 0
+RaisesStay =
+    (x : Setting) (s : CodeScope) (i : Instr) (w new : Working) (raise : Raise) → HeapRow x s i w new (Raises raise) → new ≡ w
 
 module _ (old : Contents) (world : WorldRecord) (shared : SharedState) (r : Runs) (at : PlaceInCode)
     (st : StandsReady old.frames world.classes old.own.state r at) (heaps : HeapContent) (frames : FrameContent) (own : KeptState)
@@ -82,6 +97,37 @@ module _ (old : Contents) (world : WorldRecord) (shared : SharedState) (r : Runs
         let l = left_at n done in
         goes_at old world shared r at st may l.w l.kept.0.head heaps frames new own l.becomes x is n (heap l.row) goes
 
+    -- ---- It stands at an instruction there.
+
+    pub next_there : (n : ℕ) → HeapDone old mid h at (Next.Goto n) → slice_get at.scope.code.instrs n ≡ None → ⊥
+    next_there n done none =
+        let l = left_at n done in
+        let code = code_here world.classes (at_place l.w.frame n) l.kept.1.0 in
+        let has : at.head.method ≡ Some code.method = ap (λ (k : FrameHead). k.method) (st.head ∙ sym l.kept.0.head) ∙ code.is_method in
+        let scope : code.scope ≡ at.scope = scope_at world.classes at st.place code.method code.scope has code.is_scope in
+        none-some code.instr (sym none ∙ sym (ap (λ (s : CodeScope). slice_get s.code.instrs n) scope) ∙ code.stands)
+
+    pub stands_on : (n : ℕ) → HeapDone old mid h at (Next.Goto n) → (new : FrameContent)
+        → ((f : FrameState) → TopFrame frames r.segment f
+        → SetsTop frames new r.segment (record f { head = record f.head { at = n; need = None } }))
+        → (instr : Instr) → slice_get at.scope.code.instrs n ≡ Some instr
+        → StandsThere new world.classes r.segment (record { head = record at.head { at = n }; scope = at.scope; instr = instr })
+    stands_on n done new goes instr there =
+        let l = left_at n done in
+        stands_then old world shared r at st may l.w l.kept.0.head heaps frames new own l.becomes n goes instr there
+
+    -- ---- It raises something, and nothing changed.
+
+    pub raised_nothing : (raise : Raise) → HeapDone old mid h at (Next.Raise raise) → RaisesStay → StaySame old mid
+    raised_nothing raise done stays =
+        let l = left_raising raise done in
+        let same : l.w ≡ working doing = stays x at.scope at.instr (working doing) l.w raise l.row in
+        let still : Becomes old mid h may.run (with_frame st.top.lower st.frame may.run.inside) =
+        subst (λ (w : Working). Becomes old mid h may.run (with_frame st.top.lower w.frame w.inside)) same l.becomes in
+        contents_stay old mid h may.run may.domain may.holds
+        (subst (λ (fs : List FrameState). Becomes old mid h may.run (let run : Run = record { inside = may.run.inside; frames = fs } in run))
+        (sym (are_frames old h may.run may.holds st.frame st.top)) still)
+
     -- ---- It raises something.
 
     module _ (raise : Raise) (done : HeapDone old mid h at (Next.Raise raise)) (keeps : IsKeptWell own) where
@@ -116,3 +162,13 @@ nothing_else old new world shared r at st may after done goes raises =
     let to_do = may_do old world shared r at st may in
     let d = done (some_setting to_do) to_do (is_some_setting to_do) in
     two_answers after d.1 d.3 goes raises
+
+-- where it doesn't go on, nothing changed
+pub else_nothing : (old new : Contents) (world : WorldRecord) (shared : SharedState) (r : Runs) (at : PlaceInCode)
+    (st : StandsReady old.frames world.classes old.own.state r at) → HeapRowsKeep → RaisesStay → MayAct old (here old world shared r at st)
+    → (after : After) → HeapDone old new (here old world shared r at st) at after → ((n : ℕ) → after ≡ Next.Goto n → ⊥) → StaySame old new
+else_nothing old new world shared r at st rows stays may (Next.Raise raise) done goes =
+    let to_do = may_do old world shared r at st may in
+    raised_nothing old world shared r at st new.heaps new.frames new.own rows may (some_setting to_do) (is_some_setting to_do) raise done stays
+else_nothing old new world shared r at st rows stays may after done goes =
+    absurd (nothing_else old new world shared r at st may after done goes (λ raise is. cc))

@@ -1,8 +1,9 @@
 -- What an instruction left that keeps what rows keep: its frame goes on at a place, or something is raised there.
-use Rattle.std.proofs.Common.{◌≡◌, ℕ, [], ◌∷◌, ◌++◌, Option, None, refl, sym, ap, subst, ◌∙◌, arith}
+use Rattle.std.proofs.Common.{◌≡◌, ℕ, [], ◌∷◌, ◌++◌, Option, Some, None, slice_get, refl, sym, ap, subst, ◌∙◌, arith}
 use Rattle.std.proofs.lemmas.List.Sums.{sum_by_push}
 use Rattle.jk_model.specs.declared.frames.FrameHead.{FrameHead}
 use Rattle.jk_model.specs.declared.identifiers.ClassId.{ClassId}
+use Rattle.jk_model.specs.declared.instructions.Instr.{Instr}
 use Rattle.jk_model.specs.declared.steps.Raise.{Raise}
 use Rattle.jk_model_classes.specs.Worlds.{WorldRecord}
 use Rattle.jk_model_frames.specs.Frames.{FrameState, frames_chunks, head_chunks}
@@ -21,6 +22,7 @@ use Rattle.jk_model_sharing.specs.SharedStates.{SharedState}
 use Rattle.class_init.specs.KeptStates.{HasRooms, KeptState}
 use Rattle.frame_store.specs.FrameContents.{FrameContent, SetsTop, TopFrame}
 use Rattle.object_store.specs.HeapContents.{HeapContent}
+use Rattle.number_ops.proofs.TopFrames.{top_after}
 use Rattle.heap_laws.specs.KeptInsides.{IsKept}
 use Rattle.heap_laws.specs.RaisableObjects.{KeepsStates, MayBeRaised, MayMeetRaise}
 use Rattle.step_contents.specs.Conditions.{MayRaise, around, working}
@@ -30,6 +32,7 @@ use Rattle.step_contents.specs.Settings.{IsSetting}
 use Rattle.step_contents.proofs.InstructionsBegin.{same_quota}
 use Rattle.segment_steps.specs.ActingSegments.{MayAct}
 use Rattle.segment_steps.specs.RaisingHere.{RaisedHere, went_of}
+use Rattle.segment_steps.specs.StandingTops.{StandsThere}
 use Rattle.segment_steps.specs.StepsAlone.{IsWent, StandsReady, Stepped}
 use Rattle.segment_steps.specs.declared.meeting.Runs.{Runs}
 use Rattle.segment_steps.specs.declared.went.Went.{Went}
@@ -101,6 +104,19 @@ module _ (old : Contents) (world : WorldRecord) (shared : SharedState) (r : Runs
       goes_at x is n executes goes =
           stepped old world shared r at st may x is w (GoesOn n) executes (contents_of heaps new own)
           (with_frame st.top.lower (at_place w.frame n) w.inside) WentOn Goes.GoesOn (goes_on n) refl (becomes_at n goes)
+
+      -- and there it stands, at the instruction that is at that place
+      pub stands_then : (n : ℕ) → ((f : FrameState) → TopFrame frames r.segment f
+          → SetsTop frames new r.segment (record f { head = record f.head { at = n; need = None } }))
+          → (instr : Instr) → slice_get at.scope.code.instrs n ≡ Some instr
+          → StandsThere new world.classes r.segment (record { head = record at.head { at = n }; scope = at.scope; instr = instr })
+      stands_then n goes instr there = record {
+        frame = at_place w.frame n;
+        top = top_after frames new r.segment (at_place w.frame n) (placed n goes);
+        head = ap (λ (k : FrameHead). let next : FrameHead = record k { at = n } in next) (st.head ∙ sym head);
+        no_need = st.no_need;
+        place = record { method = st.place.method; is_method = st.place.is_method; is_scope = st.place.is_scope; stands = there };
+      }
 
   -- ---- Something is raised.
 

@@ -7,6 +7,7 @@ pub mod CallsFollowed
 pub mod CallsMoved
 pub mod ChangesInTurn
 pub mod ConstantsFollowed
+pub mod ContentsStay
 pub mod FramesInTurn
 pub mod FramesMoved
 pub mod FramesReplaced
@@ -24,9 +25,12 @@ pub mod NumbersBegin
 pub mod NumbersDone
 pub mod NumbersFollowed
 pub mod NumbersInFrame
+pub mod OnlyReturns
 pub mod RaisedInSegments
+pub mod ReadyClasses
 pub mod SegmentsRaise
 pub mod StandingHere
+pub mod StandsAfterwards
 pub mod StatesStay
 pub mod SystemCalled
 pub mod SystemFollowed

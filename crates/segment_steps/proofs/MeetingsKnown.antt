@@ -50,7 +50,7 @@ module _ (s : CodeScope) (i : Instr) (c d : ClassId) where
   same_type : To.Class (array_type 0 (Base.Class c)) ≡ To.Class (array_type 0 (Base.Class d)) → c ≡ d
   same_type e = class_of c d cc
 
-  needs_one : InstrNeeds s i c → InstrNeeds s i d → c ≡ d
+  pub needs_one : InstrNeeds s i c → InstrNeeds s i d → c ≡ d
   needs_one (inl (op, (a, m, leads, is))) (inl (op2, (b, n, too, is2))) =
       same_field a b m n (one_link s i (To.Field a m) (To.Field b n) leads too) is is2
   needs_one (inl (op, (a, m, leads, is))) (inr (inl (op2, (b, n, too, is2)))) =
@@ -83,7 +83,7 @@ frame_needs_one classes f c d (inr (none, (code, needs))) (inr (none2, (other, t
 
 -- ---- What was met.
 
-ready_state : (t : ThreadNo) (s : ClassState) (look : Look) → IsLook t s look → look ≡ Sees.Ready → (s ≡ State.Done) ⊎ (s ≡ State.InProgress t)
+pub ready_state : (t : ThreadNo) (s : ClassState) (look : Look) → IsLook t s look → look ≡ Sees.Ready → (s ≡ State.Done) ⊎ (s ≡ State.InProgress t)
 ready_state t State.Untouched look is e = (let two : Sees.Untouched ≡ Sees.Ready = sym is ∙ e in absurd cc)
 ready_state t (State.InProgress by) look (inl (same, is)) e = inr (ap State.InProgress same)
 ready_state t (State.InProgress by) look (inr (other, is)) e = (let two : Sees.Waits ≡ Sees.Ready = sym is ∙ e in absurd cc)

@@ -1,5 +1,5 @@
 -- What follows an instruction on numbers: its frame goes on, returns, or divided by 0.
-use Rattle.std.proofs.Common.{◌≡◌, ℕ, Option, None, refl, sym, ◌∙◌}
+use Rattle.std.proofs.Common.{◌≡◌, ◌≢◌, ℕ, [], Option, None, refl, sym, subst, ◌∙◌}
 use Rattle.jk_model.specs.declared.steps.After.TheVariants as Next
 use Rattle.jk_model.specs.declared.steps.Raise.{Raise}
 use Rattle.jk_model.specs.declared.values.Value.{Value}
@@ -26,6 +26,7 @@ use Rattle.segment_steps.specs.declared.went.Went.TheVariants as Goes
 use Rattle.segment_steps.proofs.FramesReturn.{may_return, returned}
 use Rattle.segment_steps.proofs.InstructionsLeave.{goes_at, may_raise, raisable, raised_at}
 use Rattle.segment_steps.proofs.NumbersDone.{becomes, executes, head_stays, kept, left, left_working}
+use Rattle.segment_steps.proofs.OnlyReturns.{went_on_below}
 use Rattle.segment_steps.proofs.StandingHere.{here}
 
 module _ (heaps : HeapContent) (frames mid : FrameContent) (own : KeptState) (world : WorldRecord) (shared : SharedState) (r : Runs)
@@ -93,3 +94,9 @@ module _ (heaps : HeapContent) (frames mid : FrameContent) (own : KeptState) (wo
           (head_stays old world shared r at st mid (Next.Return v) did) (becomes old world shared r at st mid (Next.Return v) did may) v
           (kept old world shared r at st mid (Next.Return v) did may x is (Returns v) refl).1 x is new went
           (executes old world shared r at st mid (Next.Return v) did may x is (Returns v) refl) back
+
+      -- where there are callers, the segment goes on
+      pub gone_below : (new : Contents) (went : Went) → st.top.lower ≢ [] → HasReturned x then new h st.top.lower w v went
+          → Stepped x r.thread may new Goes.GoesOn
+      gone_below new went some back =
+          subst (Stepped x r.thread may new) (went_on_below x then new h st.top.lower w v went some back) (given_back new went back)

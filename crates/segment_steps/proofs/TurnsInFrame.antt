@@ -1,5 +1,5 @@
 -- The turns of the quick loop, whichever stores of objects, own states, domains and settings they are looked at in.
-use Rattle.std.proofs.Common.{◌≡◌, ℕ, ◌+◌, None}
+use Rattle.std.proofs.Common.{◌≡◌, ℕ, ◌+◌, None, ◌∙◌}
 use Rattle.jk_model.specs.declared.frames.FrameHead.{FrameHead}
 use Rattle.jk_model.specs.declared.identifiers.DomainId.{DomainId}
 use Rattle.jk_model.specs.declared.identifiers.SegmentNo.{SegmentNo}
@@ -16,11 +16,13 @@ use Rattle.step_contents.specs.Contents.{contents_of, here_at}
 use Rattle.step_contents.specs.InstructionKinds.{HasRow}
 use Rattle.step_contents.specs.PlacesInCode.{IsPlaceIn, PlaceInCode}
 use Rattle.step_contents.specs.Settings.{IsSetting}
+use Rattle.number_ops.proofs.TopFrames.{same_top}
 use Rattle.exception_unwind.proofs.KnownDomains.{some_setting}
 use Rattle.segment_steps.specs.ActingSegments.{MayAct}
 use Rattle.segment_steps.specs.InFrameSteps.{RunsInFrame}
 use Rattle.segment_steps.specs.InFrameTurns.{GoesOnInFrame, IsReadyAt, StaysAsItIs}
-use Rattle.segment_steps.proofs.FramesInTurn.{Midway, begins, ends, has_row, has_top, moves, next_place, nothing_done, ready, rests, still_top}
+use Rattle.segment_steps.specs.StandingTops.{StandsThere}
+use Rattle.segment_steps.proofs.FramesInTurn.{Midway, begins, ends, has_row, moves, next_place, ready, rests, stands_last, still_top}
 
 -- The top frame stands there after so many steps.
 pub record SoFar (old now : FrameContent) (w : WorldRecord) (s : SegmentNo) (at : PlaceInCode) (done : ℕ) : Type 0 where
@@ -34,22 +36,14 @@ abbrev pub at_head : FrameHead → ℕ → FrameHead
 at_head h n = record h { at = n }
 
 module _ (old : FrameContent) (w : WorldRecord) (s : SegmentNo) where
-  -- ---- At first, and where nothing is done.
+  -- ---- At first.
 
-  pub begun : (at : PlaceInCode) → ((f : FrameState) → TopFrame old s f → at.head ≡ f.head) → at.head.need ≡ None → IsPlaceIn w.classes at
-      → SoFar old old w s at 0
-  begun at stands no_need place = record {
-    place = place;
-    midway = λ heaps own shared d may x t set. begins may x t set at stands no_need place;
+  pub begun : (at : PlaceInCode) → StandsThere old w.classes s at → SoFar old old w s at 0
+  begun at stands = record {
+    place = stands.place;
+    midway = λ heaps own shared d may x t set.
+        begins may x t set at (λ f top. stands.head ∙ same_top old s stands.frame f stands.top top) stands.no_need stands.place;
   }
-
-  pub none_done : (heaps : HeapContent) (own : KeptState) (shared : SharedState) (d : DomainId)
-      → RunsInFrame (contents_of heaps old own) (contents_of heaps old own) (here_at w shared d s) 0
-  none_done heaps own shared d = λ x t may set. nothing_done may x t set
-
-  pub first_top : (heaps : HeapContent) (own : KeptState) (shared : SharedState) (d : DomainId)
-      → MayAct (contents_of heaps old own) (here_at w shared d s) → HasTop old s
-  first_top heaps own shared d may = has_top may
 
   module _ (now : FrameContent) (at : PlaceInCode) (done : ℕ) (far : SoFar old now w s at done) where
     -- ---- What a turn asks, by some way in which the segment may act.
@@ -106,3 +100,12 @@ module _ (old : FrameContent) (w : WorldRecord) (s : SegmentNo) where
         → RunsInFrame (contents_of heaps old own) (contents_of heaps new own) (here_at w shared d s) done
     ended new stores heaps own shared d = λ x t may set.
         ends may x t set now at done far.place (far.midway heaps own shared d may x t set) new stores
+
+    pub stands_then : (heaps : HeapContent) (own : KeptState) (shared : SharedState) (d : DomainId)
+        → MayAct (contents_of heaps old own) (here_at w shared d s) → (new : FrameContent) → ((f : FrameState) → TopFrame now s f
+        → SetsTop now new s (record f { head = record f.head { at = at.head.at; need = None } }))
+        → StandsThere new w.classes s at
+    stands_then heaps own shared d may new stores =
+        let set = some_setting (contents_of heaps old own) (here_at w shared d s) may.domain in
+        let thread : ThreadNo = record { 0 = 0 } in
+        stands_last may set.0 thread set.1 now at done far.place (far.midway heaps own shared d may set.0 thread set.1) new stores

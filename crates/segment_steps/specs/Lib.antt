@@ -8,4 +8,5 @@ pub mod Initialisers
 pub mod Meetings
 pub mod RaisingHere
 pub mod Returning
+pub mod StandingTops
 pub mod StepsAlone

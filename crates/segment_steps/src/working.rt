@@ -2,7 +2,14 @@
 //! segment with a frame. The frame and its code aren't looked up again where it goes on.
 
 ghost use Rattle.std.specs.Prelude.{◌≡◌, ◌≢◌, true};
+ghost use Rattle.jk_model.specs.declared.identifiers.ClassId.{ClassId as AClassId};
+ghost use Rattle.jk_model_call_rows.specs.CallRows.{IsOfCalls};
+ghost use Rattle.jk_model_domains.specs.NumberRows.{IsOfNumbers};
+ghost use Rattle.jk_model_heap_rows.specs.HeapRows.{IsOfHeaps};
+ghost use Rattle.jk_model_heaps.specs.RunningCode.{InstrNeeds};
+ghost use Rattle.jk_model_running.specs.Initialising.{IsReady};
 ghost use Rattle.jk_model_sharing.specs.SharedStates.{SharedState};
+ghost use Rattle.type_rows.specs.CodeViews.{scope_of};
 ghost use Rattle.class_init.specs.KeptStates.{KeptState};
 ghost use Rattle.frame_store.specs.FrameContents.{HasTop};
 ghost use Rattle.object_store.specs.HeapContents.{HeapContent};
@@ -10,7 +17,7 @@ ghost use Rattle.step_contents.specs.Contents.{contents_of, here_at};
 ghost use Rattle.step_contents.specs.StandingFrames.{place_of};
 ghost use Rattle.segment_steps.specs.ActingSegments.{MayAct};
 ghost use Rattle.segment_steps.specs.StandingTops.{StandsThere, WaitsForNone};
-ghost use Rattle.segment_steps.specs.StepsAlone.{Steps};
+ghost use Rattle.segment_steps.specs.StepsAlone.{StandsReady, Steps};
 ghost use Rattle.segment_steps.specs.declared.went.Went.TheVariants as Goes;
 ghost use Rattle.segment_steps.specs.declared.working.Worked.TheVariants as Work;
 
@@ -23,7 +30,9 @@ use frame_store::FrameStore;
 use jk_model::opcodes::{ATHROW, IRETURN, RETURN};
 use jk_model::{After, SegmentNo, ThreadNo};
 use jk_model_domains::Look;
+use jk_model_heap_rows::laws::what_follows_is_determined;
 use object_store::ObjectStore;
+use row_laws::heap_rows::heap_rows_keep;
 use step_contents::{Kind, StandsAt, kind_of, needed_by};
 use thread_segments::Shared;
 
