@@ -1,5 +1,5 @@
 -- The turns of the quick loop, whichever stores of objects, own states, domains and settings they are looked at in.
-use Rattle.std.proofs.Common.{◌≡◌, ℕ, ◌+◌, None, ◌∙◌}
+use Rattle.std.proofs.Common.{◌≡◌, ℕ, ◌+◌, None, ap, ◌∙◌}
 use Rattle.jk_model.specs.declared.frames.FrameHead.{FrameHead}
 use Rattle.jk_model.specs.declared.identifiers.DomainId.{DomainId}
 use Rattle.jk_model.specs.declared.identifiers.SegmentNo.{SegmentNo}
@@ -42,7 +42,7 @@ module _ (old : FrameContent) (w : WorldRecord) (s : SegmentNo) where
   begun at stands = record {
     place = stands.place;
     midway = λ heaps own shared d may x t set.
-        begins may x t set at (λ f top. stands.head ∙ same_top old s stands.frame f stands.top top) stands.no_need stands.place;
+        begins may x t set at (λ f top. stands.head ∙ ap (λ (k : FrameState). k.head) (same_top old s stands.frame f stands.top top)) stands.no_need stands.place;
   }
 
   module _ (now : FrameContent) (at : PlaceInCode) (done : ℕ) (far : SoFar old now w s at done) where

@@ -81,7 +81,9 @@ pub fn work<'a, H: ObjectStore, F: FrameStore>(
 
 /// Whether the class that the instruction needs is ready, or it needs none.
 #[inline(always)]
-fn is_ready(own: &Own, t: ThreadNo, at: &StandsAt<'_>) -> bool {
+fn is_ready(own: &Own, t: ThreadNo, at: &StandsAt<'_>) -> bool
+    ensures { result ≡ true → (c : AClassId) → InstrNeeds (scope_of at.now.code) at.now.instr.now c → IsReady own.now.state t c }
+{
     match needed_by(at) {
         Some(c) => look(own, t, c) == Look::Ready,
         None => true,
@@ -98,10 +100,21 @@ fn work_on_heap<'a, H: ObjectStore, F: FrameStore>(
     shared: &Shared,
     r: Runs,
     at: &mut StandsAt<'a>,
-) -> Worked {
+) -> Worked
+    requires may { MayAct (contents_of (H.content heap.old) (F.content frames.old) own.old) (here_at w.now shared.now r.domain r.segment) }
+    requires stands { StandsReady (F.content frames.old) w.now.classes own.old.state r (place_of at.old) }
+    requires kind { IsOfHeaps (scope_of at.old.code) at.old.instr.now }
+    ensures undone { result ≡ Work.Undone → (H.content heap.new ≡ H.content heap.old) × (F.content frames.new ≡ F.content frames.old)
+        × (own.new ≡ own.old) }
+    ensures steps { result ≢ Work.Undone → Steps (contents_of (H.content heap.old) (F.content frames.old) own.old)
+        (contents_of (H.content heap.new) (F.content frames.new) own.new) (here_at w.now shared.now r.domain r.segment) r.thread Goes.GoesOn }
+    ensures stands { result ≡ Work.AtInstruction → StandsThere (F.content frames.new) w.now.classes r.segment (place_of at.new) }
+{
     if at.instr.op == ATHROW {
         return Worked::Undone;
     }
+    heap_rows_keep();
+    what_follows_is_determined();
     match heap_ops::step(heap, frames, own, shared, w, r.domain, r.segment, at) {
         After::Goto(n) => {
             frames.go(r.segment, n, None);
@@ -125,7 +138,18 @@ fn call<'a, H: ObjectStore, F: FrameStore>(
     frames: &mut F,
     r: Runs,
     at: &mut StandsAt<'a>,
-) -> Worked {
+) -> Worked
+    requires may { (own : KeptState) × (shared : SharedState)
+        × MayAct (contents_of (H.content heap.now) (F.content frames.old) own) (here_at w.now shared r.domain r.segment)
+        × StandsReady (F.content frames.old) w.now.classes own.state r (place_of at.old) }
+    requires kind { IsOfCalls at.old.instr.now }
+    ensures undone { result ≡ Work.Undone → F.content frames.new ≡ F.content frames.old }
+    ensures steps { result ≢ Work.Undone → (own : KeptState) (shared : SharedState)
+        → StandsReady (F.content frames.old) w.now.classes own.state r (place_of at.old)
+        → Steps (contents_of (H.content heap.now) (F.content frames.old) own) (contents_of (H.content heap.now) (F.content frames.new) own)
+        (here_at w.now shared r.domain r.segment) r.thread Goes.GoesOn }
+    ensures stands { result ≡ Work.AtInstruction → StandsThere (F.content frames.new) w.now.classes r.segment (place_of at.new) }
+{
     match call_ops::step(heap, frames, w, r.domain, r.segment, at) {
         After::Goto(_) => stand_anew(w, frames, r.segment, at),
         _ => Worked::Undone,
@@ -139,7 +163,17 @@ fn return_below<'a, F: FrameStore>(
     own: &mut Own,
     r: Runs,
     at: &mut StandsAt<'a>,
-) -> Worked {
+) -> Worked
+    requires may { (heaps : HeapContent) × (shared : SharedState)
+        × MayAct (contents_of heaps (F.content frames.old) own.old) (here_at w.now shared r.domain r.segment) }
+    requires stands { StandsReady (F.content frames.old) w.now.classes own.old.state r (place_of at.old) }
+    requires kind { IsOfNumbers (scope_of at.old.code) at.old.instr.now }
+    ensures undone { result ≡ Work.Undone → (F.content frames.new ≡ F.content frames.old) × (own.new ≡ own.old) }
+    ensures steps { result ≢ Work.Undone → (heaps : HeapContent) (shared : SharedState)
+        → Steps (contents_of heaps (F.content frames.old) own.old) (contents_of heaps (F.content frames.new) own.new)
+        (here_at w.now shared r.domain r.segment) r.thread Goes.GoesOn }
+    ensures stands { result ≡ Work.AtInstruction → StandsThere (F.content frames.new) w.now.classes r.segment (place_of at.new) }
+{
     if at.instr.op < IRETURN || RETURN < at.instr.op {
         return Worked::Undone;
     }

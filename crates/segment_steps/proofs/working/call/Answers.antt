@@ -1,5 +1,4 @@
 -- By what is answered.
-use Rattle.std.proofs.Common.{refl, absurd}
 use Rattle.step_contents.specs.Contents.{Contents, contents_of}
 use Rattle.step_contents.specs.StandingFrames.{place_of}
 use Rattle.step_contents.proofs.InstructionsBegin.{is_some_setting, some_setting}
@@ -30,12 +29,11 @@ returns-in-Goto-clause-steps g c = λ done own shared st x may is.
     own c.args.w.now shared c.args.r (place_of c.args.at.now) st may x is _
     (c.in-Goto.ensures own shared x (may_do old c.args.w.now shared c.args.r (place_of c.args.at.now) st may) is)
 
-pub returns-in_default : goal.returns-in_default
-returns-in_default g c =
+pub returns-in_default-clause-undone : goal.returns-in_default-clause-undone
+returns-in_default-clause-undone g c = λ undone.
     let old : Contents = contents_of (g.H.ObjectStore.content c.args.heap.now) (g.F.FrameStore.content c.args.frames.now) c.requires.may.0 in
     let doing = may_do old c.args.w.now c.requires.may.1 c.args.r (place_of c.args.at.now) c.requires.may.3 c.requires.may.2 in
-    let same = none_called (g.H.ObjectStore.content c.args.heap.now) (g.F.FrameStore.content c.args.frames.now)
+    none_called (g.H.ObjectStore.content c.args.heap.now) (g.F.FrameStore.content c.args.frames.now)
     (g.F.FrameStore.content c.step.new.frames) c.requires.may.0 c.args.w.now c.requires.may.1 c.args.r (place_of c.args.at.now)
     c.requires.may.3 c.requires.may.2 (some_setting doing) (is_some_setting doing) c.step.result
-    (c.step.ensures c.requires.may.0 c.requires.may.1 (some_setting doing) doing (is_some_setting doing)) c.in_default.not-Goto in
-    record { undone = λ undone. same; steps = λ done. absurd (done refl); stands = λ e. absurd cc }
+    (c.step.ensures c.requires.may.0 c.requires.may.1 (some_setting doing) doing (is_some_setting doing)) c.in_default.not-Goto

@@ -25,8 +25,8 @@ unreachable-requires g c =
     only_returns c.step.ensures.3 c.args.at.now.instr.now c.args.at.now.head.at (with_head c.step.ensures.0 c.args.at.now.head) c.step.ensures.1
     c.step.result c.step.ensures.8 (omega arith) (omega arith) c.in_default.not-Return
 
-pub give_back-requires : goal.give_back-requires
-give_back-requires g c =
+pub give_back-went-requires : goal.give_back-went-requires
+give_back-went-requires g c =
     let heaps = c.requires.may.0 in
     let frames = g.F.FrameStore.content c.args.frames.now in
     let mid = g.F.FrameStore.content c.step.new.frames in
@@ -52,7 +52,7 @@ stand_anew-requires g c =
     let may = c.requires.may.2 in
     let frames = g.F.FrameStore.content c.args.frames.now in
     let mid = g.F.FrameStore.content c.step.new.frames in
-    let new = g.F.FrameStore.content c.give_back-_went.new.frames in
+    let new = g.F.FrameStore.content c.give_back-went.new.frames in
     let at = place_of c.args.at.now in
     let st = c.requires.stands in
     let old : Contents = contents_of heaps frames c.args.own.now in
@@ -61,24 +61,24 @@ stand_anew-requires g c =
     let x : Setting = some_setting doing in
     let is = is_some_setting doing in
     let left : Working = w heaps frames mid c.args.own.now c.args.w.now shared c.args.r at st may x is c.in-Return.v c.in-Return.ensures in
-    let back = c.give_back-_went.ensures x heaps here st.top.lower left refl
+    let back = c.give_back-went.ensures x heaps here st.top.lower left refl
     (head_is heaps frames mid c.args.own.now c.args.w.now shared c.args.r at st may x is c.in-Return.v c.in-Return.ensures)
     (returning heaps frames mid c.args.own.now c.args.w.now shared c.args.r at st may x is c.in-Return.v c.in-Return.ensures) in
-    top_below x (contents_of heaps mid c.args.own.now) (contents_of heaps new c.give_back-_went.new.own) here st.top.lower left c.in-Return.v
-    c.give_back-_went.result (has_callers frames c.args.r.segment st.frame st.top c.depth.result c.depth.ensures (omega arith)) back
+    top_below x (contents_of heaps mid c.args.own.now) (contents_of heaps new c.give_back-went.new.own) here st.top.lower left c.in-Return.v
+    c.give_back-went.result (has_callers frames c.args.r.segment st.frame st.top c.depth.result c.depth.ensures (omega arith)) back
 
-pub returns-in-Return-clause-steps : goal.returns-in-Return-clause-steps
-returns-in-Return-clause-steps g c = λ done heaps shared x may is.
+pub returns-clause-steps : goal.returns-clause-steps
+returns-clause-steps g c = λ done heaps shared x may is.
     let frames = g.F.FrameStore.content c.args.frames.now in
     let mid = g.F.FrameStore.content c.step.new.frames in
-    let new = g.F.FrameStore.content c.give_back-_went.new.frames in
+    let new = g.F.FrameStore.content c.give_back-went.new.frames in
     let at = place_of c.args.at.now in
     let st = c.requires.stands in
     let here = here_at c.args.w.now shared c.args.r.domain c.args.r.segment in
     let left : Working = w heaps frames mid c.args.own.now c.args.w.now shared c.args.r at st may x is c.in-Return.v c.in-Return.ensures in
-    let back = c.give_back-_went.ensures x heaps here st.top.lower left refl
+    let back = c.give_back-went.ensures x heaps here st.top.lower left refl
     (head_is heaps frames mid c.args.own.now c.args.w.now shared c.args.r at st may x is c.in-Return.v c.in-Return.ensures)
     (returning heaps frames mid c.args.own.now c.args.w.now shared c.args.r at st may x is c.in-Return.v c.in-Return.ensures) in
     gone_below heaps frames mid c.args.own.now c.args.w.now shared c.args.r at st may x is c.in-Return.v c.in-Return.ensures
-    (contents_of heaps new c.give_back-_went.new.own) c.give_back-_went.result
+    (contents_of heaps new c.give_back-went.new.own) c.give_back-went.result
     (has_callers frames c.args.r.segment st.frame st.top c.depth.result c.depth.ensures (omega arith)) back

@@ -1,5 +1,5 @@
 -- By the kind of the instruction.
-use Rattle.std.proofs.Common.{refl, absurd, subst}
+use Rattle.std.proofs.Common.{refl}
 use Rattle.step_contents.specs.Contents.{Contents, contents_of}
 use Rattle.step_contents.specs.StandingFrames.{place_of}
 use Rattle.segment_steps.proofs.NumbersBegin.{has_row}

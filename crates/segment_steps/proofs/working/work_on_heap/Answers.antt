@@ -1,5 +1,4 @@
 -- By what is answered.
-use Rattle.std.proofs.Common.{refl, subst, absurd}
 use Rattle.list_lemmas.proofs.ItemsByPlace.{item_lent, none_lent}
 use Rattle.step_contents.specs.Contents.{Contents, contents_of}
 use Rattle.step_contents.specs.StandingFrames.{place_of}
@@ -47,10 +46,10 @@ returns-in-Some-clause-stands g c = λ at_instruction.
     c.in-Goto.n c.in-Goto.ensures (g.F.FrameStore.content c.go.new.self) c.go.ensures c.in-Some.instr.now
     (item_lent at.scope.code.instrs c.in-Goto.n c.in-Some.instr c.in-Some.ensures)
 
-pub returns-in_default : goal.returns-in_default
-returns-in_default g c =
+pub returns-in_default-clause-undone : goal.returns-in_default-clause-undone
+returns-in_default-clause-undone g c = λ undone.
     let old : Contents = contents_of (g.H.ObjectStore.content c.args.heap.now) (g.F.FrameStore.content c.args.frames.now) c.args.own.now in
     let new : Contents = contents_of (g.H.ObjectStore.content c.step.new.heap) (g.F.FrameStore.content c.step.new.frames) c.step.new.own in
     let same = else_nothing old new c.args.w.now c.args.shared.now c.args.r (place_of c.args.at.now) c.requires.stands c.heap_rows_keep.ensures
     c.what_follows_is_determined.ensures.raises c.requires.may c.step.result c.step.ensures c.in_default.not-Goto in
-    record { undone = λ undone. (same.heaps, same.frames, same.own); steps = λ done. absurd (done refl); stands = λ e. absurd cc }
+    (same.heaps, same.frames, same.own)
