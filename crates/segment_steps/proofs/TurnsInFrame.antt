@@ -1,5 +1,5 @@
 -- The turns of the quick loop, whichever stores of objects, own states, domains and settings they are looked at in.
-use Rattle.std.proofs.Common.{◌≡◌, ℕ, ◌+◌, None, ap, ◌∙◌}
+use Rattle.std.proofs.Common.{ℕ, ◌+◌, None, ap, ◌∙◌}
 use Rattle.jk_model.specs.declared.frames.FrameHead.{FrameHead}
 use Rattle.jk_model.specs.declared.identifiers.DomainId.{DomainId}
 use Rattle.jk_model.specs.declared.identifiers.SegmentNo.{SegmentNo}

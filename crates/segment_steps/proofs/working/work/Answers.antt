@@ -1,9 +1,8 @@
 -- By the kind of the instruction.
-use Rattle.std.proofs.Common.{refl}
 use Rattle.step_contents.specs.Contents.{Contents, contents_of}
 use Rattle.step_contents.specs.StandingFrames.{place_of}
 use Rattle.segment_steps.proofs.NumbersBegin.{has_row}
-use Rattle.segment_steps.proofs.ReadyClasses.{stands_ready, waits_for_none}
+use Rattle.segment_steps.proofs.ReadyClasses.{stands_ready}
 use Rattle.segment_steps.proofs.StandingHere.{may_do}
 use Rattle.segment_steps.proofs.working.work.Goals as goal
 
