@@ -144,7 +144,8 @@ module _ (x : Setting) (callers : List FrameState) (w : Working) (v : Option Val
 
 pub went_on_below : (x : Setting) (old new : Contents) (here : Here) (callers : List FrameState) (w : Working) (v : Option Value) (went : Went)
     → callers ≢ [] → HasReturned x old new here callers w v went → went ≡ Goes.GoesOn
-went_on_below x old new here callers w v went some back = (continues_on x callers w v some (Returns v) back.run back.way went back.continues refl back.is_went).0
+went_on_below x old new here callers w v went some back =
+    (continues_on x callers w v some (Returns v) back.run back.way went back.continues refl back.is_went).0
 
 pub top_below : (x : Setting) (old new : Contents) (here : Here) (callers : List FrameState) (w : Working) (v : Option Value) (went : Went)
     → callers ≢ [] → HasReturned x old new here callers w v went → HasTop new.frames here.segment

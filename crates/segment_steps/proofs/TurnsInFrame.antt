@@ -42,7 +42,8 @@ module _ (old : FrameContent) (w : WorldRecord) (s : SegmentNo) where
   begun at stands = record {
     place = stands.place;
     midway = λ heaps own shared d may x t set.
-        begins may x t set at (λ f top. stands.head ∙ ap (λ (k : FrameState). k.head) (same_top old s stands.frame f stands.top top)) stands.no_need stands.place;
+        begins may x t set at (λ f top. stands.head ∙ ap (λ (k : FrameState). k.head) (same_top old s stands.frame f stands.top top)) stands.no_need
+        stands.place;
   }
 
   module _ (now : FrameContent) (at : PlaceInCode) (done : ℕ) (far : SoFar old now w s at done) where
