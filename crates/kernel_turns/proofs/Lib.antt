@@ -30,3 +30,6 @@ mod StepsOfRaises
 mod ThrownObjects
 pub mod NoCapabilityCalled
 mod WholeSteps
+mod TurnsInTurn
+mod WorkedSteps
+mod WorkingThreads

@@ -5,3 +5,4 @@ pub mod PaidSteps
 pub mod RunningPlaces
 pub mod SteppedParts
 pub mod StepsOfThreads
+pub mod WorkingSegments

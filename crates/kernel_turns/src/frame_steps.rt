@@ -1,10 +1,14 @@
-//! Several steps of one thread that stay in its top frame.
+//! Several steps of one thread that its top segment does alone.
 
-ghost use Rattle.std.specs.Prelude.{◌≡◌, ◌≤◌, [], false, true};
+ghost use Rattle.std.specs.Prelude.{◌≡◌, ◌≤◌, [], false, true, List, Option, Some, slice_get, slice_set};
+ghost use Rattle.jk_model.specs.declared.descriptors.MethodType.{MethodType};
 ghost use Rattle.jk_model_runs.specs.Events.{Turns};
+ghost use Rattle.class_init.specs.KeptStates.{KeptState};
 ghost use Rattle.thread_segments.specs.Asked.{IsLiveDomain};
 ghost use Rattle.machine_laws.specs.KnownMachines.{IsKnownWithoutJk};
 ghost use Rattle.kernel_turns.specs.PaidSteps.{HasSteps, spent_times};
+ghost use Rattle.kernel_turns.specs.StepsOfThreads.{content_of};
+ghost use Rattle.kernel_turns.specs.WorkingSegments.{MayWork, WorksOn, worked};
 
 use crate::running::{Running, run_of};
 use class_init::Own;
@@ -19,9 +23,10 @@ use row_laws::running::local_steps_keep;
 use segment_steps::{Runs, Worked, run_in_frame, stand, work};
 use thread_segments::Shared;
 
-/// At most so many steps of a thread, as long as each only computes or jumps within the thread's top frame, and how many they were. It stops
-/// before each other step, and where the domain has no step left. The frame and its code are found once. It takes no memory.
-pub fn steps_in_frame<H: ObjectStore + Drop, F: FrameStore + Drop>(
+/// At most so many steps of a thread, as long as its top segment does each alone: it computes, jumps, works on objects, calls a method with
+/// code or returns from one, needs no class that isn't ready, and raises and prints nothing. It answers how many they were. It stops before each
+/// other step, and where the domain has no step left. Where the thread runs is looked up once. It takes no memory.
+pub fn steps_alone<H: ObjectStore + Drop, F: FrameStore + Drop>(
     k: &mut KernelParts<H, F>,
     t: ThreadNo,
     most: u32,
@@ -30,9 +35,6 @@ pub fn steps_in_frame<H: ObjectStore + Drop, F: FrameStore + Drop>(
     ensures few { result ≤ most }
     ensures event { Turns result t k.old [] k.new }
 {
-    local_steps_keep();
-    heap_rows_keep();
-    steps_stay_known_without_jk();
     let Some(running) = run_of(&k.shared, t) else {
         return 0;
     };
@@ -41,7 +43,7 @@ pub fn steps_in_frame<H: ObjectStore + Drop, F: FrameStore + Drop>(
     }
     let runs = running.runs;
     let most = within_budget(&k.shared, runs.domain, most);
-    go_on_in(
+    work_in_domain(
         &k.world,
         &mut k.owns,
         &mut k.shared,
@@ -50,55 +52,6 @@ pub fn steps_in_frame<H: ObjectStore + Drop, F: FrameStore + Drop>(
         runs,
         most,
     )
-}
-
-fn go_on_in<H: ObjectStore, F: FrameStore>(
-    w: &World,
-    owns: &mut Vec<Option<Own>>,
-    shared: &mut Shared,
-    heap: &mut H,
-    frames: &mut F,
-    r: Runs,
-    most: u32,
-) -> u32
-{
-    match &mut owns[r.domain.0 as usize] {
-        Some(own) => {
-            let done = go_on(w, own, shared, heap, frames, r, most);
-            own.holds();
-            pay(shared, r.domain, done);
-            done
-        }
-        None => unreachable!(),
-    }
-}
-
-fn go_on<H: ObjectStore, F: FrameStore>(
-    w: &World,
-    own: &mut Own,
-    shared: &Shared,
-    heap: &mut H,
-    frames: &mut F,
-    r: Runs,
-    most: u32,
-) -> u32
-{
-    let Some(mut at) = stand(w, frames, r.segment) else {
-        return 0;
-    };
-    let mut done = 0;
-    while done < most {
-        done += run_in_frame(w, frames, r.segment, &mut at, most - done);
-        if done == most {
-            return done;
-        }
-        match work(w, heap, frames, own, shared, r, &mut at) {
-            Worked::Not => return done,
-            Worked::On => done += 1,
-            Worked::Off => return done + 1,
-        }
-    }
-    done
 }
 
 /// Whether the thread isn't suspended, and nothing is pending for it.
@@ -119,6 +72,79 @@ fn within_budget(shared: &Shared, d: DomainId, most: u32) -> u32
         Some(left) => most.min(left),
         None => most,
     }
+}
+
+/// At most so many steps that a segment of a live domain does alone, and pays them.
+fn work_in_domain<H: ObjectStore, F: FrameStore>(
+    w: &World,
+    owns: &mut Vec<Option<Own>>,
+    shared: &mut Shared,
+    heap: &mut H,
+    frames: &mut F,
+    r: Runs,
+    most: u32,
+) -> u32
+    requires may { (own : KeptState) × (main : MethodType) × (slice_get owns.old.items r.domain.0 ≡ Some (Some own))
+        × MayWork (content_of w.now owns.old.items shared.old (H.content heap.old) (F.content frames.old) main) r own }
+    requires budget { HasSteps most r.domain shared.old }
+    ensures few { result ≤ most }
+    ensures event { (own : KeptState) (main : MethodType) → slice_get owns.old.items r.domain.0 ≡ Some (Some own)
+        → MayWork (content_of w.now owns.old.items shared.old (H.content heap.old) (F.content frames.old) main) r own
+        → WorksOn (content_of w.now owns.old.items shared.old (H.content heap.old) (F.content frames.old) main) r result
+        (content_of w.now owns.new.items shared.new (H.content heap.new) (F.content frames.new) main) }
+{
+    match &mut owns[r.domain.0 as usize] {
+        Some(own) => {
+            let done = work_on(w, own, shared, heap, frames, r, most);
+            pay(shared, r.domain, done);
+            done
+        }
+        None => unreachable!(),
+    }
+}
+
+/// At most so many steps that a segment does alone, none of which is paid yet. Its frame and the frame's code are looked up where another
+/// frame comes to the top alone.
+fn work_on<H: ObjectStore, F: FrameStore>(
+    w: &World,
+    own: &mut Own,
+    shared: &Shared,
+    heap: &mut H,
+    frames: &mut F,
+    r: Runs,
+    most: u32,
+) -> u32
+    requires may { (owns : List (Option KeptState)) × (main : MethodType)
+        × MayWork (content_of w.now owns shared.now (H.content heap.old) (F.content frames.old) main) r own.old }
+    requires budget { HasSteps most r.domain shared.now }
+    ensures few { result ≤ most }
+    ensures event { (owns : List (Option KeptState)) (main : MethodType)
+        → MayWork (content_of w.now owns shared.now (H.content heap.old) (F.content frames.old) main) r own.old
+        → WorksOn (content_of w.now owns shared.now (H.content heap.old) (F.content frames.old) main) r result
+        (worked result r.domain own.new (H.content heap.new) (F.content frames.new)
+        (content_of w.now owns shared.now (H.content heap.old) (F.content frames.old) main)) }
+{
+    local_steps_keep();
+    heap_rows_keep();
+    steps_stay_known_without_jk();
+    let Some(mut at) = stand(w, frames, r.segment) else {
+        return 0;
+    };
+    let mut done = 0;
+    while done < most {
+        done += run_in_frame(w, frames, r.segment, &mut at, most - done);
+        if done == most {
+            return done;
+        }
+        let worked = work(w, heap, frames, own, shared, r, &mut at);
+        own.holds();
+        match worked {
+            Worked::Undone => return done,
+            Worked::AtInstruction => done += 1,
+            Worked::AtNeed => return done + 1,
+        }
+    }
+    done
 }
 
 /// Pays so many steps of a domain.

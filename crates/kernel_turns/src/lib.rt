@@ -13,5 +13,5 @@ mod stepping;
 mod thread_ends;
 mod whole_steps;
 
-pub use frame_steps::steps_in_frame;
+pub use frame_steps::steps_alone;
 pub use whole_steps::step;

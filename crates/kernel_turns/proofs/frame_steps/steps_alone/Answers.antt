@@ -1,14 +1,15 @@
 -- The steps are turns, and the parts are sound after them.
-use Rattle.std.proofs.Common.{[], sym, subst}
+use Rattle.std.proofs.Common.{◌≡◌, [], sym, ap, subst}
+use Rattle.jk_model.specs.declared.identifiers.ThreadNo.{ThreadNo}
 use Rattle.jk_model_machine_state.specs.Machines.{Machine}
 use Rattle.jk_model_runs.specs.Events.{Turns}
-use Rattle.jk_model_sharing.specs.SharedStates.{SharedState}
-use Rattle.kernel_parts.specs.SoundKernels.{AreKernelParts, KernelContent, kernel_machine, parts_of}
+use Rattle.kernel_parts.specs.SoundKernels.{KernelContent, kernel_machine, parts_of}
 use Rattle.machine_laws.specs.KnownMachines.{IsKnownWithoutJk}
-use Rattle.kernel_turns.proofs.FramesOfThreads.{acts, go_in_frame, lives}
+use Rattle.segment_steps.specs.declared.meeting.Runs.{Runs}
+use Rattle.kernel_turns.proofs.FramesOfThreads.{lives}
 use Rattle.kernel_turns.proofs.SegmentsApart.{apart_in_shared, sealed_apart}
-use Rattle.kernel_turns.proofs.StaysWithoutJk.{stays_without_jk}
-use Rattle.kernel_turns.proofs.frame_steps.steps_in_frame.Goals as goal
+use Rattle.kernel_turns.proofs.WorkingThreads.{may_work}
+use Rattle.kernel_turns.proofs.frame_steps.steps_alone.Goals as goal
 
 pub run_of-requires : goal.run_of-requires
 run_of-requires g c =
@@ -37,8 +38,8 @@ within_budget-most-requires g c =
     let is = c.in-Some.ensures.some in
     lives k c.args.t c.k.invariant known running is
 
-pub run_in_frame-done-requires : goal.run_in_frame-done-requires
-run_in_frame-done-requires g c =
+pub work_in_domain-requires-clause-may : goal.work_in_domain-requires-clause-may
+work_in_domain-requires-clause-may g c =
     let k : KernelContent = record {
       world = c.k.inside.world;
       owns = c.k.inside.owns.items;
@@ -50,7 +51,9 @@ run_in_frame-done-requires g c =
     let known : IsKnownWithoutJk (kernel_machine k) = subst IsKnownWithoutJk (sym c.k.view_is) c.requires.known in
     let running = c.in-Some.running in
     let is = c.in-Some.ensures.some in
-    acts k c.args.t c.k.invariant known running is (c.is_free.ensures c.if-not-is_free.false).2
+    let free = c.is_free.ensures c.if-not-is_free.false in
+    let may = may_work k c.args.t c.k.invariant known running is free.0 free.1 free.2 in
+    (may.0, c.k.inside.main_kind, may.1, may.2)
 
 pub invariant_of-k : goal.invariant_of-k
 invariant_of-k g c =
@@ -66,14 +69,8 @@ invariant_of-k g c =
     let running = c.in-Some.running in
     let is = c.in-Some.ensures.some in
     let free = c.is_free.ensures c.if-not-is_free.false in
-    let after = go_in_frame k c.args.t c.k.invariant known running is c.local_steps_keep.ensures
-    (stays_without_jk c.heap_rows_keep.ensures c.steps_stay_known_without_jk.ensures) c.run_in_frame-done.result c.within_budget-most.result
-    (g.F.FrameStore.content c.run_in_frame-done.new.frames) free.0 free.1 free.2 c.within_budget-most.ensures.budget
-    c.run_in_frame-done.ensures.few c.run_in_frame-done.ensures.runs in
-    let same = c.pay.ensures in
-    subst
-    (λ (s : SharedState). AreKernelParts (record k { shared = s; frames = g.F.FrameStore.content c.run_in_frame-done.new.frames }))
-    (sym same) after.1
+    let may = may_work k c.args.t c.k.invariant known running is free.0 free.1 free.2 in
+    (c.work_in_domain.ensures.event may.0 c.k.inside.main_kind may.1 may.2).parts
 
 pub returns-clause-event : goal.returns-clause-event
 returns-clause-event g c =
@@ -89,16 +86,16 @@ returns-clause-event g c =
     let running = c.in-Some.running in
     let is = c.in-Some.ensures.some in
     let free = c.is_free.ensures c.if-not-is_free.false in
-    let after = go_in_frame k c.args.t c.k.invariant known running is c.local_steps_keep.ensures
-    (stays_without_jk c.heap_rows_keep.ensures c.steps_stay_known_without_jk.ensures) c.run_in_frame-done.result c.within_budget-most.result
-    (g.F.FrameStore.content c.run_in_frame-done.new.frames) free.0 free.1 free.2 c.within_budget-most.ensures.budget
-    c.run_in_frame-done.ensures.few c.run_in_frame-done.ensures.runs in
-    let same = c.pay.ensures in
-    subst
-    (λ (m : Machine). Turns c.run_in_frame-done.result c.args.t m []
-    (kernel_machine (record k { shared = c.pay.new.shared; frames = g.F.FrameStore.content c.run_in_frame-done.new.frames })))
-    c.k.view_is
-    (subst
-    (λ (s : SharedState). Turns c.run_in_frame-done.result c.args.t (kernel_machine k) []
-    (kernel_machine (record k { shared = s; frames = g.F.FrameStore.content c.run_in_frame-done.new.frames })))
-    (sym same) after.0)
+    let may = may_work k c.args.t c.k.invariant known running is free.0 free.1 free.2 in
+    let went = c.work_in_domain.ensures.event may.0 c.k.inside.main_kind may.1 may.2 in
+    let new : KernelContent = record {
+      world = c.k.inside.world;
+      owns = c.work_in_domain.new.owns.items;
+      shared = c.work_in_domain.new.shared;
+      heap = g.H.ObjectStore.content c.work_in_domain.new.heap;
+      frames = g.F.FrameStore.content c.work_in_domain.new.frames;
+      main_kind = c.k.inside.main_kind;
+    } in
+    let thread = ap (λ (r : Runs). r.thread) is.runs_there in
+    subst (λ (m : Machine). Turns c.work_in_domain.result c.args.t m [] (kernel_machine new)) c.k.view_is
+    (subst (λ (t : ThreadNo). Turns c.work_in_domain.result t (kernel_machine k) [] (kernel_machine new)) thread went.turns)

@@ -1,0 +1,36 @@
+-- Several steps of one thread that its top segment does alone: over a domain's own state and the stores, and as turns of the machine.
+use Rattle.std.specs.Prelude.{◌≡◌, ℕ, false, [], Some, slice_set}
+use Rattle.jk_model.specs.declared.identifiers.DomainId.{DomainId}
+use Rattle.jk_model_runs.specs.Events.{Turns}
+use Rattle.class_init.specs.KeptStates.{KeptState}
+use Rattle.frame_store.specs.FrameContents.{FrameContent}
+use Rattle.object_store.specs.HeapContents.{HeapContent}
+use Rattle.machine_laws.specs.KnownMachines.{IsKnownWithoutJk}
+use Rattle.segment_steps.specs.declared.meeting.Runs.{Runs}
+use Rattle.kernel_parts.specs.SoundKernels.{AreKernelParts, KernelContent, kernel_machine}
+use Rattle.kernel_turns.specs.PaidSteps.{spent_times}
+use Rattle.kernel_turns.specs.RunningPlaces.{HasNothingPending, RunsAt, runs}
+
+-- the parts where a domain's own state and the stores are these, and so many steps of the domain are paid
+abbrev pub worked : ℕ → DomainId → KeptState → HeapContent → FrameContent → KernelContent → KernelContent
+worked n d own heap frames k = record k {
+  owns = slice_set k.owns d.0 (Some own);
+  shared = spent_times n d k.shared;
+  heap = heap;
+  frames = frames;
+}
+
+-- The thread runs there, in a domain with this own state; its segment isn't suspended, and nothing is pending for it.
+pub record MayWork (k : KernelContent) (r : Runs) (own : KeptState) : Type 0 where
+  pub parts : AreKernelParts k
+  pub known : IsKnownWithoutJk (kernel_machine k)
+  pub at : RunsAt k r.thread
+  pub is_there : r ≡ runs r.thread at.segment
+  pub is_own : at.own ≡ own
+  pub awake : at.segment.suspended ≡ false
+  pub calm : HasNothingPending at.segment
+
+-- so many turns of the thread, in which nothing is printed, lead to parts that are sound
+pub record WorksOn (k : KernelContent) (r : Runs) (n : ℕ) (new : KernelContent) : Type 0 where
+  pub turns : Turns n r.thread (kernel_machine k) [] (kernel_machine new)
+  pub parts : AreKernelParts new
