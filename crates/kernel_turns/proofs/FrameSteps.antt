@@ -36,6 +36,7 @@ use Rattle.row_laws.specs.LocalStepLaws.{LocalStepsKeep}
 use Rattle.segment_steps.specs.ActingSegments.{goes_on}
 use Rattle.segment_steps.specs.InFrameSteps.{NeedsNoClass, StaysInFrame, StepsInFrame}
 use Rattle.segment_steps.specs.declared.went.Went.TheVariants as Goes
+use Rattle.segment_steps.proofs.ContentsStay.{frames_stay}
 use Rattle.step_contents.specs.Contents.{Becomes, Contents, FramesBecome, HasFrames, Here, Holds, contents_of, left_behind}
 use Rattle.step_contents.specs.Settings.{IsSetting}
 use Rattle.kernel_turns.specs.PaidSteps.{HasSteps, spent_times}
@@ -70,46 +71,6 @@ module _ (c : FrameContent) (s : SegmentNo) (d : DomainId) (frames : List FrameS
       by : (b : Bool) → r.0 == s.0 ≡ b → cond b its_own (c.segment r) ≡ c.segment r
       by true is = absurd (other (ap (λ (n : ℕ). segment_of_number n) (eqb-true r.0 s.0 is)))
       by false is = refl
-
--- stores in which each segment, and each domain, has the same are one
-same_content : (c e : FrameContent) → c.pages ≡ e.pages → c.took_all ≡ e.took_all → ((d : DomainId) → c.quota d ≡ e.quota d)
-    → ((d : DomainId) → c.first_page d ≡ e.first_page d) → ((d : DomainId) → c.used d ≡ e.used d) → ((r : SegmentNo) → c.segment r ≡ e.segment r) → c ≡ e
-same_content c e pages took quota first used segment = λ i. record {
-  pages = pages i;
-  took_all = took i;
-  quota = λ d. quota d i;
-  first_page = λ d. first d i;
-  used = λ d. used d i;
-  segment = λ r. segment r i;
-}
-
--- what changes nothing leaves the store as it is
-unchanged : (old new : Contents) (here : Here) (frames : List FrameState) → HasFrames old here frames → FramesBecome old new here frames frames
-    → new.frames ≡ old.frames
-unchanged old new here frames has b =
-    same_content new.frames old.frames b.changes.domains.pages b.changes.domains.took_all b.changes.domains.quota b.changes.domains.first_page used
-    segment
-  where
-    same_use : b.used ≡ old.frames.used here.domain
-    same_use = omega (arith, b.chunks)
-
-    used_by : (e : DomainId) (t : Bool) → e.0 == here.domain.0 ≡ t → new.frames.used e ≡ old.frames.used e
-    used_by e true is =
-        let same : e ≡ here.domain = ap (λ (n : ℕ). domain_of_number n) (eqb-true e.0 here.domain.0 is) in
-        ap new.frames.used same ∙ b.changes.uses ∙ same_use ∙ sym (ap old.frames.used same)
-    used_by e false is = b.changes.other_domains e (λ same. never_both is (eq-eqb e.0 here.domain.0 (ap (λ (d : DomainId). d.0) same)))
-
-    used : (e : DomainId) → new.frames.used e ≡ old.frames.used e
-    used e = used_by e (e.0 == here.domain.0) refl
-
-    segment_by : (r : SegmentNo) (t : Bool) → r.0 == here.segment.0 ≡ t → new.frames.segment r ≡ old.frames.segment r
-    segment_by r true is =
-        let same : r ≡ here.segment = ap (λ (n : ℕ). segment_of_number n) (eqb-true r.0 here.segment.0 is) in
-        ap new.frames.segment same ∙ b.changes.becomes ∙ sym has ∙ sym (ap old.frames.segment same)
-    segment_by r false is = b.changes.others r (λ same. never_both is (eq-eqb r.0 here.segment.0 (ap (λ (x : SegmentNo). x.0) same)))
-
-    segment : (r : SegmentNo) → new.frames.segment r ≡ old.frames.segment r
-    segment r = segment_by r (r.0 == here.segment.0) refl
 
 -- ---- A step that stays in its frame.
 
@@ -324,7 +285,7 @@ module _ (keep : LocalStepsKeep) (sw : StaysWithoutJk) (t : ThreadNo) (x : Setti
       × AreKernelParts (after_steps n at.segment.domain frames k)
   frame_steps zero k at start last frames stands has (StepsInFrame.none run) b =
       let same : frames ≡ k.frames =
-      unchanged (contents_at at) (left_by at frames) (here_in k at.segment) run.frames stands.holds.frames b.frames in (
+      frames_stay (contents_at at) (left_by at frames) (here_in k at.segment) run.frames stands.holds.frames b.frames in (
         (refl, ap (λ (f : FrameContent). kernel_machine (record k { frames = f })) same),
         subst (λ (f : FrameContent). AreKernelParts (record k { frames = f })) (sym same) stands.parts,
       )
