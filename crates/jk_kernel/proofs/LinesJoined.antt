@@ -69,15 +69,3 @@ printed_both a b c first rest (Err e) p q =
       calm = tt;
       faults = NeverFalls-after a.faults b.faults c.faults p.faults q.faults;
     }
-
--- what went out doesn't depend on how the error is told
-pub failed_as : {E G : Type 0} (a b : SinkState) (lines : List Line) (e : E) (e' : G) → Prints a b (Err e) lines → Prints a b (Err e') lines
-failed_as a b lines e e' p = record {
-  ok = tt;
-  pieces = tt;
-  part = p.part;
-  pieces_part = p.pieces_part;
-  cause = p.cause;
-  calm = tt;
-  faults = p.faults;
-}

@@ -4,10 +4,11 @@ ghost use Rattle.std.specs.Prelude.{◌≡◌, ◌⊎◌, ℕ, List, map, string
 ghost use Rattle.jk_model.specs.Outside.{HasNoFile, HasLongFile, HasRisen, NeverFalls};
 ghost use Rattle.jk_model.specs.Script.{MAX_BYTES};
 ghost use Rattle.jk_model.specs.declared.script.FaultKind.TheVariants.{TooLong};
+ghost use Rattle.kernel_events.specs.PrintedLines.{sink};
 ghost use Rattle.jkernel_runs.specs.Calls.{IsCall};
 ghost use Rattle.jkernel_runs.specs.declared.stop.Stop.TheVariants.{ReadFault, WriteFault};
 ghost use Rattle.jkernel_runs.specs.Ends.{EndsSo, EndsWell, EndsRefused, HasText, IsNoCall};
-ghost use Rattle.jkernel_runs.specs.Events.{moment, sink};
+ghost use Rattle.jkernel_runs.specs.Events.{moment};
 ghost use Rattle.jkernel_runs.specs.Scripts.{IsScript, IsAtFault};
 ghost use Rattle.jkernel_runs.specs.Statuses.{HasFault, LacksScript, EndsDone, EndsForFiles, EndsForMemory, EndsInLines, IsUnread, Asks, Says, BeginsToSay};
 

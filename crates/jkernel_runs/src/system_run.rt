@@ -4,7 +4,7 @@ ghost use Rattle.std.specs.Prelude.{◌≡◌, ◌≢◌, ◌⊎◌, ℕ, List, 
 ghost use Rattle.std.specs.IoError.{error_kind};
 ghost use Rattle.std.specs.declared.io.ErrorKind.TheVariants.{OutOfMemory as NoMemory};
 ghost use Rattle.jk_model.specs.Outside.{HasRisen};
-ghost use Rattle.jkernel_runs.specs.Events.{sink};
+ghost use Rattle.kernel_events.specs.PrintedLines.{sink};
 ghost use Rattle.jkernel_runs.specs.Statuses.{IsDone, IsStoppedAtDomain, IsStoppedInLines, Says, BeginsToSay};
 
 use crate::ends::{End, report};
