@@ -74,7 +74,8 @@ pub fn jkernel<F: Files, S: Sink, E: Sink>(
     ensures early_write { result ≡ Status.WriteFault → EndsInLines (F.tree files.old) (map string_bytes words.now)
         (moment (sink (S.bytes out.old) (S.pieces out.old) (S.faults out.old)) (F.asked files.old) (F.faults files.old))
         (moment (sink (S.bytes out.new) (S.pieces out.new) (S.faults out.new)) (F.asked files.new) (F.faults files.new)) }
-    // Memory wants, and files fail, before all events or at a `domain` event: the lines of those before it went out whole.
+    // Memory wants, and files fail, before all events or at a `domain` event, of a name that no live domain has: the lines of those before it
+    // went out whole.
     ensures early_memory { result ≡ Status.OutOfMemory → EndsForMemory (F.tree files.old) (map string_bytes words.now)
         (moment (sink (S.bytes out.old) (S.pieces out.old) (S.faults out.old)) (F.asked files.old) (F.faults files.old))
         (moment (sink (S.bytes out.new) (S.pieces out.new) (S.faults out.new)) (F.asked files.new) (F.faults files.new)) }
@@ -88,7 +89,7 @@ pub fn jkernel<F: Files, S: Sink, E: Sink>(
         → (sink (S.bytes out.new) (S.pieces out.new) (S.faults out.new) ≡ sink (S.bytes out.old) (S.pieces out.old) (S.faults out.old))
         × (F.asked files.new ≡ F.asked files.old) }
 
-    // The files are asked for nothing but the script, and what the `domain` events need of their folders.
+    // The files are asked for nothing but the script, and what the `domain` events need of their folders, each event for each file at most once.
     ensures asks { Asks (F.tree files.old) (map string_bytes words.now) (F.asked files.old) (F.asked files.new) }
     // No call of told files failed that did not end the run.
     ensures calm { (result ≡ Status.ReadFault → ⊥) → IsSome (F.tree files.old) → F.faults files.new ≡ F.faults files.old }
