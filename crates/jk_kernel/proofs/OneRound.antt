@@ -198,6 +198,11 @@ round_over steps above first now a b round none = (
 abbrev pub RoundStopped : ℕ → Machine → Machine → SinkState → SinkState → Type 0
 RoundStopped steps first now a b = (t : ThreadNo) × StopsAt t (GoesBefore steps t 1) (Goes steps 1) first a b now
 
+-- what was said before the step, and by it, stands before the rest
+regrouped : (first before said more rest : List Line)
+    → first ++ (((before ++ said) ++ more) ++ rest) ≡ ((first ++ before) ++ said) ++ (more ++ rest)
+regrouped first before said more rest = simp append_assoc
+
 pub round_failed : StepsStayOfRuns → ThreadsGoOn IsOfRunWithoutJk → (steps above t : ℕ) (first now next : Machine) (a b c : SinkState)
     → RoundSoFar steps above first now a b → IsNextLive now above t
     → StopsAt (numbered t) (TurnsBefore steps (numbered t)) (Turns steps (numbered t)) now b c next → RoundStopped steps first next a c
@@ -209,8 +214,7 @@ round_failed keep law steps above t first now next a b c round is stops =
     let rest = law steps (suc t) stops.last run in
     let whole = goes_next steps (Goes steps) (whole_round steps) above t now stops.last rest.1 lines rest.0 before stops.whole is
     stops.all rest.2 in
-    let joined : round.lines ++ (((stops.before ++ stops.said) ++ stops.more) ++ rest.0)
-    ≡ ((round.lines ++ stops.before) ++ stops.said) ++ (stops.more ++ rest.0) = simp append_assoc in (
+    let joined = regrouped round.lines stops.before stops.said stops.more rest.0 in (
       numbered t,
       record {
         before = round.lines ++ stops.before;

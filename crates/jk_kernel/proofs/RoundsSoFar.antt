@@ -108,6 +108,11 @@ may_go law steps done count first now a b less gone may =
 abbrev pub RoundsStopped : ℕ → ℕ → Machine → Machine → SinkState → SinkState → Type 0
 RoundsStopped count steps first now a b = (t : ThreadNo) × StopsAt t (RoundsBefore count steps t) (Rounds count steps) first a b now
 
+-- what was said before the step, and by it, stands before the rest
+regrouped : (first before said more rest : List Line)
+    → (first ++ ((before ++ said) ++ more)) ++ rest ≡ ((first ++ before) ++ said) ++ (more ++ rest)
+regrouped first before said more rest = simp append_assoc
+
 pub gone_failed : StepsStayOfRuns → RoundsGoOn IsOfRunWithoutJk → (steps done count : ℕ) (first now next : Machine) (a b c : SinkState)
     → done < count → Gone steps done first now a b → RoundStopped steps now next b c → RoundsStopped count steps first next a c
 gone_failed keep law steps done count first now next a b c less gone (t, stops) =
@@ -119,8 +124,7 @@ gone_failed keep law steps done count first now next a b c less gone (t, stops) 
     stops.whole in
     let all = ways_join (RoundOf steps) (RoundsOf steps) (rounds_repeat steps) (done + 1) left first stops.last rest.1
     (gone.lines ++ lines) rest.0 some rest.2 in
-    let joined : (gone.lines ++ ((stops.before ++ stops.said) ++ stops.more)) ++ rest.0
-    ≡ ((gone.lines ++ stops.before) ++ stops.said) ++ (stops.more ++ rest.0) = simp append_assoc in
+    let joined = regrouped gone.lines stops.before stops.said stops.more rest.0 in
     let so_far : done + suc left ≡ count = omega (arith, less) in
     let number : (done + 1) + left ≡ count = omega (arith, less) in (
       t,
