@@ -20,7 +20,7 @@ use Rattle.jkernel_runs.specs.Ends.{end_of, EndsSo, EndsRefused, HasText, IsMiss
 use Rattle.jkernel_runs.specs.Asked.{ask_for_script}
 use Rattle.jkernel_runs.specs.Events.{AskedUpToFolder, Moment, RunEnds, RunAsks, RunsWhole, StopsAtDomain, StopsInLines}
 use Rattle.jkernel_runs.specs.Scripts.{IsScript, IsAtFault}
-use Rattle.jkernel_runs.specs.Statuses.{HasEvents, LacksScript, IsDone, IsStoppedAtDomain, IsStoppedInLines, Asks, asked_script}
+use Rattle.jkernel_runs.specs.Statuses.{EndsInLines, HasEvents, LacksScript, IsDone, IsStoppedAtDomain, IsStoppedInLines, Asks, asked_script}
 use Rattle.kernel_events.specs.PrintedLines.{Prints, SinkState}
 
 -- ---- the script
@@ -76,6 +76,16 @@ refused_status f files files' (Refused found) h calm = inl refl
 refused_status f files files' (Stopped ReadFault) h calm = absurd (calm h)
 refused_status f files files' (Stopped WriteFault) h calm = absurd h
 refused_status f files files' (Stopped OutOfMemory) h calm = inr refl
+
+-- a run whose status is that of a failed write stopped in the lines of an event
+pub ends_in_lines : (t : Option Tree) (words : List (List ℕ)) (a b : Moment) (end : End) → EndsSo t words a b end → status_of end ≡ statuses.WriteFault
+    → EndsInLines t words a b
+ends_in_lines t words a b Done h is = absurd cc
+ends_in_lines t words a b Usage h is = absurd cc
+ends_in_lines t words a b (Refused found) h is = absurd cc
+ends_in_lines t words a b (Stopped ReadFault) h is = absurd cc
+ends_in_lines t words a b (Stopped WriteFault) h is = h.1
+ends_in_lines t words a b (Stopped OutOfMemory) h is = absurd cc
 
 abbrev has_events : (t : Option Tree) (words : List (List ℕ)) (root script : List ℕ) (events : List Event) → IsCall words root script
     → (text : List ℕ) × FileIs t script text × IsScript text events → HasEvents t words root events
