@@ -1,5 +1,5 @@
 -- Lines that were printed after lines that all went out are printed with them.
-use Rattle.std.proofs.Common.{◌≡◌, ◌<◌, ◌^◌, ℕ, List, [], ◌∷◌, ◌++◌, Option, Result, Ok, Err, refl, sym, ap, ◌∙◌, subst, append_assoc, append-nil}
+use Rattle.std.proofs.Common.{◌≡◌, ◌<◌, ◌^◌, ℕ, List, [], ◌∷◌, ◌++◌, Result, Ok, Err, refl, sym, ap, ◌∙◌, subst, append_assoc, append-nil}
 use Rattle.std.specs.List.{concat}
 use Rattle.std.proofs.lemmas.Grind.{flat_map-append}
 use Rattle.std.proofs.lemmas.List.Folds.{concat-append}
@@ -9,7 +9,7 @@ use Rattle.jk_model.specs.declared.output.Line.{Line}
 use Rattle.jk_model.proofs.AppendsInTurn.{Appends-append, Appends-nil, AppendsPart-after}
 use Rattle.jk_model.proofs.CountsNeverFall.{NeverFalls-after, NeverFalls-refl, HasRisen-after}
 use Rattle.jk_outside.specs.CutTexts.{BreaksOff, Sends}
-use Rattle.jk_outside.specs.SeveralLines.{PrintsLines, pieces_of, pieces_of_lines}
+use Rattle.jk_outside.specs.SeveralLines.{pieces_of, pieces_of_lines}
 use Rattle.jk_outside.proofs.CutIsWholeAndRest.{concat-cut_text}
 use Rattle.jk_outside.proofs.SentInOrder.{BreaksOff-after}
 use Rattle.kernel_events.specs.PrintedLines.{Prints, SinkState}

@@ -1,15 +1,14 @@
 -- A round by the threads that are live in it: those between them do nothing.
-use Rattle.std.proofs.Common.{◌≡◌, ◌==◌, inl, inr, ℕ, zero, suc, ◌+◌, ◌*◌, ◌-◌, ◌<◌, ◌≤◌, find, Option, Some, None, List, [], ◌++◌, Ok, Err, refl, sym, ap, subst, ◌∙◌, append_assoc, arith}
+use Rattle.std.proofs.Common.{◌≡◌, ◌==◌, inl, inr, ℕ, zero, suc, ◌+◌, ◌*◌, ◌-◌, ◌<◌, ◌≤◌, find, Option, Some, None, List, [], ◌++◌, Ok, refl, sym, ap, subst, ◌∙◌, append_assoc, arith}
 use Rattle.std.specs.Prelude.{⊤}
 use Rattle.std.proofs.Math.Nat.{mul-add, mul-suc}
 use Rattle.std.proofs.lemmas.Bool.{cases_lt, eqb-true}
 use Rattle.std.proofs.lemmas.List.{append-nil}
-use Rattle.std.proofs.lemmas.Option.{same_Some}
 use Rattle.list_lemmas.proofs.FoundItems.{Finds, finds}
 use Rattle.list_lemmas.proofs.ItemsOfLists.{Contains-at}
 use Rattle.jk_model.specs.declared.identifiers.ThreadNo.{ThreadNo}
 use Rattle.jk_model.specs.declared.output.Line.{Line}
-use Rattle.jk_model_machine_state.specs.Machines.{IsLiveThread, Machine, Thread, thread_numbered}
+use Rattle.jk_model_machine_state.specs.Machines.{IsLiveThread, Machine, Thread}
 use Rattle.jk_model_runs.specs.Events.{Goes, IsWhole, Turns}
 use Rattle.jk_model_runs.specs.Steps.{Rested, StepsBy}
 use Rattle.jk_outside.specs.declared.sinks.SinkFailed.{SinkFailed}

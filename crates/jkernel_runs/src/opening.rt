@@ -1,6 +1,6 @@
 //! The `domain` event: a folder becomes a domain, or a line says why it doesn't.
 
-ghost use Rattle.std.specs.Prelude.{◌≡◌, ◌≤◌, [], ◌∷◌, true, Err, IsSome};
+ghost use Rattle.std.specs.Prelude.{◌≡◌, [], ◌∷◌, true, Err, IsSome};
 ghost use Rattle.jk_model.specs.declared.output.Line.TheVariants as Says;
 ghost use Rattle.jk_model.specs.declared.script.Event.TheVariants.{Domain};
 ghost use Rattle.jk_model.specs.Outside.{NeverFalls};

@@ -1,7 +1,7 @@
 //! The top call: words, files and two sinks in, a status out.
 
 ghost use Rattle.std.specs.Prelude.{◌≡◌, ◌⊎◌, ℕ, List, map, string_bytes, IsSome};
-ghost use Rattle.jk_model.specs.Outside.{HasNoFile, HasLongFile, HasRisen, NeverFalls};
+ghost use Rattle.jk_model.specs.Outside.{HasNoFile, HasLongFile, HasRisen};
 ghost use Rattle.jk_model.specs.Script.{MAX_BYTES};
 ghost use Rattle.jk_model.specs.declared.script.FaultKind.TheVariants.{TooLong};
 ghost use Rattle.kernel_events.specs.PrintedLines.{sink};

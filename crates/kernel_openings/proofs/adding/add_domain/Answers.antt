@@ -1,5 +1,5 @@
 -- What is loaded and opened is a kernel with the domain; and what is refused leaves the kernel as it was.
-use Rattle.std.proofs.Common.{◌≡◌, ◌⊎◌, inl, inr, ℕ, List, [], ◌∷◌, length, Result, Ok, Err, refl, sym, ap, subst, ◌∙◌}
+use Rattle.std.proofs.Common.{◌≡◌, ◌⊎◌, inl, inr, [], ◌∷◌, length, Result, Ok, Err, sym, ap, subst, ◌∙◌}
 use Rattle.jk_model.specs.declared.output.Line.TheVariants as Says
 use Rattle.jk_model.specs.declared.output.Place.{Place}
 use Rattle.jk_model.specs.declared.output.Rule.{Rule}

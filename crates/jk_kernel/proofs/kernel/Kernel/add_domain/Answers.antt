@@ -1,5 +1,5 @@
 -- An opening keeps what holds of the machine, and each other answer leaves it as it was.
-use Rattle.std.proofs.Common.{◌≡◌, List, [], ◌∷◌, length, Some, Result, Ok, Err, sym, subst}
+use Rattle.std.proofs.Common.{◌≡◌, [], ◌∷◌, length, Some, Result, Ok, Err, sym, subst}
 use Rattle.std.specs.Prelude.{IfErr, OnErr, OnOk}
 use Rattle.jk_model_folders.specs.FolderRules.{IsFolderFault, IsLive}
 use Rattle.jk_model_machine_state.specs.Machines.{Machine, world_of}

@@ -1,5 +1,5 @@
 -- The turns of each live thread follow one another, and the threads between them do nothing.
-use Rattle.std.proofs.Common.{◌≡◌, Bool, Result, Ok, Err, false, ap, refl}
+use Rattle.std.proofs.Common.{◌≡◌, Bool, Result, Ok, ap}
 use Rattle.std.proofs.lemmas.Bool.{or_parts}
 use Rattle.std.proofs.lemmas.Result.{err_from_is_err_and}
 use Rattle.jk_outside.specs.declared.sinks.SinkFailed.{SinkFailed}
