@@ -131,7 +131,7 @@ module _ (k : KernelContent) (h : AreKernelParts k) (law : AcceptedFoldersStaySo
     abbrev o : Opening
     o = record { tree = tree; root = root; name = name; quotas = q }
 
-    accepted_with : (Holds : List ClassRecord → _ → Type 0) → Holds w.classes l.first → HasAcceptedWith Holds o m
+    abbrev accepted_with : (Holds : List ClassRecord → _ → Type 0) → Holds w.classes l.first → HasAcceptedWith Holds o m
     accepted_with Holds holds = record { files = f; are_files = files; are_told = told; accepted = accepted_so; holds = holds }
 
     pages : LacksPlaces (parts_with k w) q ≡ LacksPages m q
