@@ -205,7 +205,8 @@ module _ (k : KernelContent) (h : AreKernelParts k) (law : AcceptedFoldersStaySo
           (opening k h law f files name l w.classes loads_so typed ordered heaps frames shared q new new_heaps opened_so))
           (placed k h law f files name l w.classes loads_so typed ordered heaps frames shared q new new_heaps opened_so) in
           subst (OpensNow o m (Says.Loaded name ∷ [])) (sym machine_so)
-          (OpensNow.opens (accepted_with FolderRefersToNoPackageJk opened.apart) (Says.Loaded name ∷ []) (with_new_domain m w (admission accepted_so q) inside_now) by_files)
+          (OpensNow.opens (accepted_with FolderRefersToNoPackageJk opened.apart) (Says.Loaded name ∷ [])
+          (with_new_domain m w (admission accepted_so q) inside_now) by_files)
 
       pub apart_so : FolderRefersToNoPackageJk new.world.classes (record { 0 = length k.world.classes })
       apart_so =
