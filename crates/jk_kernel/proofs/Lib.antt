@@ -1,9 +1,8 @@
-mod LinesJoined
+pub mod LinesJoined
 mod MachinesStaySound
 mod NextThreads
 mod NumbersLeft
 mod OneRound
-mod OpenedFolders
 mod RoundsSoFar
 mod TurnsSoFar
 mod WaysJoined

@@ -1,5 +1,5 @@
 -- Lines that were printed after lines that all went out are printed with them.
-use Rattle.std.proofs.Common.{◌≡◌, ◌<◌, ◌^◌, ℕ, List, [], ◌∷◌, ◌++◌, Option, Result, Ok, Err, refl, sym, ap, ◌∙◌, subst, append_assoc, append-nil}
+use Rattle.std.proofs.Common.{◌≡◌, ◌<◌, ◌^◌, ℕ, List, [], ◌∷◌, ◌++◌, Result, Ok, Err, refl, sym, ap, ◌∙◌, subst, append_assoc, append-nil}
 use Rattle.std.specs.List.{concat}
 use Rattle.std.proofs.lemmas.Grind.{flat_map-append}
 use Rattle.std.proofs.lemmas.List.Folds.{concat-append}
@@ -9,7 +9,7 @@ use Rattle.jk_model.specs.declared.output.Line.{Line}
 use Rattle.jk_model.proofs.AppendsInTurn.{Appends-append, Appends-nil, AppendsPart-after}
 use Rattle.jk_model.proofs.CountsNeverFall.{NeverFalls-after, NeverFalls-refl, HasRisen-after}
 use Rattle.jk_outside.specs.CutTexts.{BreaksOff, Sends}
-use Rattle.jk_outside.specs.SeveralLines.{PrintsLines, pieces_of, pieces_of_lines}
+use Rattle.jk_outside.specs.SeveralLines.{pieces_of, pieces_of_lines}
 use Rattle.jk_outside.proofs.CutIsWholeAndRest.{concat-cut_text}
 use Rattle.jk_outside.proofs.SentInOrder.{BreaksOff-after}
 use Rattle.kernel_events.specs.PrintedLines.{Prints, SinkState}
@@ -69,15 +69,3 @@ printed_both a b c first rest (Err e) p q =
       calm = tt;
       faults = NeverFalls-after a.faults b.faults c.faults p.faults q.faults;
     }
-
--- what went out doesn't depend on how the error is told
-pub failed_as : {E G : Type 0} (a b : SinkState) (lines : List Line) (e : E) (e' : G) → Prints a b (Err e) lines → Prints a b (Err e') lines
-failed_as a b lines e e' p = record {
-  ok = tt;
-  pieces = tt;
-  part = p.part;
-  pieces_part = p.pieces_part;
-  cause = p.cause;
-  calm = tt;
-  faults = p.faults;
-}

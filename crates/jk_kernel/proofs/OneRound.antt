@@ -1,22 +1,21 @@
 -- A round by the threads that are live in it: those between them do nothing.
-use Rattle.std.proofs.Common.{◌≡◌, ◌==◌, inl, inr, ℕ, zero, suc, ◌+◌, ◌*◌, ◌-◌, ◌<◌, ◌≤◌, find, Option, Some, None, List, [], ◌++◌, Ok, Err, refl, sym, ap, subst, ◌∙◌, append_assoc, arith}
+use Rattle.std.proofs.Common.{◌≡◌, ◌==◌, inl, inr, ℕ, zero, suc, ◌+◌, ◌*◌, ◌-◌, ◌<◌, ◌≤◌, find, Option, Some, None, List, [], ◌++◌, Ok, refl, sym, ap, subst, ◌∙◌, append_assoc, arith}
 use Rattle.std.specs.Prelude.{⊤}
 use Rattle.std.proofs.Math.Nat.{mul-add, mul-suc}
 use Rattle.std.proofs.lemmas.Bool.{cases_lt, eqb-true}
 use Rattle.std.proofs.lemmas.List.{append-nil}
-use Rattle.std.proofs.lemmas.Option.{same_Some}
 use Rattle.list_lemmas.proofs.FoundItems.{Finds, finds}
 use Rattle.list_lemmas.proofs.ItemsOfLists.{Contains-at}
 use Rattle.jk_model.specs.declared.identifiers.ThreadNo.{ThreadNo}
 use Rattle.jk_model.specs.declared.output.Line.{Line}
-use Rattle.jk_model_machine_state.specs.Machines.{IsLiveThread, Machine, Thread, thread_numbered}
+use Rattle.jk_model_machine_state.specs.Machines.{IsLiveThread, Machine, Thread}
 use Rattle.jk_model_runs.specs.Events.{Goes, IsWhole, Turns}
 use Rattle.jk_model_runs.specs.Steps.{Rested, StepsBy}
 use Rattle.jk_outside.specs.declared.sinks.SinkFailed.{SinkFailed}
 use Rattle.kernel_events.specs.KernelCalls.{IsNextLive, MayDraw}
 use Rattle.kernel_events.specs.PrintedLines.{Prints, SinkState}
 use Rattle.kernel_events.specs.RisingNumbers.{NumbersRiseInEvents, Rises}
-use Rattle.kernel_events.specs.StepsInTurn.{GoesSoFar, Rests, StopsIn, TurnsSoFar}
+use Rattle.kernel_events.specs.StepsInTurn.{GoesBefore, Rests, StopsAt, TurnsBefore}
 use Rattle.machine_laws.specs.MachinesOfRuns.{IsOfRunWithoutJk, StepsStayOfRuns, ThreadsGoOn}
 use Rattle.jk_kernel.specs.SoundMachines.{IsSoundMachine}
 use Rattle.jk_kernel.proofs.LinesJoined.{Fits, printed_both, printed_none}
@@ -60,9 +59,9 @@ record GoesOn (steps : ℕ) (Go : ℕ → Machine → List Line → Machine → 
 whole_round : (steps : ℕ) → GoesOn steps (Goes steps)
 whole_round steps = record { on = λ thread m mid new before after below turns whole rest. Goes.on thread m mid new before after below turns whole rest }
 
-some_round : (steps : ℕ) → GoesOn steps (GoesSoFar steps)
-some_round steps =
-    record { on = λ thread m mid new before after below turns whole rest. GoesSoFar.on thread m mid new before after below turns whole rest }
+some_round : (steps : ℕ) (t : ThreadNo) → GoesOn steps (GoesBefore steps t)
+some_round steps t =
+    record { on = λ thread m mid new before after below turns whole rest. GoesBefore.on t thread m mid new before after below turns whole rest }
 
 module _ (steps : ℕ) (Go : ℕ → Machine → List Line → Machine → Type 0) (way : GoesOn steps Go) where
   passed : (k from : ℕ) (m last : Machine) (more : List Line) → IsWhole m → NoneBetween from (from + k) m → from + k ≤ m.next_thread
@@ -113,7 +112,8 @@ goes_none steps from m whole none = elim (cases_lt from m.next_thread) [
 pub record RoundSoFar (steps above : ℕ) (first now : Machine) (a b : SinkState) : Type 0 where
   pub lines : List Line
   pub goes : (more : List Line) (last : Machine) → Goes steps (suc above) now more last → Goes steps 1 first (lines ++ more) last
-  pub so_far : (more : List Line) (last : Machine) → GoesSoFar steps (suc above) now more last → GoesSoFar steps 1 first (lines ++ more) last
+  pub so_far : (t : ThreadNo) (more : List Line) (last : Machine) → GoesBefore steps t (suc above) now more last
+      → GoesBefore steps t 1 first (lines ++ more) last
   pub prints : Prints {E = SinkFailed} a b (Ok tt) lines
   pub rises : Rises first (steps * above) now
   pub before : IsSoundMachine first
@@ -126,7 +126,7 @@ pub round_begins : (steps : ℕ) (m : Machine) (a : SinkState) → Fits a → Is
 round_begins steps m a fits sound = record {
   lines = [];
   goes = λ more last goes. goes;
-  so_far = λ more last goes. goes;
+  so_far = λ t more last goes. goes;
   prints = printed_none a fits;
   rises = rises_none m (steps * 0);
   before = sound;
@@ -168,10 +168,10 @@ round_more law steps above t first now next a b c round is (lines, out, apart) s
           subst (λ (ls : List Line). Goes steps 1 first ls last) (sym (append_assoc round.lines lines more))
           (round.goes (lines ++ more) last
           (goes_next steps (Goes steps) (whole_round steps) above t now next last lines more before after is turns goes));
-      so_far = λ more last goes.
-          subst (λ (ls : List Line). GoesSoFar steps 1 first ls last) (sym (append_assoc round.lines lines more))
-          (round.so_far (lines ++ more) last
-          (goes_next steps (GoesSoFar steps) (some_round steps) above t now next last lines more before after is turns goes));
+      so_far = λ u more last goes.
+          subst (λ (ls : List Line). GoesBefore steps u 1 first ls last) (sym (append_assoc round.lines lines more))
+          (round.so_far u (lines ++ more) last
+          (goes_next steps (GoesBefore steps u) (some_round steps u) above t now next last lines more before after is turns goes));
       prints = printed_both a b c round.lines lines (Ok tt) round.prints out;
       rises = rises_more first next (steps * above + steps) (steps * t) (threads_steps steps above t higher)
           (rises_both first now next (steps * above) steps round.rises (law.turns steps (numbered t) now next lines turns));
@@ -194,33 +194,42 @@ round_over steps above first now a b round none = (
 )
 
 -- the turns of a thread didn't all go out: the rest of the round is there all the same
-abbrev pub RoundStopped : ℕ → Machine → Machine → SinkState → SinkState → SinkFailed → Type 0
-RoundStopped steps first now a b e =
-    (lines : List Line) × Prints a b (Err e) lines × StopsIn (GoesSoFar steps 1) (Goes steps 1) first lines now
+abbrev pub RoundStopped : ℕ → Machine → Machine → SinkState → SinkState → Type 0
+RoundStopped steps first now a b = (t : ThreadNo) × StopsAt t (GoesBefore steps t 1) (Goes steps 1) first a b now
+
+-- what was said before the step, and by it, stands before the rest
+regrouped : (first before said more rest : List Line)
+    → first ++ (((before ++ said) ++ more) ++ rest) ≡ ((first ++ before) ++ said) ++ (more ++ rest)
+regrouped first before said more rest = simp append_assoc
 
 pub round_failed : StepsStayOfRuns → ThreadsGoOn IsOfRunWithoutJk → (steps above t : ℕ) (first now next : Machine) (a b c : SinkState)
-    (lines : List Line) (e : SinkFailed) → RoundSoFar steps above first now a b → IsNextLive now above t → Prints b c (Err e) lines
-    → StopsIn (TurnsSoFar steps (numbered t)) (Turns steps (numbered t)) now lines next → RoundStopped steps first next a c e
-round_failed keep law steps above t first now next a b c lines e round is out stops =
+    → RoundSoFar steps above first now a b → IsNextLive now above t
+    → StopsAt (numbered t) (TurnsBefore steps (numbered t)) (Turns steps (numbered t)) now b c next → RoundStopped steps first next a c
+round_failed keep law steps above t first now next a b c round is stops =
     let before = whole_machine now round.sound in
+    let lines : List Line = (stops.before ++ stops.said) ++ stops.more in
     let run = ways_keep (StepOf (numbered t)) (TurnsOf (numbered t)) (turns_repeat (numbered t)) IsOfRunWithoutJk
-    (λ x last said kept one. keep x last (numbered t) said kept one) steps now stops.last (lines ++ stops.more) round.sound.run stops.all in
+    (λ x last said kept one. keep x last (numbered t) said kept one) steps now stops.last lines round.sound.run stops.all in
     let rest = law steps (suc t) stops.last run in
-    let whole = goes_next steps (Goes steps) (whole_round steps) above t now stops.last rest.1 (lines ++ stops.more) rest.0 before stops.whole is
+    let whole = goes_next steps (Goes steps) (whole_round steps) above t now stops.last rest.1 lines rest.0 before stops.whole is
     stops.all rest.2 in
-    let joined : round.lines ++ ((lines ++ stops.more) ++ rest.0) ≡ (round.lines ++ lines) ++ (stops.more ++ rest.0) =
-    ap (λ (ls : List Line). round.lines ++ ls) (append_assoc lines stops.more rest.0)
-    ∙ sym (append_assoc round.lines lines (stops.more ++ rest.0)) in (
-      round.lines ++ lines,
-      printed_both a b c round.lines lines (Err e) round.prints out,
+    let joined = regrouped round.lines stops.before stops.said stops.more rest.0 in (
+      numbered t,
       record {
-        so_far = round.so_far lines next
-            (goes_to steps (GoesSoFar steps) (some_round steps) above t now next lines before is
-            (GoesSoFar.within t now next lines (live_below now t before is.live) stops.so_far));
+        before = round.lines ++ stops.before;
+        mid = stops.mid;
+        between = stops.between;
+        so_far = round.so_far (numbered t) stops.before stops.mid
+            (goes_to steps (GoesBefore steps (numbered t)) (some_round steps (numbered t)) above t now stops.mid stops.before before is
+            (GoesBefore.within t now stops.mid stops.before (live_below now t before is.live) stops.so_far));
+        printed = printed_both a b stops.between round.lines stops.before (Ok tt) round.prints stops.printed;
+        said = stops.said;
+        step = stops.step;
+        failed = stops.failed;
+        broke = stops.broke;
         more = stops.more ++ rest.0;
         last = rest.1;
-        all = subst (λ (ls : List Line). Goes steps 1 first ls rest.1) joined
-            (round.goes ((lines ++ stops.more) ++ rest.0) rest.1 whole);
+        all = subst (λ (ls : List Line). Goes steps 1 first ls rest.1) joined (round.goes (lines ++ rest.0) rest.1 whole);
         whole = rest.3.0.0.0;
       },
     )

@@ -1,6 +1,7 @@
 -- So many rounds were gone and printed.
-use Rattle.std.proofs.Common.{◌≡◌, inl, inr, ℕ, zero, suc, ◌+◌, ◌*◌, ◌-◌, ◌<◌, ◌≤◌, List, [], ◌++◌, Ok, Err, refl, sym, ap, subst, ◌∙◌, append_assoc, arith}
+use Rattle.std.proofs.Common.{◌≡◌, inl, inr, ℕ, zero, suc, ◌+◌, ◌*◌, ◌-◌, ◌<◌, ◌≤◌, List, [], ◌++◌, Ok, refl, sym, ap, subst, ◌∙◌, append_assoc, arith}
 use Rattle.std.proofs.Math.Nat.{add-mul, suc-mul}
+use Rattle.jk_model.specs.declared.identifiers.ThreadNo.{ThreadNo}
 use Rattle.jk_model.specs.declared.output.Line.{Line}
 use Rattle.jk_model_machine_state.specs.Machines.{Machine}
 use Rattle.jk_model_runs.specs.Events.{Goes, Rounds}
@@ -8,7 +9,7 @@ use Rattle.jk_outside.specs.declared.sinks.SinkFailed.{SinkFailed}
 use Rattle.kernel_events.specs.KernelCalls.{MayDraw, steps_of}
 use Rattle.kernel_events.specs.PrintedLines.{Prints, SinkState}
 use Rattle.kernel_events.specs.RisingNumbers.{NumbersRiseInEvents, Rises}
-use Rattle.kernel_events.specs.StepsInTurn.{GoesSoFar, RoundsSoFar, StopsIn}
+use Rattle.kernel_events.specs.StepsInTurn.{RoundsBefore, StopsAt}
 use Rattle.machine_laws.specs.MachinesOfRuns.{IsOfRunWithoutJk, RoundsGoOn, StepsStayOfRuns}
 use Rattle.jk_kernel.specs.SoundMachines.{IsSoundMachine}
 use Rattle.jk_kernel.proofs.LinesJoined.{Fits, printed_both, printed_none}
@@ -27,23 +28,23 @@ goes_keep keep steps thread m new lines run (Goes.on k w mid end before after be
     (λ x last said kept one. keep x last (numbered k) said kept one) steps w mid before run turns) rest
 
 -- rounds, and then a part of a round
-then_some : (done left steps : ℕ) (m now new : Machine) (lines after : List Line) → Rounds done steps m lines now
-    → RoundsSoFar left steps now after new → RoundsSoFar (done + left) steps m (lines ++ after) new
-then_some zero left steps m now new lines after (none, same) some =
+then_some : (done left steps : ℕ) (t : ThreadNo) (m now new : Machine) (lines after : List Line) → Rounds done steps m lines now
+    → RoundsBefore left steps t now after new → RoundsBefore (done + left) steps t m (lines ++ after) new
+then_some zero left steps t m now new lines after (none, same) some =
     let e : left ≡ zero + left = omega arith in
-    let here : RoundsSoFar left steps m after new = subst (λ (x : Machine). RoundsSoFar left steps x after new) same some in
-    subst (λ (n : ℕ). RoundsSoFar n steps m (lines ++ after) new) e
-    (subst (λ (ls : List Line). RoundsSoFar left steps m (ls ++ after) new) (sym none) here)
-then_some (suc done) left steps m now new lines after (mid, first, rest, goes, whole, rounds, joined) some =
+    let here : RoundsBefore left steps t m after new = subst (λ (x : Machine). RoundsBefore left steps t x after new) same some in
+    subst (λ (n : ℕ). RoundsBefore n steps t m (lines ++ after) new) e
+    (subst (λ (ls : List Line). RoundsBefore left steps t m (ls ++ after) new) (sym none) here)
+then_some (suc done) left steps t m now new lines after (mid, first, rest, goes, whole, rounds, joined) some =
     let e : suc (done + left) ≡ suc done + left = omega arith in
-    subst (λ (n : ℕ). RoundsSoFar n steps m (lines ++ after) new) e
+    subst (λ (n : ℕ). RoundsBefore n steps t m (lines ++ after) new) e
     (inr (
       mid,
       first,
       rest ++ after,
       goes,
       whole,
-      then_some done left steps mid now new rest after rounds some,
+      then_some done left steps t mid now new rest after rounds some,
       ap (λ (ls : List Line). ls ++ after) joined ∙ append_assoc first rest after,
     ))
 
@@ -104,35 +105,44 @@ may_go law steps done count first now a b less gone may =
 
 -- ---- The lines of a round didn't all go out: the others are there all the same.
 
-abbrev pub RoundsStopped : ℕ → ℕ → Machine → Machine → SinkState → SinkState → SinkFailed → Type 0
-RoundsStopped count steps first now a b e =
-    (lines : List Line) × Prints a b (Err e) lines × StopsIn (RoundsSoFar count steps) (Rounds count steps) first lines now
+abbrev pub RoundsStopped : ℕ → ℕ → Machine → Machine → SinkState → SinkState → Type 0
+RoundsStopped count steps first now a b = (t : ThreadNo) × StopsAt t (RoundsBefore count steps t) (Rounds count steps) first a b now
+
+-- what was said before the step, and by it, stands before the rest
+regrouped : (first before said more rest : List Line)
+    → (first ++ ((before ++ said) ++ more)) ++ rest ≡ ((first ++ before) ++ said) ++ (more ++ rest)
+regrouped first before said more rest = simp append_assoc
 
 pub gone_failed : StepsStayOfRuns → RoundsGoOn IsOfRunWithoutJk → (steps done count : ℕ) (first now next : Machine) (a b c : SinkState)
-    (e : SinkFailed) → done < count → Gone steps done first now a b → RoundStopped steps now next b c e
-    → RoundsStopped count steps first next a c e
-gone_failed keep law steps done count first now next a b c e less gone (lines, out, stops) =
+    → done < count → Gone steps done first now a b → RoundStopped steps now next b c → RoundsStopped count steps first next a c
+gone_failed keep law steps done count first now next a b c less gone (t, stops) =
     let left = count - done - 1 in
-    let run = goes_keep keep steps 1 now stops.last (lines ++ stops.more) gone.sound.run stops.all in
+    let lines : List Line = (stops.before ++ stops.said) ++ stops.more in
+    let run = goes_keep keep steps 1 now stops.last lines gone.sound.run stops.all in
     let rest = law left steps stops.last run in
-    let some = ways_more (RoundOf steps) (RoundsOf steps) (rounds_repeat steps) done first now stops.last gone.lines (lines ++ stops.more)
-    gone.rounds stops.all stops.whole in
+    let some = ways_more (RoundOf steps) (RoundsOf steps) (rounds_repeat steps) done first now stops.last gone.lines lines gone.rounds stops.all
+    stops.whole in
     let all = ways_join (RoundOf steps) (RoundsOf steps) (rounds_repeat steps) (done + 1) left first stops.last rest.1
-    (gone.lines ++ (lines ++ stops.more)) rest.0 some rest.2 in
-    let joined : (gone.lines ++ (lines ++ stops.more)) ++ rest.0 ≡ (gone.lines ++ lines) ++ (stops.more ++ rest.0) =
-    append_assoc gone.lines (lines ++ stops.more) rest.0
-    ∙ ap (λ (ls : List Line). gone.lines ++ ls) (append_assoc lines stops.more rest.0)
-    ∙ sym (append_assoc gone.lines lines (stops.more ++ rest.0)) in
+    (gone.lines ++ lines) rest.0 some rest.2 in
+    let joined = regrouped gone.lines stops.before stops.said stops.more rest.0 in
     let so_far : done + suc left ≡ count = omega (arith, less) in
     let number : (done + 1) + left ≡ count = omega (arith, less) in (
-      gone.lines ++ lines,
-      printed_both a b c gone.lines lines (Err e) gone.prints out,
+      t,
       record {
-        so_far = subst (λ (n : ℕ). RoundsSoFar n steps first (gone.lines ++ lines) next) so_far
-            (then_some done (suc left) steps first now next gone.lines lines gone.rounds (inl stops.so_far));
+        before = gone.lines ++ stops.before;
+        mid = stops.mid;
+        between = stops.between;
+        so_far = subst (λ (n : ℕ). RoundsBefore n steps t first (gone.lines ++ stops.before) stops.mid) so_far
+            (then_some done (suc left) steps t first now stops.mid gone.lines stops.before gone.rounds (inl stops.so_far));
+        printed = printed_both a b stops.between gone.lines stops.before (Ok tt) gone.prints stops.printed;
+        said = stops.said;
+        step = stops.step;
+        failed = stops.failed;
+        broke = stops.broke;
         more = stops.more ++ rest.0;
         last = rest.1;
-        all = subst (λ (n : ℕ). Rounds n steps first ((gone.lines ++ lines) ++ (stops.more ++ rest.0)) rest.1) number
+        all = subst
+            (λ (n : ℕ). Rounds n steps first (((gone.lines ++ stops.before) ++ stops.said) ++ (stops.more ++ rest.0)) rest.1) number
             (subst (λ (ls : List Line). Rounds ((done + 1) + left) steps first ls rest.1) joined all);
         whole = rest.3.0.0.0;
       },

@@ -9,7 +9,7 @@ use Rattle.jk_model_runs.specs.Steps.{Steps}
 use Rattle.jk_outside.specs.declared.sinks.SinkFailed.{SinkFailed}
 use Rattle.kernel_events.specs.PrintedLines.{Prints, SinkState}
 use Rattle.kernel_events.specs.RisingNumbers.{NumbersRiseInEvents, Rises}
-use Rattle.kernel_events.specs.StepsInTurn.{Rests, StopsIn, TurnsApart, TurnsSoFar}
+use Rattle.kernel_events.specs.StepsInTurn.{Rests, StopsAt, TurnsApart, TurnsBefore}
 use Rattle.machine_laws.specs.MachinesOfRuns.{IsOfRunWithoutJk, TurnsGoOn}
 use Rattle.jk_kernel.specs.SoundMachines.{IsSoundMachine, StepsAreApart, StepsKeepSound}
 use Rattle.jk_kernel.proofs.LinesJoined.{Fits, printed_both, printed_none}
@@ -96,29 +96,33 @@ rests_on t m sound step = record {
 }
 
 -- The lines of one step didn't all go out.
-abbrev pub Stopped : ThreadNo → ℕ → Machine → Machine → SinkState → SinkState → SinkFailed → Type 0
-Stopped t steps first now a b e =
-    (lines : List Line) × Prints a b (Err e) lines × StopsIn (TurnsSoFar steps t) (Turns steps t) first lines now
+abbrev pub Stopped : ThreadNo → ℕ → Machine → Machine → SinkState → SinkState → Type 0
+Stopped t steps first now a b = StopsAt t (TurnsBefore steps t) (Turns steps t) first a b now
 
 pub went_failed : StepsKeepSound → StepsAreApart → TurnsGoOn IsOfRunWithoutJk → (t : ThreadNo) (done steps : ℕ) (first now next : Machine)
     (a b c : SinkState) (lines : List Line) (e : SinkFailed) → done < steps → Went t done first now a b → Prints b c (Err e) lines
-    → Steps now t lines next → IsSoundMachine next → Stopped t steps first next a c e
+    → Steps now t lines next → IsSoundMachine next → Stopped t steps first next a c
 went_failed keep apart law t done steps first now next a b c lines e less went out step sound =
     let more = law (steps - done - 1) t next sound.run in
     let some = ways_more (StepOf t) (TurnsOf t) (turns_repeat t) done first now next went.lines lines went.turns step (whole_machine next sound) in
     let all = ways_join (StepOf t) (TurnsOf t) (turns_repeat t) (done + 1) (steps - done - 1) first next more.1 (went.lines ++ lines) more.0 some
     more.2 in
-    let count : (done + 1) + (steps - done - 1) ≡ steps = omega (arith, less) in (
-      went.lines ++ lines,
-      printed_both a b c went.lines lines (Err e) went.prints out,
-      record {
-        so_far = (done + 1, omega (arith, less), all_apart keep apart (done + 1) t first next (went.lines ++ lines) went.before some);
-        more = more.0;
-        last = more.1;
-        all = subst (λ (n : ℕ). Turns n t first ((went.lines ++ lines) ++ more.0) more.1) count all;
-        whole = more.3.0.0.0;
-      },
-    )
+    let count : (done + 1) + (steps - done - 1) ≡ steps = omega (arith, less) in
+    record {
+      before = went.lines;
+      mid = now;
+      between = b;
+      so_far = (done, less, all_apart keep apart done t first now went.lines went.before went.turns);
+      printed = went.prints;
+      said = lines;
+      step = apart now next t lines went.sound step;
+      failed = e;
+      broke = out;
+      more = more.0;
+      last = more.1;
+      all = subst (λ (n : ℕ). Turns n t first ((went.lines ++ lines) ++ more.0) more.1) count all;
+      whole = more.3.0.0.0;
+    }
 
 pub failed_rises : NumbersRiseInEvents → (t : ThreadNo) (done steps : ℕ) (first now next : Machine) (a b : SinkState) (lines : List Line)
     → done < steps → Went t done first now a b → Steps now t lines next → IsSoundMachine next → Rises first steps next

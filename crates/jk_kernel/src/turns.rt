@@ -6,8 +6,8 @@ ghost use Rattle.jk_model_runs.specs.Events.{Turns};
 ghost use Rattle.jk_model_runs.specs.Steps.{Steps};
 ghost use Rattle.jk_outside.specs.SeveralLines.{PrintsLines};
 ghost use Rattle.kernel_events.specs.KernelCalls.{MayDraw};
-ghost use Rattle.kernel_events.specs.PrintedLines.{as_done};
-ghost use Rattle.kernel_events.specs.StepsInTurn.{NumbersRise, Rests, StepsApart, StopsIn, TurnsApart, TurnsSoFar};
+ghost use Rattle.kernel_events.specs.PrintedLines.{as_done, sink};
+ghost use Rattle.kernel_events.specs.StepsInTurn.{NumbersRise, Rests, StepsApart, StopsAt, TurnsApart, TurnsBefore};
 ghost use Rattle.jk_kernel.specs.SoundMachines.{IsSoundMachine};
 
 use crate::kernel::Kernel;
@@ -38,7 +38,8 @@ impl<H: ObjectStore + Drop, F: FrameStore + Drop> Kernel<H, F> {
     }
 
     /// So many steps of a thread. It answers false only where no step of the thread changes anything until another thread acts. It takes no
-    /// memory. Steps that change nothing cost nothing but the first. Where the sink fails, the machine is as after the step that failed.
+    /// memory. Steps that change nothing cost nothing but the first. Where the sink fails, the step in whose lines it failed has happened
+    /// whole, and is the last one.
     pub fn turns<S: Sink>(
         &mut self,
         thread: u32,
@@ -50,11 +51,10 @@ impl<H: ObjectStore + Drop, F: FrameStore + Drop> Kernel<H, F> {
             × PrintsLines (S.bytes out.old) (S.bytes out.new) (S.pieces out.old) (S.pieces out.new) (S.faults out.old) (S.faults out.new)
             (as_done result) lines
             × TurnsApart steps (record { 0 = thread }) self.old lines self.new) }
-        // The other steps are there too, though the kernel stops in the one that failed, and no more of their text goes out.
-        ensures failed { OnErr result ((lines : List Line)
-            × PrintsLines (S.bytes out.old) (S.bytes out.new) (S.pieces out.old) (S.pieces out.new) (S.faults out.old) (S.faults out.new)
-            (as_done result) lines
-            × StopsIn (TurnsSoFar steps (record { 0 = thread })) (Turns steps (record { 0 = thread })) self.old lines self.new) }
+        // The lines of the steps before that one went out whole. The other steps are there too, though none was taken and nothing printed of them.
+        ensures failed { OnErr result (StopsAt (record { 0 = thread }) (TurnsBefore steps (record { 0 = thread })) (Turns steps (record { 0 = thread }))
+            self.old (sink (S.bytes out.old) (S.pieces out.old) (S.faults out.old)) (sink (S.bytes out.new) (S.pieces out.new) (S.faults out.new))
+            self.new) }
         ensures rests { result ≡ Ok false → (self.new ≡ self.old) × Rests self.old (record { 0 = thread }) }
         ensures counts { NumbersRise self.old steps self.new × (length self.new.domains ≡ length self.old.domains) }
     {

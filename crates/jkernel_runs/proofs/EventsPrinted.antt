@@ -1,5 +1,5 @@
 -- What the kernel's calls print, as events: starts, turns and rounds whose lines went out, or broke off.
-use Rattle.std.proofs.Common.{◌≡◌, ℕ, zero, suc, ◌+◌, ◌*◌, ◌≤◌, List, [], Ok, Err, sym, subst, append-nil, arith}
+use Rattle.std.proofs.Common.{◌≡◌, ℕ, zero, suc, ◌+◌, ◌*◌, ◌≤◌, List, [], ◌++◌, Ok, Err, sym, subst, append-nil, arith}
 use Rattle.std.proofs.Math.Nat.{mul_assoc}
 use Rattle.std.proofs.lemmas.Nat.{mul-le}
 use Rattle.jk_model.specs.declared.identifiers.ThreadNo.{ThreadNo}
@@ -11,7 +11,8 @@ use Rattle.jk_model_runs.specs.Starts.{Starts, StartWords}
 use Rattle.jk_outside.specs.declared.sinks.SinkFailed.{SinkFailed}
 use Rattle.kernel_events.specs.KernelCalls.{steps_of}
 use Rattle.kernel_events.specs.PrintedLines.{Prints, SinkState}
-use Rattle.kernel_events.specs.StepsInTurn.{NumbersRise, StopsIn, TurnsApart}
+use Rattle.kernel_events.specs.StepsInTurn.{NumbersRise, StopsAt, TurnsApart}
+use Rattle.jk_kernel.proofs.LinesJoined.{printed_both}
 use Rattle.jkernel_runs.specs.declared.stop.Stop.TheVariants.{WriteFault}
 use Rattle.jkernel_runs.specs.DrawnNumbers.{MOST_DRAWN, MOST_THREADS, RiseInEvent}
 use Rattle.jkernel_runs.specs.Events.{BreaksOffIn, IsTold}
@@ -36,16 +37,16 @@ breaks_off_whole Happened last a b failed whole (lines, printed, happened) = rec
   printed = broken_so failed WriteFault a b lines printed;
 }
 
--- several steps, the others of which are there too
-pub breaks_off_in : (SoFar All : Move) (m new : Machine) (a b : SinkState) (failed : SinkFailed)
-    → (lines : List Line) × Prints a b (Err failed) lines × StopsIn SoFar All m lines new → BreaksOffIn (All m) a b
-breaks_off_in SoFar All m new a b failed (lines, printed, stops) = record {
-  said = lines;
+-- several steps, up to one of a thread; the others are there too
+pub breaks_off_in : (t : ThreadNo) (Before All : Move) (m new : Machine) (a b : SinkState) → StopsAt t Before All m a b new → BreaksOffIn (All m) a b
+breaks_off_in t Before All m new a b stops = record {
+  said = stops.before ++ stops.said;
   more = stops.more;
   last = stops.last;
   happened = stops.all;
   is_whole = stops.whole;
-  printed = broken_so failed WriteFault a b lines printed;
+  printed = broken_so stops.failed WriteFault a b (stops.before ++ stops.said)
+      (printed_both a stops.between b stops.before stops.said (Err stops.failed) stops.printed stops.broke);
 }
 
 -- ---- Steps of one thread.

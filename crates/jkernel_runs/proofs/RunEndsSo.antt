@@ -18,9 +18,9 @@ use Rattle.jkernel_runs.specs.declared.stop.Stop.TheVariants.{ReadFault, WriteFa
 use Rattle.jkernel_runs.specs.Calls.{IsCall}
 use Rattle.jkernel_runs.specs.Ends.{end_of, EndsSo, EndsRefused, HasText, IsMissing, ScriptEnds, AnswersFault, status_of}
 use Rattle.jkernel_runs.specs.Asked.{ask_for_script}
-use Rattle.jkernel_runs.specs.Events.{Moment, AsksForFirst, AsksForFirstAndFolder, RunEnds, RunAsks, RunsWhole, StopsAtDomain, StopsInLines}
+use Rattle.jkernel_runs.specs.Events.{AskedUpToFolder, Moment, RunEnds, RunAsks, RunsWhole, StopsAtDomain, StopsInLines}
 use Rattle.jkernel_runs.specs.Scripts.{IsScript, IsAtFault}
-use Rattle.jkernel_runs.specs.Statuses.{HasEvents, LacksScript, IsDone, IsStoppedAtDomain, IsStoppedInLines, Asks, asked_script}
+use Rattle.jkernel_runs.specs.Statuses.{EndsInLines, HasEvents, LacksScript, IsDone, IsStoppedAtDomain, IsStoppedInLines, Asks, asked_script}
 use Rattle.kernel_events.specs.PrintedLines.{Prints, SinkState}
 
 -- ---- the script
@@ -77,6 +77,16 @@ refused_status f files files' (Stopped ReadFault) h calm = absurd (calm h)
 refused_status f files files' (Stopped WriteFault) h calm = absurd h
 refused_status f files files' (Stopped OutOfMemory) h calm = inr refl
 
+-- a run whose status is that of a failed write stopped in the lines of an event
+pub ends_in_lines : (t : Option Tree) (words : List (List ℕ)) (a b : Moment) (end : End) → EndsSo t words a b end → status_of end ≡ statuses.WriteFault
+    → EndsInLines t words a b
+ends_in_lines t words a b Done h is = absurd cc
+ends_in_lines t words a b Usage h is = absurd cc
+ends_in_lines t words a b (Refused found) h is = absurd cc
+ends_in_lines t words a b (Stopped ReadFault) h is = absurd cc
+ends_in_lines t words a b (Stopped WriteFault) h is = h.1
+ends_in_lines t words a b (Stopped OutOfMemory) h is = absurd cc
+
 abbrev has_events : (t : Option Tree) (words : List (List ℕ)) (root script : List ℕ) (events : List Event) → IsCall words root script
     → (text : List ℕ) × FileIs t script text × IsScript text events → HasEvents t words root events
 has_events t words root script events call found =
@@ -92,26 +102,21 @@ module _ (t : Option Tree) (words : List (List ℕ)) (root script : List ℕ) (e
   all_asked : (more : List Ask) → c.asked ≡ b.asked ++ more → c.asked ≡ a.asked ++ ask_for_script script ∷ more
   all_asked more e = e ∙ ap (λ (x : List Ask). x ++ more) read ∙ append_assoc a.asked (ask_for_script script ∷ []) more
 
-  first_asked : (k : ℕ) → AsksForFirst root events k b.asked c.asked → AsksForFirst root events k (asked_script a.asked script) c.asked
-  first_asked k h = subst (λ (x : List Ask). AsksForFirst root events k x c.asked) read h
+  -- the same asks, after those for the script
+  script_first : (asks : List Ask) → c.asked ≡ b.asked ++ asks → c.asked ≡ asked_script a.asked script ++ asks
+  script_first asks is = is ∙ ap (λ (x : List Ask). x ++ asks) read
 
-  abbrev folder_asked : (k : ℕ) (name : List ℕ) → AsksForFirstAndFolder root events k name b.asked c.asked
-      → AsksForFirstAndFolder root events k name (asked_script a.asked script) c.asked
-  folder_asked k name h = record {
-    before = h.before;
-    asked_before = h.asked_before;
-    at_last = h.at_last;
-    asked_at_last = h.asked_at_last;
-    asked = h.asked ∙ ap (λ (x : List Ask). x ++ (h.before ++ h.at_last)) read;
+  -- what went out before the script was read is what went out at first
+  abbrev from_first : (k : ℕ) (out' : SinkState) → RunsWhole (OpensFolder t root) events k b.out out' → RunsWhole (OpensFolder t root) events k a.out out'
+  from_first k out' h = record {
+    lines = h.lines;
+    last = h.last;
+    run = h.run;
+    printed = subst (λ (o : SinkState). Prints {E = Stop} o out' (Ok tt) h.lines) out h.printed;
   }
 
   abbrev done : RunsWhole (OpensFolder t root) events (length events) b.out c.out → IsDone t words a.out c.out
-  done h = record {
-    root = root;
-    events = events;
-    has = has;
-    runs = subst (λ (o : SinkState). RunsWhole (OpensFolder t root) events (length events) o c.out) out h;
-  }
+  done h = record { root = root; events = events; has = has; runs = from_first (length events) c.out h }
 
   abbrev in_lines : StopsInLines (OpensFolder t root) events b.out c.out → IsStoppedInLines t words a.out c.out
   in_lines h = record {
@@ -121,12 +126,7 @@ module _ (t : Option Tree) (words : List (List ℕ)) (root script : List ℕ) (e
     stops = record {
       k = h.k;
       between = h.between;
-      whole = record {
-        lines = h.whole.lines;
-        last = h.whole.last;
-        run = h.whole.run;
-        printed = subst (λ (o : SinkState). Prints {E = Stop} o h.between (Ok tt) h.whole.lines) out h.whole.printed;
-      };
+      whole = from_first h.k h.between h.whole;
       event = h.event;
       next = h.next;
       breaks_off = h.breaks_off;
@@ -140,28 +140,48 @@ module _ (t : Option Tree) (words : List (List ℕ)) (root script : List ℕ) (e
     has = has;
     stops = record {
       k = h.k;
-      whole = subst (λ (o : SinkState). RunsWhole (OpensFolder t root) events h.k o c.out) out h.whole;
+      whole = from_first h.k c.out h.whole;
       name = h.name;
       quotas = h.quotas;
       next = h.next;
+      free = h.free;
     };
   }
 
-  pub run_ends : (r : Result (Unit {0}) Stop) → RunEnds root (OpensFolder t root) events b c r → EndsSo t words a c (end_of r)
-  run_ends (Ok x) h = (done h.0, first_asked (length events) h.1)
+  abbrev folder_asked : (p : StopsAtDomain (OpensFolder t root) events b.out c.out) → AskedUpToFolder t root p b.asked c.asked
+      → AskedUpToFolder t root (at_domain p).stops (asked_script a.asked script) c.asked
+  folder_asked p h = record {
+    before = h.before;
+    asked_before = h.asked_before;
+    at_last = h.at_last;
+    asked_at_last = h.asked_at_last;
+    asked = script_first (h.before ++ h.at_last) h.asked;
+  }
+
+  pub run_ends : (r : Result (Unit {0}) Stop) → RunEnds t root (OpensFolder t root) events b c r → EndsSo t words a c (end_of r)
+  run_ends (Ok x) (r, (asks, asked, is)) = (done r, (asks, asked, script_first asks is))
   run_ends (Err ReadFault) (risen, (p, q, something)) = (
     inl (HasRisen-after a.files_faults b.files_faults c.files_faults files risen),
-    inr (at_domain p, folder_asked p.k p.name q, something),
+    inr (at_domain p, folder_asked p q, something),
   )
-  run_ends (Err WriteFault) (risen, (p, asked)) = (
+  run_ends (Err WriteFault) (risen, (p, q)) = (
     subst (λ (o : SinkState). HasRisen o.faults c.out.faults) out risen,
-    (in_lines p, first_asked (suc p.k) asked),
+    (
+      in_lines p,
+      record {
+        before = q.before;
+        asked_before = q.asked_before;
+        at_last = q.at_last;
+        asked_at_last = q.asked_at_last;
+        asked = script_first (q.before ++ q.at_last) q.asked;
+      },
+    ),
   )
   run_ends (Err OutOfMemory) (inl (quiet, none)) =
       inl (record { root = root; script = script; call = call; quiet = quiet ∙ out; asks = none ∙ read })
-  run_ends (Err OutOfMemory) (inr (p, q)) = inr (at_domain p, folder_asked p.k p.name q)
+  run_ends (Err OutOfMemory) (inr (p, q)) = inr (at_domain p, folder_asked p q)
 
-  pub run_asks : RunAsks root events b.asked c.asked → Asks t words a.asked c.asked
+  pub run_asks : RunAsks t root events b.asked c.asked → Asks t words a.asked c.asked
   run_asks h = inr (record {
     root = root;
     script = script;

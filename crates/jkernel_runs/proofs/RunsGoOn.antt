@@ -1,63 +1,70 @@
--- A run that goes on by an event, and lines that go out after lines.
-use Rattle.std.proofs.Common.{ℕ, ◌<◌, ◌^◌, List, [], ◌∷◌, ◌++◌, Ok, Err, refl, sym, ap, subst, ◌∙◌, append_assoc, append-nil}
-use Rattle.std.proofs.lemmas.List.Concat.{flat_map-append}
+-- A run that goes on by an event, with what it asked for.
+use Rattle.std.proofs.Common.{ℕ, List, [], ◌∷◌, ◌++◌, Option, Ok, Err, refl, sym, ap, subst, ◌∙◌, append_assoc, append-nil}
 use Rattle.jk_model.specs.declared.output.Line.{Line}
 use Rattle.jk_model.specs.declared.script.Event.{Event}
-use Rattle.jk_model.specs.Outside.{Appends}
-use Rattle.jk_model.specs.Output.{line_text, text_of}
-use Rattle.jk_model.proofs.AppendsInTurn.{Appends-append, Appends-nil}
-use Rattle.jk_model.proofs.CountsNeverFall.{NeverFalls-after, NeverFalls-refl}
+use Rattle.jk_model.specs.declared.script.Event.TheVariants.{Domain, Start, Turn, Round, Kill}
+use Rattle.jk_model.specs.Outside.{Ask, Tree}
 use Rattle.jk_model_machine_state.specs.Machines.{Machine}
 use Rattle.jk_model_runs.specs.Events.{DomainEvent, Happens, IsRun, IsWhole}
-use Rattle.jk_outside.specs.SeveralLines.{pieces_of, pieces_of_lines}
 use Rattle.kernel_events.specs.PrintedLines.{Prints, SinkState}
+use Rattle.jkernel_runs.specs.Asked.{AskedInEvent, AskedInRun, AsksForEvent, AsksForEvents}
 
--- a run, and an event after it
-pub run_more : (opens : DomainEvent) (events : List Event) (event : Event) (m mid last : Machine) (first rest : List Line)
-    → IsRun opens events m first mid → Happens opens event mid rest last → IsWhole last
-    → IsRun opens (events ++ event ∷ []) m (first ++ rest) last
-run_more opens [] event m mid last first rest p h whole = (
-  last,
-  rest,
-  [],
-  subst (λ (x : Machine). Happens opens event x rest last) p.1 h,
-  whole,
-  (refl, refl),
-  ap (λ (ls : List Line). ls ++ rest) p.0 ∙ sym (append-nil rest),
+-- A run, and an event after it, with what both asked for.
+pub run_more : (opens : DomainEvent) (tree : Option Tree) (root : List ℕ) (events : List Event) (event : Event) (m mid last : Machine)
+    (first rest : List Line) (asks more : List Ask) → (p : IsRun opens events m first mid) → AskedInRun opens tree root events m first mid p asks
+    → Happens opens event mid rest last → IsWhole last → AskedInEvent tree root event mid rest more
+    → (q : IsRun opens (events ++ event ∷ []) m (first ++ rest) last)
+    × AskedInRun opens tree root (events ++ event ∷ []) m (first ++ rest) last q (asks ++ more)
+run_more opens tree root [] event m mid last first rest asks more p asked h whole asked_more = (
+  (
+    last,
+    rest,
+    [],
+    subst (λ (x : Machine). Happens opens event x rest last) p.1 h,
+    whole,
+    (refl, refl),
+    ap (λ (ls : List Line). ls ++ rest) p.0 ∙ sym (append-nil rest),
+  ),
+  (
+    more,
+    [],
+    subst (λ (x : Machine). AskedInEvent tree root event x rest more) p.1 asked_more,
+    refl,
+    ap (λ (x : List Ask). x ++ more) asked ∙ sym (append-nil more),
+  ),
 )
-run_more opens (e ∷ events) event m mid last first rest p h whole =
-    let more = run_more opens events event p.0 mid last p.2 rest p.5 h whole in
-    (p.0, p.1, p.2 ++ rest, p.3, p.4, more, ap (λ (ls : List Line). ls ++ rest) p.6 ∙ append_assoc p.1 p.2 rest)
+run_more opens tree root (e ∷ events) event m mid last first rest asks more p asked h whole asked_more =
+    let longer = run_more opens tree root events event p.0 mid last p.2 rest asked.1 more p.5 asked.3 h whole asked_more in (
+      (p.0, p.1, p.2 ++ rest, p.3, p.4, longer.0, ap (λ (ls : List Line). ls ++ rest) p.6 ∙ append_assoc p.1 p.2 rest),
+      (
+        asked.0,
+        asked.1 ++ more,
+        asked.2,
+        longer.1,
+        ap (λ (x : List Ask). x ++ more) asked.4 ∙ append_assoc asked.0 asked.1 more,
+      ),
+    )
 
--- ---- Lines that went out.
+-- what a run's events asked for is what events may ask for
+pub may_ask : (tree : Option Tree) (root : List ℕ) (event : Event) (m : Machine) (lines : List Line) (asks : List Ask)
+    → AskedInEvent tree root event m lines asks → AsksForEvent tree root event asks
+may_ask tree root (Domain name quotas) m lines asks h = h.of_folder
+may_ask tree root (Start name class words) m lines asks h = h
+may_ask tree root (Turn thread steps) m lines asks h = h
+may_ask tree root (Round rounds steps) m lines asks h = h
+may_ask tree root (Kill name) m lines asks h = h
 
--- no lines
-pub prints_nothing : {E : Type 0} (a : SinkState) → a.faults < 2 ^ 64 → Prints {E = E} a a (Ok tt) []
-prints_nothing a fits = record {
-  ok = Appends-nil a.bytes;
-  pieces = sym (append-nil a.pieces);
-  part = tt;
-  pieces_part = tt;
-  cause = tt;
-  calm = refl;
-  faults = NeverFalls-refl a.faults fits;
-}
-
--- lines, and more lines
-pub prints_then : {E : Type 0} (a b c : SinkState) (first rest : List Line) → Prints {E = E} a b (Ok tt) first → Prints {E = E} b c (Ok tt) rest
-    → Prints {E = E} a c (Ok tt) (first ++ rest)
-prints_then a b c first rest p q = record {
-  ok = subst (λ (text : List ℕ). Appends a.bytes c.bytes text) (sym (flat_map-append (λ line. line_text line ++ 10 ∷ []) first rest))
-      (Appends-append a.bytes b.bytes c.bytes (text_of first) (text_of rest) p.ok q.ok);
-  pieces = q.pieces ∙ ap (λ (ps : List (List ℕ)). ps ++ pieces_of_lines rest) p.pieces
-      ∙ append_assoc a.pieces (pieces_of_lines first) (pieces_of_lines rest)
-      ∙ ap (λ (ps : List (List ℕ)). a.pieces ++ ps) (sym (flat_map-append pieces_of first rest));
-  part = tt;
-  pieces_part = tt;
-  cause = tt;
-  calm = q.calm ∙ p.calm;
-  faults = NeverFalls-after a.faults b.faults c.faults p.faults q.faults;
-}
+pub may_ask_all : (opens : DomainEvent) (tree : Option Tree) (root : List ℕ) (events : List Event) (m : Machine) (lines : List Line) (last : Machine)
+    (run : IsRun opens events m lines last) (asks : List Ask) → AskedInRun opens tree root events m lines last run asks
+    → AsksForEvents tree root events asks
+may_ask_all opens tree root [] m lines last run asks h = h
+may_ask_all opens tree root (event ∷ events) m lines last run asks h = (
+  h.0,
+  h.1,
+  may_ask tree root event m run.1 h.0 h.2,
+  may_ask_all opens tree root events run.0 run.2 last run.5 h.1 h.3,
+  h.4,
+)
 
 -- ---- What failed has another name where the run stops.
 

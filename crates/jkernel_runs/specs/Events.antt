@@ -1,16 +1,17 @@
 -- What an event of a script, and all of them, leave behind, by how they ended.
-use Rattle.std.specs.Prelude.{◌≡◌, ◌≢◌, ℕ, suc, ◌*◌, ◌≤◌, ◌⊎◌, ⊤, true, List, [], ◌++◌, length, take, slice_get, Option, Some, None, Result, Ok, Err}
+use Rattle.std.specs.Prelude.{◌≡◌, ◌≢◌, ℕ, ◌*◌, ◌≤◌, ◌⊎◌, true, List, [], ◌++◌, length, take, slice_get, Option, Some, None, Result, Ok, Err}
 use Rattle.jk_model.specs.declared.output.Line.{Line}
 use Rattle.jk_model.specs.declared.script.Event.{Event}
 use Rattle.jk_model.specs.declared.script.Event.TheVariants.{Domain, Start, Turn, Round, Kill}
 use Rattle.jk_model.specs.declared.script.Quotas.{Quotas}
-use Rattle.jk_model.specs.Outside.{Ask, HasRisen, ◌/-◌}
+use Rattle.jk_model.specs.Outside.{Ask, HasRisen, Tree, ◌/-◌}
 use Rattle.jk_model.specs.ScriptGrammar.{is_name, MAX_STEPS}
-use Rattle.jk_model_machine_state.specs.Machines.{Machine, IsFirstMachine}
+use Rattle.jk_model_folders.specs.FolderRules.{IsLive}
+use Rattle.jk_model_machine_state.specs.Machines.{Machine, IsFirstMachine, world_of}
 use Rattle.jk_model_runs.specs.Events.{DomainEvent, Happens, IsRun, IsWhole}
 use Rattle.kernel_events.specs.PrintedLines.{Prints, SinkState}
 use Rattle.kernel_openings.specs.StartedThreads.{AreStartWords}
-use Rattle.jkernel_runs.specs.Asked.{AsksForEvent, AsksForEvents, AsksForFolder}
+use Rattle.jkernel_runs.specs.Asked.{AskedInEvent, AskedInRun, AsksForEvent, AsksForEvents, AsksForFolder}
 use Rattle.jkernel_runs.specs.declared.stop.Stop.{Stop}
 use Rattle.jkernel_runs.specs.declared.stop.Stop.TheVariants.{ReadFault, WriteFault, OutOfMemory}
 
@@ -21,10 +22,6 @@ pub record Moment : Type 0 where
   -- what was asked of the files, and their count of faults
   pub asked : List Ask
   pub files_faults : ℕ
-
--- what a sink tells: its bytes, the pieces that it was handed, and its count of faults
-abbrev pub sink : Option (List ℕ) → List (List ℕ) → ℕ → SinkState
-sink bytes pieces faults = record { bytes = bytes; pieces = pieces; faults = faults }
 
 abbrev pub moment : SinkState → List Ask → ℕ → Moment
 moment out asked files_faults = record { out = out; asked = asked; files_faults = files_faults }
@@ -46,12 +43,13 @@ IsBuilt (Turn thread steps) = steps ≤ MAX_STEPS
 IsBuilt (Round rounds steps) = rounds * steps ≤ MAX_STEPS
 IsBuilt (Kill name) = ⊥
 
-abbrev pub IsDomainEvent : Event → Type 0
-IsDomainEvent (Domain name quotas) = ⊤
-IsDomainEvent (Start name class words) = ⊥
-IsDomainEvent (Turn thread steps) = ⊥
-IsDomainEvent (Round rounds steps) = ⊥
-IsDomainEvent (Kill name) = ⊥
+-- Memory may want and files may fail at this event of a machine: it is a `domain` event, of a name that no live domain has.
+abbrev pub MayStop : Machine → Event → Type 0
+MayStop m (Domain name quotas) = IsLive (world_of m) name → ⊥
+MayStop m (Start name class words) = ⊥
+MayStop m (Turn thread steps) = ⊥
+MayStop m (Round rounds steps) = ⊥
+MayStop m (Kill name) = ⊥
 
 -- ---- What becomes of lines.
 
@@ -87,16 +85,22 @@ IsPrinted Happened last old new (Err ReadFault) = ⊥
 -- ---- One event, from one machine and moment to another. Where the files failed, nothing happened but that they were asked for
 -- something, and where memory ran out, nothing but that they may have been.
 
-abbrev pub EventEnds : DomainEvent → Event → Machine → Machine → Moment → Moment → Result (Unit {0}) Stop → Type 0
-EventEnds opens event m new a b (Ok x) = IsTold (Happens opens event m) new a.out b.out
-EventEnds opens event m new a b (Err WriteFault) = BreaksOffIn (Happens opens event m) a.out b.out
-EventEnds opens event m new a b (Err OutOfMemory) = IsDomainEvent event × (b.out ≡ a.out)
-EventEnds opens event m new a b (Err ReadFault) =
-    IsDomainEvent event × (b.out ≡ a.out) × HasRisen a.files_faults b.files_faults × (b.asked ≢ a.asked)
+-- what an event may have asked of the files, after some asks
+abbrev pub EventAsks : Option Tree → List ℕ → Event → List Ask → List Ask → Type 0
+EventAsks tree root event old new = (asks : List Ask) × AsksForEvent tree root event asks × (new ≡ old ++ asks)
 
--- what an event asked of the files
-abbrev pub EventAsks : List ℕ → Event → List Ask → List Ask → Type 0
-EventAsks root event old new = (asks : List Ask) × AsksForEvent root event asks × (new ≡ old ++ asks)
+-- and what it asked of them that printed these lines
+abbrev pub EventAsked : Option Tree → List ℕ → Event → Machine → List Line → List Ask → List Ask → Type 0
+EventAsked tree root event m lines old new = (asks : List Ask) × AskedInEvent tree root event m lines asks × (new ≡ old ++ asks)
+
+abbrev pub EventEnds : Option Tree → List ℕ → DomainEvent → Event → Machine → Machine → Moment → Moment → Result (Unit {0}) Stop → Type 0
+EventEnds tree root opens event m new a b (Ok x) =
+    (told : IsTold (Happens opens event m) new a.out b.out) × EventAsked tree root event m told.lines a.asked b.asked
+EventEnds tree root opens event m new a b (Err WriteFault) =
+    (broke : BreaksOffIn (Happens opens event m) a.out b.out) × EventAsked tree root event m (broke.said ++ broke.more) a.asked b.asked
+EventEnds tree root opens event m new a b (Err OutOfMemory) = MayStop m event × (b.out ≡ a.out)
+EventEnds tree root opens event m new a b (Err ReadFault) =
+    MayStop m event × (b.out ≡ a.out) × HasRisen a.files_faults b.files_faults × (b.asked ≢ a.asked)
 
 -- ---- The first of some events.
 
@@ -114,13 +118,15 @@ pub record RunsWhole (opens : DomainEvent) (events : List Event) (k : ℕ) (old 
   pub run : FirstEvents opens events k lines last
   pub printed : Prints {E = Stop} old new (Ok tt) lines
 
--- The first k events were run, and their whole text went out. The event after them is a `domain` event, of which nothing went out.
+-- The first k events were run, and their whole text went out. The event after them is a `domain` event, of a name that no live domain has, and
+-- nothing went out of it.
 pub record StopsAtDomain (opens : DomainEvent) (events : List Event) (old new : SinkState) : Type 0 where
   pub k : ℕ
   pub whole : RunsWhole opens events k old new
   pub name : List ℕ
   pub quotas : Quotas
   pub next : slice_get events k ≡ Some (Domain name quotas)
+  pub free : IsLive (world_of whole.last) name → ⊥
 
 -- The first k events were run, and their whole text went out. The event after them happened too, and its lines went out up to one that
 -- failed.
@@ -132,33 +138,51 @@ pub record StopsInLines (opens : DomainEvent) (events : List Event) (old new : S
   pub next : slice_get events k ≡ Some event
   pub breaks_off : BreaksOffIn (Happens opens event whole.last) between new
 
--- What was asked of the files after some asks: what the first k events ask for, and nothing else.
-abbrev pub AsksForFirst : List ℕ → List Event → ℕ → List Ask → List Ask → Type 0
-AsksForFirst root events k old new = (asks : List Ask) × AsksForEvents root (take k events) asks × (new ≡ old ++ asks)
+-- ---- What was asked of the files after some asks.
 
--- What was asked of the files after some asks: what the first k events ask for, and last what is asked for a folder of this name.
-pub record AsksForFirstAndFolder (root : List ℕ) (events : List Event) (k : ℕ) (name : List ℕ) (old new : List Ask) : Type 0 where
+-- What the first events asked for, as they were run.
+abbrev pub AskedByFirst : {opens : DomainEvent} {events : List Event} {k : ℕ} {out out' : SinkState} → Option Tree → List ℕ
+    → RunsWhole opens events k out out' → List Ask → Type 0
+AskedByFirst {opens = opens} {events = events} {k = k} tree root r asks =
+    AskedInRun opens tree root (take k events) r.run.first r.lines r.last r.run.run asks
+
+-- That, and nothing else.
+abbrev pub AskedForWhole : {opens : DomainEvent} {events : List Event} {k : ℕ} {out out' : SinkState} → Option Tree → List ℕ
+    → RunsWhole opens events k out out' → List Ask → List Ask → Type 0
+AskedForWhole tree root r old new = (asks : List Ask) × AskedByFirst tree root r asks × (new ≡ old ++ asks)
+
+-- That, and what the event asked for in whose lines the output failed; nothing after it.
+pub record AskedUpToLines {opens : DomainEvent} {events : List Event} {out out' : SinkState} (tree : Option Tree) (root : List ℕ)
+    (p : StopsInLines opens events out out') (old new : List Ask) : Type 0 where
   pub before : List Ask
-  pub asked_before : AsksForEvents root (take k events) before
+  pub asked_before : AskedByFirst tree root p.whole before
   pub at_last : List Ask
-  pub asked_at_last : AsksForFolder (root /- name) at_last
+  pub asked_at_last : AskedInEvent tree root p.event p.whole.last (p.breaks_off.said ++ p.breaks_off.more) at_last
+  pub asked : new ≡ old ++ (before ++ at_last)
+
+-- That, and last what is asked for the folder of the event after them.
+pub record AskedUpToFolder {opens : DomainEvent} {events : List Event} {out out' : SinkState} (tree : Option Tree) (root : List ℕ)
+    (p : StopsAtDomain opens events out out') (old new : List Ask) : Type 0 where
+  pub before : List Ask
+  pub asked_before : AskedByFirst tree root p.whole before
+  pub at_last : List Ask
+  pub asked_at_last : AsksForFolder tree (root /- p.name) at_last
   pub asked : new ≡ old ++ (before ++ at_last)
 
 -- ---- All events, from a machine without domains. There may be no memory even for that one.
 
-abbrev pub RunEnds : List ℕ → DomainEvent → List Event → Moment → Moment → Result (Unit {0}) Stop → Type 0
-RunEnds root opens events a b (Ok x) =
-    RunsWhole opens events (length events) a.out b.out × AsksForFirst root events (length events) a.asked b.asked
-RunEnds root opens events a b (Err ReadFault) =
+abbrev pub RunEnds : Option Tree → List ℕ → DomainEvent → List Event → Moment → Moment → Result (Unit {0}) Stop → Type 0
+RunEnds tree root opens events a b (Ok x) =
+    (r : RunsWhole opens events (length events) a.out b.out) × AskedForWhole tree root r a.asked b.asked
+RunEnds tree root opens events a b (Err ReadFault) =
     HasRisen a.files_faults b.files_faults
-    × ((p : StopsAtDomain opens events a.out b.out) × (q : AsksForFirstAndFolder root events p.k p.name a.asked b.asked) × (q.at_last ≢ []))
-RunEnds root opens events a b (Err WriteFault) =
-    HasRisen a.out.faults b.out.faults
-    × ((p : StopsInLines opens events a.out b.out) × AsksForFirst root events (suc p.k) a.asked b.asked)
-RunEnds root opens events a b (Err OutOfMemory) =
+    × ((p : StopsAtDomain opens events a.out b.out) × (q : AskedUpToFolder tree root p a.asked b.asked) × (q.at_last ≢ []))
+RunEnds tree root opens events a b (Err WriteFault) =
+    HasRisen a.out.faults b.out.faults × ((p : StopsInLines opens events a.out b.out) × AskedUpToLines tree root p a.asked b.asked)
+RunEnds tree root opens events a b (Err OutOfMemory) =
     ((b.out ≡ a.out) × (b.asked ≡ a.asked))
-    ⊎ ((p : StopsAtDomain opens events a.out b.out) × AsksForFirstAndFolder root events p.k p.name a.asked b.asked)
+    ⊎ ((p : StopsAtDomain opens events a.out b.out) × AskedUpToFolder tree root p a.asked b.asked)
 
--- what all of them asked of the files
-abbrev pub RunAsks : List ℕ → List Event → List Ask → List Ask → Type 0
-RunAsks root events old new = (asks : List Ask) × AsksForEvents root events asks × (new ≡ old ++ asks)
+-- what all of them may have asked of the files
+abbrev pub RunAsks : Option Tree → List ℕ → List Event → List Ask → List Ask → Type 0
+RunAsks tree root events old new = (asks : List Ask) × AsksForEvents tree root events asks × (new ≡ old ++ asks)

@@ -1,5 +1,5 @@
 -- What each status of the program says of its run. A tree is told or not, and so are the bytes of a sink.
-use Rattle.std.specs.Prelude.{◌≡◌, ◌≢◌, ℕ, suc, ◌⊎◌, List, [], ◌∷◌, ◌++◌, Option, Some, None, length}
+use Rattle.std.specs.Prelude.{◌≡◌, ◌≢◌, ℕ, ◌⊎◌, List, [], ◌∷◌, ◌++◌, Option, Some, None, length}
 use Rattle.jk_model.specs.declared.script.Event.{Event}
 use Rattle.jk_model.specs.declared.script.ScriptFault.{ScriptFault}
 use Rattle.jk_model.specs.Outside.{Tree, Ask, FileIs, Appends, AppendsPart}
@@ -7,7 +7,7 @@ use Rattle.kernel_events.specs.PrintedLines.{SinkState}
 use Rattle.jkernel_runs.specs.DomainEvents.{OpensFolder}
 use Rattle.jkernel_runs.specs.Asked.{ask_for_script, AsksForEvents}
 use Rattle.jkernel_runs.specs.Calls.{IsCall}
-use Rattle.jkernel_runs.specs.Events.{Moment, AsksForFirst, AsksForFirstAndFolder, RunsWhole, StopsAtDomain, StopsInLines}
+use Rattle.jkernel_runs.specs.Events.{Moment, AskedForWhole, AskedUpToFolder, AskedUpToLines, RunsWhole, StopsAtDomain, StopsInLines}
 use Rattle.jkernel_runs.specs.Messages.{usage_text, fault_text, read_text, write_text, memory_text}
 use Rattle.jkernel_runs.specs.Scripts.{IsScript, IsAtFault}
 use Rattle.jkernel_runs.specs.declared.status.Status.{Status}
@@ -56,7 +56,7 @@ pub record IsStoppedInLines (tree : Option Tree) (words : List (List ℕ)) (old 
   pub has : HasEvents tree words root events
   pub stops : StopsInLines (OpensFolder tree root) events old new
 
--- The text of the events before some `domain` event went out whole, and nothing else.
+-- The text of the events before some `domain` event, of a name that no live domain has, went out whole, and nothing else.
 pub record IsStoppedAtDomain (tree : Option Tree) (words : List (List ℕ)) (old new : SinkState) : Type 0 where
   pub root : List ℕ
   pub events : List Event
@@ -80,27 +80,26 @@ pub record IsUnread (words : List (List ℕ)) (a b : Moment) : Type 0 where
 -- Done: the script was asked for, and what its events ask for.
 abbrev pub EndsDone : Option Tree → List (List ℕ) → Moment → Moment → Type 0
 EndsDone tree words a b =
-    (p : IsDone tree words a.out b.out) × AsksForFirst p.root p.events (length p.events) (asked_script a.asked p.has.script) b.asked
+    (p : IsDone tree words a.out b.out) × AskedForWhole tree p.root p.runs (asked_script a.asked p.has.script) b.asked
 
 -- The output failed: the script was asked for, and what its events ask for up to the one in whose lines it failed, and nothing after that.
 abbrev pub EndsInLines : Option Tree → List (List ℕ) → Moment → Moment → Type 0
 EndsInLines tree words a b =
-    (p : IsStoppedInLines tree words a.out b.out)
-    × AsksForFirst p.root p.events (suc p.stops.k) (asked_script a.asked p.has.script) b.asked
+    (p : IsStoppedInLines tree words a.out b.out) × AskedUpToLines tree p.root p.stops (asked_script a.asked p.has.script) b.asked
 
 -- Memory ran out: before any event was run, or at a `domain` event, and what was asked last is what that event asked for.
 abbrev pub EndsForMemory : Option Tree → List (List ℕ) → Moment → Moment → Type 0
 EndsForMemory tree words a b =
     IsUnread words a b
     ⊎ ((p : IsStoppedAtDomain tree words a.out b.out)
-    × AsksForFirstAndFolder p.root p.events p.stops.k p.stops.name (asked_script a.asked p.has.script) b.asked)
+    × AskedUpToFolder tree p.root p.stops (asked_script a.asked p.has.script) b.asked)
 
 -- The files failed: at the script, or at a `domain` event, and what was asked last is what that event asked for, which is something.
 abbrev pub EndsForFiles : Option Tree → List (List ℕ) → Moment → Moment → Type 0
 EndsForFiles tree words a b =
     IsUnread words a b
     ⊎ ((p : IsStoppedAtDomain tree words a.out b.out)
-    × (q : AsksForFirstAndFolder p.root p.events p.stops.k p.stops.name (asked_script a.asked p.has.script) b.asked) × (q.at_last ≢ []))
+    × (q : AskedUpToFolder tree p.root p.stops (asked_script a.asked p.has.script) b.asked) × (q.at_last ≢ []))
 
 -- What was asked for: with words that are no call nothing; else the script, and for its events, where it has any,
 -- what they ask for.
@@ -111,7 +110,7 @@ pub record AsksForRun (tree : Option Tree) (words : List (List ℕ)) (asked aske
   pub events : List Event
   pub of_script : (events ≡ []) ⊎ HasEvents tree words root events
   pub more : List Ask
-  pub for_events : AsksForEvents root events more
+  pub for_events : AsksForEvents tree root events more
   pub asks : asked' ≡ asked ++ ask_for_script script ∷ more
 
 abbrev pub Asks : Option Tree → List (List ℕ) → List Ask → List Ask → Type 0

@@ -7,10 +7,11 @@ ghost use Rattle.jk_model.specs.ScriptGrammar.{is_name};
 ghost use Rattle.jk_model_runs.specs.Events.{Rounds, Turns};
 ghost use Rattle.jk_model_runs.specs.Starts.{Starts};
 ghost use Rattle.kernel_events.specs.KernelCalls.{MayDraw, steps_of};
+ghost use Rattle.kernel_events.specs.PrintedLines.{sink};
 ghost use Rattle.jkernel_runs.specs.DomainEvents.{OpensFolder};
 ghost use Rattle.kernel_openings.specs.StartedThreads.{AreStartWords};
 ghost use Rattle.jkernel_runs.specs.DrawnNumbers.{MOST_DRAWN, MOST_THREADS, RiseInEvent};
-ghost use Rattle.jkernel_runs.specs.Events.{IsBuilt, IsPrinted, EventEnds, EventAsks, RunEnds, RunAsks, moment, sink};
+ghost use Rattle.jkernel_runs.specs.Events.{IsBuilt, IsPrinted, EventEnds, EventAsks, RunEnds, RunAsks, moment};
 
 use crate::opening::open_domain;
 use crate::stop::Stop;
@@ -111,10 +112,10 @@ fn happen<F: Files, S: Sink>(
     requires built { IsBuilt event.now }
     requires threads { kernel.old.next_thread ≤ MOST_THREADS }
     requires numbers { MayDraw kernel.old MOST_DRAWN }
-    ensures ends { EventEnds (OpensFolder (F.tree files.old) root.now) event.now kernel.old kernel.new
+    ensures ends { EventEnds (F.tree files.old) root.now (OpensFolder (F.tree files.old) root.now) event.now kernel.old kernel.new
         (moment (sink (S.bytes out.old) (S.pieces out.old) (S.faults out.old)) (F.asked files.old) (F.faults files.old))
         (moment (sink (S.bytes out.new) (S.pieces out.new) (S.faults out.new)) (F.asked files.new) (F.faults files.new)) result }
-    ensures asks { EventAsks root.now event.now (F.asked files.old) (F.asked files.new) }
+    ensures asks { EventAsks (F.tree files.old) root.now event.now (F.asked files.old) (F.asked files.new) }
     ensures calm { (result ≡ Err Stop.ReadFault → ⊥) → IsSome (F.tree files.old) → F.faults files.new ≡ F.faults files.old }
     ensures stays { F.tree files.new ≡ F.tree files.old }
     ensures files_faults { NeverFalls (F.faults files.old) (F.faults files.new) }
@@ -157,10 +158,10 @@ pub fn run_events<F: Files, S: Sink>(
 ) -> Result<(), Stop>
     requires built { AllByRecursion IsBuilt events.now }
     requires few { length events.now ≤ 65536 }
-    ensures ends { RunEnds root.now (OpensFolder (F.tree files.old) root.now) events.now
+    ensures ends { RunEnds (F.tree files.old) root.now (OpensFolder (F.tree files.old) root.now) events.now
         (moment (sink (S.bytes out.old) (S.pieces out.old) (S.faults out.old)) (F.asked files.old) (F.faults files.old))
         (moment (sink (S.bytes out.new) (S.pieces out.new) (S.faults out.new)) (F.asked files.new) (F.faults files.new)) result }
-    ensures asks { RunAsks root.now events.now (F.asked files.old) (F.asked files.new) }
+    ensures asks { RunAsks (F.tree files.old) root.now events.now (F.asked files.old) (F.asked files.new) }
     ensures calm { (result ≡ Err Stop.ReadFault → ⊥) → IsSome (F.tree files.old) → F.faults files.new ≡ F.faults files.old }
     ensures stays { F.tree files.new ≡ F.tree files.old }
     ensures files_faults { NeverFalls (F.faults files.old) (F.faults files.new) }

@@ -1,14 +1,15 @@
 //! The `domain` event: a folder becomes a domain, or a line says why it doesn't.
 
-ghost use Rattle.std.specs.Prelude.{◌≡◌, ◌≤◌, [], ◌∷◌, true, Err, IsSome};
+ghost use Rattle.std.specs.Prelude.{◌≡◌, [], ◌∷◌, true, Err, IsSome};
 ghost use Rattle.jk_model.specs.declared.output.Line.TheVariants as Says;
 ghost use Rattle.jk_model.specs.declared.script.Event.TheVariants.{Domain};
 ghost use Rattle.jk_model.specs.Outside.{NeverFalls};
 ghost use Rattle.jk_model.specs.ScriptGrammar.{is_name};
+ghost use Rattle.kernel_events.specs.PrintedLines.{sink};
 ghost use Rattle.jkernel_runs.specs.DomainEvents.{OpensFolder};
 ghost use Rattle.jk_outside.specs.LineRefs.{line_of, place_of};
 ghost use Rattle.jkernel_runs.specs.DrawnNumbers.{RiseInEvent};
-ghost use Rattle.jkernel_runs.specs.Events.{AreForKernel, GoesOut, EventEnds, EventAsks, moment, sink};
+ghost use Rattle.jkernel_runs.specs.Events.{AreForKernel, GoesOut, EventEnds, EventAsks, moment};
 ghost use Rattle.jkernel_runs.specs.Places.{HasTextPlace, IsTextPlace};
 ghost use Rattle.jkernel_runs.specs.ToldAnswers.{Tells};
 
@@ -94,10 +95,10 @@ pub fn open_domain<F: Files, S: Sink>(
 ) -> Result<(), Stop>
     requires named { is_name name.now ≡ true }
     requires quotas { AreForKernel quotas }
-    ensures ends { EventEnds (OpensFolder (F.tree files.old) root.now) (Domain name.now quotas) kernel.old kernel.new
+    ensures ends { EventEnds (F.tree files.old) root.now (OpensFolder (F.tree files.old) root.now) (Domain name.now quotas) kernel.old kernel.new
         (moment (sink (S.bytes out.old) (S.pieces out.old) (S.faults out.old)) (F.asked files.old) (F.faults files.old))
         (moment (sink (S.bytes out.new) (S.pieces out.new) (S.faults out.new)) (F.asked files.new) (F.faults files.new)) result }
-    ensures asks { EventAsks root.now (Domain name.now quotas) (F.asked files.old) (F.asked files.new) }
+    ensures asks { EventAsks (F.tree files.old) root.now (Domain name.now quotas) (F.asked files.old) (F.asked files.new) }
     ensures calm { (result ≡ Err Stop.ReadFault → ⊥) → IsSome (F.tree files.old) → F.faults files.new ≡ F.faults files.old }
     ensures stays { F.tree files.new ≡ F.tree files.old }
     ensures files_faults { NeverFalls (F.faults files.old) (F.faults files.new) }

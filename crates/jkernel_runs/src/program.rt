@@ -1,13 +1,14 @@
 //! The top call: words, files and two sinks in, a status out.
 
 ghost use Rattle.std.specs.Prelude.{◌≡◌, ◌⊎◌, ℕ, List, map, string_bytes, IsSome};
-ghost use Rattle.jk_model.specs.Outside.{HasNoFile, HasLongFile, HasRisen, NeverFalls};
+ghost use Rattle.jk_model.specs.Outside.{HasNoFile, HasLongFile, HasRisen};
 ghost use Rattle.jk_model.specs.Script.{MAX_BYTES};
 ghost use Rattle.jk_model.specs.declared.script.FaultKind.TheVariants.{TooLong};
+ghost use Rattle.kernel_events.specs.PrintedLines.{sink};
 ghost use Rattle.jkernel_runs.specs.Calls.{IsCall};
 ghost use Rattle.jkernel_runs.specs.declared.stop.Stop.TheVariants.{ReadFault, WriteFault};
 ghost use Rattle.jkernel_runs.specs.Ends.{EndsSo, EndsWell, EndsRefused, HasText, IsNoCall};
-ghost use Rattle.jkernel_runs.specs.Events.{moment, sink};
+ghost use Rattle.jkernel_runs.specs.Events.{moment};
 ghost use Rattle.jkernel_runs.specs.Scripts.{IsScript, IsAtFault};
 ghost use Rattle.jkernel_runs.specs.Statuses.{HasFault, LacksScript, EndsDone, EndsForFiles, EndsForMemory, EndsInLines, IsUnread, Asks, Says, BeginsToSay};
 
@@ -73,7 +74,8 @@ pub fn jkernel<F: Files, S: Sink, E: Sink>(
     ensures early_write { result ≡ Status.WriteFault → EndsInLines (F.tree files.old) (map string_bytes words.now)
         (moment (sink (S.bytes out.old) (S.pieces out.old) (S.faults out.old)) (F.asked files.old) (F.faults files.old))
         (moment (sink (S.bytes out.new) (S.pieces out.new) (S.faults out.new)) (F.asked files.new) (F.faults files.new)) }
-    // Memory wants, and files fail, before all events or at a `domain` event: the lines of those before it went out whole.
+    // Memory wants, and files fail, before all events or at a `domain` event, of a name that no live domain has: the lines of those before it
+    // went out whole.
     ensures early_memory { result ≡ Status.OutOfMemory → EndsForMemory (F.tree files.old) (map string_bytes words.now)
         (moment (sink (S.bytes out.old) (S.pieces out.old) (S.faults out.old)) (F.asked files.old) (F.faults files.old))
         (moment (sink (S.bytes out.new) (S.pieces out.new) (S.faults out.new)) (F.asked files.new) (F.faults files.new)) }
@@ -87,7 +89,7 @@ pub fn jkernel<F: Files, S: Sink, E: Sink>(
         → (sink (S.bytes out.new) (S.pieces out.new) (S.faults out.new) ≡ sink (S.bytes out.old) (S.pieces out.old) (S.faults out.old))
         × (F.asked files.new ≡ F.asked files.old) }
 
-    // The files are asked for nothing but the script, and what the `domain` events need of their folders.
+    // The files are asked for nothing but the script, and what the `domain` events need of their folders, each event for each file at most once.
     ensures asks { Asks (F.tree files.old) (map string_bytes words.now) (F.asked files.old) (F.asked files.new) }
     // No call of told files failed that did not end the run.
     ensures calm { (result ≡ Status.ReadFault → ⊥) → IsSome (F.tree files.old) → F.faults files.new ≡ F.faults files.old }

@@ -4,7 +4,7 @@ ghost use Rattle.std.specs.Prelude.{◌≡◌, ◌≢◌, ◌⊎◌, ℕ, List, 
 ghost use Rattle.std.specs.IoError.{error_kind};
 ghost use Rattle.std.specs.declared.io.ErrorKind.TheVariants.{OutOfMemory as NoMemory};
 ghost use Rattle.jk_model.specs.Outside.{HasRisen};
-ghost use Rattle.jkernel_runs.specs.Events.{sink};
+ghost use Rattle.kernel_events.specs.PrintedLines.{sink};
 ghost use Rattle.jkernel_runs.specs.Statuses.{IsDone, IsStoppedAtDomain, IsStoppedInLines, Says, BeginsToSay};
 
 use crate::ends::{End, report};
@@ -57,7 +57,8 @@ pub fn run_on<R: Env + rt::Files + AllocGlobal + Clone + Drop, S: Sink, E: Sink>
     ensures early_write { result ≡ Status.WriteFault → (words : List (List ℕ)) × IsStoppedInLines None words
         (sink (S.bytes out.old) (S.pieces out.old) (S.faults out.old))
         (sink (S.bytes out.new) (S.pieces out.new) (S.faults out.new)) }
-    // Memory wants, and files fail, before all events or at a `domain` event: the lines of those before it went out whole.
+    // Memory wants, and files fail, before all events or at a `domain` event, of a name that no live domain has: the lines of those before it
+    // went out whole.
     ensures early_memory { result ≡ Status.OutOfMemory
         → (sink (S.bytes out.new) (S.pieces out.new) (S.faults out.new) ≡ sink (S.bytes out.old) (S.pieces out.old) (S.faults out.old))
         ⊎ ((words : List (List ℕ)) × IsStoppedAtDomain None words

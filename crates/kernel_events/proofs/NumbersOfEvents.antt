@@ -13,7 +13,7 @@ use Rattle.machine_laws.proofs.NumbersDrawn.{kills_same, steps_draw}
 use Rattle.machine_laws.proofs.WorldsKept.{kills_keep, steps_keep}
 use Rattle.kernel_events.specs.KernelCalls.{steps_of}
 use Rattle.kernel_events.specs.RisingNumbers.{Rises}
-use Rattle.kernel_events.specs.StepsInTurn.{GoesSoFar, RoundsSoFar, TurnsApart, TurnsSoFar}
+use Rattle.kernel_events.specs.StepsInTurn.{GoesBefore, RoundsBefore, StepsApart, TurnsApart, TurnsBefore}
 
 -- ---- One after another.
 
@@ -74,8 +74,11 @@ apart_rise (suc n) t m new lines (mid, before, after, first, whole, rest, joined
     rises_more m new (1 + n) (suc n) (omega arith)
     (rises_both m mid new 1 n (step_rises m mid t before (first.deed, first.steps)) (apart_rise n t mid new after rest))
 
-pub some_turns_rise : (n : ℕ) (t : ThreadNo) (m new : Machine) (lines : List Line) → TurnsSoFar n t m lines new → Rises m n new
-some_turns_rise n t m new lines (done, few, turns) = rises_more m new done n few (apart_rise done t m new lines turns)
+pub some_turns_rise : (n : ℕ) (t : ThreadNo) (m mid new : Machine) (before said : List Line) → TurnsBefore n t m before mid
+    → StepsApart mid t said new → Rises m n new
+some_turns_rise n t m mid new before said (done, few, turns) step =
+    rises_more m new (done + 1) n (omega (arith, few))
+    (rises_both m mid new done 1 (apart_rise done t m mid before turns) (step_rises mid new t said (step.deed, step.steps)))
 
 -- ---- Rounds: each thread number given out gets so many steps.
 
@@ -95,18 +98,19 @@ goes_rise steps (suc height) thread m new lines low (Goes.on k w mid end before 
     (rises_both w mid end steps (steps * height) first
     (goes_rise steps height (suc k) mid end after (omega (arith, low, first.numbers.threads)) rest))
 
-some_go : (steps height thread : ℕ) (m new : Machine) (lines : List Line) → m.next_thread ≤ thread + height → GoesSoFar steps thread m lines new
-    → Rises m (steps * height) new
-some_go steps zero thread m new lines low (GoesSoFar.within k w end said below turns) = absurd (omega (arith, low, below))
-some_go steps (suc height) thread m new lines low (GoesSoFar.within k w end said below turns) =
-    thread_more w end steps height
-    (rises_more w end steps (steps + steps * height) (omega arith) (some_turns_rise steps (record { 0 = k }) w end said turns))
-some_go steps zero thread m new lines low (GoesSoFar.on k w mid end before after below turns whole rest) = absurd (omega (arith, low, below))
-some_go steps (suc height) thread m new lines low (GoesSoFar.on k w mid end before after below turns whole rest) =
-    let first = turns_rise steps (record { 0 = k }) w mid before turns in
-    thread_more w end steps height
-    (rises_both w mid end steps (steps * height) first
-    (some_go steps height (suc k) mid end after (omega (arith, low, first.numbers.threads)) rest))
+some_go : (steps height thread : ℕ) (t : ThreadNo) (m mid new : Machine) (lines said : List Line) → m.next_thread ≤ thread + height
+    → GoesBefore steps t thread m lines mid → StepsApart mid t said new → Rises m (steps * height) new
+some_go steps zero thread t m mid new lines said low (GoesBefore.within k w end ls below turns) step = absurd (omega (arith, low, below))
+some_go steps (suc height) thread t m mid new lines said low (GoesBefore.within k w end ls below turns) step =
+    thread_more w new steps height
+    (rises_more w new steps (steps + steps * height) (omega arith) (some_turns_rise steps (record { 0 = k }) w end new ls said turns step))
+some_go steps zero thread t m mid new lines said low (GoesBefore.on u k w first end before after below turns whole rest) step =
+    absurd (omega (arith, low, below))
+some_go steps (suc height) thread t m mid new lines said low (GoesBefore.on u k w first end before after below turns whole rest) step =
+    let rise = turns_rise steps (record { 0 = k }) w first before turns in
+    thread_more w new steps height
+    (rises_both w first new steps (steps * height) rise
+    (some_go steps height (suc k) u first end new after said (omega (arith, low, rise.numbers.threads)) rest step))
 
 -- one round more
 round_more : (m new : Machine) (n most : ℕ) → Rises m (most + n * most) new → Rises m (suc n * most) new
@@ -125,14 +129,16 @@ rounds_rise zero steps m new lines (none, same) = rises_more m new 0 (steps_of z
 rounds_rise (suc n) steps m new lines (mid, before, after, first, whole, rest, joined) =
     after_round n steps m mid new (goes_rise steps m.next_thread 1 m mid before (omega arith) first) (rounds_rise n steps mid new after rest)
 
-pub some_rounds_rise : (n steps : ℕ) (m new : Machine) (lines : List Line) → RoundsSoFar n steps m lines new → Rises m (steps_of n steps m) new
-some_rounds_rise zero steps m new lines never = absurd never
-some_rounds_rise (suc n) steps m new lines (inl goes) =
+pub some_rounds_rise : (n steps : ℕ) (t : ThreadNo) (m mid new : Machine) (lines said : List Line) → RoundsBefore n steps t m lines mid
+    → StepsApart mid t said new → Rises m (steps_of n steps m) new
+some_rounds_rise zero steps t m mid new lines said never step = absurd never
+some_rounds_rise (suc n) steps t m mid new lines said (inl goes) step =
     round_more m new n (steps * m.next_thread)
     (rises_more m new (steps * m.next_thread) (steps * m.next_thread + n * (steps * m.next_thread)) (omega arith)
-    (some_go steps m.next_thread 1 m new lines (omega arith) goes))
-some_rounds_rise (suc n) steps m new lines (inr (mid, before, after, first, whole, rest, joined)) =
-    after_round n steps m mid new (goes_rise steps m.next_thread 1 m mid before (omega arith) first) (some_rounds_rise n steps mid new after rest)
+    (some_go steps m.next_thread 1 t m mid new lines said (omega arith) goes step))
+some_rounds_rise (suc n) steps t m mid new lines said (inr (there, before, after, first, whole, rest, joined)) step =
+    after_round n steps m there new (goes_rise steps m.next_thread 1 m there before (omega arith) first)
+    (some_rounds_rise n steps t there mid new after said rest step)
 
 -- ---- Kills.
 

@@ -1,5 +1,5 @@
--- The calls of the kernel, and their clauses. `self.now`, `self.old` and `self.new` are machines, and `out.old` and `out.new` stand for what the
--- sink tells (`SinkState`). Only `new` and `add_domain` (of `kernel_openings`) may answer for want of memory.
+-- The calls of the kernel, and their clauses; those of `add_domain` stand at it. `self.now`, `self.old` and `self.new` are machines, and `out.old`
+-- and `out.new` stand for what the sink tells (`SinkState`). Only `new` and `add_domain` may answer for want of memory.
 --
 -- new(alloc: Global, heap: H, frames: F) -> Result<Kernel<H, F>, OutOfMemory>
 --   requires no_domains  { (d : DomainId) → ((H.content heap).quota d ≡ None) × ((F.content frames).quota d ≡ None) }
@@ -30,17 +30,25 @@
 --   requires numbers     { MayDraw self.old steps }
 --   ensures event        { OnOk result ((lines : List Line) × Prints out.old out.new (as_done result) lines
 --                          × TurnsApart steps (record { 0 = thread }) self.old lines self.new) }
---   ensures failed       { OnErr result ((lines : List Line) × Prints out.old out.new (as_done result) lines
---                          × StopsIn (TurnsSoFar steps (record { 0 = thread })) (Turns steps (record { 0 = thread })) self.old lines self.new) }
+--   // The step in whose lines the sink failed is the last that was taken.
+--   ensures failed       { let t = record { 0 = thread } in
+--                          OnErr result (StopsAt t (TurnsBefore steps t) (Turns steps t) self.old out.old out.new self.new) }
 --   ensures rests        { result ≡ Ok false → (self.new ≡ self.old) × Rests self.old (record { 0 = thread }) }
 --   ensures counts       { NumbersRise self.old steps self.new × (length self.new.domains ≡ length self.old.domains) }
 --
 -- rounds<S: Sink>(&mut self, count: u32, steps: u32, out: &mut S) -> Result<(), SinkFailed>
 --   requires numbers     { MayDraw self.old (steps_of count steps self.old) }
 --   ensures event        { OnOk result ((lines : List Line) × Prints out.old out.new result lines × Rounds count steps self.old lines self.new) }
---   ensures failed       { OnErr result ((lines : List Line) × Prints out.old out.new result lines
---                          × StopsIn (RoundsSoFar count steps) (Rounds count steps) self.old lines self.new) }
+--   // The step in whose lines the sink failed, of some thread, is the last that was taken.
+--   ensures failed       { OnErr result ((t : ThreadNo)
+--                          × StopsAt t (RoundsBefore count steps t) (Rounds count steps) self.old out.old out.new self.new) }
 --   ensures counts       { NumbersRise self.old (steps_of count steps self.old) self.new × (length self.new.domains ≡ length self.old.domains) }
+--
+-- next_live(&self, above: u32) -> Option<u32>
+--   ensures some         { IfSome result (λ t. IsNextLive self.now above t) }
+--   ensures none         { IfNone result ((u : ThreadNo) → above < u.0 → IsLiveThread self.now u → ⊥) }
+--
+-- There is no call yet that kills a domain. It is to have these clauses, of which `counts` and `pages` are laws of what a kill is:
 --
 -- kill<S: Sink>(&mut self, name: &[u8], out: &mut S) -> Result<(), SinkFailed>
 --   requires named       { is_name name.now ≡ true }
@@ -48,10 +56,6 @@
 --   ensures event        { (lines : List Line) × Prints out.old out.new result lines × Kills self.old name.now lines self.new }
 --   ensures pages        { FreesPages self.old name.now self.new }
 --   ensures counts       { NumbersRise self.old 0 self.new × (length self.new.domains ≡ length self.old.domains) }
---
--- next_live(&self, above: u32) -> Option<u32>
---   ensures some         { IfSome result (λ t. IsNextLive self.now above t) }
---   ensures none         { IfNone result ((u : ThreadNo) → above < u.0 → IsLiveThread self.now u → ⊥) }
 use Rattle.std.specs.Prelude.{ℕ, ◌+◌, ◌*◌, ◌^◌, ◌<◌}
 use Rattle.jk_model.specs.declared.identifiers.ThreadNo.{ThreadNo}
 use Rattle.jk_model_machine_state.specs.Machines.{IsLiveThread, Machine}

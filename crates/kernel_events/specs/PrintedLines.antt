@@ -10,6 +10,10 @@ pub record SinkState : Type 0 where
   pub pieces : List (List ℕ)
   pub faults : ℕ
 
+-- these put together
+abbrev pub sink : Option (List ℕ) → List (List ℕ) → ℕ → SinkState
+sink bytes pieces faults = record { bytes = bytes; pieces = pieces; faults = faults }
+
 -- The lines were printed in turn. At Ok the whole text went out, in pieces of its own for each line, and no fault was counted. At an error a
 -- part of it went out, from the front on, up to the piece that failed, after which nothing more was printed, and the count rose.
 abbrev pub Prints : {E : Type 0} → SinkState → SinkState → Result (Unit {0}) E → List Line → Type 0

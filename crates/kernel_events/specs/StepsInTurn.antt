@@ -1,5 +1,6 @@
--- Steps of threads one after another, each confined to what its deed may change, and such steps up to one whose lines didn't go out.
-use Rattle.std.specs.Prelude.{◌≡◌, ℕ, zero, suc, ◌+◌, ◌<◌, ◌≤◌, ◌⊎◌, List, [], ◌++◌}
+-- Steps of threads one after another, each confined to what its deed may change, and where such steps stop: at the one in whose lines the sink
+-- failed.
+use Rattle.std.specs.Prelude.{◌≡◌, ℕ, zero, suc, ◌+◌, ◌<◌, ◌≤◌, ◌⊎◌, List, [], ◌++◌, Ok, Err}
 use Rattle.jk_model.specs.declared.identifiers.ThreadNo.{ThreadNo}
 use Rattle.jk_model.specs.declared.output.Line.{Line}
 use Rattle.jk_model_machine_state.specs.Machines.{Machine}
@@ -7,6 +8,8 @@ use Rattle.jk_model_machine_state.specs.Places.{RunningSegment}
 use Rattle.jk_model_runs.specs.Confined.{Confined}
 use Rattle.jk_model_runs.specs.Events.{Goes, IsWhole, Move, Nothing, Then, Turns}
 use Rattle.jk_model_runs.specs.Steps.{Deed, StepsBy}
+use Rattle.jk_outside.specs.declared.sinks.SinkFailed.{SinkFailed}
+use Rattle.kernel_events.specs.PrintedLines.{Prints, SinkState}
 
 -- ---- One step, and what it may change: of a thread that isn't live nothing, and else what its deed says, outside of the domain in which its
 -- top segment runs.
@@ -21,32 +24,43 @@ abbrev pub TurnsApart : ℕ → ThreadNo → Move
 TurnsApart zero t = Nothing
 TurnsApart (suc n) t = Then (λ m lines new. StepsApart m t lines new) (TurnsApart n t)
 
--- ---- Some of so many.
+-- ---- The steps before one of a thread.
 
--- at most so many steps of a thread
-abbrev pub TurnsSoFar : ℕ → ThreadNo → Move
-TurnsSoFar steps t m lines new = (done : ℕ) × (done ≤ steps) × TurnsApart done t m lines new
+-- fewer than so many steps of the thread
+abbrev pub TurnsBefore : ℕ → ThreadNo → Move
+TurnsBefore steps t m lines new = (done : ℕ) × (done < steps) × TurnsApart done t m lines new
 
--- all steps of each thread up to some thread, from a number on, and at most so many of that one
-pub data GoesSoFar (steps : ℕ) : ℕ → Machine → List Line → Machine → Type 0 where
-  within : (thread : ℕ) (m new : Machine) (lines : List Line) → thread < m.next_thread → TurnsSoFar steps (record { 0 = thread }) m lines new
-      → GoesSoFar steps thread m lines new
-  on : (thread : ℕ) (m mid new : Machine) (before after : List Line) → thread < m.next_thread → Turns steps (record { 0 = thread }) m before mid
-      → IsWhole mid → GoesSoFar steps (suc thread) mid after new → GoesSoFar steps thread m (before ++ after) new
+-- all steps of each thread from a number on up to this thread, and fewer than so many of this one
+pub data GoesBefore (steps : ℕ) : ThreadNo → ℕ → Machine → List Line → Machine → Type 0 where
+  within : (thread : ℕ) (m new : Machine) (lines : List Line) → thread < m.next_thread → TurnsBefore steps (record { 0 = thread }) m lines new
+      → GoesBefore steps (record { 0 = thread }) thread m lines new
+  on : (t : ThreadNo) (thread : ℕ) (m mid new : Machine) (before after : List Line) → thread < m.next_thread
+      → Turns steps (record { 0 = thread }) m before mid → IsWhole mid → GoesBefore steps t (suc thread) mid after new
+      → GoesBefore steps t thread m (before ++ after) new
 
--- whole rounds, fewer than so many, and then a part of one
-abbrev pub RoundsSoFar : ℕ → ℕ → Move
-RoundsSoFar zero steps m lines new = ⊥
-RoundsSoFar (suc n) steps m lines new = GoesSoFar steps 1 m lines new ⊎ Then (Goes steps 1) (RoundsSoFar n steps) m lines new
+-- whole rounds, fewer than so many, and then a part of one up to the thread
+abbrev pub RoundsBefore : ℕ → ℕ → ThreadNo → Move
+RoundsBefore zero steps t m lines new = ⊥
+RoundsBefore (suc n) steps t m lines new = GoesBefore steps t 1 m lines new ⊎ Then (Goes steps 1) (RoundsBefore n steps t) m lines new
 
--- ---- Several steps whose lines didn't all go out: the machine is as after those up to the one that failed. The others are there too, though
--- nothing more of them is printed, and what went out is a part of what all of them print.
+-- ---- Several steps whose lines didn't all go out.
 
-pub record StopsIn (SoFar All : Move) (m : Machine) (lines : List Line) (new : Machine) : Type 0 where
-  pub so_far : SoFar m lines new
+-- The steps before one of the thread went well: they led to a machine, and their lines went out whole. That one step was taken too, and led to
+-- the new machine; of its lines a part went out, up to a piece that failed. No further step was taken, and nothing more was printed. How it
+-- would have gone on is there: what was printed is a part of what all the steps print.
+pub record StopsAt (t : ThreadNo) (Before All : Move) (m : Machine) (old out : SinkState) (new : Machine) : Type 0 where
+  pub before : List Line
+  pub mid : Machine
+  pub between : SinkState
+  pub so_far : Before m before mid
+  pub printed : Prints {E = SinkFailed} old between (Ok tt) before
+  pub said : List Line
+  pub step : StepsApart mid t said new
+  pub failed : SinkFailed
+  pub broke : Prints between out (Err failed) said
   pub more : List Line
   pub last : Machine
-  pub all : All m (lines ++ more) last
+  pub all : All m ((before ++ said) ++ more) last
   pub whole : IsWhole last
 
 -- ---- No step changes anything until another thread acts.

@@ -29,13 +29,11 @@ use Rattle.kernel_parts.specs.SoundKernels.{AreKernelParts, KernelContent, kerne
 use Rattle.kernel_openings.specs.declared.answers.AddAnswer.{AddAnswer}
 use Rattle.kernel_openings.specs.declared.answers.AddAnswer.TheVariants as Adding
 use Rattle.kernel_openings.specs.AddedDomains.{Opening}
-use Rattle.kernel_openings.specs.AddedWithoutJk.{HasAcceptedWith, IsCauseNow, OpensApart}
-use Rattle.kernel_openings.specs.FolderEvents.{Opens}
+use Rattle.kernel_openings.specs.AddedWithoutJk.{HasAcceptedWith, IsCauseNow, OpensApart, OpensNow}
 use Rattle.kernel_openings.specs.OpenedParts.{IsWhyNot, KeepsParts, LacksPlaces, MayOpen, OpenParts, OpensParts}
 use Rattle.kernel_openings.proofs.FoldersOpen.{cut, loaded_parts, may_open}
 use Rattle.kernel_openings.proofs.LoadingKernels.{as_many, may_load, world_is}
 use Rattle.kernel_openings.proofs.OpenedKernels.{caps_are, classes_are, few_then, inside, kernel_then, machine_is, numbers_left, opening, pages_lack, pages_left, placed}
-use Rattle.kernel_openings.proofs.OpeningsAnswered.{opens_in}
 
 -- the parts of a kernel with this world
 abbrev pub parts_with : KernelContent → WorldRecord → OpenParts
@@ -133,7 +131,7 @@ module _ (k : KernelContent) (h : AreKernelParts k) (law : AcceptedFoldersStaySo
     abbrev o : Opening
     o = record { tree = tree; root = root; name = name; quotas = q }
 
-    accepted_with : (Holds : List ClassRecord → _ → Type 0) → Holds w.classes l.first → HasAcceptedWith Holds o m
+    abbrev accepted_with : (Holds : List ClassRecord → _ → Type 0) → Holds w.classes l.first → HasAcceptedWith Holds o m
     accepted_with Holds holds = record { files = f; are_files = files; are_told = told; accepted = accepted_so; holds = holds }
 
     pages : LacksPlaces (parts_with k w) q ≡ LacksPages m q
@@ -196,7 +194,7 @@ module _ (k : KernelContent) (h : AreKernelParts k) (law : AcceptedFoldersStaySo
           machine_is k h law f files name l w.classes loads_so typed ordered heaps frames shared q new new_heaps opened_so
           ∙ ap (λ (cs : List ClassRecord). with_new_domain m (record { classes = cs; domains = [] }) (admission accepted_so q) inside_now) grown_so
 
-      pub opens_so : Opens tree root m name q (Says.Loaded name ∷ []) (kernel_machine kernel_of)
+      pub opens_so : OpensNow o m (Says.Loaded name ∷ []) (kernel_machine kernel_of)
       opens_so =
           let by_files : OpensWith f m name q (Says.Loaded name ∷ []) (with_new_domain m w (admission accepted_so q) inside_now) =
           opens accepted_so inside_now
@@ -206,8 +204,9 @@ module _ (k : KernelContent) (h : AreKernelParts k) (law : AcceptedFoldersStaySo
           (subst (λ (cs : List ClassRecord). IsOpening cs l.table q.heap inside_now) grown_so
           (opening k h law f files name l w.classes loads_so typed ordered heaps frames shared q new new_heaps opened_so))
           (placed k h law f files name l w.classes loads_so typed ordered heaps frames shared q new new_heaps opened_so) in
-          subst (Opens tree root m name q (Says.Loaded name ∷ [])) (sym machine_so)
-          (opens_in tree root m name q f (Says.Loaded name ∷ []) (with_new_domain m w (admission accepted_so q) inside_now) files told by_files)
+          subst (OpensNow o m (Says.Loaded name ∷ [])) (sym machine_so)
+          (OpensNow.opens (accepted_with FolderRefersToNoPackageJk opened.apart) (Says.Loaded name ∷ [])
+          (with_new_domain m w (admission accepted_so q) inside_now) by_files)
 
       pub apart_so : FolderRefersToNoPackageJk new.world.classes (record { 0 = length k.world.classes })
       apart_so =

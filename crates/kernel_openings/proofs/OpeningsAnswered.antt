@@ -7,59 +7,39 @@ use Rattle.jk_model.specs.declared.output.Place.{Place}
 use Rattle.jk_model.specs.declared.output.Place.TheVariants.{Whole}
 use Rattle.jk_model.specs.declared.output.Rule.{Rule}
 use Rattle.jk_model.specs.declared.output.Rule.TheVariants.{L3, L4, L8, X1}
-use Rattle.jk_model.specs.declared.script.Quotas.{Quotas}
-use Rattle.jk_model.specs.Outside.{Tree, ◌/-◌}
+use Rattle.jk_model.specs.Outside.{Tree}
 use Rattle.jk_model_classes.specs.Worlds.{WorldRecord}
-use Rattle.jk_model_folders.specs.declared.files.FolderFiles.{FolderFiles}
 use Rattle.jk_model_folders.specs.FolderRules.{IsFolderFault}
-use Rattle.jk_model_folders.specs.FolderTrees.{AreFiles, AreToldFiles}
 use Rattle.jk_model_machine_state.specs.Machines.{Machine, world_of}
-use Rattle.jk_model_openings.specs.Openings.{OpensIn, OpensWith, no_numbers, no_room, too_many}
-use Rattle.jk_model_openings.specs.Openings as OfTrees
+use Rattle.jk_model_openings.specs.Openings.{no_numbers, no_room, too_many}
 use Rattle.folder_loader.specs.declared.answers.LoadAnswer.{LoadAnswer}
 use Rattle.folder_loader.specs.declared.answers.LoadAnswer.TheVariants as Loading
 use Rattle.folder_loader.specs.LoadAnswers.{IsRefused}
 use Rattle.kernel_openings.specs.declared.answers.AddAnswer.{AddAnswer}
 use Rattle.kernel_openings.specs.declared.answers.AddAnswer.TheVariants as Adding
 use Rattle.kernel_openings.specs.AddedDomains.{Opening, line_of}
-use Rattle.kernel_openings.specs.AddedWithoutJk.{IsCauseNow, OpensNow, opens, refers}
-use Rattle.kernel_openings.specs.FolderEvents.{IsRefusedFolder, Opens, OpensSomehow}
-use Rattle.kernel_openings.specs.FolderEvents as OfFolders
+use Rattle.kernel_openings.specs.AddedWithoutJk.{IsCauseNow, OpensNow, breaks, opens, refers}
+use Rattle.kernel_openings.specs.FolderEvents.{IsRefusedFolder}
 use Rattle.kernel_openings.specs.LoadedFolders.{IsLoadRefusal}
-
-pub opens_in : (tree : Option Tree) (root : List ℕ) (m : Machine) (name : List ℕ) (quotas : Quotas) (f : FolderFiles) (lines : List Line) (new : Machine)
-    → AreFiles f → AreToldFiles tree (root /- name) f → OpensWith f m name quotas lines new → Opens tree root m name quotas lines new
-opens_in None root m name quotas f lines new files told by_files = OfFolders.accepted f lines new files by_files
-opens_in (Some t) root m name quotas f lines new files told by_files = OfTrees.accepted f lines new files told by_files
-
-refused_in : (tree : Option Tree) (root : List ℕ) (m : Machine) (name : List ℕ) (quotas : Quotas) (rule : Rule) (place : Place)
-    → IsRefusedFolder tree root (world_of m) name rule place → Opens tree root m name quotas (Says.Refused name rule place ∷ []) m
-refused_in None root m name quotas rule place is = OfFolders.refused rule place is
-refused_in (Some t) root m name quotas rule place is = OfTrees.refused rule place is
 
 -- what a cause prints leads to the machine as it was
 pub told_by_cause : (o : Opening) (m : Machine) (e : AddAnswer) (line : Line) → IsCauseNow o m e → line_of o.name e ≡ Some line
     → OpensNow o m (line ∷ []) m
 told_by_cause o m (Adding.Refused rule place) line (inl refused) is =
-    subst (λ (x : Line). OpensNow o m (x ∷ []) m) (same_Some (Says.Refused o.name rule place) line is)
-    (opens (Says.Refused o.name rule place ∷ []) m (refused_in o.tree o.root m o.name o.quotas rule place refused))
+    subst (λ (x : Line). OpensNow o m (x ∷ []) m) (same_Some (Says.Refused o.name rule place) line is) (breaks rule place refused)
 told_by_cause o m (Adding.Refused rule place) line (inr (rule_is, place_is, names_jk)) is =
     let same : Says.Refused o.name X1 Whole ≡ line =
     (λ i. Says.Refused o.name (sym rule_is i) (sym place_is i)) ∙ same_Some (Says.Refused o.name rule place) line is in
     subst (λ (x : Line). OpensNow o m (x ∷ []) m) same (refers names_jk)
 told_by_cause o m Adding.NoRoom line (a, lacks) is =
     subst (λ (x : Line). OpensNow o m (x ∷ []) m) (same_Some (Says.Refused o.name L3 Whole) line is)
-    (opens (Says.Refused o.name L3 Whole ∷ []) m
-    (opens_in o.tree o.root m o.name o.quotas a.files (Says.Refused o.name L3 Whole ∷ []) m a.are_files a.are_told (no_room a.accepted lacks)))
+    (opens a (Says.Refused o.name L3 Whole ∷ []) m (no_room a.accepted lacks))
 told_by_cause o m Adding.CapNumbers line (a, room, lacks) is =
     subst (λ (x : Line). OpensNow o m (x ∷ []) m) (same_Some (Says.Refused o.name L4 Whole) line is)
-    (opens (Says.Refused o.name L4 Whole ∷ []) m
-    (opens_in o.tree o.root m o.name o.quotas a.files (Says.Refused o.name L4 Whole ∷ []) m a.are_files a.are_told (no_numbers a.accepted room lacks)))
+    (opens a (Says.Refused o.name L4 Whole ∷ []) m (no_numbers a.accepted room lacks))
 told_by_cause o m Adding.TooManyDomains line (a, room, numbers, many) is =
     subst (λ (x : Line). OpensNow o m (x ∷ []) m) (same_Some (Says.Refused o.name L8 Whole) line is)
-    (opens (Says.Refused o.name L8 Whole ∷ []) m
-    (opens_in o.tree o.root m o.name o.quotas a.files (Says.Refused o.name L8 Whole ∷ []) m a.are_files a.are_told
-    (too_many a.accepted room numbers many)))
+    (opens a (Says.Refused o.name L8 Whole ∷ []) m (too_many a.accepted room numbers many))
 told_by_cause o m Adding.ReadFault line cause is = (let no : None ≡ Some line = is in absurd cc)
 told_by_cause o m Adding.OutOfMemory line cause is = (let no : None ≡ Some line = is in absurd cc)
 
@@ -92,3 +72,10 @@ pub load_calm : (e : LoadAnswer) (a : AddAnswer) → IsLoadRefusal e a → a ≢
 load_calm (Loading.Refused r p) a is other e = absurd cc
 load_calm Loading.ReadFault a is other e = other is
 load_calm Loading.OutOfMemory a is other e = absurd cc
+
+-- and a rule that is answered was the loader's answer
+pub load_refused : (e : LoadAnswer) (a : AddAnswer) (rule : Rule) (place : Place) → IsLoadRefusal e a → a ≡ Adding.Refused rule place
+    → e ≡ Loading.Refused rule place
+load_refused (Loading.Refused r p) a rule place is same = (let both : Adding.Refused r p ≡ Adding.Refused rule place = sym is ∙ same in cc)
+load_refused Loading.ReadFault a rule place is same = (let no : Adding.ReadFault ≡ Adding.Refused rule place = sym is ∙ same in absurd cc)
+load_refused Loading.OutOfMemory a rule place is same = (let no : Adding.OutOfMemory ≡ Adding.Refused rule place = sym is ∙ same in absurd cc)

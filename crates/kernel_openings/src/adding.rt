@@ -1,20 +1,24 @@
 //! Domains that are added.
 
-ghost use Rattle.std.specs.Prelude.{◌≡◌, ◌≢◌, ◌≤◌, ◌⊎◌, ◌∷◌, ◌++◌, [], true, length, List as AList, Some, Err, IfErr, IfOk, MatchResult, OnErr, OnOk};
+ghost use Rattle.std.specs.Prelude.{◌≡◌, ◌≢◌, ◌+◌, ◌≤◌, ◌⊎◌, ◌∷◌, ◌++◌, [], true, length, List as AList, Some, Err, IfErr, IfOk, MatchResult, OnErr, OnOk};
 ghost use Rattle.std.specs.List.{AllByRecursion};
 ghost use Rattle.jk_model.specs.declared.output.Line.{Line as ALine};
 ghost use Rattle.jk_model.specs.declared.output.Line.TheVariants as Says;
 ghost use Rattle.jk_model.specs.declared.output.Place.{Place as APlace};
+ghost use Rattle.jk_model.specs.declared.output.Place.TheVariants as PlaceIs;
 ghost use Rattle.jk_model.specs.declared.output.Rule.{Rule as ARule};
-ghost use Rattle.jk_model.specs.Outside.{Ask, HasRisen, NeverFalls, Tree, ◌/-◌};
+ghost use Rattle.jk_model.specs.declared.output.Rule.TheVariants as RuleIs;
+ghost use Rattle.jk_model.specs.Outside.{Ask, FolderIsAbsent, HasRisen, ListOf, NeverFalls, Tree, ◌/-◌};
 ghost use Rattle.jk_model.specs.ScriptGrammar.{is_name};
-ghost use Rattle.folder_reader.specs.FolderAnswers.{AsksWithin};
-ghost use Rattle.jk_model_folders.specs.FolderRules.{IsFolderFault};
+ghost use Rattle.jk_outside.specs.Counts.{HasTaken};
+ghost use Rattle.folder_reader.specs.AskedOnce.{AsksOnce};
+ghost use Rattle.folder_reader.specs.FolderAnswers.{AskedFor, AsksWithin};
+ghost use Rattle.jk_model_folders.specs.FolderRules.{IsFolderFault, IsLive};
+ghost use Rattle.jk_model_folders.specs.FolderTrees.{MOST_ENTRIES, MOST_LEVELS};
 ghost use Rattle.jk_model_machine_state.specs.Machines.{world_of};
 ghost use Rattle.machine_laws.specs.MachinesOfRuns.{FolderRefersToNoPackageJk};
 ghost use Rattle.kernel_openings.specs.AddedDomains.{Opening, line_of};
 ghost use Rattle.kernel_openings.specs.AddedWithoutJk.{IsCauseNow, OpensApart, OpensNow};
-ghost use Rattle.kernel_openings.specs.FolderEvents.{Opens};
 ghost use Rattle.kernel_openings.specs.LoadedFolders.{IsLoadRefusal};
 
 use crate::answers::AddAnswer;
@@ -41,7 +45,8 @@ pub fn add_domain<H: ObjectStore + Drop, F: FrameStore + Drop, R: Files>(
     requires chunks { (1 ≤ quotas.chunks) × (quotas.chunks ≤ 262144) }
     requires counts { (quotas.threads ≤ 4096) × (quotas.names ≤ 4096) }
     ensures number { IfOk result (λ d. d.0 ≡ length k.old.domains) }
-    ensures ok { OnOk result (Opens (R.tree files.old) root.now k.old name.now quotas (Says.Loaded name.now ∷ []) k.new) }
+    ensures ok { let o : Opening = record { tree = R.tree files.old; root = root.now; name = name.now; quotas = quotas } in
+        OnOk result (OpensNow o k.old (Says.Loaded name.now ∷ []) k.new) }
     ensures opened { OnOk result (OpensApart k.old name.now quotas k.new) }
     // No class of the folder refers to package jk.
     ensures apart { OnOk result (FolderRefersToNoPackageJk k.new.classes (record { 0 = length k.old.classes })) }
@@ -55,6 +60,17 @@ pub fn add_domain<H: ObjectStore + Drop, F: FrameStore + Drop, R: Files>(
     // What the event prints at an answer leads to the machine as it was.
     ensures refused { let o : Opening = record { tree = R.tree files.old; root = root.now; name = name.now; quotas = quotas } in
         IfErr result (λ e. (line : ALine) → line_of name.now e ≡ Some line → OpensNow o k.old (line ∷ []) k.old) }
+    // L2 comes where the folder was asked for and isn't there: where no tree is told, a fault was counted.
+    ensures no_folder { result ≡ Err (AddAnswer.Refused RuleIs.L2 PlaceIs.Whole)
+        → FolderIsAbsent (R.tree files.old) (root.now /- name.now) (R.faults files.old) (R.faults files.new) }
+    ensures missed { result ≡ Err (AddAnswer.Refused RuleIs.L2 PlaceIs.Whole)
+        → AskedFor (R.asked files.old) (R.asked files.new) (ListOf (root.now /- name.now) MOST_ENTRIES) }
+    // L5 comes of files that tell no tree where more was taken than the least limit of L5 allows.
+    ensures large { result ≡ Err (AddAnswer.Refused RuleIs.L5 PlaceIs.Whole)
+        → HasTaken (R.tree files.old) (MOST_LEVELS + 1) (R.taken files.old) (R.taken files.new) }
+    // The name of a live domain is refused by L1 alone, and nothing is asked for it.
+    ensures live { IsLive (world_of k.old) name.now → result ≡ Err (AddAnswer.Refused RuleIs.L1 PlaceIs.Whole) }
+    ensures live_asks { IsLive (world_of k.old) name.now → R.asked files.new ≡ R.asked files.old }
     ensures err { OnErr result (k.new ≡ k.old) }
     ensures read_fault { result ≡ Err AddAnswer.ReadFault → HasRisen (R.faults files.old) (R.faults files.new) }
     // It is never answered before something was asked.
@@ -63,7 +79,10 @@ pub fn add_domain<H: ObjectStore + Drop, F: FrameStore + Drop, R: Files>(
     ensures calm { (t : Tree) → R.tree files.old ≡ Some t → result ≢ Err AddAnswer.ReadFault → R.faults files.new ≡ R.faults files.old }
     ensures stays { R.tree files.new ≡ R.tree files.old }
     ensures faults { NeverFalls (R.faults files.old) (R.faults files.new) }
+    ensures taken { NeverFalls (R.taken files.old) (R.taken files.new) }
     ensures asks { (more : AList Ask) × (R.asked files.new ≡ R.asked files.old ++ more) × AllByRecursion (AsksWithin (root.now /- name.now)) more }
+    // Each file is asked for at most once, and each folder of a told tree.
+    ensures once { AsksOnce (R.tree files.old) (R.asked files.old) (R.asked files.new) }
     ensures counts { (k.new.next_thread ≡ k.old.next_thread) × (k.new.next_segment ≡ k.old.next_segment) }
 {
     accepted_folders_stay_sound();

@@ -4,8 +4,9 @@ use Rattle.std.specs.Prelude.{IsSome}
 use Rattle.std.proofs.lemmas.Result.{err_from_is_err_and}
 use Rattle.jk_model.specs.Outside.{Tree}
 use Rattle.jk_model.proofs.CountsNeverFall.{NeverFalls-after, NeverFalls-refl}
+use Rattle.kernel_events.specs.PrintedLines.{sink}
 use Rattle.jkernel_runs.specs.DomainEvents.{OpensFolder}
-use Rattle.jkernel_runs.specs.Events.{EventEnds, moment, sink}
+use Rattle.jkernel_runs.specs.Events.{EventAsks, EventEnds, moment}
 use Rattle.jkernel_runs.proofs.EventsPrinted.{drawn_more}
 use Rattle.jkernel_runs.proofs.EventsInTurn.{runs_nothing, goes_on, run_stops, runs_whole, asks_so_far, asks_nothing, asks_to_stop}
 use Rattle.jkernel_runs.proofs.events.run_events.Goals as goal
@@ -15,14 +16,16 @@ returns-in_err-happen-clause-ends g c =
     let t = g.F.Files.tree c.args.files.now in
     let root = c.args.root.now in
     let exit = err_from_is_err_and c.from_residual.result c.from_residual.ensures.1 in
-    let ends = subst (λ (o : Option Tree). EventEnds (OpensFolder o root) c.event-item.result c.loop-event.kernel c.happen.new.kernel
+    let ends = subst (λ (o : Option Tree). EventEnds o root (OpensFolder o root) c.event-item.result c.loop-event.kernel c.happen.new.kernel
     (moment (sink (g.S.Sink.bytes c.loop-event.out) (g.S.Sink.pieces c.loop-event.out) (g.S.Sink.faults c.loop-event.out)) (g.F.Files.asked c.loop-event.files)
     (g.F.Files.faults c.loop-event.files))
     (moment (sink (g.S.Sink.bytes c.happen.new.out) (g.S.Sink.pieces c.happen.new.out) (g.S.Sink.faults c.happen.new.out)) (g.F.Files.asked c.happen.new.files)
     (g.F.Files.faults c.happen.new.files))
     (Err c.in_err-happen.field-0.0)) c.loop-event.invariant.stays c.in_err-happen.ensures.ends in
+    let asks = subst (λ (o : Option Tree). EventAsks o root c.event-item.result (g.F.Files.asked c.loop-event.files) (g.F.Files.asked c.happen.new.files))
+    c.loop-event.invariant.stays c.in_err-happen.ensures.asks in
     rw (exit.1, exit.2)
-    (run_stops root (OpensFolder t root) c.args.events.now c.loop-event.event-index c.event-item.result c.loop-event.kernel c.happen.new.kernel
+    (run_stops t root (OpensFolder t root) c.args.events.now c.loop-event.event-index c.event-item.result c.loop-event.kernel c.happen.new.kernel
     (moment (sink (g.S.Sink.bytes c.args.out.now) (g.S.Sink.pieces c.args.out.now) (g.S.Sink.faults c.args.out.now))
     (g.F.Files.asked c.args.files.now) (g.F.Files.faults c.args.files.now))
     (moment (sink (g.S.Sink.bytes c.loop-event.out) (g.S.Sink.pieces c.loop-event.out) (g.S.Sink.faults c.loop-event.out)) (g.F.Files.asked c.loop-event.files)
@@ -30,11 +33,14 @@ returns-in_err-happen-clause-ends g c =
     (moment (sink (g.S.Sink.bytes c.happen.new.out) (g.S.Sink.pieces c.happen.new.out) (g.S.Sink.faults c.happen.new.out)) (g.F.Files.asked c.happen.new.files)
     (g.F.Files.faults c.happen.new.files))
     c.in_err-happen.field-0.0 c.loop-event-test.true c.event-item.is c.loop-event.invariant.run c.loop-event.invariant.files_faults
-    c.loop-event.invariant.faults ends c.in_err-happen.ensures.asks)
+    c.loop-event.invariant.faults ends asks)
 
 pub returns-in_err-happen-clause-asks : goal.returns-in_err-happen-clause-asks
 returns-in_err-happen-clause-asks g c =
-    asks_to_stop c.args.root.now (OpensFolder (g.F.Files.tree c.args.files.now) c.args.root.now) c.args.events.now c.loop-event.event-index
+    let asks = subst (λ (o : Option Tree). EventAsks o c.args.root.now c.event-item.result (g.F.Files.asked c.loop-event.files)
+    (g.F.Files.asked c.happen.new.files)) c.loop-event.invariant.stays c.in_err-happen.ensures.asks in
+    asks_to_stop (g.F.Files.tree c.args.files.now) c.args.root.now (OpensFolder (g.F.Files.tree c.args.files.now) c.args.root.now) c.args.events.now
+    c.loop-event.event-index
     c.event-item.result c.loop-event.kernel
     (moment (sink (g.S.Sink.bytes c.args.out.now) (g.S.Sink.pieces c.args.out.now) (g.S.Sink.faults c.args.out.now))
     (g.F.Files.asked c.args.files.now) (g.F.Files.faults c.args.files.now))
@@ -42,7 +48,7 @@ returns-in_err-happen-clause-asks g c =
     (g.F.Files.faults c.loop-event.files))
     (moment (sink (g.S.Sink.bytes c.happen.new.out) (g.S.Sink.pieces c.happen.new.out) (g.S.Sink.faults c.happen.new.out)) (g.F.Files.asked c.happen.new.files)
     (g.F.Files.faults c.happen.new.files))
-    c.loop-event-test.true c.event-item.is c.loop-event.invariant.run c.in_err-happen.ensures.asks
+    c.loop-event-test.true c.event-item.is c.loop-event.invariant.run asks
 
 pub returns-in_err-happen-clause-calm : goal.returns-in_err-happen-clause-calm
 returns-in_err-happen-clause-calm g c = λ no told.
@@ -61,21 +67,21 @@ loop-event-preserved g c =
     let t = g.F.Files.tree c.args.files.now in
     let root = c.args.root.now in
     let test = c.loop-event-test.true in
-    let ends = subst (λ (o : Option Tree). EventEnds (OpensFolder o root) c.event-item.result c.loop-event.kernel c.happen.new.kernel
+    let ends = subst (λ (o : Option Tree). EventEnds o root (OpensFolder o root) c.event-item.result c.loop-event.kernel c.happen.new.kernel
     (moment (sink (g.S.Sink.bytes c.loop-event.out) (g.S.Sink.pieces c.loop-event.out) (g.S.Sink.faults c.loop-event.out)) (g.F.Files.asked c.loop-event.files)
     (g.F.Files.faults c.loop-event.files))
     (moment (sink (g.S.Sink.bytes c.happen.new.out) (g.S.Sink.pieces c.happen.new.out) (g.S.Sink.faults c.happen.new.out)) (g.F.Files.asked c.happen.new.files)
     (g.F.Files.faults c.happen.new.files))
     (Ok tt)) c.loop-event.invariant.stays c.in_ok-happen.ensures.ends in
     record {
-      run = goes_on root (OpensFolder t root) c.args.events.now c.loop-event.event-index c.event-item.result c.loop-event.kernel c.happen.new.kernel
+      run = goes_on t root (OpensFolder t root) c.args.events.now c.loop-event.event-index c.event-item.result c.loop-event.kernel c.happen.new.kernel
           (moment (sink (g.S.Sink.bytes c.args.out.now) (g.S.Sink.pieces c.args.out.now) (g.S.Sink.faults c.args.out.now)) (g.F.Files.asked c.args.files.now)
           (g.F.Files.faults c.args.files.now))
           (moment (sink (g.S.Sink.bytes c.loop-event.out) (g.S.Sink.pieces c.loop-event.out) (g.S.Sink.faults c.loop-event.out))
           (g.F.Files.asked c.loop-event.files) (g.F.Files.faults c.loop-event.files))
           (moment (sink (g.S.Sink.bytes c.happen.new.out) (g.S.Sink.pieces c.happen.new.out) (g.S.Sink.faults c.happen.new.out))
           (g.F.Files.asked c.happen.new.files) (g.F.Files.faults c.happen.new.files))
-          tt test c.event-item.is c.loop-event.invariant.run ends c.in_ok-happen.ensures.asks;
+          tt test c.event-item.is c.loop-event.invariant.run ends;
       within = omega arith;
       threads = omega (arith, c.in_ok-happen.ensures.counts.threads, c.loop-event.invariant.threads);
       segments = drawn_more c.loop-event.event-index c.loop-event.kernel c.happen.new.kernel c.loop-event.invariant.segments c.in_ok-happen.ensures.counts;
@@ -91,7 +97,8 @@ loop-event-preserved g c =
 
 pub returns-clause-ends : goal.returns-clause-ends
 returns-clause-ends g c =
-    runs_whole c.args.root.now (OpensFolder (g.F.Files.tree c.args.files.now) c.args.root.now) c.args.events.now c.loop-event.event-index c.loop-event.kernel
+    runs_whole (g.F.Files.tree c.args.files.now) c.args.root.now (OpensFolder (g.F.Files.tree c.args.files.now) c.args.root.now) c.args.events.now
+    c.loop-event.event-index c.loop-event.kernel
     (moment (sink (g.S.Sink.bytes c.args.out.now) (g.S.Sink.pieces c.args.out.now) (g.S.Sink.faults c.args.out.now))
     (g.F.Files.asked c.args.files.now) (g.F.Files.faults c.args.files.now))
     (moment (sink (g.S.Sink.bytes c.loop-event.out) (g.S.Sink.pieces c.loop-event.out) (g.S.Sink.faults c.loop-event.out)) (g.F.Files.asked c.loop-event.files)
@@ -100,7 +107,8 @@ returns-clause-ends g c =
 
 pub returns-clause-asks : goal.returns-clause-asks
 returns-clause-asks g c =
-    asks_so_far c.args.root.now (OpensFolder (g.F.Files.tree c.args.files.now) c.args.root.now) c.args.events.now c.loop-event.event-index c.loop-event.kernel
+    asks_so_far (g.F.Files.tree c.args.files.now) c.args.root.now (OpensFolder (g.F.Files.tree c.args.files.now) c.args.root.now) c.args.events.now
+    c.loop-event.event-index c.loop-event.kernel
     (moment (sink (g.S.Sink.bytes c.args.out.now) (g.S.Sink.pieces c.args.out.now) (g.S.Sink.faults c.args.out.now))
     (g.F.Files.asked c.args.files.now) (g.F.Files.faults c.args.files.now))
     (moment (sink (g.S.Sink.bytes c.loop-event.out) (g.S.Sink.pieces c.loop-event.out) (g.S.Sink.faults c.loop-event.out)) (g.F.Files.asked c.loop-event.files)
@@ -108,11 +116,12 @@ returns-clause-asks g c =
     c.loop-event.invariant.run
 
 pub returns-in_default-clause-asks : goal.returns-in_default-clause-asks
-returns-in_default-clause-asks g c = asks_nothing c.args.root.now c.args.events.now (g.F.Files.asked c.args.files.now)
+returns-in_default-clause-asks g c = asks_nothing (g.F.Files.tree c.args.files.now) c.args.root.now c.args.events.now (g.F.Files.asked c.args.files.now)
 
 pub loop-event-init : goal.loop-event-init
 loop-event-init g c = record {
-  run = runs_nothing c.args.root.now (OpensFolder (g.F.Files.tree c.args.files.now) c.args.root.now) c.args.events.now c.in-Ok.kernel
+  run = runs_nothing (g.F.Files.tree c.args.files.now) c.args.root.now (OpensFolder (g.F.Files.tree c.args.files.now) c.args.root.now)
+      c.args.events.now c.in-Ok.kernel
       (moment (sink (g.S.Sink.bytes c.args.out.now) (g.S.Sink.pieces c.args.out.now) (g.S.Sink.faults c.args.out.now))
       (g.F.Files.asked c.args.files.now) (g.F.Files.faults c.args.files.now))
       c.in-Ok.ensures (g.met.S.Sink.faults_fit c.args.out.now);

@@ -2,15 +2,16 @@
 use Rattle.std.proofs.Common.{◌≡◌, ◌+◌, ◌*◌, ◌≤◌, length}
 use Rattle.std.specs.Prelude.{IsSome}
 use Rattle.jk_model.specs.Outside.{NeverFalls}
+use Rattle.kernel_events.specs.PrintedLines.{sink}
 use Rattle.jkernel_runs.specs.DomainEvents.{OpensFolder}
 use Rattle.jkernel_runs.specs.DrawnNumbers.{MOST_DRAWN}
-use Rattle.jkernel_runs.specs.Events.{moment, sink}
+use Rattle.jkernel_runs.specs.Events.{moment}
 use Rattle.jkernel_runs.proofs.EventsInTurn.{RunsSoFar}
 use Rattle.jkernel_runs.proofs.events.run_events.Given as goal
 
 abbrev pub invariant-loop-event : goal.invariant-loop-event
 invariant-loop-event g l = record {
-  run : RunsSoFar l.root (OpensFolder (g.F.Files.tree l.fn.files) l.root) l.events l.event-index l.kernel
+  run : RunsSoFar (g.F.Files.tree l.fn.files) l.root (OpensFolder (g.F.Files.tree l.fn.files) l.root) l.events l.event-index l.kernel
       (moment (sink (g.S.Sink.bytes l.fn.out) (g.S.Sink.pieces l.fn.out) (g.S.Sink.faults l.fn.out)) (g.F.Files.asked l.fn.files) (g.F.Files.faults l.fn.files))
       (moment (sink (g.S.Sink.bytes l.out) (g.S.Sink.pieces l.out) (g.S.Sink.faults l.out)) (g.F.Files.asked l.files) (g.F.Files.faults l.files));
   within : l.event-index ≤ length l.events;

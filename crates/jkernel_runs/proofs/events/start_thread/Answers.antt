@@ -1,6 +1,6 @@
 -- A start whose line the output failed in has happened whole.
 use Rattle.jk_model_runs.specs.Starts.{Starts}
-use Rattle.jkernel_runs.specs.Events.{sink}
+use Rattle.kernel_events.specs.PrintedLines.{sink}
 use Rattle.jkernel_runs.proofs.EventsPrinted.{breaks_off_whole}
 use Rattle.jkernel_runs.proofs.events.start_thread.Goals as goal
 

@@ -1,5 +1,6 @@
 -- A name is a text, what is told is the event's line, and what was asked is the folder.
-use Rattle.jkernel_runs.specs.Events.{moment, sink}
+use Rattle.kernel_events.specs.PrintedLines.{sink}
+use Rattle.jkernel_runs.specs.Events.{moment}
 use Rattle.jkernel_runs.proofs.DomainOpens.{asks_folder, ends_named, name_is_utf8, text_place}
 use Rattle.jkernel_runs.proofs.opening.open_domain.Goals as goal
 
@@ -16,16 +17,19 @@ tell-requires g c = record {
 
 pub returns-clause-ends : goal.returns-clause-ends
 returns-clause-ends g c =
+    let e = c.add_domain-added.ensures in
     ends_named (g.F.Files.tree c.args.files.now) c.args.root.now c.in-Ok.text.now c.args.name.now c.args.quotas c.args.kernel.now
     c.add_domain-added.new.self
     (moment (sink (g.S.Sink.bytes c.args.out.now) (g.S.Sink.pieces c.args.out.now) (g.S.Sink.faults c.args.out.now)) (g.F.Files.asked c.args.files.now)
     (g.F.Files.faults c.args.files.now))
     (moment (sink (g.S.Sink.bytes c.tell.new.out) (g.S.Sink.pieces c.tell.new.out) (g.S.Sink.faults c.tell.new.out))
     (g.F.Files.asked c.add_domain-added.new.files) (g.F.Files.faults c.add_domain-added.new.files))
-    c.holds.ensures c.tell.result c.add_domain-added.result c.in-Ok.ensures.cases.0 c.add_domain-added.ensures.ok c.add_domain-added.ensures.refused
-    c.add_domain-added.ensures.err c.add_domain-added.ensures.read_fault c.add_domain-added.ensures.something c.tell.ensures
+    c.holds.ensures c.tell.result c.add_domain-added.result c.in-Ok.ensures.cases.0 e.ok e.refused e.err e.read_fault e.something
+    (record { within = e.asks; once = e.once; live = e.live; live_asks = e.live_asks; missed = e.missed }) c.tell.ensures
 
 pub returns-clause-asks : goal.returns-clause-asks
 returns-clause-asks g c =
-    asks_folder c.args.root.now c.args.name.now c.in-Ok.text.now c.args.quotas (g.F.Files.asked c.args.files.now)
-    (g.F.Files.asked c.add_domain-added.new.files) c.in-Ok.ensures.cases.0 c.add_domain-added.ensures.asks
+    let e = c.add_domain-added.ensures in
+    asks_folder (g.F.Files.tree c.args.files.now) c.args.root.now c.args.name.now c.in-Ok.text.now c.args.quotas c.args.kernel.now
+    (g.F.Files.asked c.args.files.now) (g.F.Files.asked c.add_domain-added.new.files) c.add_domain-added.result c.in-Ok.ensures.cases.0
+    (record { within = e.asks; once = e.once; live = e.live; live_asks = e.live_asks; missed = e.missed })

@@ -3,9 +3,10 @@ use Rattle.std.proofs.Common.{ℕ, List, Option, Ok, Err, map, refl, subst}
 use Rattle.std.specs.Prelude.{string_bytes}
 use Rattle.jk_model.specs.declared.script.Event.{Event}
 use Rattle.jk_model.specs.Outside.{Tree}
+use Rattle.kernel_events.specs.PrintedLines.{sink}
 use Rattle.jkernel_runs.specs.DomainEvents.{OpensFolder}
 use Rattle.jkernel_runs.specs.Ends.{HasText}
-use Rattle.jkernel_runs.specs.Events.{RunEnds, RunAsks, moment, sink}
+use Rattle.jkernel_runs.specs.Events.{RunEnds, RunAsks, moment}
 use Rattle.jkernel_runs.proofs.RunEndsSo.{same_script, refused_so, run_ends, run_asks, script_ends}
 use Rattle.jkernel_runs.proofs.program.run.Goals as goal
 
@@ -26,12 +27,13 @@ returns-in-Err-clause-fault g c = λ root script text f call has at.
 
 pub returns-in-Ok-run_events-clause-ends : goal.returns-in-Ok-run_events-clause-ends
 returns-in-Ok-run_events-clause-ends g c =
-    let ends = subst (λ (es : List Event). RunEnds c.in-Some.root.now (OpensFolder (g.F.Files.tree c.args.files.now) c.in-Some.root.now) es
+    let ends = subst (λ (es : List Event). RunEnds (g.F.Files.tree c.args.files.now) c.in-Some.root.now (OpensFolder (g.F.Files.tree
+    c.args.files.now) c.in-Some.root.now) es
     (moment (sink (g.S.Sink.bytes c.args.out.now) (g.S.Sink.pieces c.args.out.now) (g.S.Sink.faults c.args.out.now)) (g.F.Files.asked c.script_at.new.files)
     (g.F.Files.faults c.script_at.new.files))
     (moment (sink (g.S.Sink.bytes c.run_events.new.out) (g.S.Sink.pieces c.run_events.new.out) (g.S.Sink.faults c.run_events.new.out))
     (g.F.Files.asked c.run_events.new.files) (g.F.Files.faults c.run_events.new.files)) (Ok tt)) c.as_slice.ensures
-    (subst (λ (o : Option Tree). RunEnds c.in-Some.root.now (OpensFolder o c.in-Some.root.now) c.as_slice.result.now
+    (subst (λ (o : Option Tree). RunEnds o c.in-Some.root.now (OpensFolder o c.in-Some.root.now) c.as_slice.result.now
     (moment (sink (g.S.Sink.bytes c.args.out.now) (g.S.Sink.pieces c.args.out.now) (g.S.Sink.faults c.args.out.now)) (g.F.Files.asked c.script_at.new.files)
     (g.F.Files.faults c.script_at.new.files))
     (moment (sink (g.S.Sink.bytes c.run_events.new.out) (g.S.Sink.pieces c.run_events.new.out) (g.S.Sink.faults c.run_events.new.out))
@@ -47,8 +49,10 @@ returns-in-Ok-run_events-clause-ends g c =
 
 pub returns-in-Ok-run_events-clause-asks : goal.returns-in-Ok-run_events-clause-asks
 returns-in-Ok-run_events-clause-asks g c =
-    let asks = subst (λ (es : List Event). RunAsks c.in-Some.root.now es (g.F.Files.asked c.script_at.new.files) (g.F.Files.asked c.run_events.new.files))
-    c.as_slice.ensures c.run_events.ensures.asks in
+    let asks = subst (λ (es : List Event). RunAsks (g.F.Files.tree c.args.files.now) c.in-Some.root.now es (g.F.Files.asked c.script_at.new.files)
+    (g.F.Files.asked c.run_events.new.files)) c.as_slice.ensures
+    (subst (λ (o : Option Tree). RunAsks o c.in-Some.root.now c.as_slice.result.now (g.F.Files.asked c.script_at.new.files)
+    (g.F.Files.asked c.run_events.new.files)) c.in-Ok.ensures.stays c.run_events.ensures.asks) in
     run_asks (g.F.Files.tree c.args.files.now) (map string_bytes c.args.words.now) c.in-Some.root.now c.in-Some.script.now c.in-Ok.events
     (moment (sink (g.S.Sink.bytes c.args.out.now) (g.S.Sink.pieces c.args.out.now) (g.S.Sink.faults c.args.out.now))
     (g.F.Files.asked c.args.files.now) (g.F.Files.faults c.args.files.now))
@@ -65,12 +69,13 @@ returns-in-Ok-run_events-clause-fault g c = λ root script text f call has at.
 
 pub returns-clause-ends : goal.returns-clause-ends
 returns-clause-ends g c =
-    let ends = subst (λ (es : List Event). RunEnds c.in-Some.root.now (OpensFolder (g.F.Files.tree c.args.files.now) c.in-Some.root.now) es
+    let ends = subst (λ (es : List Event). RunEnds (g.F.Files.tree c.args.files.now) c.in-Some.root.now (OpensFolder (g.F.Files.tree
+    c.args.files.now) c.in-Some.root.now) es
     (moment (sink (g.S.Sink.bytes c.args.out.now) (g.S.Sink.pieces c.args.out.now) (g.S.Sink.faults c.args.out.now)) (g.F.Files.asked c.script_at.new.files)
     (g.F.Files.faults c.script_at.new.files))
     (moment (sink (g.S.Sink.bytes c.run_events.new.out) (g.S.Sink.pieces c.run_events.new.out) (g.S.Sink.faults c.run_events.new.out))
     (g.F.Files.asked c.run_events.new.files) (g.F.Files.faults c.run_events.new.files)) (Err c.in-Err-run_events.stop)) c.as_slice.ensures
-    (subst (λ (o : Option Tree). RunEnds c.in-Some.root.now (OpensFolder o c.in-Some.root.now) c.as_slice.result.now
+    (subst (λ (o : Option Tree). RunEnds o c.in-Some.root.now (OpensFolder o c.in-Some.root.now) c.as_slice.result.now
     (moment (sink (g.S.Sink.bytes c.args.out.now) (g.S.Sink.pieces c.args.out.now) (g.S.Sink.faults c.args.out.now)) (g.F.Files.asked c.script_at.new.files)
     (g.F.Files.faults c.script_at.new.files))
     (moment (sink (g.S.Sink.bytes c.run_events.new.out) (g.S.Sink.pieces c.run_events.new.out) (g.S.Sink.faults c.run_events.new.out))
@@ -87,8 +92,10 @@ returns-clause-ends g c =
 
 pub returns-clause-asks : goal.returns-clause-asks
 returns-clause-asks g c =
-    let asks = subst (λ (es : List Event). RunAsks c.in-Some.root.now es (g.F.Files.asked c.script_at.new.files) (g.F.Files.asked c.run_events.new.files))
-    c.as_slice.ensures c.run_events.ensures.asks in
+    let asks = subst (λ (es : List Event). RunAsks (g.F.Files.tree c.args.files.now) c.in-Some.root.now es (g.F.Files.asked c.script_at.new.files)
+    (g.F.Files.asked c.run_events.new.files)) c.as_slice.ensures
+    (subst (λ (o : Option Tree). RunAsks o c.in-Some.root.now c.as_slice.result.now (g.F.Files.asked c.script_at.new.files)
+    (g.F.Files.asked c.run_events.new.files)) c.in-Ok.ensures.stays c.run_events.ensures.asks) in
     run_asks (g.F.Files.tree c.args.files.now) (map string_bytes c.args.words.now) c.in-Some.root.now c.in-Some.script.now c.in-Ok.events
     (moment (sink (g.S.Sink.bytes c.args.out.now) (g.S.Sink.pieces c.args.out.now) (g.S.Sink.faults c.args.out.now))
     (g.F.Files.asked c.args.files.now) (g.F.Files.faults c.args.files.now))

@@ -1,12 +1,14 @@
 -- What is loaded and opened is a kernel with the domain; and what is refused leaves the kernel as it was.
-use Rattle.std.proofs.Common.{◌≡◌, ◌⊎◌, inl, inr, ℕ, List, [], ◌∷◌, length, Result, Ok, Err, refl, sym, ap, subst, ◌∙◌}
+use Rattle.std.proofs.Common.{◌≡◌, ◌⊎◌, inl, inr, [], ◌∷◌, length, Result, Ok, Err, sym, ap, subst, ◌∙◌}
 use Rattle.jk_model.specs.declared.output.Line.TheVariants as Says
 use Rattle.jk_model.specs.declared.output.Place.{Place}
 use Rattle.jk_model.specs.declared.output.Rule.{Rule}
+use Rattle.jk_model.specs.declared.output.Rule.TheVariants.{L1, L2, L5, X1}
+use Rattle.jk_model.specs.declared.output.Place.TheVariants.{Whole}
 use Rattle.jk_model_classes.specs.Worlds.{WorldRecord}
 use Rattle.jk_model_sharing.specs.SharedStates.{SharedState}
 use Rattle.machine_laws.specs.MachinesOfRuns.{FolderRefersToNoPackageJk}
-use Rattle.jk_model_folders.specs.FolderRules.{IsFolderFault}
+use Rattle.jk_model_folders.specs.FolderRules.{IsFolderFault, IsLive}
 use Rattle.jk_model_machine_state.specs.Machines.{Machine, world_of}
 use Rattle.folder_loader.specs.declared.answers.LoadAnswer.{LoadAnswer}
 use Rattle.folder_loader.specs.declared.answers.LoadAnswer.TheVariants as Loading
@@ -17,11 +19,10 @@ use Rattle.kernel_openings.specs.declared.answers.AddAnswer.TheVariants as Addin
 use Rattle.kernel_openings.specs.declared.answers.AddAnswer.TheVariants.{ReadFault}
 use Rattle.kernel_openings.specs.LoadedFolders.{IsLoadRefusal}
 use Rattle.kernel_openings.specs.AddedWithoutJk.{IsCauseNow, OpensApart, OpensNow}
-use Rattle.kernel_openings.specs.FolderEvents.{Opens}
 use Rattle.kernel_openings.specs.OpenedParts.{IsWhyNot, OpenParts}
 use Rattle.kernel_openings.proofs.AddedKernels.{apart_so, cause_so, content_again, kernel_so, may_open_so, opened_apart, opens_so, parts_with}
 use Rattle.kernel_openings.proofs.LoadingKernels.{as_many, may_load, world_is}
-use Rattle.kernel_openings.proofs.OpeningsAnswered.{cause_of_load, load_calm, load_fault, told_by_cause}
+use Rattle.kernel_openings.proofs.OpeningsAnswered.{cause_of_load, load_calm, load_fault, load_refused, told_by_cause}
 use Rattle.kernel_openings.proofs.adding.add_domain.Goals as goal
 
 -- an answer is in one error
@@ -38,6 +39,16 @@ load_alone : (e : LoadAnswer) (a : AddAnswer) (rule : Rule) (place : Place) → 
 load_alone e a rule place refusal (inl is) = inl (subst (λ (x : LoadAnswer). IsLoadRefusal x a) is refusal)
 load_alone e a rule place refusal (inr (inl is)) = inr (inl (subst (λ (x : LoadAnswer). IsLoadRefusal x a) is refusal))
 load_alone e a rule place refusal (inr (inr is)) = inr (inr (subst (λ (x : LoadAnswer). IsLoadRefusal x a) is refusal))
+
+-- the name of a live domain is refused by L1
+load_live : (e : LoadAnswer) (a : AddAnswer) → IsLoadRefusal e a → e ≡ Loading.Refused L1 Whole → a ≡ Adding.Refused L1 Whole
+load_live e a refusal is = subst (λ (x : LoadAnswer). IsLoadRefusal x a) is refusal
+
+no_l2 : L2 ≡ X1 → ⊥
+no_l2 e = cc
+
+no_l5 : L5 ≡ X1 → ⊥
+no_l5 e = cc
 
 pub load-requires : goal.load-requires
 load-requires g c =
@@ -64,7 +75,8 @@ open-requires-clause-may g c =
       main_kind = k.main_kind;
     } in
     let loaded = c.in-Ok.ensures.ok in
-    may_open_so here c.k.invariant c.accepted_folders_stay_sound.ensures loaded.found loaded.are_files c.args.name.now c.in-Ok.loaded c.load.new.world loaded.loads
+    may_open_so here c.k.invariant c.accepted_folders_stay_sound.ensures loaded.found loaded.are_files c.args.name.now c.in-Ok.loaded
+    c.load.new.world loaded.loads
     c.in-Ok.ensures.typed c.holds.ensures.ordered
 
 pub open-requires-clause-asked : goal.open-requires-clause-asked
@@ -89,7 +101,8 @@ invariant_of-k-in-Ok-open g c =
       heap = g.H.ObjectStore.content c.open.new.heap;
       frames = g.F.FrameStore.content c.open.new.frames;
     } in
-    kernel_so here c.k.invariant c.accepted_folders_stay_sound.ensures loaded.found loaded.are_files c.args.name.now c.in-Ok.loaded c.load.new.world loaded.loads
+    kernel_so here c.k.invariant c.accepted_folders_stay_sound.ensures loaded.found loaded.are_files c.args.name.now c.in-Ok.loaded c.load.new.world
+    loaded.loads
     c.in-Ok.ensures.typed c.holds.ensures.ordered (g.met.H.ObjectStore.holds k.heap) (g.met.F.FrameStore.holds k.frames) c.is_sound.ensures c.args.quotas
     (g.R.Files.tree c.args.files.now) c.args.root.now loaded.are_told
     new (g.met.H.ObjectStore.holds c.open.new.heap) c.in-Ok-open.ensures.ok
@@ -113,7 +126,8 @@ invariant_of-k-in-Err-open g c =
       heap = g.H.ObjectStore.content c.open.new.heap;
       frames = g.F.FrameStore.content c.open.new.frames;
     } in
-    subst AreKernelParts (sym (content_again here c.k.invariant c.accepted_folders_stay_sound.ensures loaded.found loaded.are_files c.args.name.now c.in-Ok.loaded c.load.new.world loaded.loads
+    subst AreKernelParts (sym (content_again here c.k.invariant c.accepted_folders_stay_sound.ensures loaded.found loaded.are_files c.args.name.now
+    c.in-Ok.loaded c.load.new.world loaded.loads
     c.in-Ok.ensures.typed c.holds.ensures.ordered new c.cut_classes.new.self
     c.len.result (c.len.ensures.count ∙ ap length c.classes.ensures) c.in-Err-open.ensures.err c.cut_classes.ensures)) c.k.invariant
 
@@ -201,10 +215,12 @@ returns-in-Err-clause-err g c =
     })) c.in-Err.ensures.err ∙ c.k.view_is
 
 pub returns-in-Err-clause-read_fault : goal.returns-in-Err-clause-read_fault
-returns-in-Err-clause-read_fault g c = λ e. c.load.ensures.read_fault (c.in-Err.is ∙ ap Err (load_fault c.in-Err.e c.not_loaded.result c.not_loaded.ensures (same_error e)))
+returns-in-Err-clause-read_fault g c = λ e. c.load.ensures.read_fault (c.in-Err.is ∙ ap Err (load_fault c.in-Err.e c.not_loaded.result
+    c.not_loaded.ensures (same_error e)))
 
 pub returns-in-Err-clause-something : goal.returns-in-Err-clause-something
-returns-in-Err-clause-something g c = λ e. c.load.ensures.something (c.in-Err.is ∙ ap Err (load_fault c.in-Err.e c.not_loaded.result c.not_loaded.ensures (same_error e)))
+returns-in-Err-clause-something g c = λ e. c.load.ensures.something (c.in-Err.is ∙ ap Err (load_fault c.in-Err.e c.not_loaded.result
+    c.not_loaded.ensures (same_error e)))
 
 pub returns-in-Err-clause-calm : goal.returns-in-Err-clause-calm
 returns-in-Err-clause-calm g c = λ t told other.
@@ -222,6 +238,56 @@ returns-in-Err-clause-faults g c = c.load.ensures.faults
 
 pub returns-in-Err-clause-asks : goal.returns-in-Err-clause-asks
 returns-in-Err-clause-asks g c = c.load.ensures.asks
+
+pub returns-in-Err-clause-no_folder : goal.returns-in-Err-clause-no_folder
+returns-in-Err-clause-no_folder g c = λ e.
+    c.load.ensures.no_folder (c.in-Err.is ∙ ap Err (load_refused c.in-Err.e c.not_loaded.result L2 Whole c.not_loaded.ensures (same_error e)))
+
+pub returns-in-Err-clause-missed : goal.returns-in-Err-clause-missed
+returns-in-Err-clause-missed g c = λ e.
+    c.load.ensures.missed (c.in-Err.is ∙ ap Err (load_refused c.in-Err.e c.not_loaded.result L2 Whole c.not_loaded.ensures (same_error e)))
+
+pub returns-in-Err-clause-large : goal.returns-in-Err-clause-large
+returns-in-Err-clause-large g c = λ e.
+    c.load.ensures.large (c.in-Err.is ∙ ap Err (load_refused c.in-Err.e c.not_loaded.result L5 Whole c.not_loaded.ensures (same_error e)))
+
+pub returns-in-Err-clause-live : goal.returns-in-Err-clause-live
+returns-in-Err-clause-live g c = λ live.
+    let k = c.k.inside in
+    let here : KernelContent = record {
+      world = k.world;
+      owns = k.owns.items;
+      shared = k.shared;
+      heap = g.H.ObjectStore.content k.heap;
+      frames = g.F.FrameStore.content k.frames;
+      main_kind = k.main_kind;
+    } in
+    let there : IsLive k.world c.args.name.now =
+    subst (λ (w : WorldRecord). IsLive w c.args.name.now) (world_is here c.k.invariant)
+    (subst (λ (m : Machine). IsLive (world_of m) c.args.name.now) (sym c.k.view_is) live) in
+    ap Err (load_live c.in-Err.e c.not_loaded.result c.not_loaded.ensures (same_error (sym c.in-Err.is ∙ c.load.ensures.live there)))
+
+pub returns-in-Err-clause-live_asks : goal.returns-in-Err-clause-live_asks
+returns-in-Err-clause-live_asks g c = λ live.
+    let k = c.k.inside in
+    let here : KernelContent = record {
+      world = k.world;
+      owns = k.owns.items;
+      shared = k.shared;
+      heap = g.H.ObjectStore.content k.heap;
+      frames = g.F.FrameStore.content k.frames;
+      main_kind = k.main_kind;
+    } in
+    let there : IsLive k.world c.args.name.now =
+    subst (λ (w : WorldRecord). IsLive w c.args.name.now) (world_is here c.k.invariant)
+    (subst (λ (m : Machine). IsLive (world_of m) c.args.name.now) (sym c.k.view_is) live) in
+    c.load.ensures.live_asks there
+
+pub returns-in-Err-clause-taken : goal.returns-in-Err-clause-taken
+returns-in-Err-clause-taken g c = c.load.ensures.taken
+
+pub returns-in-Err-clause-once : goal.returns-in-Err-clause-once
+returns-in-Err-clause-once g c = c.load.ensures.once
 
 pub returns-in-Ok-open-clause-number : goal.returns-in-Ok-open-clause-number
 returns-in-Ok-open-clause-number g c =
@@ -255,8 +321,8 @@ returns-in-Ok-open-clause-ok g c =
       heap = g.H.ObjectStore.content c.open.new.heap;
       frames = g.F.FrameStore.content c.open.new.frames;
     } in
-    subst (λ (m : Machine). Opens (g.R.Files.tree c.args.files.now) c.args.root.now m c.args.name.now c.args.quotas
-    (Says.Loaded c.args.name.now ∷ []) (kernel_machine (record {
+    let o : Opening = record { tree = g.R.Files.tree c.args.files.now; root = c.args.root.now; name = c.args.name.now; quotas = c.args.quotas } in
+    subst (λ (m : Machine). OpensNow o m (Says.Loaded c.args.name.now ∷ []) (kernel_machine (record {
       world = new.world;
       owns = new.owns;
       shared = new.shared;
@@ -264,7 +330,8 @@ returns-in-Ok-open-clause-ok g c =
       frames = new.frames;
       main_kind = k.main_kind;
     }))) c.k.view_is
-    (opens_so here c.k.invariant c.accepted_folders_stay_sound.ensures loaded.found loaded.are_files c.args.name.now c.in-Ok.loaded c.load.new.world loaded.loads
+    (opens_so here c.k.invariant c.accepted_folders_stay_sound.ensures loaded.found loaded.are_files c.args.name.now c.in-Ok.loaded c.load.new.world
+    loaded.loads
     c.in-Ok.ensures.typed c.holds.ensures.ordered (g.met.H.ObjectStore.holds k.heap) (g.met.F.FrameStore.holds k.frames) c.is_sound.ensures c.args.quotas
     (g.R.Files.tree c.args.files.now) c.args.root.now loaded.are_told
     new (g.met.H.ObjectStore.holds c.open.new.heap) c.in-Ok-open.ensures.ok)
@@ -296,7 +363,8 @@ returns-in-Ok-open-clause-opened g c =
       frames = new.frames;
       main_kind = k.main_kind;
     }))) c.k.view_is
-    (opened_apart here c.k.invariant c.accepted_folders_stay_sound.ensures loaded.found loaded.are_files c.args.name.now c.in-Ok.loaded c.load.new.world loaded.loads
+    (opened_apart here c.k.invariant c.accepted_folders_stay_sound.ensures loaded.found loaded.are_files c.args.name.now c.in-Ok.loaded
+    c.load.new.world loaded.loads
     c.in-Ok.ensures.typed c.holds.ensures.ordered (g.met.H.ObjectStore.holds k.heap) (g.met.F.FrameStore.holds k.frames) c.is_sound.ensures c.args.quotas
     (g.R.Files.tree c.args.files.now) c.args.root.now loaded.are_told
     new (g.met.H.ObjectStore.holds c.open.new.heap) c.in-Ok-open.ensures.ok)
@@ -321,7 +389,8 @@ returns-in-Ok-open-clause-apart g c =
       frames = g.F.FrameStore.content c.open.new.frames;
     } in
     subst (λ (m : Machine). FolderRefersToNoPackageJk c.open.new.world.classes (record { 0 = length m.classes })) c.k.view_is
-    (apart_so here c.k.invariant c.accepted_folders_stay_sound.ensures loaded.found loaded.are_files c.args.name.now c.in-Ok.loaded c.load.new.world loaded.loads
+    (apart_so here c.k.invariant c.accepted_folders_stay_sound.ensures loaded.found loaded.are_files c.args.name.now c.in-Ok.loaded c.load.new.world
+    loaded.loads
     c.in-Ok.ensures.typed c.holds.ensures.ordered (g.met.H.ObjectStore.holds k.heap) (g.met.F.FrameStore.holds k.frames) c.is_sound.ensures c.args.quotas
     (g.R.Files.tree c.args.files.now) c.args.root.now loaded.are_told
     new (g.met.H.ObjectStore.holds c.open.new.heap) c.in-Ok-open.ensures.ok)
@@ -375,6 +444,53 @@ returns-in-Ok-open-clause-faults g c = c.load.ensures.faults
 pub returns-in-Ok-open-clause-asks : goal.returns-in-Ok-open-clause-asks
 returns-in-Ok-open-clause-asks g c = c.load.ensures.asks
 
+pub returns-in-Ok-open-clause-no_folder : goal.returns-in-Ok-open-clause-no_folder
+returns-in-Ok-open-clause-no_folder g c = λ e. absurd (ok_isnt_err e)
+
+pub returns-in-Ok-open-clause-missed : goal.returns-in-Ok-open-clause-missed
+returns-in-Ok-open-clause-missed g c = λ e. absurd (ok_isnt_err e)
+
+pub returns-in-Ok-open-clause-large : goal.returns-in-Ok-open-clause-large
+returns-in-Ok-open-clause-large g c = λ e. absurd (ok_isnt_err e)
+
+pub returns-in-Ok-open-clause-live : goal.returns-in-Ok-open-clause-live
+returns-in-Ok-open-clause-live g c = λ live.
+    let k = c.k.inside in
+    let here : KernelContent = record {
+      world = k.world;
+      owns = k.owns.items;
+      shared = k.shared;
+      heap = g.H.ObjectStore.content k.heap;
+      frames = g.F.FrameStore.content k.frames;
+      main_kind = k.main_kind;
+    } in
+    let there : IsLive k.world c.args.name.now =
+    subst (λ (w : WorldRecord). IsLive w c.args.name.now) (world_is here c.k.invariant)
+    (subst (λ (m : Machine). IsLive (world_of m) c.args.name.now) (sym c.k.view_is) live) in
+    absurd (ok_isnt_err (sym c.in-Ok.is ∙ c.load.ensures.live there))
+
+pub returns-in-Ok-open-clause-live_asks : goal.returns-in-Ok-open-clause-live_asks
+returns-in-Ok-open-clause-live_asks g c = λ live.
+    let k = c.k.inside in
+    let here : KernelContent = record {
+      world = k.world;
+      owns = k.owns.items;
+      shared = k.shared;
+      heap = g.H.ObjectStore.content k.heap;
+      frames = g.F.FrameStore.content k.frames;
+      main_kind = k.main_kind;
+    } in
+    let there : IsLive k.world c.args.name.now =
+    subst (λ (w : WorldRecord). IsLive w c.args.name.now) (world_is here c.k.invariant)
+    (subst (λ (m : Machine). IsLive (world_of m) c.args.name.now) (sym c.k.view_is) live) in
+    absurd (ok_isnt_err (sym c.in-Ok.is ∙ c.load.ensures.live there))
+
+pub returns-in-Ok-open-clause-taken : goal.returns-in-Ok-open-clause-taken
+returns-in-Ok-open-clause-taken g c = c.load.ensures.taken
+
+pub returns-in-Ok-open-clause-once : goal.returns-in-Ok-open-clause-once
+returns-in-Ok-open-clause-once g c = c.load.ensures.once
+
 pub returns-in-Err-open-clause-number : goal.returns-in-Err-open-clause-number
 returns-in-Err-open-clause-number g c = tt
 
@@ -401,7 +517,8 @@ returns-in-Err-open-clause-cause g c =
     let o : Opening = record { tree = g.R.Files.tree c.args.files.now; root = c.args.root.now; name = c.args.name.now; quotas = c.args.quotas } in
     let loaded = c.in-Ok.ensures.ok in
     subst (λ (m : Machine). IsCauseNow o m c.in-Err-open.e) c.k.view_is
-    (cause_so here c.k.invariant c.accepted_folders_stay_sound.ensures loaded.found loaded.are_files c.args.name.now c.in-Ok.loaded c.load.new.world loaded.loads
+    (cause_so here c.k.invariant c.accepted_folders_stay_sound.ensures loaded.found loaded.are_files c.args.name.now c.in-Ok.loaded c.load.new.world
+    loaded.loads
     c.in-Ok.ensures.typed c.holds.ensures.ordered (g.met.H.ObjectStore.holds k.heap) (g.met.F.FrameStore.holds k.frames) c.is_sound.ensures c.args.quotas
     (g.R.Files.tree c.args.files.now) c.args.root.now loaded.are_told
     c.in-Err-open.e c.in-Err-open.ensures.cause)
@@ -421,7 +538,8 @@ returns-in-Err-open-clause-refused g c =
     let loaded = c.in-Ok.ensures.ok in
     λ line is. told_by_cause o c.args.k.now c.in-Err-open.e line
     (subst (λ (m : Machine). IsCauseNow o m c.in-Err-open.e) c.k.view_is
-    (cause_so here c.k.invariant c.accepted_folders_stay_sound.ensures loaded.found loaded.are_files c.args.name.now c.in-Ok.loaded c.load.new.world loaded.loads
+    (cause_so here c.k.invariant c.accepted_folders_stay_sound.ensures loaded.found loaded.are_files c.args.name.now c.in-Ok.loaded c.load.new.world
+    loaded.loads
     c.in-Ok.ensures.typed c.holds.ensures.ordered (g.met.H.ObjectStore.holds k.heap) (g.met.F.FrameStore.holds k.frames) c.is_sound.ensures c.args.quotas
     (g.R.Files.tree c.args.files.now) c.args.root.now loaded.are_told
     c.in-Err-open.e c.in-Err-open.ensures.cause)) is
@@ -461,7 +579,8 @@ returns-in-Err-open-clause-err g c =
       heap = g.H.ObjectStore.content c.open.new.heap;
       frames = g.F.FrameStore.content c.open.new.frames;
     } in
-    ap kernel_machine (content_again here c.k.invariant c.accepted_folders_stay_sound.ensures loaded.found loaded.are_files c.args.name.now c.in-Ok.loaded c.load.new.world loaded.loads
+    ap kernel_machine (content_again here c.k.invariant c.accepted_folders_stay_sound.ensures loaded.found loaded.are_files c.args.name.now
+    c.in-Ok.loaded c.load.new.world loaded.loads
     c.in-Ok.ensures.typed c.holds.ensures.ordered new c.cut_classes.new.self
     c.len.result (c.len.ensures.count ∙ ap length c.classes.ensures) c.in-Err-open.ensures.err c.cut_classes.ensures) ∙ c.k.view_is
 
@@ -508,3 +627,83 @@ returns-in-Err-open-clause-faults g c = c.load.ensures.faults
 
 pub returns-in-Err-open-clause-asks : goal.returns-in-Err-open-clause-asks
 returns-in-Err-open-clause-asks g c = c.load.ensures.asks
+
+pub returns-in-Err-open-clause-no_folder : goal.returns-in-Err-open-clause-no_folder
+returns-in-Err-open-clause-no_folder g c = λ e.
+    let k = c.k.inside in
+    let here : KernelContent = record {
+      world = k.world;
+      owns = k.owns.items;
+      shared = k.shared;
+      heap = g.H.ObjectStore.content k.heap;
+      frames = g.F.FrameStore.content k.frames;
+      main_kind = k.main_kind;
+    } in
+    let why = subst (IsWhyNot (parts_with here c.load.new.world) c.in-Ok.loaded c.args.quotas) (same_error e) c.in-Err-open.ensures.cause in
+    absurd (no_l2 why.0)
+
+pub returns-in-Err-open-clause-missed : goal.returns-in-Err-open-clause-missed
+returns-in-Err-open-clause-missed g c = λ e.
+    let k = c.k.inside in
+    let here : KernelContent = record {
+      world = k.world;
+      owns = k.owns.items;
+      shared = k.shared;
+      heap = g.H.ObjectStore.content k.heap;
+      frames = g.F.FrameStore.content k.frames;
+      main_kind = k.main_kind;
+    } in
+    let why = subst (IsWhyNot (parts_with here c.load.new.world) c.in-Ok.loaded c.args.quotas) (same_error e) c.in-Err-open.ensures.cause in
+    absurd (no_l2 why.0)
+
+pub returns-in-Err-open-clause-large : goal.returns-in-Err-open-clause-large
+returns-in-Err-open-clause-large g c = λ e.
+    let k = c.k.inside in
+    let here : KernelContent = record {
+      world = k.world;
+      owns = k.owns.items;
+      shared = k.shared;
+      heap = g.H.ObjectStore.content k.heap;
+      frames = g.F.FrameStore.content k.frames;
+      main_kind = k.main_kind;
+    } in
+    let why = subst (IsWhyNot (parts_with here c.load.new.world) c.in-Ok.loaded c.args.quotas) (same_error e) c.in-Err-open.ensures.cause in
+    absurd (no_l5 why.0)
+
+pub returns-in-Err-open-clause-live : goal.returns-in-Err-open-clause-live
+returns-in-Err-open-clause-live g c = λ live.
+    let k = c.k.inside in
+    let here : KernelContent = record {
+      world = k.world;
+      owns = k.owns.items;
+      shared = k.shared;
+      heap = g.H.ObjectStore.content k.heap;
+      frames = g.F.FrameStore.content k.frames;
+      main_kind = k.main_kind;
+    } in
+    let there : IsLive k.world c.args.name.now =
+    subst (λ (w : WorldRecord). IsLive w c.args.name.now) (world_is here c.k.invariant)
+    (subst (λ (m : Machine). IsLive (world_of m) c.args.name.now) (sym c.k.view_is) live) in
+    absurd (ok_isnt_err (sym c.in-Ok.is ∙ c.load.ensures.live there))
+
+pub returns-in-Err-open-clause-live_asks : goal.returns-in-Err-open-clause-live_asks
+returns-in-Err-open-clause-live_asks g c = λ live.
+    let k = c.k.inside in
+    let here : KernelContent = record {
+      world = k.world;
+      owns = k.owns.items;
+      shared = k.shared;
+      heap = g.H.ObjectStore.content k.heap;
+      frames = g.F.FrameStore.content k.frames;
+      main_kind = k.main_kind;
+    } in
+    let there : IsLive k.world c.args.name.now =
+    subst (λ (w : WorldRecord). IsLive w c.args.name.now) (world_is here c.k.invariant)
+    (subst (λ (m : Machine). IsLive (world_of m) c.args.name.now) (sym c.k.view_is) live) in
+    absurd (ok_isnt_err (sym c.in-Ok.is ∙ c.load.ensures.live there))
+
+pub returns-in-Err-open-clause-taken : goal.returns-in-Err-open-clause-taken
+returns-in-Err-open-clause-taken g c = c.load.ensures.taken
+
+pub returns-in-Err-open-clause-once : goal.returns-in-Err-open-clause-once
+returns-in-Err-open-clause-once g c = c.load.ensures.once

@@ -1,9 +1,11 @@
 -- An opening keeps what holds of the machine, and each other answer leaves it as it was.
-use Rattle.std.proofs.Common.{◌≡◌, List, [], ◌∷◌, Some, Result, Ok, Err, sym, subst}
+use Rattle.std.proofs.Common.{◌≡◌, [], ◌∷◌, length, Some, Result, Ok, Err, sym, subst}
 use Rattle.std.specs.Prelude.{IfErr, OnErr, OnOk}
-use Rattle.jk_model_folders.specs.FolderRules.{IsFolderFault}
+use Rattle.jk_model_folders.specs.FolderRules.{IsFolderFault, IsLive}
 use Rattle.jk_model_machine_state.specs.Machines.{Machine, world_of}
 use Rattle.jk_model.specs.declared.output.Line.{Line}
+use Rattle.jk_model.specs.declared.output.Line.TheVariants as Says
+use Rattle.machine_laws.specs.MachinesOfRuns.{FolderRefersToNoPackageJk}
 use Rattle.kernel_openings.specs.AddedDomains.{Opening, line_of}
 use Rattle.kernel_openings.specs.AddedWithoutJk.{IsCauseNow, OpensNow}
 use Rattle.jk_kernel.specs.SoundMachines.{IsSoundMachine}
@@ -22,6 +24,18 @@ invariant_of-self g c =
     (λ opened. c.machines_stay_sound.ensures.openings opened.0 old new c.args.name.now c.args.quotas opened.1 c.self.invariant opened.2 opened.3)
     (λ same. subst IsSoundMachine (sym same) c.self.invariant)
 
+pub returns-clause-ok : goal.returns-clause-ok
+returns-clause-ok g c =
+    let o : Opening = record { tree = g.R.Files.tree c.args.files.now; root = c.args.root.now; name = c.args.name.now; quotas = c.args.quotas } in
+    subst (λ (m : Machine). OnOk c.add_domain.result (OpensNow o m (Says.Loaded c.args.name.now ∷ []) c.add_domain.new.k)) c.self.view_is
+    c.add_domain.ensures.ok
+
+pub returns-clause-apart : goal.returns-clause-apart
+returns-clause-apart g c =
+    subst
+    (λ (m : Machine). OnOk c.add_domain.result (FolderRefersToNoPackageJk c.add_domain.new.k.classes (record { 0 = length m.classes })))
+    c.self.view_is c.add_domain.ensures.apart
+
 pub returns-clause-cause : goal.returns-clause-cause
 returns-clause-cause g c =
     let o : Opening = record { tree = g.R.Files.tree c.args.files.now; root = c.args.root.now; name = c.args.name.now; quotas = c.args.quotas } in
@@ -38,3 +52,11 @@ pub returns-clause-only_refused : goal.returns-clause-only_refused
 returns-clause-only_refused g c = λ t rule place told fault.
     c.add_domain.ensures.only_refused t rule place told
     (subst (λ (m : Machine). IsFolderFault t c.args.root.now (world_of m) c.args.name.now rule place) (sym c.self.view_is) fault)
+
+pub returns-clause-live : goal.returns-clause-live
+returns-clause-live g c = λ live.
+    c.add_domain.ensures.live (subst (λ (m : Machine). IsLive (world_of m) c.args.name.now) (sym c.self.view_is) live)
+
+pub returns-clause-live_asks : goal.returns-clause-live_asks
+returns-clause-live_asks g c = λ live.
+    c.add_domain.ensures.live_asks (subst (λ (m : Machine). IsLive (world_of m) c.args.name.now) (sym c.self.view_is) live)

@@ -1,10 +1,9 @@
 -- The turns of each live thread follow one another, and the threads between them do nothing.
-use Rattle.std.proofs.Common.{◌≡◌, Bool, Result, Ok, Err, false, ap, refl}
+use Rattle.std.proofs.Common.{◌≡◌, Bool, Result, Ok, ap}
 use Rattle.std.proofs.lemmas.Bool.{or_parts}
 use Rattle.std.proofs.lemmas.Result.{err_from_is_err_and}
 use Rattle.jk_outside.specs.declared.sinks.SinkFailed.{SinkFailed}
 use Rattle.kernel_events.specs.PrintedLines.{SinkState}
-use Rattle.jk_kernel.proofs.LinesJoined.{failed_as}
 use Rattle.jk_kernel.proofs.OneRound.{may_turn, rest_begins, rest_more, rest_over, round_begins, round_failed, round_more, round_over}
 use Rattle.jk_kernel.proofs.kernel.Kernel.one_round.Goals as goal
 
@@ -49,10 +48,8 @@ returns-in_err-changed-clause-failed g c =
     let out : SinkState =
     record { bytes = g.S.Sink.bytes c.turns.new.out; pieces = g.S.Sink.pieces c.turns.new.out; faults = g.S.Sink.faults c.turns.new.out } in
     let failed = err_from_is_err_and c.from_residual.result c.from_residual.ensures.1 in
-    let stops = c.in_err-changed.ensures.failed in
     rw failed.1 (round_failed c.runs_go_on_without_jk.ensures.steps c.runs_go_on_without_jk.ensures.threads steps l.above t m l.self
-    c.turns.new.self a b out stops.0 failed.0 l.invariant.0 next
-    (failed_as b out stops.0 c.in_err-changed.field-0.0 failed.0 stops.1) stops.2)
+    c.turns.new.self a b out l.invariant.0 next c.in_err-changed.ensures.failed)
 
 pub loop-thread-preserved : goal.loop-thread-preserved
 loop-thread-preserved g c =

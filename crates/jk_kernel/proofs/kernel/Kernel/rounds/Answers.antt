@@ -6,7 +6,6 @@ use Rattle.jk_model_runs.specs.Events.{Goes, Rounds}
 use Rattle.kernel_events.specs.KernelCalls.{steps_of}
 use Rattle.kernel_events.specs.PrintedLines.{SinkState}
 use Rattle.kernel_events.specs.RisingNumbers.{Rises}
-use Rattle.jk_kernel.proofs.LinesJoined.{failed_as}
 use Rattle.jk_kernel.proofs.NumbersLeft.{counts_of}
 use Rattle.jk_kernel.proofs.RoundsSoFar.{gone_failed, gone_more, gone_none, gone_rest, gone_rises, may_go}
 use Rattle.jk_kernel.proofs.kernel.Kernel.rounds.Goals as goal
@@ -41,10 +40,8 @@ returns-in_err-changed-clause-failed g c =
     record { bytes = g.S.Sink.bytes c.one_round.new.out; pieces = g.S.Sink.pieces c.one_round.new.out; faults = g.S.Sink.faults c.one_round.new.out } in
     let next = c.one_round.new.self in
     let failed = err_from_is_err_and c.from_residual.result c.from_residual.ensures.1 in
-    let stops = c.in_err-changed.ensures.failed in
     rw failed.1 (gone_failed c.runs_go_on_without_jk.ensures.steps c.runs_go_on_without_jk.ensures.rounds steps l.counter c.args.count m l.self
-    next a b out failed.0 less l.invariant
-    (stops.0, failed_as b out stops.0 c.in_err-changed.field-0.0 failed.0 stops.1, stops.2))
+    next a b out less l.invariant c.in_err-changed.ensures.failed)
 
 pub returns-in_err-changed-clause-counts : goal.returns-in_err-changed-clause-counts
 returns-in_err-changed-clause-counts g c =
@@ -58,10 +55,10 @@ returns-in_err-changed-clause-counts g c =
     let out : SinkState =
     record { bytes = g.S.Sink.bytes c.one_round.new.out; pieces = g.S.Sink.pieces c.one_round.new.out; faults = g.S.Sink.faults c.one_round.new.out } in
     let next = c.one_round.new.self in
-    let stops = c.in_err-changed.ensures.failed in
     let all = gone_failed c.runs_go_on_without_jk.ensures.steps c.runs_go_on_without_jk.ensures.rounds steps l.counter c.args.count m l.self
-    next a b out c.in_err-changed.field-0.0 less l.invariant stops in
-    counts_of m next (steps_of c.args.count steps m) (c.numbers_rise.ensures.some_rounds c.args.count steps m next all.0 all.2.so_far)
+    next a b out less l.invariant c.in_err-changed.ensures.failed in
+    counts_of m next (steps_of c.args.count steps m)
+    (c.numbers_rise.ensures.some_rounds c.args.count steps all.0 m all.1.mid next all.1.before all.1.said all.1.so_far all.1.step)
 
 pub loop-preserved : goal.loop-preserved
 loop-preserved g c =
