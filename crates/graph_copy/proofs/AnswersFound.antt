@@ -16,6 +16,8 @@ use Rattle.graph_copy.specs.declared.answers.CopyAnswer.{CopyAnswer}
 use Rattle.graph_copy.specs.declared.answers.CopyAnswer.TheVariants.{Copied, NoRoom, NotCopiable}
 use Rattle.graph_copy.specs.declared.discovery.Found.{Found}
 use Rattle.graph_copy.specs.AnswersTold.{IsTold}
+use Rattle.graph_copy.specs.AskedOfCopies.{MayCopy}
+use Rattle.graph_copy.specs.CopiedAll.{IsAllFound}
 use Rattle.graph_copy.specs.CopyAnswers.{CopyAnswers, MayAllPass, graph_in}
 use Rattle.graph_copy.specs.Discovered.{Discovers, walk_of}
 use Rattle.graph_copy.specs.FoundSoFar.{FoundSoFar, Walk}
@@ -99,3 +101,15 @@ answers c now w from to values f (NoRoom n) d told =
           (cost_found c now (walk_of w from to values) f.done f.sum s),
       omega (arith, told.1, told.2),
     )
+
+-- where all may be copied and fits, all is found
+pub all_found : (c now : HeapContent) (w : WorldRecord) (from to : DomainId) (values : List Value) (f : Found) → MayCopy c w from to values
+    → Discovers c now (walk_of w from to values) f → IsTold f.refused f.sum (words_left c to) Copied → IsAllFound c now w from to values f.done
+all_found c now w from to values f may d told =
+    let none : f.todo ≡ None = subst (λ (o : Option ℕ). Refusal c (walk_of w from to values) f.todo o) told.0 d.refused in
+    record {
+      may = may;
+      sum = f.sum;
+      found = subst (λ (o : Option ℕ). FoundSoFar c now (walk_of w from to values) o f.done f.sum) none d.found;
+      fits = told.1;
+    }

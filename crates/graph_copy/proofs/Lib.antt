@@ -1,11 +1,17 @@
--- Why the marks of objects hold queues, and what is found on them is all that is reached.
+-- Why the marks of objects hold queues and chains, what is found on them is all that is reached, and what is made is a copy of it.
 mod AnswersFound
+mod ChainsFilled
+mod ChainsForgotten
+mod CopiesMade
 mod FieldsByPlace
 mod MarkedObjects
 mod NamesShared
 mod ObjectsFinished
+mod ObjectsLaid
 mod ObjectsMet
 mod ObjectsVisited
+mod OneFilled
+mod PlacesFilled
 mod PlacesWalked
 mod QueuesForgotten
 mod ReachFound

@@ -93,7 +93,7 @@ next_is_walked c now w from to values a ended sum shape may s is =
 
 -- ---- One step more.
 
-words_of_shape : (classes : List ClassRecord) (object : Object) → shape_words classes (shape_of object) ≡ object_words classes object
+pub words_of_shape : (classes : List ClassRecord) (object : Object) → shape_words classes (shape_of object) ≡ object_words classes object
 words_of_shape classes (Plain c values) = refl
 words_of_shape classes (Array t items) = ap (λ (n : ℕ). 4 + type_words t * n) (length-replicate (length items) (zero_of t))
 words_of_shape classes (Text units) = ap (λ (n : ℕ). 4 + n) (length-replicate (length units) 0)

@@ -34,7 +34,7 @@ unfolding below
 so_many_below zero = refl
 so_many_below (suc n) = ap suc (so_many_below n)
 
-few_names : (n : ℕ) (xs : List ℕ) → IsDistinct nat_eq xs → ((a : ℕ) → Contains xs a → a < n) → length xs ≤ n
+pub few_names : (n : ℕ) (xs : List ℕ) → IsDistinct nat_eq xs → ((a : ℕ) → Contains xs a → a < n) → length xs ≤ n
 few_names n xs distinct small =
     omega (arith, no_longer xs (below n) distinct (λ a there. is_below n a (small a there)), so_many_below n)
 
