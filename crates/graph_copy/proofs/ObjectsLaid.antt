@@ -25,8 +25,7 @@ use Rattle.graph_copy.specs.Queues.{IsLinked, IsNext, IsQueue, head_of, link_to}
 use Rattle.graph_copy.proofs.ChainsForgotten.{MarksBoth, in_turn_beside, same_domain_or_not, small_first, sources_are_small}
 use Rattle.graph_copy.proofs.QueuesForgotten.{has_head, link_is_some, linked_beside, next_is, rest_differs, rest_distinct, small_head}
 use Rattle.graph_copy.proofs.ReachFound.{words_of_live}
-use Rattle.graph_copy.proofs.WalksGoOn.{words_of_shape}
-use Rattle.graph_copy.proofs.WordsFound.{some_words}
+use Rattle.graph_copy.proofs.WordsFound.{some_words, words_of_shape}
 
 -- ---- Names that a heap has and names that it lacks.
 

@@ -23,7 +23,7 @@ use Rattle.graph_copy.specs.Places.{IsWalked}
 use Rattle.graph_copy.specs.Visited.{Visits}
 use Rattle.graph_copy.proofs.QueuesForgotten.{has_head, name_stays}
 use Rattle.graph_copy.proofs.ReachFound.{nothing_met, one_found, sum_within}
-use Rattle.graph_copy.proofs.WordsFound.{few_words, some_words}
+use Rattle.graph_copy.proofs.WordsFound.{few_words, some_words, words_of_shape}
 
 pub none_met : (c : HeapContent) (d : DomainId) → ((a : ℕ) → c.mark d a ≡ 0) → HasMet c d None
 none_met c d calm = record { todo = []; done = []; met = nothing_met c d calm; is_head = refl }
@@ -92,12 +92,6 @@ next_is_walked c now w from to values a ended sum shape may s is =
     }
 
 -- ---- One step more.
-
-pub words_of_shape : (classes : List ClassRecord) (object : Object) → shape_words classes (shape_of object) ≡ object_words classes object
-words_of_shape classes (Plain c values) = refl
-words_of_shape classes (Array t items) = ap (λ (n : ℕ). 4 + type_words t * n) (length-replicate (length items) (zero_of t))
-words_of_shape classes (Text units) = ap (λ (n : ℕ). 4 + n) (length-replicate (length units) 0)
-words_of_shape classes (Task s) = refl
 
 pub next_found : (c now new : HeapContent) (x : Walk) (a : ℕ) (ended result : Option ℕ) (sum words : ℕ) (shape : Shape) (told : Bool)
     → FoundSoFar c now x (Some a) ended sum → ((object : Object) → IsLive now x.from a object → shape ≡ shape_of object)

@@ -4,7 +4,7 @@ use Rattle.jk_model_domains.specs.Objects.{Object, object_words}
 use Rattle.jk_model_heaps.specs.declared.shapes.Shape.{Shape}
 use Rattle.jk_model_heaps.specs.Heaps.{shape_of, zero_object}
 use Rattle.object_store.specs.HeapContents.{HasShapeClasses, MakesObject, shape_words, words_left}
-use Rattle.graph_copy.proofs.WalksGoOn.{words_of_shape}
+use Rattle.graph_copy.proofs.WordsFound.{words_of_shape}
 use Rattle.graph_copy.proofs.laying.make_like.Goals as goal
 
 pub shape-shape-requires : goal.shape-shape-requires
