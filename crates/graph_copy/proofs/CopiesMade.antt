@@ -27,7 +27,7 @@ use Rattle.graph_copy.specs.Chains.{AreInTurn, ForgetsPairs, HasChain, IsChain, 
 use Rattle.graph_copy.specs.CopiedAll.{IsAllFound}
 use Rattle.graph_copy.specs.CopyAnswers.{Copies, graph_in}
 use Rattle.graph_copy.specs.Discovered.{walk_of}
-use Rattle.graph_copy.specs.Filled.{Fills, HasImage, HaveImages, MayFill, MayFillOne, copied_fields, copied_object, image_of}
+use Rattle.graph_copy.specs.Filled.{Fills, HasImage, HasParts, HaveImages, MayFill, MayFillOne, copied_fields, copied_object, image_of}
 use Rattle.graph_copy.specs.FoundSoFar.{FoundSoFar, IsMet, Walk}
 use Rattle.graph_copy.specs.Laid.{AreLaid, Lays, MayLay, empty_copy, names_of}
 use Rattle.graph_copy.specs.Queues.{ChangesMarks, IsQueue, head_of}
@@ -247,6 +247,7 @@ module _ (c now : HeapContent) (w : WorldRecord) (from to : DomainId) (values : 
 
       module _ (last : HeapContent) (holds : IsHeapContent now) (holds_last : IsHeapContent last) (answers : List Value)
           (replaced : answers ≡ map (image_of (full.mark from)) values) (k : ForgetsPairs full last from to l.pairs) where
+        parts : HasParts (now.heap to) l.made (full.heap to)
         parts = g.parts (now.heap to) l.made l.laid.becomes l.laid.fresh
 
         heap_is : last.heap to ≡ now.heap to ++ parts.new
