@@ -42,8 +42,8 @@ set_mark-requires g c =
     c.args.to n c.requires.pairs) c.in-Some.is (c.loop-next.invariant c.requires.pairs c.requires.chain c.requires.is_first) in
     first_is_name (g.H.ObjectStore.content c.loop-next.store) c.args.from c.args.to c.in-Some.a s.rest s.chain s.is_next
 
-pub set_mark-requires-2 : goal.set_mark-requires-2
-set_mark-requires-2 g c =
+pub set_mark-requires-in-Some : goal.set_mark-requires-in-Some
+set_mark-requires-in-Some g c =
     let s = subst (λ (n : Option ℕ). ForgotPairs (g.H.ObjectStore.content c.args.store.now) (g.H.ObjectStore.content c.loop-next.store) c.args.from
     c.args.to n c.requires.pairs) c.in-Some.is (c.loop-next.invariant c.requires.pairs c.requires.chain c.requires.is_first) in
     name_stays (g.H.ObjectStore.content c.loop-next.store) (g.H.ObjectStore.content c.set_mark.new.self) c.args.to c.copy_of-b.result
@@ -58,14 +58,14 @@ loop-next-smaller g c =
     let first = stands_first (g.H.ObjectStore.content c.loop-next.store) c.args.from c.args.to c.in-Some.a c.copy_of-b.result s.rest s.chain s.is_next
     c.copy_of-b.ensures in
     let marks = both_marked (g.H.ObjectStore.content c.loop-next.store) (g.H.ObjectStore.content c.set_mark.new.self)
-    (g.H.ObjectStore.content c.set_mark-2.new.self) c.args.from c.args.to c.in-Some.a c.copy_of-b.result 0 0
+    (g.H.ObjectStore.content c.set_mark-in-Some.new.self) c.args.from c.args.to c.in-Some.a c.copy_of-b.result 0 0
     (first_apart (g.H.ObjectStore.content c.loop-next.store) c.args.from c.args.to c.in-Some.a c.copy_of-b.result s.rest s.chain
     (pair_in_front c.in-Some.a c.copy_of-b.result s.rest first))
-    c.set_mark.ensures c.set_mark-2.ensures in
-    subst (λ (n : Option ℕ). turns_left (g.H.ObjectStore.content c.set_mark-2.new.self) c.args.from c.args.to c.next_of-next.result
+    c.set_mark.ensures c.set_mark-in-Some.ensures in
+    subst (λ (n : Option ℕ). turns_left (g.H.ObjectStore.content c.set_mark-in-Some.new.self) c.args.from c.args.to c.next_of-next.result
     < turns_left (g.H.ObjectStore.content c.loop-next.store) c.args.from c.args.to n) (sym c.in-Some.is)
-    (fewer_turns_left (g.H.ObjectStore.content c.loop-next.store) (g.H.ObjectStore.content c.set_mark-2.new.self) c.args.from c.args.to c.in-Some.a
-    c.copy_of-b.result 0 0 c.next_of-next.result s.rest (g.met.H.ObjectStore.holds c.loop-next.store) (g.met.H.ObjectStore.holds c.set_mark-2.new.self)
+    (fewer_turns_left (g.H.ObjectStore.content c.loop-next.store) (g.H.ObjectStore.content c.set_mark-in-Some.new.self) c.args.from c.args.to c.in-Some.a
+    c.copy_of-b.result 0 0 c.next_of-next.result s.rest (g.met.H.ObjectStore.holds c.loop-next.store) (g.met.H.ObjectStore.holds c.set_mark-in-Some.new.self)
     s.chain first (subst (λ (m : ℕ). IsNext m c.next_of-next.result) c.mark.ensures c.next_of-next.ensures) marks)
 
 pub loop-next-preserved : goal.loop-next-preserved
@@ -75,12 +75,12 @@ loop-next-preserved g c = λ pairs chain is.
     let first = stands_first (g.H.ObjectStore.content c.loop-next.store) c.args.from c.args.to c.in-Some.a c.copy_of-b.result s.rest s.chain s.is_next
     c.copy_of-b.ensures in
     let marks = both_marked (g.H.ObjectStore.content c.loop-next.store) (g.H.ObjectStore.content c.set_mark.new.self)
-    (g.H.ObjectStore.content c.set_mark-2.new.self) c.args.from c.args.to c.in-Some.a c.copy_of-b.result 0 0
+    (g.H.ObjectStore.content c.set_mark-in-Some.new.self) c.args.from c.args.to c.in-Some.a c.copy_of-b.result 0 0
     (first_apart (g.H.ObjectStore.content c.loop-next.store) c.args.from c.args.to c.in-Some.a c.copy_of-b.result s.rest s.chain
     (pair_in_front c.in-Some.a c.copy_of-b.result s.rest first))
-    c.set_mark.ensures c.set_mark-2.ensures in
+    c.set_mark.ensures c.set_mark-in-Some.ensures in
     one_pair_forgotten (g.H.ObjectStore.content c.args.store.now) (g.H.ObjectStore.content c.loop-next.store)
-    (g.H.ObjectStore.content c.set_mark-2.new.self) c.args.from c.args.to c.in-Some.a c.copy_of-b.result c.next_of-next.result pairs
+    (g.H.ObjectStore.content c.set_mark-in-Some.new.self) c.args.from c.args.to c.in-Some.a c.copy_of-b.result c.next_of-next.result pairs
     (g.met.H.ObjectStore.holds c.loop-next.store) s c.copy_of-b.ensures
     (subst (λ (m : ℕ). IsNext m c.next_of-next.result) c.mark.ensures c.next_of-next.ensures) marks
 
