@@ -114,9 +114,9 @@ source_still old now classes from to next pairs a b object chain s there live = 
 ]
 
 -- names of either heap stay
-pub name_so_far : (old now new : HeapContent) (to e : DomainId) (b x : ℕ) (p was : Object) → IsLive now to b was → WritesObject now new to b p
+pub name_so_far : (now new : HeapContent) (to e : DomainId) (b x : ℕ) (p was : Object) → IsLive now to b was → WritesObject now new to b p
     → IsName now e x → IsName new e x
-name_so_far old now new to e b x p was live writes name = elim (same_domain_or_not e to) [
+name_so_far now new to e b x p was live writes name = elim (same_domain_or_not e to) [
   | inl same ↦
       let there : IsName now to x = subst (λ (d : DomainId). IsName now d x) same name in
       subst (λ (d : DomainId). IsName new d x) (sym same) (elim (same_or_not x b) [
@@ -167,9 +167,9 @@ module _ (old now new : HeapContent) (classes : List ClassRecord) (from to : Dom
     linked = turned_on rest whole.linked.2;
     sources_differ = rest_distinct a (sources_of rest) whole.sources_differ;
     copies_differ = rest_distinct b (copies_of rest) whole.copies_differ;
-    sources = λ x there. name_so_far old now new to from b x (copied_object classes (old.mark from) source) (empty_copy classes source) empty writes
+    sources = λ x there. name_so_far now new to from b x (copied_object classes (old.mark from) source) (empty_copy classes source) empty writes
         (whole.sources x (there.0, Contains-there (x, there.0) (a, b) rest there.1));
-    copies = λ y there. name_so_far old now new to to b y (copied_object classes (old.mark from) source) (empty_copy classes source) empty writes
+    copies = λ y there. name_so_far now new to to b y (copied_object classes (old.mark from) source) (empty_copy classes source) empty writes
         (whole.copies y (there.0, Contains-there (there.0, y) (a, b) rest there.1));
     apart = λ same x first second.
         whole.apart same x (first.0, Contains-there (x, first.0) (a, b) rest first.1) (second.0, Contains-there (second.0, x) (a, b) rest second.1);
@@ -220,7 +220,7 @@ module _ (old now new : HeapContent) (classes : List ClassRecord) (from to : Dom
     unfilled = λ x y object there was.
         beside y (another_copy (a, b) rest whole.copies_differ y (x, there)) ∙ s.unfilled x y object (rest_listed x y there) was;
     names = λ e x name.
-        name_so_far old now new to e b x (copied_object classes (old.mark from) source) (empty_copy classes source) empty writes (s.names e x name);
+        name_so_far now new to e b x (copied_object classes (old.mark from) source) (empty_copy classes source) empty writes (s.names e x name);
     others = λ y other.
         beside y (λ same. other (a, subst (λ (n : ℕ). Contains pairs (a, n)) (sym same) listed)) ∙ s.others y other;
     parts = parts_after;

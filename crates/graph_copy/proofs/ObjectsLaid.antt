@@ -1,5 +1,5 @@
 -- An empty copy is made of the first object of a queue: the rest is a queue still, and the two stand in front of a chain.
-use Rattle.std.proofs.Common.{◌≡◌, ◌≢◌, ℕ, ◌+◌, ◌-◌, ◌^◌, ◌<◌, ◌≤◌, ◌⊎◌, List, [], ◌∷◌, ◌++◌, map, Contains, Option, Some, None, IsSome, nat_eq, sum_by, refl, sym, ap, ◌∙◌, subst, inl, inr, arith}
+use Rattle.std.proofs.Common.{◌≡◌, ◌≢◌, ℕ, ◌+◌, ◌-◌, ◌^◌, ◌<◌, ◌≤◌, ◌⊎◌, false, true, List, [], ◌∷◌, ◌++◌, map, Contains, Option, Some, None, IsSome, nat_eq, sum_by, refl, sym, ap, ◌∙◌, subst, inl, inr, arith}
 use Rattle.std.specs.Prelude.{MatchOption, ⊤}
 use Rattle.std.specs.List.{IsDistinct}
 use Rattle.std.specs.Option.{option_map_or}
@@ -102,7 +102,7 @@ pub record LaidSoFar (old now : HeapContent) (classes : List ClassRecord) (from 
   pub were_there : (a : ℕ) → Contains rest a → IsName old from a
   pub uses : now.used to + sum_by (words_named classes (old.heap from)) rest ≡ old.used to + sum_by (words_named classes (old.heap from)) names
 
-no_pair : (a b : ℕ) → Contains [] (a, b) → ⊥
+no_pair : (a b : ℕ) → Contains {X = ℕ × ℕ} [] (a, b) → ⊥
 no_pair a b there = Contains-none (a, b) there
 
 nothing_is_laid : (c : HeapContent) (classes : List ClassRecord) (from to : DomainId) → AreLaid c c classes from to [] []
@@ -153,7 +153,7 @@ nothing_laid c classes from to next names queue is = record {
 
 room_left : (q : Option ℕ) (u v s r : ℕ) → IsSome q → ((k : ℕ) → q ≡ Some k → u ≤ k) → v + r ≡ u + s → s ≤ option_map_or (λ (k : ℕ). k - u) q 0
     → r ≤ option_map_or (λ (k : ℕ). k - v) q 0
-room_left None u v s r some within sum fits = absurd some
+room_left None u v s r some within sum fits = let never : false ≡ true = some in absurd cc
 room_left (Some k) u v s r some within sum fits = omega (arith, within k refl, sum, fits)
 
 pub rest_fits : (old now : HeapContent) (classes : List ClassRecord) (from to : DomainId) (next first : Option ℕ) (names : List ℕ)

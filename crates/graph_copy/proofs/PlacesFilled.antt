@@ -98,7 +98,7 @@ fields_as_many mark fs vs of = omega (arith, copied_length mark fs vs of, length
 items_as_many : (mark : ℕ → ℕ) (items : List Value) (z : Value) → length (map (image_of mark) items) ≡ length (replicate (length items) z)
 items_as_many mark items z = omega (arith, length-map items (image_of mark), length-replicate (length items) z)
 
-units_as_many : (units : List ℕ) → length units ≡ length (replicate (length units) 0)
+units_as_many : (units : List ℕ) → length units ≡ length {A = ℕ} (replicate (length units) 0)
 units_as_many units = omega (arith, length-replicate (length units) 0)
 
 pub wholly_filled : (classes : List ClassRecord) (mark : ℕ → ℕ) (object : Object) → IsLaidOut classes object

@@ -22,8 +22,8 @@ make_like-b-requires g c = c.requires.like
 pub link-requires : goal.link-requires
 link-requires g c = c.requires.small
 
-pub overflow_add : goal.overflow_add
-overflow_add g c =
+pub overflow_add-b : goal.overflow_add-b
+overflow_add-b g c =
     let made = c.make_like-b.ensures c.requires.like.object c.requires.like.live in omega (arith, made.small)
 
 pub set_mark-requires : goal.set_mark-requires
