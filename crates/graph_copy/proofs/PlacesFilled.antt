@@ -99,7 +99,7 @@ items_as_many : (mark : ℕ → ℕ) (items : List Value) (z : Value) → length
 items_as_many mark items z = omega (arith, length-map items (image_of mark), length-replicate (length items) z)
 
 units_as_many : (units : List ℕ) → length units ≡ length {A = ℕ} (replicate (length units) 0)
-units_as_many units = omega (arith, length-replicate (length units) 0)
+units_as_many units = omega (arith, length-replicate {A = ℕ} (length units) 0)
 
 pub wholly_filled : (classes : List ClassRecord) (mark : ℕ → ℕ) (object : Object) → IsLaidOut classes object
     → partly classes mark object (place_count classes (shape_of object)) ≡ copied_object classes mark object
@@ -302,7 +302,7 @@ place_filled classes mark (Text units) i v laid stored within is at most some =
     let u = mapped_option (λ (n : ℕ). Held.Int (pos n)) (slice_get units i) v at in
     let empty = replicate (length units) 0 in
     subst (λ (w : Value). IsWritten (Text (filled i units empty)) i (image_of mark w) (Text (filled (suc i) units empty))) u.2 (
-      omega (arith, within, filled_length i units empty, length-replicate (length units) 0),
+      omega (arith, within, filled_length i units empty, length-replicate {A = ℕ} (length units) 0),
       each-of (λ (n : ℕ). n < 65536) units u.0 stored (Contains-at units i u.0 u.1),
       ap Text (one_filled i units empty u.0 (units_as_many units) u.1),
     )
