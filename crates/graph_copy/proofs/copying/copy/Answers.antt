@@ -37,8 +37,8 @@ forget-requires-2 g c =
     c.discover-found.result.sum c.discover-found.ensures.found
     (c.forget.ensures c.discover-found.ensures.found.first c.discover-found.ensures.found.met.todo_queue c.discover-found.ensures.found.is_first)
 
-pub returns-then : goal.returns-then
-returns-then g c = record {
+pub returns-in-Copied : goal.returns-in-Copied
+returns-in-Copied g c = record {
   answer =
       answers (g.H.ObjectStore.content c.args.store.now) (g.H.ObjectStore.content c.discover-found.new.store) c.args.w.now c.args.from c.args.to
       c.args.values.now c.discover-found.result c.answer_of-answer.result c.discover-found.ensures
