@@ -1,19 +1,19 @@
 -- The copies of a chain are filled one after the other, from the first pair on, and nothing but copies changes.
-use Rattle.std.proofs.Common.{◌≡◌, ◌≢◌, ℕ, ◌+◌, ◌-◌, ◌^◌, ◌<◌, ◌≤◌, ◌⊎◌, ◌==◌, Bool, true, false, cond, List, [], ◌∷◌, ◌++◌, map, Contains, Option, Some, None, nat_eq, refl, sym, ap, ◌∙◌, subst, inl, inr, arith}
+use Rattle.std.proofs.Common.{◌≡◌, ◌≢◌, ℕ, ◌-◌, ◌^◌, ◌<◌, ◌≤◌, ◌⊎◌, ◌==◌, Bool, true, false, cond, List, [], ◌∷◌, ◌++◌, Contains, Option, Some, None, nat_eq, refl, sym, ap, ◌∙◌, subst, inl, inr}
 use Rattle.std.specs.List.{IsDistinct}
 use Rattle.std.proofs.lemmas.Bool.{eqb-true}
 use Rattle.std.proofs.lemmas.List.{map-append}
 use Rattle.jk_model.specs.declared.identifiers.DomainId.{DomainId}
 use Rattle.jk_model_classes.specs.declared.records.ClassRecord.{ClassRecord}
 use Rattle.jk_model_domains.specs.Objects.{NamedObject, Object, object_named}
-use Rattle.jk_model_heaps.specs.Heaps.{named, shape_of, with_object}
+use Rattle.jk_model_heaps.specs.Heaps.{named, with_object}
 use Rattle.jk_model_heaps.proofs.NamesInHeaps.{by_first}
 use Rattle.list_lemmas.proofs.ItemsOfLists.{Contains-cases, Contains-here, Contains-none, Contains-there}
 use Rattle.list_lemmas.proofs.TestsAndOrders.{same_or_not}
-use Rattle.object_store.specs.HeapContents.{HasShapeClasses, HeapBecomes, HeapContent, IsHeapContent, IsLaidOut, IsLive, IsName, WritesObject}
+use Rattle.object_store.specs.HeapContents.{HeapBecomes, HeapContent, IsHeapContent, IsLive, IsName, WritesObject}
 use Rattle.object_store.proofs.ObjectsByName.{named_beside, named_in_place}
 use Rattle.object_store.proofs.ObjectsWritten.{both_keep, live_after}
-use Rattle.graph_copy.specs.Chains.{AreInTurn, IsChain, IsCopyIn, IsSourceIn, copies_of, first_source, sources_of}
+use Rattle.graph_copy.specs.Chains.{AreInTurn, IsChain, IsCopyIn, copies_of, first_source, sources_of}
 use Rattle.graph_copy.specs.Filled.{Fills, HasImage, HasParts, MayFill, MayFillOne, copied_object}
 use Rattle.graph_copy.specs.Laid.{empty_copy, names_of}
 use Rattle.graph_copy.specs.Queues.{IsNext}

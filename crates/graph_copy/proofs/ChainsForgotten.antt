@@ -1,5 +1,5 @@
 -- The sources and copies of a chain lose their marks from the first pair on: what is left is a chain, of one pair fewer.
-use Rattle.std.proofs.Common.{◌≡◌, ◌≢◌, ℕ, zero, suc, ◌+◌, ◌-◌, ◌^◌, ◌<◌, ◌≤◌, ◌⊎◌, ◌==◌, Bool, true, false, cond, List, [], ◌∷◌, length, map, Contains, Option, Some, None, nat_eq, refl, sym, ap, ◌∙◌, subst, inl, inr, arith}
+use Rattle.std.proofs.Common.{◌≡◌, ◌≢◌, ℕ, zero, suc, ◌+◌, ◌-◌, ◌^◌, ◌<◌, ◌≤◌, ◌⊎◌, ◌==◌, Bool, true, false, cond, List, [], ◌∷◌, length, Contains, Option, Some, None, nat_eq, refl, sym, ap, ◌∙◌, subst, inl, inr, arith}
 use Rattle.std.specs.Prelude.{MatchOption, ⊤}
 use Rattle.std.specs.List.{IsDistinct}
 use Rattle.std.proofs.lemmas.Bool.{eqb-true}
@@ -11,7 +11,7 @@ use Rattle.list_lemmas.proofs.ItemsOfLists.{Contains-cases, Contains-here, Conta
 use Rattle.list_lemmas.proofs.TestsAndOrders.{same_or_not}
 use Rattle.object_store.specs.HeapContents.{HeapContent, IsHeapContent, IsName, KeepsDomains, Marks}
 use Rattle.object_store.proofs.ObjectsWritten.{both_keep}
-use Rattle.graph_copy.specs.Chains.{AreInTurn, ForgetsPairs, HasChain, IsChain, IsCopyIn, IsOutside, IsSourceIn, copies_of, first_source, sources_of}
+use Rattle.graph_copy.specs.Chains.{AreInTurn, ForgetsPairs, IsChain, IsCopyIn, IsOutside, IsSourceIn, copies_of, first_source, sources_of}
 use Rattle.graph_copy.specs.Queues.{IsNext, link_to}
 use Rattle.graph_copy.proofs.QueuesForgotten.{link_is_some, name_stays, next_is, rest_differs, rest_distinct}
 use Rattle.graph_copy.proofs.WordsFound.{few_names}

@@ -1,5 +1,5 @@
 -- What is found may be laid, filled and forgotten, and is copied then.
-use Rattle.std.proofs.Common.{◌≡◌, ◌≢◌, ℕ, ◌+◌, ◌-◌, ◌^◌, ◌<◌, ◌≤◌, ◌⊎◌, Bool, true, false, cond, List, [], ◌∷◌, ◌++◌, length, map, Contains, Option, Some, None, IsSome, sum_by, nat_eq, slice_get, refl, sym, ap, ◌∙◌, subst, inl, inr, arith}
+use Rattle.std.proofs.Common.{◌≡◌, ℕ, ◌+◌, ◌-◌, ◌^◌, ◌<◌, ◌≤◌, ◌⊎◌, Bool, true, false, cond, List, [], ◌∷◌, ◌++◌, length, map, Contains, Option, Some, IsSome, sum_by, nat_eq, slice_get, refl, sym, ap, ◌∙◌, subst, inl, inr, arith}
 use Rattle.std.specs.Prelude.{MatchBool}
 use Rattle.std.specs.List.{IsDistinct}
 use Rattle.std.specs.Option.{option_map_or}
@@ -13,24 +13,23 @@ use Rattle.jk_model_domains.specs.Objects.{NamedObject, Object, Array, Plain, Ta
 use Rattle.jk_model_domains.specs.OwnStates.{zero_of}
 use Rattle.jk_model_graphs.specs.Copies.{ArePaired, Corresponds, EachCorresponds, FieldsCorrespond, IsCopied, IsCopy, IsOneToOne}
 use Rattle.jk_model_graphs.specs.Followed.{followed, is_left_empty, kept_values}
-use Rattle.jk_model_graphs.specs.Reach.{IsReach, LeadsTo, Reach, words_named}
-use Rattle.jk_model_heaps.specs.Heaps.{field_records, named, shape_of}
+use Rattle.jk_model_graphs.specs.Reach.{IsReach, words_named}
+use Rattle.jk_model_heaps.specs.Heaps.{field_records}
 use Rattle.jk_model_heaps.proofs.NamesInHeaps.{behind}
 use Rattle.heap_laws.proofs.MappedLists.{mapped, zip_mapped}
 use Rattle.heap_laws.proofs.ReachIsListed.{is_listed}
 use Rattle.list_lemmas.proofs.ItemsByPlace.{slice_get-back}
-use Rattle.list_lemmas.proofs.ItemsOfLists.{Contains-cases, Contains-here, Contains-none, Contains-there, each-of}
-use Rattle.object_store.specs.HeapContents.{AreOfFields, HasShapeClasses, HeapBecomes, HeapContent, IsAdmitted, IsHeapContent, IsLaidOut, IsLive, IsName, KeepsDomains, words_left}
+use Rattle.list_lemmas.proofs.ItemsOfLists.{Contains-cases, Contains-here, Contains-none, Contains-there}
+use Rattle.object_store.specs.HeapContents.{AreOfFields, HeapContent, IsHeapContent, IsLaidOut, IsLive, words_left}
 use Rattle.object_store.proofs.ObjectsWritten.{both_keep}
-use Rattle.graph_copy.specs.AskedOfCopies.{MayBeGiven, MayCopy}
-use Rattle.graph_copy.specs.Chains.{AreInTurn, ForgetsPairs, HasChain, IsChain, IsCopyIn, IsOutside, IsSourceIn, copies_of, first_source, sources_of}
+use Rattle.graph_copy.specs.Chains.{AreInTurn, ForgetsPairs, HasChain, IsChain, IsCopyIn, IsOutside, IsSourceIn, sources_of}
 use Rattle.graph_copy.specs.CopiedAll.{IsAllFound}
 use Rattle.graph_copy.specs.CopyAnswers.{Copies, graph_in}
 use Rattle.graph_copy.specs.Discovered.{walk_of}
-use Rattle.graph_copy.specs.Filled.{Fills, HasImage, HasParts, HaveImages, MayFill, MayFillOne, copied_fields, copied_object, image_of}
-use Rattle.graph_copy.specs.FoundSoFar.{FoundSoFar, IsMet, Walk}
-use Rattle.graph_copy.specs.Laid.{AreLaid, Lays, MayLay, empty_copy, names_of}
-use Rattle.graph_copy.specs.Queues.{ChangesMarks, IsQueue, head_of}
+use Rattle.graph_copy.specs.Filled.{Fills, HasImage, HasParts, HaveImages, MayFill, copied_fields, copied_object, image_of}
+use Rattle.graph_copy.specs.FoundSoFar.{IsMet}
+use Rattle.graph_copy.specs.Laid.{Lays, MayLay}
+use Rattle.graph_copy.specs.Queues.{ChangesMarks}
 use Rattle.graph_copy.proofs.ChainsFilled.{only_source}
 use Rattle.graph_copy.proofs.ChainsForgotten.{another_source, copies_are_small, first_apart, same_domain_or_not}
 use Rattle.graph_copy.proofs.ObjectsLaid.{live_so_far}

@@ -1,5 +1,5 @@
 -- An empty copy is made of the first object of a queue: the rest is a queue still, and the two stand in front of a chain.
-use Rattle.std.proofs.Common.{◌≡◌, ◌≢◌, ℕ, ◌+◌, ◌-◌, ◌^◌, ◌<◌, ◌≤◌, ◌⊎◌, false, true, List, [], ◌∷◌, ◌++◌, map, Contains, Option, Some, None, IsSome, nat_eq, sum_by, refl, sym, ap, ◌∙◌, subst, inl, inr, arith}
+use Rattle.std.proofs.Common.{◌≡◌, ◌≢◌, ℕ, ◌+◌, ◌-◌, ◌^◌, ◌<◌, ◌≤◌, ◌⊎◌, false, true, List, [], ◌∷◌, ◌++◌, Contains, Option, Some, None, IsSome, sum_by, refl, sym, ap, ◌∙◌, subst, inl, inr, arith}
 use Rattle.std.specs.Prelude.{MatchOption, ⊤}
 use Rattle.std.specs.List.{IsDistinct}
 use Rattle.std.specs.Option.{option_map_or}
@@ -18,7 +18,7 @@ use Rattle.heap_laws.proofs.MappedLists.{mapped_from}
 use Rattle.list_lemmas.proofs.ItemsOfLists.{Contains-cases, Contains-here, Contains-none, Contains-there}
 use Rattle.object_store.specs.HeapContents.{HasShapeClasses, HeapContent, IsAdmitted, IsHeapContent, IsLive, IsName, MakesObject, words_left}
 use Rattle.object_store.proofs.ObjectsByName.{named_at_end}
-use Rattle.object_store.proofs.ObjectsWritten.{both_keep, live_made}
+use Rattle.object_store.proofs.ObjectsWritten.{both_keep}
 use Rattle.graph_copy.specs.Chains.{IsChain, IsCopyIn, IsOutside, IsSourceIn, copies_of, first_source, sources_of}
 use Rattle.graph_copy.specs.Laid.{AreLaid, Lays, LaysOne, MayLay, MayLayOne, MayMakeLike, empty_copy, names_of}
 use Rattle.graph_copy.specs.Queues.{IsLinked, IsNext, IsQueue, head_of, link_to}

@@ -1,5 +1,5 @@
 -- One copy is filled, place by place: its source stays as it was, and the copy can be written at each place.
-use Rattle.std.proofs.Common.{◌≡◌, ℕ, suc, ◌+◌, ◌-◌, ◌^◌, ◌<◌, ◌≤◌, Bool, true, false, List, [], ◌∷◌, Contains, Option, Some, refl, sym, ap, ◌∙◌, subst, inl, inr, arith}
+use Rattle.std.proofs.Common.{◌≡◌, ℕ, suc, ◌+◌, ◌^◌, ◌<◌, ◌≤◌, Bool, true, false, List, [], ◌∷◌, Some, refl, sym, ap, ◌∙◌, subst, inl, inr, arith}
 use Rattle.std.proofs.lemmas.Option.{same_Some}
 use Rattle.jk_model.specs.declared.identifiers.DomainId.{DomainId}
 use Rattle.jk_model.specs.declared.values.Value.{Value}
@@ -8,9 +8,8 @@ use Rattle.jk_model_classes.specs.declared.records.ClassRecord.{ClassRecord}
 use Rattle.jk_model_domains.specs.Objects.{NamedObject, Object, object_named}
 use Rattle.jk_model_graphs.specs.Followed.{followed}
 use Rattle.jk_model_heaps.specs.declared.shapes.Shape.{Shape}
-use Rattle.jk_model_heaps.specs.Heaps.{shape_of, with_object}
-use Rattle.object_store.specs.HeapContents.{HasItem, HeapContent, IsHeapContent, IsLaidOut, IsLive, IsName, IsSmall, IsWritten, TakesItem, WritesObject, item_of}
-use Rattle.object_store.proofs.ObjectsByName.{named_beside}
+use Rattle.jk_model_heaps.specs.Heaps.{shape_of}
+use Rattle.object_store.specs.HeapContents.{HasItem, HeapContent, IsHeapContent, IsLaidOut, IsLive, IsWritten, TakesItem, WritesObject, item_of}
 use Rattle.object_store.proofs.ObjectsWritten.{live_after, live_beside, then_written, written_as_it_is}
 use Rattle.graph_copy.specs.Filled.{HasImage, HaveImages, MayFillOne, copied_object, image_of}
 use Rattle.graph_copy.specs.Laid.{empty_copy}

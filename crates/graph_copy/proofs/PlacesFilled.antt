@@ -1,7 +1,6 @@
 -- A copy is filled place by place: up to one it has what it is to have, and behind that zeros and nulls still.
-use Rattle.std.proofs.Common.{◌≡◌, ℕ, zero, suc, ◌+◌, ◌-◌, ◌^◌, ◌<◌, ◌≤◌, Bool, true, false, cond, not, pos, List, [], ◌∷◌, length, map, replicate, Contains, Option, Some, None, slice_get, slice_set, refl, sym, ap, ◌∙◌, subst, arith}
+use Rattle.std.proofs.Common.{◌≡◌, ℕ, zero, suc, ◌^◌, ◌<◌, ◌≤◌, Bool, true, false, cond, not, pos, List, [], ◌∷◌, length, map, replicate, Contains, Option, Some, slice_get, slice_set, refl, sym, ap, ◌∙◌, subst, arith}
 use Rattle.std.specs.Option.{option_map, option_map_or}
-use Rattle.std.specs.List.{AllByRecursion}
 use Rattle.std.proofs.lemmas.List.{length-map, length-replicate}
 use Rattle.std.proofs.lemmas.Option.{same_Some}
 use Rattle.jk_model.specs.declared.identifiers.ClassId.{ClassId}
@@ -20,7 +19,7 @@ use Rattle.object_store.specs.HeapContents.{AreOfFields, AreOfKind, IsLaidOut, I
 use Rattle.object_store.proofs.KindsOfValues.{alike, turned}
 use Rattle.graph_copy.specs.Filled.{copied_fields, copied_object, image_of}
 use Rattle.graph_copy.specs.Laid.{empty_copy}
-use Rattle.graph_copy.specs.Places.{followed_at, is_kept_at, kept_value, place_count}
+use Rattle.graph_copy.specs.Places.{is_kept_at, place_count}
 use Rattle.graph_copy.proofs.FieldsByPlace.{field_at}
 use Rattle.graph_copy.proofs.PlacesWalked.{as_many_values, followed_in, one_followed}
 

@@ -1,13 +1,10 @@
 -- While an object is left, it has a name, may be walked over, and its words fit; one step more is found then.
-use Rattle.std.proofs.Common.{◌≡◌, ℕ, ◌+◌, ◌*◌, ◌-◌, ◌^◌, ◌<◌, Bool, true, false, IsTrue, ◌↔◌, List, [], length, Contains, Option, Some, None, refl, sym, ap, ◌∙◌, subst, arith}
-use Rattle.std.proofs.lemmas.List.{length-replicate}
+use Rattle.std.proofs.Common.{◌≡◌, ℕ, ◌+◌, ◌-◌, ◌^◌, ◌<◌, Bool, true, false, IsTrue, ◌↔◌, List, [], Contains, Option, Some, None, refl, sym, ap, ◌∙◌, subst, arith}
 use Rattle.jk_model.specs.declared.identifiers.DomainId.{DomainId}
 use Rattle.jk_model.specs.declared.values.Value.{Value}
 use Rattle.jk_model_classes.specs.declared.records.ClassRecord.{ClassRecord}
-use Rattle.jk_model_classes.specs.Layouts.{type_words}
 use Rattle.jk_model_classes.specs.Worlds.{NamedClass, WorldRecord}
 use Rattle.jk_model_domains.specs.Objects.{NamedObject, Object, Array, Plain, Task, Text, object_named, object_words}
-use Rattle.jk_model_domains.specs.OwnStates.{zero_of}
 use Rattle.jk_model_graphs.specs.Copiable.{IsCopiable}
 use Rattle.jk_model_graphs.specs.Followed.{followed}
 use Rattle.jk_model_heaps.specs.declared.shapes.Shape.{Shape}

@@ -1,6 +1,6 @@
 -- What stands in a copy: for the name of an object that of its copy, by the object's mark, and any other value itself; a transient field is
 -- left 0 or null.
-use Rattle.std.specs.Prelude.{◌≡◌, ℕ, ◌+◌, ◌-◌, ◌^◌, ◌<◌, ◌≤◌, List, [], ◌∷◌, ◌++◌, Contains, None, Option, map, if◌then◌else◌}
+use Rattle.std.specs.Prelude.{◌≡◌, ℕ, ◌-◌, ◌^◌, ◌<◌, ◌≤◌, List, [], ◌∷◌, ◌++◌, Contains, None, Option, map, if◌then◌else◌}
 use Rattle.jk_model.specs.declared.identifiers.DomainId.{DomainId}
 use Rattle.jk_model.specs.declared.values.Value.{Value}
 use Rattle.jk_model.specs.declared.values.Value.TheVariants as Held
@@ -10,7 +10,7 @@ use Rattle.jk_model_domains.specs.Objects.{NamedObject, Object, Array, Plain, Ta
 use Rattle.jk_model_domains.specs.OwnStates.{zero_of}
 use Rattle.jk_model_graphs.specs.Followed.{followed, is_left_empty}
 use Rattle.jk_model_heaps.specs.Heaps.{field_records, shape_of}
-use Rattle.object_store.specs.HeapContents.{HasShapeClasses, HeapBecomes, HeapContent, IsLaidOut, IsLive, IsName, WritesObject}
+use Rattle.object_store.specs.HeapContents.{HasShapeClasses, HeapBecomes, HeapContent, IsLaidOut, IsLive, IsName}
 use Rattle.graph_copy.specs.Chains.{IsChain, IsCopyIn, first_source}
 use Rattle.graph_copy.specs.Laid.{empty_copy, names_of}
 

@@ -5,9 +5,9 @@ use Rattle.jk_model_classes.specs.declared.records.ClassRecord.{ClassRecord}
 use Rattle.jk_model_domains.specs.Objects.{NamedObject, Object, object_named, object_words}
 use Rattle.jk_model_graphs.specs.Reach.{words_named}
 use Rattle.jk_model_heaps.specs.Heaps.{named, shape_of, zero_object}
-use Rattle.object_store.specs.HeapContents.{HasShapeClasses, HeapContent, IsAdmitted, IsLive, IsName, KeepsDomains, MakesObject, words_left}
+use Rattle.object_store.specs.HeapContents.{HasShapeClasses, HeapContent, IsAdmitted, IsLive, IsName, KeepsDomains, words_left}
 use Rattle.graph_copy.specs.Chains.{IsChain, IsCopyIn, IsOutside, IsSourceIn, first_source}
-use Rattle.graph_copy.specs.Queues.{IsNext, IsQueue, head_of, link_to}
+use Rattle.graph_copy.specs.Queues.{IsQueue, head_of, link_to}
 
 abbrev pub empty_copy : List ClassRecord → Object → Object
 empty_copy classes object = zero_object classes (shape_of object)

@@ -1,5 +1,5 @@
 -- What was found tells the answer; where all may be copied and fits it is, and else both queues are forgotten.
-use Rattle.std.proofs.Common.{◌≡◌, ℕ, Option, IsSome, refl, sym, ap, ◌∙◌, subst}
+use Rattle.std.proofs.Common.{ℕ, Option, IsSome, refl, sym, ◌∙◌, subst}
 use Rattle.graph_copy.specs.declared.answers.CopyAnswer.{CopyAnswer}
 use Rattle.object_store.specs.HeapContents.{words_left}
 use Rattle.graph_copy.specs.AnswersTold.{IsTold}

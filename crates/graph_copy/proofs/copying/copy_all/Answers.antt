@@ -1,5 +1,5 @@
 -- What is found is laid, filled and forgotten one after the other.
-use Rattle.std.proofs.Common.{◌≡◌, List, sym, subst}
+use Rattle.std.proofs.Common.{List, sym, subst}
 use Rattle.jk_model_classes.specs.declared.records.ClassRecord.{ClassRecord}
 use Rattle.graph_copy.specs.Filled.{Fills, MayFill}
 use Rattle.graph_copy.specs.Laid.{Lays, MayLay}

@@ -1,5 +1,5 @@
 -- The next source and its copy have names and marks, and the copy may be filled.
-use Rattle.std.proofs.Common.{◌≡◌, ℕ, ◌<◌, Option, Some, sym, ap, ◌∙◌, subst}
+use Rattle.std.proofs.Common.{ℕ, ◌<◌, Option, sym, subst}
 use Rattle.graph_copy.specs.Queues.{IsNext}
 use Rattle.graph_copy.proofs.ChainsFilled.{FilledSoFar, all_copies_filled, copy_has_next, filled_next, fewer_to_fill, may_fill_next, nothing_filled_yet}
 use Rattle.graph_copy.proofs.ChainsForgotten.{first_is_marked, first_is_name, turns_left}

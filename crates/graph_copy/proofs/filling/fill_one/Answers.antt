@@ -1,8 +1,8 @@
 -- What stands at a place is read, and its image is written, unless the field is transient.
-use Rattle.std.proofs.Common.{◌≡◌, ℕ, ◌<◌, sym, ap, ◌∙◌, subst, arith}
+use Rattle.std.proofs.Common.{◌≡◌, ◌<◌, sym, ◌∙◌, subst, arith}
 use Rattle.jk_model_heaps.specs.declared.shapes.Shape.{Shape}
 use Rattle.object_store.specs.HeapContents.{HasShapeClasses}
-use Rattle.graph_copy.specs.Places.{is_kept_at, place_count}
+use Rattle.graph_copy.specs.Places.{place_count}
 use Rattle.graph_copy.proofs.OneFilled.{empty_is_written, few_to_fill, has_place, is_filled, is_left, item_is_taken, wholly_written, value_has_image}
 use Rattle.graph_copy.proofs.filling.fill_one.Goals as goal
 

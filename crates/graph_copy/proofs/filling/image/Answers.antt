@@ -1,5 +1,5 @@
 -- A name's object has a mark that leads to its copy.
-use Rattle.std.proofs.Common.{◌≡◌, ℕ, ◌-◌, [], ◌∷◌, Contains, sym, ap, ◌∙◌, subst}
+use Rattle.std.proofs.Common.{[], ◌∷◌, Contains, sym, ap, ◌∙◌, subst}
 use Rattle.jk_model.specs.declared.values.Value.{Value}
 use Rattle.jk_model.specs.declared.values.Value.TheVariants as Held
 use Rattle.list_lemmas.proofs.ItemsOfLists.{Contains-here}

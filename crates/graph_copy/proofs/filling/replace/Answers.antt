@@ -1,11 +1,11 @@
 -- The value at each place is the one that was there, and its image is put there.
-use Rattle.std.proofs.Common.{◌≡◌, ℕ, suc, ◌+◌, ◌<◌, List, [], ◌∷◌, length, map, Contains, Some, slice_get, slice_set, refl, sym, ap, ◌∙◌, subst, arith}
+use Rattle.std.proofs.Common.{◌≡◌, ℕ, suc, ◌+◌, List, length, map, Contains, Some, slice_get, slice_set, sym, ap, ◌∙◌, subst, arith}
 use Rattle.std.proofs.lemmas.List.{length-map}
 use Rattle.jk_model.specs.declared.values.Value.{Value}
 use Rattle.jk_model.specs.declared.values.Value.TheVariants as Held
 use Rattle.list_lemmas.proofs.ItemsByPlace.{mapped_at}
 use Rattle.list_lemmas.proofs.ItemsOfLists.{Contains-at}
-use Rattle.graph_copy.specs.Filled.{HasImage, image_of}
+use Rattle.graph_copy.specs.Filled.{image_of}
 use Rattle.graph_copy.proofs.ObjectsMet.{only_value}
 use Rattle.graph_copy.proofs.PlacesFilled.{all_filled, filled, filled_length, next_is_empty, one_filled}
 use Rattle.graph_copy.proofs.filling.replace.Goals as goal

@@ -1,5 +1,5 @@
 -- The next object may be laid, and is.
-use Rattle.std.proofs.Common.{◌≡◌, ℕ, Option, Some, sym, ap, ◌∙◌, subst}
+use Rattle.std.proofs.Common.{ℕ, Option, subst}
 use Rattle.graph_copy.proofs.ObjectsLaid.{LaidSoFar, all_laid, fewer_left_to_lay, may_lay_next, nothing_laid, one_laid}
 use Rattle.graph_copy.proofs.laying.lay.Goals as goal
 

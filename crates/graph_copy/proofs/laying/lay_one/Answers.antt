@@ -1,7 +1,6 @@
 -- The object is no copy, and its mark leads to the rest.
-use Rattle.std.proofs.Common.{◌≡◌, ℕ, ◌+◌, ◌^◌, ◌<◌, Option, sym, ap, ◌∙◌, subst, arith}
-use Rattle.jk_model_domains.specs.Objects.{Object}
-use Rattle.object_store.specs.HeapContents.{IsLive, MakesObject, Marks}
+use Rattle.std.proofs.Common.{ℕ, ◌+◌, ◌<◌, sym, subst, arith}
+use Rattle.object_store.specs.HeapContents.{Marks}
 use Rattle.object_store.proofs.ObjectsWritten.{live_made}
 use Rattle.graph_copy.specs.Laid.{empty_copy}
 use Rattle.graph_copy.specs.Queues.{IsNext, link_to}

@@ -1,8 +1,8 @@
 -- There is room, so the object is made.
-use Rattle.std.proofs.Common.{◌≡◌, ℕ, ◌≤◌, ◌<◌, sym, ap, ◌∙◌, subst, arith}
-use Rattle.jk_model_domains.specs.Objects.{Object, object_words}
+use Rattle.std.proofs.Common.{◌≡◌, ◌<◌, sym, ap, ◌∙◌, subst, arith}
+use Rattle.jk_model_domains.specs.Objects.{object_words}
 use Rattle.jk_model_heaps.specs.declared.shapes.Shape.{Shape}
-use Rattle.jk_model_heaps.specs.Heaps.{shape_of, zero_object}
+use Rattle.jk_model_heaps.specs.Heaps.{zero_object}
 use Rattle.object_store.specs.HeapContents.{HasShapeClasses, MakesObject, shape_words, words_left}
 use Rattle.graph_copy.proofs.WordsFound.{words_of_shape}
 use Rattle.graph_copy.proofs.laying.make_like.Goals as goal

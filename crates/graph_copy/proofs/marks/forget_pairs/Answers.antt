@@ -1,5 +1,5 @@
 -- The next source and its copy have names and marks, which become 0.
-use Rattle.std.proofs.Common.{◌≡◌, ℕ, ◌-◌, ◌<◌, Contains, Option, Some, sym, ap, ◌∙◌, subst}
+use Rattle.std.proofs.Common.{ℕ, ◌<◌, Option, sym, subst}
 use Rattle.graph_copy.specs.Queues.{IsNext}
 use Rattle.graph_copy.proofs.ChainsForgotten.{ForgotPairs, all_pairs_forgotten, both_marked, copy_is_marked, fewer_turns_left, first_apart, first_is_marked, first_is_name, next_copy_is_name, no_pair_forgotten, one_pair_forgotten, pair_in_front, stands_first, turns_left}
 use Rattle.graph_copy.proofs.QueuesForgotten.{name_stays}
