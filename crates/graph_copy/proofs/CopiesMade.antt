@@ -2,7 +2,6 @@
 use Rattle.std.proofs.Common.{◌≡◌, ℕ, ◌+◌, ◌-◌, ◌^◌, ◌<◌, ◌≤◌, ◌⊎◌, Bool, true, false, cond, List, [], ◌∷◌, ◌++◌, length, map, Contains, Option, Some, IsSome, sum_by, nat_eq, slice_get, refl, sym, ap, ◌∙◌, subst, inl, inr, arith}
 use Rattle.std.specs.Prelude.{MatchBool}
 use Rattle.std.specs.List.{IsDistinct}
-use Rattle.std.specs.Option.{option_map_or}
 use Rattle.jk_model.specs.declared.identifiers.DomainId.{DomainId}
 use Rattle.jk_model.specs.declared.values.Value.{Value}
 use Rattle.jk_model.specs.declared.values.Value.TheVariants as Held
@@ -20,7 +19,7 @@ use Rattle.heap_laws.proofs.MappedLists.{mapped, zip_mapped}
 use Rattle.heap_laws.proofs.ReachIsListed.{is_listed}
 use Rattle.list_lemmas.proofs.ItemsByPlace.{slice_get-back}
 use Rattle.list_lemmas.proofs.ItemsOfLists.{Contains-cases, Contains-here, Contains-none, Contains-there}
-use Rattle.object_store.specs.HeapContents.{AreOfFields, HeapContent, IsHeapContent, IsLaidOut, IsLive, words_left}
+use Rattle.object_store.specs.HeapContents.{AreOfFields, HeapContent, IsHeapContent, IsLaidOut, IsLive}
 use Rattle.object_store.proofs.ObjectsWritten.{both_keep}
 use Rattle.graph_copy.specs.Chains.{AreInTurn, ForgetsPairs, HasChain, IsChain, IsCopyIn, IsOutside, IsSourceIn, sources_of}
 use Rattle.graph_copy.specs.CopiedAll.{IsAllFound}
@@ -29,7 +28,7 @@ use Rattle.graph_copy.specs.Discovered.{walk_of}
 use Rattle.graph_copy.specs.Filled.{Fills, HasImage, HasParts, HaveImages, MayFill, copied_fields, copied_object, image_of}
 use Rattle.graph_copy.specs.FoundSoFar.{IsMet}
 use Rattle.graph_copy.specs.Laid.{Lays, MayLay}
-use Rattle.graph_copy.specs.Queues.{ChangesMarks}
+use Rattle.graph_copy.proofs.AnswersFound.{left_where_marked}
 use Rattle.graph_copy.proofs.ChainsFilled.{only_source}
 use Rattle.graph_copy.proofs.ChainsForgotten.{another_source, copies_are_small, first_apart, same_domain_or_not}
 use Rattle.graph_copy.proofs.ObjectsLaid.{live_so_far}
@@ -137,11 +136,6 @@ in_pairs_or_not pairs f x = elim (is_listed (map f pairs) x) [
     ]
 
 -- ---- What is found.
-
-pub left_where_marked : (c now : HeapContent) (d e : DomainId) → ChangesMarks c now d → words_left now e ≡ words_left c e
-left_where_marked c now d e marks =
-    ap (λ (o : Option ℕ). option_map_or (λ (q : ℕ). q - now.used e) o 0) (marks.domains.quota e)
-    ∙ ap (λ (u : ℕ). option_map_or (λ (q : ℕ). q - u) (c.quota e) 0) (marks.used e)
 
 module _ (c now : HeapContent) (w : WorldRecord) (from to : DomainId) (values : List Value) (head : Option ℕ)
     (f : IsAllFound c now w from to values head) where

@@ -32,16 +32,16 @@ pub mark-requires : goal.mark-requires
 mark-requires g c =
     let s = subst (λ (n : Option ℕ). FilledSoFar (g.H.ObjectStore.content c.args.store.now) (g.H.ObjectStore.content c.loop-next.store) c.args.t.now
     c.args.from c.args.to n c.requires.pairs) c.in-Some.is (c.loop-next.invariant c.requires.pairs c.requires.chain c.requires.is_first) in
-    (copy_has_next (g.H.ObjectStore.content c.args.store.now) (g.H.ObjectStore.content c.loop-next.store) (g.H.ObjectStore.content c.fill_one.new.store) c.args.t.now
-    c.args.from c.args.to c.args.first c.in-Some.a c.copy_of-b.result c.requires s c.copy_of-b.ensures c.fill_one.ensures).0
+    (copy_has_next (g.H.ObjectStore.content c.args.store.now) (g.H.ObjectStore.content c.loop-next.store) (g.H.ObjectStore.content c.fill_one.new.store)
+    c.args.t.now c.args.from c.args.to c.args.first c.in-Some.a c.copy_of-b.result c.requires s c.copy_of-b.ensures c.fill_one.ensures).0
 
 pub next_of-next-requires : goal.next_of-next-requires
 next_of-next-requires g c =
     let s = subst (λ (n : Option ℕ). FilledSoFar (g.H.ObjectStore.content c.args.store.now) (g.H.ObjectStore.content c.loop-next.store) c.args.t.now
     c.args.from c.args.to n c.requires.pairs) c.in-Some.is (c.loop-next.invariant c.requires.pairs c.requires.chain c.requires.is_first) in
     subst (λ (m : ℕ). 0 < m) (sym c.mark.ensures)
-    (copy_has_next (g.H.ObjectStore.content c.args.store.now) (g.H.ObjectStore.content c.loop-next.store) (g.H.ObjectStore.content c.fill_one.new.store) c.args.t.now
-    c.args.from c.args.to c.args.first c.in-Some.a c.copy_of-b.result c.requires s c.copy_of-b.ensures c.fill_one.ensures).1
+    (copy_has_next (g.H.ObjectStore.content c.args.store.now) (g.H.ObjectStore.content c.loop-next.store) (g.H.ObjectStore.content c.fill_one.new.store)
+    c.args.t.now c.args.from c.args.to c.args.first c.in-Some.a c.copy_of-b.result c.requires s c.copy_of-b.ensures c.fill_one.ensures).1
 
 pub loop-next-smaller : goal.loop-next-smaller
 loop-next-smaller g c =
@@ -49,8 +49,8 @@ loop-next-smaller g c =
     c.args.from c.args.to n c.requires.pairs) c.in-Some.is (c.loop-next.invariant c.requires.pairs c.requires.chain c.requires.is_first) in
     subst (λ (n : Option ℕ). turns_left (g.H.ObjectStore.content c.fill_one.new.store) c.args.from c.args.to c.next_of-next.result
     < turns_left (g.H.ObjectStore.content c.loop-next.store) c.args.from c.args.to n) (sym c.in-Some.is)
-    (fewer_to_fill (g.H.ObjectStore.content c.args.store.now) (g.H.ObjectStore.content c.loop-next.store) (g.H.ObjectStore.content c.fill_one.new.store) c.args.t.now
-    c.args.from c.args.to c.args.first c.in-Some.a c.copy_of-b.result c.next_of-next.result (g.met.H.ObjectStore.holds c.loop-next.store)
+    (fewer_to_fill (g.H.ObjectStore.content c.args.store.now) (g.H.ObjectStore.content c.loop-next.store) (g.H.ObjectStore.content c.fill_one.new.store)
+    c.args.t.now c.args.from c.args.to c.args.first c.in-Some.a c.copy_of-b.result c.next_of-next.result (g.met.H.ObjectStore.holds c.loop-next.store)
     (g.met.H.ObjectStore.holds c.fill_one.new.store) c.requires s c.copy_of-b.ensures c.fill_one.ensures
     (subst (λ (m : ℕ). IsNext m c.next_of-next.result) c.mark.ensures c.next_of-next.ensures))
 
@@ -60,8 +60,8 @@ loop-next-preserved g c = λ pairs chain is.
     c.args.from c.args.to n c.requires.pairs) c.in-Some.is (c.loop-next.invariant c.requires.pairs c.requires.chain c.requires.is_first) in
     let t = subst (λ (n : Option ℕ). FilledSoFar (g.H.ObjectStore.content c.args.store.now) (g.H.ObjectStore.content c.loop-next.store) c.args.t.now
     c.args.from c.args.to n pairs) c.in-Some.is (c.loop-next.invariant pairs chain is) in
-    filled_next (g.H.ObjectStore.content c.args.store.now) (g.H.ObjectStore.content c.loop-next.store) (g.H.ObjectStore.content c.fill_one.new.store) c.args.t.now
-    c.args.from c.args.to c.args.first c.in-Some.a c.copy_of-b.result c.next_of-next.result (g.met.H.ObjectStore.holds c.loop-next.store)
+    filled_next (g.H.ObjectStore.content c.args.store.now) (g.H.ObjectStore.content c.loop-next.store) (g.H.ObjectStore.content c.fill_one.new.store)
+    c.args.t.now c.args.from c.args.to c.args.first c.in-Some.a c.copy_of-b.result c.next_of-next.result (g.met.H.ObjectStore.holds c.loop-next.store)
     c.requires s c.copy_of-b.ensures c.fill_one.ensures
     (subst (λ (m : ℕ). IsNext m c.next_of-next.result) c.mark.ensures c.next_of-next.ensures) pairs chain t
 
