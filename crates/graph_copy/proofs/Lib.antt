@@ -3,7 +3,7 @@ mod AnswersFound
 mod ChainsFilled
 mod ChainsForgotten
 mod CopiesMade
-mod FieldsByPlace
+pub mod FieldsByPlace
 mod MarkedObjects
 mod NamesShared
 mod ObjectsFinished
@@ -11,7 +11,7 @@ mod ObjectsLaid
 mod ObjectsMet
 mod ObjectsVisited
 mod OneFilled
-mod PlacesFilled
+pub mod PlacesFilled
 mod PlacesWalked
 mod QueuesForgotten
 mod ReachFound
