@@ -18,7 +18,7 @@ use object_store::ObjectStore;
 
 /// Copies what is reached from the values, all of it in the heap of one domain, into the heap of another or into the same, and replaces
 /// the values by their copies. With any other answer than `Copied` all is as before. It takes no memory but the words of the copies, and
-/// time in proportion to the words that it reaches.
+/// time in proportion to the words that it reaches, and for each object to the classes and interfaces above its own.
 pub fn copy<H: ObjectStore>(
     store: &mut H,
     w: &World,
@@ -64,7 +64,7 @@ fn copy_all<H: ObjectStore>(
 }
 
 /// What a copy of what is reached from the values, into the heap of another domain or into the same, would answer. All is as before.
-/// It takes no memory, and time in proportion to the words that it reaches.
+/// It takes no memory, and time in proportion to the words that it reaches, and for each object to the classes and interfaces above its own.
 pub fn would_copy<H: ObjectStore>(
     store: &mut H,
     w: &World,
