@@ -22,6 +22,7 @@ use Rattle.graph_copy.specs.declared.answers.CopyAnswer.TheVariants.{Copied, NoR
 use Rattle.graph_copy.specs.AskedOfCopies.{AgreeOnNames, HasDomain, MayBeGiven, MayCopy, table_of}
 use Rattle.graph_copy.specs.CopyAnswers.{Copies}
 use Rattle.graph_copy.specs.Places.{place_count}
+use Rattle.graph_copy.proofs.ChainsForgotten.{same_domain_or_not}
 use Rattle.graph_copy.proofs.PlacesFilled.{item_at_place}
 use Rattle.copy_check.specs.ReadyHeaps.{IsGood, IsOpen, IsReady, IsReadyWorld, IsUnit}
 use Rattle.copy_check.proofs.GoodObjects.{IsPaired, followed_within, good_copy, good_new, good_still, good_written}
@@ -33,12 +34,6 @@ abbrev SECOND : DomainId
 SECOND = record { 0 = 1 }
 
 -- ---- Which domain it is.
-
-same_domain_or_not : (e d : DomainId) → (e ≡ d) ⊎ (e ≡ d → ⊥)
-same_domain_or_not e d = elim (same_or_not e.0 d.0) [
-  | inl same ↦ let one : e ≡ d = λ i. record { 0 = same i } in inl one
-  | inr other ↦ inr (λ same. other (ap (λ (x : DomainId). x.0) same))
-]
 
 first_or_second : (d : DomainId) → d.0 < 2 → (d ≡ FIRST) ⊎ (d ≡ SECOND)
 first_or_second d few = elim (same_domain_or_not d FIRST) [

@@ -1,7 +1,7 @@
 -- Why the marks of objects hold queues and chains, what is found on them is all that is reached, and what is made is a copy of it.
 mod AnswersFound
 mod ChainsFilled
-mod ChainsForgotten
+pub mod ChainsForgotten
 mod CopiesMade
 pub mod FieldsByPlace
 mod MarkedObjects
