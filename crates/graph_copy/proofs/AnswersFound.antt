@@ -16,10 +16,12 @@ use Rattle.graph_copy.specs.declared.answers.CopyAnswer.{CopyAnswer}
 use Rattle.graph_copy.specs.declared.answers.CopyAnswer.TheVariants.{Copied, NoRoom, NotCopiable}
 use Rattle.graph_copy.specs.declared.discovery.Found.{Found}
 use Rattle.graph_copy.specs.AnswersTold.{IsTold}
+use Rattle.graph_copy.specs.AskedOfCopies.{MayCopy}
+use Rattle.graph_copy.specs.CopiedAll.{IsAllFound}
 use Rattle.graph_copy.specs.CopyAnswers.{CopyAnswers, MayAllPass, graph_in}
 use Rattle.graph_copy.specs.Discovered.{Discovers, walk_of}
 use Rattle.graph_copy.specs.FoundSoFar.{FoundSoFar, Walk}
-use Rattle.graph_copy.specs.Queues.{Forgets, HasQueue, IsQueue}
+use Rattle.graph_copy.specs.Queues.{ChangesMarks, Forgets, HasQueue, IsQueue}
 use Rattle.graph_copy.proofs.ObjectsMet.{both_change, queue_stays}
 use Rattle.graph_copy.proofs.QueuesForgotten.{has_head}
 use Rattle.graph_copy.proofs.ReachFound.{cost_found, reach_found}
@@ -64,6 +66,17 @@ all_undone c now new last x todo ended sum s f g calm =
       ];
     }
 
+pub left_where_marked : (c now : HeapContent) (d e : DomainId) → ChangesMarks c now d → words_left now e ≡ words_left c e
+left_where_marked c now d e marks =
+    ap (λ (o : Option ℕ). option_map_or (λ (q : ℕ). q - now.used e) o 0) (marks.domains.quota e)
+    ∙ ap (λ (u : ℕ). option_map_or (λ (q : ℕ). q - u) (c.quota e) 0) (marks.used e)
+
+-- what is told where marks alone have changed holds of what was free before
+pub told_before : (c now : HeapContent) (d e : DomainId) (refused : Option ℕ) (sum free : ℕ) (r : CopyAnswer) → ChangesMarks c now d
+    → free ≡ words_left now e → IsTold refused sum free r → IsTold refused sum (words_left c e) r
+told_before c now d e refused sum free r marks is told =
+    subst (λ (n : ℕ). IsTold refused sum n r) (is ∙ left_where_marked c now d e marks) told
+
 pub as_many_left : (c new : HeapContent) (d : DomainId) → IsSame c new → words_left new d ≡ words_left c d
 as_many_left c new d same =
     ap (λ (o : Option ℕ). option_map_or (λ (q : ℕ). q - new.used d) o 0) (same.domains.quota d)
@@ -99,3 +112,18 @@ answers c now w from to values f (NoRoom n) d told =
           (cost_found c now (walk_of w from to values) f.done f.sum s),
       omega (arith, told.1, told.2),
     )
+
+-- where all may be copied and fits, all is found
+pub all_found : (c now : HeapContent) (w : WorldRecord) (from to : DomainId) (values : List Value) (f : Found) (r : CopyAnswer)
+    → MayCopy c w from to values → Discovers c now (walk_of w from to values) f → IsTold f.refused f.sum (words_left c to) r → r ≡ Copied
+    → IsAllFound c now w from to values f.done
+all_found c now w from to values f r may d tells is =
+    let told : IsTold f.refused f.sum (words_left c to) Copied =
+    subst (λ (q : CopyAnswer). IsTold f.refused f.sum (words_left c to) q) is tells in
+    let none : f.todo ≡ None = subst (λ (o : Option ℕ). Refusal c (walk_of w from to values) f.todo o) told.0 d.refused in
+    record {
+      may = may;
+      sum = f.sum;
+      found = subst (λ (o : Option ℕ). FoundSoFar c now (walk_of w from to values) o f.done f.sum) none d.found;
+      fits = told.1;
+    }

@@ -51,7 +51,7 @@ no_more_references classes (Of.Array t n) = no_more_nulls (zero_of t) n
 no_more_references classes (Of.Text n) = omega arith
 no_more_references classes (Of.Task s) = omega arith
 
-few_by : (c : HeapContent) (d : DomainId) (a : ℕ) (object : Object) → IsHeapContent c → IsLive c d a object → (q : Option ℕ) → c.quota d ≡ q
+pub few_by : (c : HeapContent) (d : DomainId) (a : ℕ) (object : Object) → IsHeapContent c → IsLive c d a object → (q : Option ℕ) → c.quota d ≡ q
     → size_of object < 2 ^ 32
 few_by c d a object holds live None is =
     let sized = holds.sized d a object live in let unused = (holds.unused d is).0.unused in absurd (omega (arith, sized, unused))

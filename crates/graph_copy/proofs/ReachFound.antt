@@ -59,7 +59,7 @@ given_found c now x todo calm meets =
 
 -- ---- One object more.
 
-words_of_live : (classes : List ClassRecord) (heap : List NamedObject) (a : ℕ) (object : Object) → object_named heap a ≡ Some object
+pub words_of_live : (classes : List ClassRecord) (heap : List NamedObject) (a : ℕ) (object : Object) → object_named heap a ≡ Some object
     → words_named classes heap a ≡ object_words classes object
 words_of_live classes heap a object live = ap (λ (o : Option Object). option_map_or (object_words classes) o 0) live
 
@@ -122,11 +122,11 @@ sum_within c now x todo ended sum s =
 
 -- ---- Nothing is left.
 
-none_left : (rest : List ℕ) → None ≡ head_of rest → (a : ℕ) → Contains rest a → ⊥
+pub none_left : (rest : List ℕ) → None ≡ head_of rest → (a : ℕ) → Contains rest a → ⊥
 none_left [] is a there = Contains-none a there
 none_left (b ∷ rest) is a there = absurd cc
 
-done_is_all : (c now : HeapContent) (x : Walk) (ended : Option ℕ) (sum : ℕ) (s : FoundSoFar c now x None ended sum) (a : ℕ)
+pub done_is_all : (c now : HeapContent) (x : Walk) (ended : Option ℕ) (sum : ℕ) (s : FoundSoFar c now x None ended sum) (a : ℕ)
     → IsMet s.first s.second a → Contains s.second a
 done_is_all c now x ended sum s a there =
     elim there [ inl first ↦ absurd (none_left s.first s.is_first a first) | inr second ↦ second ]

@@ -1,13 +1,10 @@
 -- While an object is left, it has a name, may be walked over, and its words fit; one step more is found then.
-use Rattle.std.proofs.Common.{◌≡◌, ℕ, ◌+◌, ◌*◌, ◌-◌, ◌^◌, ◌<◌, Bool, true, false, IsTrue, ◌↔◌, List, [], length, Contains, Option, Some, None, refl, sym, ap, ◌∙◌, subst, arith}
-use Rattle.std.proofs.lemmas.List.{length-replicate}
+use Rattle.std.proofs.Common.{◌≡◌, ℕ, ◌+◌, ◌-◌, ◌^◌, ◌<◌, Bool, true, false, IsTrue, ◌↔◌, List, [], Contains, Option, Some, None, refl, sym, ap, ◌∙◌, subst, arith}
 use Rattle.jk_model.specs.declared.identifiers.DomainId.{DomainId}
 use Rattle.jk_model.specs.declared.values.Value.{Value}
 use Rattle.jk_model_classes.specs.declared.records.ClassRecord.{ClassRecord}
-use Rattle.jk_model_classes.specs.Layouts.{type_words}
 use Rattle.jk_model_classes.specs.Worlds.{NamedClass, WorldRecord}
 use Rattle.jk_model_domains.specs.Objects.{NamedObject, Object, Array, Plain, Task, Text, object_named, object_words}
-use Rattle.jk_model_domains.specs.OwnStates.{zero_of}
 use Rattle.jk_model_graphs.specs.Copiable.{IsCopiable}
 use Rattle.jk_model_graphs.specs.Followed.{followed}
 use Rattle.jk_model_heaps.specs.declared.shapes.Shape.{Shape}
@@ -23,7 +20,7 @@ use Rattle.graph_copy.specs.Places.{IsWalked}
 use Rattle.graph_copy.specs.Visited.{Visits}
 use Rattle.graph_copy.proofs.QueuesForgotten.{has_head, name_stays}
 use Rattle.graph_copy.proofs.ReachFound.{nothing_met, one_found, sum_within}
-use Rattle.graph_copy.proofs.WordsFound.{few_words, some_words}
+use Rattle.graph_copy.proofs.WordsFound.{few_words, some_words, words_of_shape}
 
 pub none_met : (c : HeapContent) (d : DomainId) → ((a : ℕ) → c.mark d a ≡ 0) → HasMet c d None
 none_met c d calm = record { todo = []; done = []; met = nothing_met c d calm; is_head = refl }
@@ -92,12 +89,6 @@ next_is_walked c now w from to values a ended sum shape may s is =
     }
 
 -- ---- One step more.
-
-words_of_shape : (classes : List ClassRecord) (object : Object) → shape_words classes (shape_of object) ≡ object_words classes object
-words_of_shape classes (Plain c values) = refl
-words_of_shape classes (Array t items) = ap (λ (n : ℕ). 4 + type_words t * n) (length-replicate (length items) (zero_of t))
-words_of_shape classes (Text units) = ap (λ (n : ℕ). 4 + n) (length-replicate (length units) 0)
-words_of_shape classes (Task s) = refl
 
 pub next_found : (c now new : HeapContent) (x : Walk) (a : ℕ) (ended result : Option ℕ) (sum words : ℕ) (shape : Shape) (told : Bool)
     → FoundSoFar c now x (Some a) ended sum → ((object : Object) → IsLive now x.from a object → shape ≡ shape_of object)

@@ -8,9 +8,12 @@ use Rattle.jk_model_classes.specs.declared.records.BaseRef.{BaseRef}
 use Rattle.jk_model_classes.specs.declared.records.BaseRef.TheVariants as Base
 use Rattle.jk_model_classes.specs.declared.records.ClassRecord.{ClassRecord}
 use Rattle.jk_model_classes.specs.Layouts.{type_words}
+use Rattle.std.proofs.lemmas.List.{length-replicate}
 use Rattle.jk_model_domains.specs.Objects.{Object, Array, Plain, Task, Text, object_named, object_words}
+use Rattle.jk_model_domains.specs.OwnStates.{zero_of}
 use Rattle.jk_model_graphs.specs.Reach.{words_named}
-use Rattle.object_store.specs.HeapContents.{HeapContent, IsHeapContent, IsLive, IsName, size_of}
+use Rattle.jk_model_heaps.specs.Heaps.{shape_of}
+use Rattle.object_store.specs.HeapContents.{HeapContent, IsHeapContent, IsLive, IsName, shape_words, size_of}
 use Rattle.heap_laws.proofs.DistinctNumbers.{no_longer}
 use Rattle.list_lemmas.proofs.ItemsOfLists.{Contains-here, Contains-there}
 use Rattle.list_lemmas.proofs.TestsAndOrders.{less_or_same}
@@ -34,7 +37,7 @@ unfolding below
 so_many_below zero = refl
 so_many_below (suc n) = ap suc (so_many_below n)
 
-few_names : (n : ℕ) (xs : List ℕ) → IsDistinct nat_eq xs → ((a : ℕ) → Contains xs a → a < n) → length xs ≤ n
+pub few_names : (n : ℕ) (xs : List ℕ) → IsDistinct nat_eq xs → ((a : ℕ) → Contains xs a → a < n) → length xs ≤ n
 few_names n xs distinct small =
     omega (arith, no_longer xs (below n) distinct (λ a there. is_below n a (small a there)), so_many_below n)
 
@@ -63,6 +66,13 @@ some_words classes (Plain c values) = omega arith
 some_words classes (Array t items) = omega arith
 some_words classes (Text units) = omega arith
 some_words classes (Task s) = omega arith
+
+-- what a new object of the shape costs
+pub words_of_shape : (classes : List ClassRecord) (object : Object) → shape_words classes (shape_of object) ≡ object_words classes object
+words_of_shape classes (Plain c values) = refl
+words_of_shape classes (Array t items) = ap (λ (n : ℕ). 4 + type_words t * n) (length-replicate (length items) (zero_of t))
+words_of_shape classes (Text units) = ap (λ (n : ℕ). 4 + n) (length-replicate (length units) 0)
+words_of_shape classes (Task s) = refl
 
 small_size : (c : HeapContent) (d : DomainId) (a : ℕ) (object : Object) → IsHeapContent c → IsLive c d a object → (q : Option ℕ) → c.quota d ≡ q
     → size_of object < 2 ^ 25

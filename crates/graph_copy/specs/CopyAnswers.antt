@@ -1,13 +1,5 @@
--- What `copy` and `would_copy` answer, and what a copy makes of the store. `copy` is still to come:
---
--- copy<H: ObjectStore>(store: &mut H, w: &World, from: DomainId, to: DomainId, values: &mut Args) -> CopyAnswer
---   requires may       { MayCopy (H.content store.old) w.now from to values.old }
---   ensures answer     { CopyAnswers (H.content store.old) w.now from to values.old result }
---   ensures copied     { result ≡ CopyAnswer.Copied
---                        → Copies (H.content store.old) (H.content store.new) w.now.classes from to values.old values.new }
---   ensures as_before  { result ≢ CopyAnswer.Copied → IsSame (H.content store.old) (H.content store.new) × (values.new ≡ values.old) }
---
--- Neither `copy` nor `would_copy` is lent an allocator, and neither has an answer for want of memory: so each uses marks and heap words alone.
+-- What `copy` and `would_copy` answer, and what a copy makes of the store. Neither is lent an allocator, and neither has an answer for want of
+-- memory: so each uses marks and heap words alone.
 use Rattle.std.specs.Prelude.{ℕ, ◌+◌, ◌<◌, ◌≤◌, List}
 use Rattle.jk_model.specs.declared.identifiers.DomainId.{DomainId}
 use Rattle.jk_model.specs.declared.values.Value.{Value}

@@ -1,10 +1,14 @@
 pub mod AnswersTold
 pub mod AskedOfCopies
+pub mod Chains
+pub mod CopiedAll
 pub mod CopyAnswers
 pub mod Discovered
+pub mod Filled
 pub mod Finished
 pub mod FoundSoFar
 pub mod Judged
+pub mod Laid
 pub mod MetObjects
 pub mod Places
 pub mod Queues

@@ -1,0 +1,2 @@
+-- What the tests keep true of their heaps.
+pub mod ReadyHeaps
