@@ -16,7 +16,7 @@ use frame_store::FrameStore;
 use jk_model::ThreadNo;
 use jk_outside::{Sink, SinkFailed};
 use kernel_events::laws::numbers_rise;
-use kernel_turns::steps_in_frame;
+use kernel_turns::steps_alone;
 use machine_laws::machines::runs_go_on_without_jk;
 use object_store::ObjectStore;
 
@@ -65,7 +65,7 @@ impl<H: ObjectStore + Drop, F: FrameStore + Drop> Kernel<H, F> {
         self.is_sound();
         let mut done = 0;
         while done < steps {
-            done += self.step_in_frame(ThreadNo(thread), steps - done);
+            done += self.steps_alone(ThreadNo(thread), steps - done);
             if done == steps {
                 return Ok(true);
             }
@@ -91,13 +91,13 @@ impl<H: ObjectStore + Drop, F: FrameStore + Drop> Kernel<H, F> {
         kernel_turns::step(&mut self.parts, t, out)
     }
 
-    /// At most so many steps of a thread that stay in a frame, and how many they were.
-    fn step_in_frame(&mut self, t: ThreadNo, most: u32) -> u32
+    /// At most so many steps of a thread that its top segment does alone, and how many they were.
+    fn steps_alone(&mut self, t: ThreadNo, most: u32) -> u32
         ensures few { result ≤ most }
         ensures event { Turns result t self.old [] self.new }
         ensures sound { IsSoundMachine self.old × IsSoundMachine self.new }
     {
         machines_stay_sound();
-        steps_in_frame(&mut self.parts, t, most)
+        steps_alone(&mut self.parts, t, most)
     }
 }

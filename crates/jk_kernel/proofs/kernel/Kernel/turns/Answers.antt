@@ -36,9 +36,9 @@ returns-then-done-steps-clause-event g c =
     record { bytes = g.S.Sink.bytes c.loop-done.out; pieces = g.S.Sink.pieces c.loop-done.out; faults = g.S.Sink.faults c.loop-done.out } in
     let l = c.loop-done in
     let m = c.args.self.now in
-    let mid = c.step_in_frame.new.self in
-    let done = l.done + c.step_in_frame.result in
-    let went = went_on t l.done c.step_in_frame.result m l.self mid a b l.invariant.0 c.step_in_frame.ensures.event c.step_in_frame.ensures.sound.1 in
+    let mid = c.steps_alone.new.self in
+    let done = l.done + c.steps_alone.result in
+    let went = went_on t l.done c.steps_alone.result m l.self mid a b l.invariant.0 c.steps_alone.ensures.event c.steps_alone.ensures.sound.1 in
     went_all c.machines_stay_sound.ensures.steps c.steps_are_apart.ensures t done c.args.steps m mid a b c.if-done-steps.true went
 
 pub returns-then-done-steps-clause-counts : goal.returns-then-done-steps-clause-counts
@@ -50,10 +50,10 @@ returns-then-done-steps-clause-counts g c =
     record { bytes = g.S.Sink.bytes c.loop-done.out; pieces = g.S.Sink.pieces c.loop-done.out; faults = g.S.Sink.faults c.loop-done.out } in
     let l = c.loop-done in
     let m = c.args.self.now in
-    let mid = c.step_in_frame.new.self in
-    let done = l.done + c.step_in_frame.result in
-    let went = went_on t l.done c.step_in_frame.result m l.self mid a b l.invariant.0 c.step_in_frame.ensures.event c.step_in_frame.ensures.sound.1 in
-    let few : done ≤ c.args.steps = omega (arith, c.step_in_frame.ensures.few, c.loop-done-test.true) in
+    let mid = c.steps_alone.new.self in
+    let done = l.done + c.steps_alone.result in
+    let went = went_on t l.done c.steps_alone.result m l.self mid a b l.invariant.0 c.steps_alone.ensures.event c.steps_alone.ensures.sound.1 in
+    let few : done ≤ c.args.steps = omega (arith, c.steps_alone.ensures.few, c.loop-done-test.true) in
     counts_of m mid c.args.steps (rises_more m mid done c.args.steps few (went_rises c.numbers_rise.ensures t done m mid a b went))
 
 pub step-requires : goal.step-requires
@@ -65,10 +65,10 @@ step-requires g c =
     record { bytes = g.S.Sink.bytes c.loop-done.out; pieces = g.S.Sink.pieces c.loop-done.out; faults = g.S.Sink.faults c.loop-done.out } in
     let l = c.loop-done in
     let m = c.args.self.now in
-    let mid = c.step_in_frame.new.self in
-    let done = l.done + c.step_in_frame.result in
-    let went = went_on t l.done c.step_in_frame.result m l.self mid a b l.invariant.0 c.step_in_frame.ensures.event c.step_in_frame.ensures.sound.1 in
-    let less : done < c.args.steps = omega (arith, c.step_in_frame.ensures.few, c.loop-done-test.true, c.if-done-steps.false) in
+    let mid = c.steps_alone.new.self in
+    let done = l.done + c.steps_alone.result in
+    let went = went_on t l.done c.steps_alone.result m l.self mid a b l.invariant.0 c.steps_alone.ensures.event c.steps_alone.ensures.sound.1 in
+    let less : done < c.args.steps = omega (arith, c.steps_alone.ensures.few, c.loop-done-test.true, c.if-done-steps.false) in
     record {
       numbers = may_draw m mid done 1 c.args.steps (omega (arith, less)) (went_rises c.numbers_rise.ensures t done m mid a b went)
           c.requires.numbers;
@@ -83,10 +83,10 @@ returns-in_err-step-clause-failed g c =
     record { bytes = g.S.Sink.bytes c.loop-done.out; pieces = g.S.Sink.pieces c.loop-done.out; faults = g.S.Sink.faults c.loop-done.out } in
     let l = c.loop-done in
     let m = c.args.self.now in
-    let mid = c.step_in_frame.new.self in
-    let done = l.done + c.step_in_frame.result in
-    let went = went_on t l.done c.step_in_frame.result m l.self mid a b l.invariant.0 c.step_in_frame.ensures.event c.step_in_frame.ensures.sound.1 in
-    let less : done < c.args.steps = omega (arith, c.step_in_frame.ensures.few, c.loop-done-test.true, c.if-done-steps.false) in
+    let mid = c.steps_alone.new.self in
+    let done = l.done + c.steps_alone.result in
+    let went = went_on t l.done c.steps_alone.result m l.self mid a b l.invariant.0 c.steps_alone.ensures.event c.steps_alone.ensures.sound.1 in
+    let less : done < c.args.steps = omega (arith, c.steps_alone.ensures.few, c.loop-done-test.true, c.if-done-steps.false) in
     let out : SinkState =
     record { bytes = g.S.Sink.bytes c.step.new.out; pieces = g.S.Sink.pieces c.step.new.out; faults = g.S.Sink.faults c.step.new.out } in
     let next = c.step.new.self in
@@ -104,10 +104,10 @@ returns-in_err-step-clause-counts g c =
     record { bytes = g.S.Sink.bytes c.loop-done.out; pieces = g.S.Sink.pieces c.loop-done.out; faults = g.S.Sink.faults c.loop-done.out } in
     let l = c.loop-done in
     let m = c.args.self.now in
-    let mid = c.step_in_frame.new.self in
-    let done = l.done + c.step_in_frame.result in
-    let went = went_on t l.done c.step_in_frame.result m l.self mid a b l.invariant.0 c.step_in_frame.ensures.event c.step_in_frame.ensures.sound.1 in
-    let less : done < c.args.steps = omega (arith, c.step_in_frame.ensures.few, c.loop-done-test.true, c.if-done-steps.false) in
+    let mid = c.steps_alone.new.self in
+    let done = l.done + c.steps_alone.result in
+    let went = went_on t l.done c.steps_alone.result m l.self mid a b l.invariant.0 c.steps_alone.ensures.event c.steps_alone.ensures.sound.1 in
+    let less : done < c.args.steps = omega (arith, c.steps_alone.ensures.few, c.loop-done-test.true, c.if-done-steps.false) in
     let out : SinkState =
     record { bytes = g.S.Sink.bytes c.step.new.out; pieces = g.S.Sink.pieces c.step.new.out; faults = g.S.Sink.faults c.step.new.out } in
     let next = c.step.new.self in
@@ -124,10 +124,10 @@ returns-then-not-branch-clause-event g c =
     record { bytes = g.S.Sink.bytes c.loop-done.out; pieces = g.S.Sink.pieces c.loop-done.out; faults = g.S.Sink.faults c.loop-done.out } in
     let l = c.loop-done in
     let m = c.args.self.now in
-    let mid = c.step_in_frame.new.self in
-    let done = l.done + c.step_in_frame.result in
-    let went = went_on t l.done c.step_in_frame.result m l.self mid a b l.invariant.0 c.step_in_frame.ensures.event c.step_in_frame.ensures.sound.1 in
-    let less : done < c.args.steps = omega (arith, c.step_in_frame.ensures.few, c.loop-done-test.true, c.if-done-steps.false) in
+    let mid = c.steps_alone.new.self in
+    let done = l.done + c.steps_alone.result in
+    let went = went_on t l.done c.steps_alone.result m l.self mid a b l.invariant.0 c.steps_alone.ensures.event c.steps_alone.ensures.sound.1 in
+    let less : done < c.args.steps = omega (arith, c.steps_alone.ensures.few, c.loop-done-test.true, c.if-done-steps.false) in
     let out : SinkState =
     record { bytes = g.S.Sink.bytes c.step.new.out; pieces = g.S.Sink.pieces c.step.new.out; faults = g.S.Sink.faults c.step.new.out } in
     let next = c.step.new.self in
@@ -148,10 +148,10 @@ returns-then-not-branch-clause-rests g c =
     record { bytes = g.S.Sink.bytes c.loop-done.out; pieces = g.S.Sink.pieces c.loop-done.out; faults = g.S.Sink.faults c.loop-done.out } in
     let l = c.loop-done in
     let m = c.args.self.now in
-    let mid = c.step_in_frame.new.self in
-    let done = l.done + c.step_in_frame.result in
-    let went = went_on t l.done c.step_in_frame.result m l.self mid a b l.invariant.0 c.step_in_frame.ensures.event c.step_in_frame.ensures.sound.1 in
-    let less : done < c.args.steps = omega (arith, c.step_in_frame.ensures.few, c.loop-done-test.true, c.if-done-steps.false) in
+    let mid = c.steps_alone.new.self in
+    let done = l.done + c.steps_alone.result in
+    let went = went_on t l.done c.steps_alone.result m l.self mid a b l.invariant.0 c.steps_alone.ensures.event c.steps_alone.ensures.sound.1 in
+    let less : done < c.args.steps = omega (arith, c.steps_alone.ensures.few, c.loop-done-test.true, c.if-done-steps.false) in
     let out : SinkState =
     record { bytes = g.S.Sink.bytes c.step.new.out; pieces = g.S.Sink.pieces c.step.new.out; faults = g.S.Sink.faults c.step.new.out } in
     let next = c.step.new.self in
@@ -169,10 +169,10 @@ returns-then-not-branch-clause-counts g c =
     record { bytes = g.S.Sink.bytes c.loop-done.out; pieces = g.S.Sink.pieces c.loop-done.out; faults = g.S.Sink.faults c.loop-done.out } in
     let l = c.loop-done in
     let m = c.args.self.now in
-    let mid = c.step_in_frame.new.self in
-    let done = l.done + c.step_in_frame.result in
-    let went = went_on t l.done c.step_in_frame.result m l.self mid a b l.invariant.0 c.step_in_frame.ensures.event c.step_in_frame.ensures.sound.1 in
-    let less : done < c.args.steps = omega (arith, c.step_in_frame.ensures.few, c.loop-done-test.true, c.if-done-steps.false) in
+    let mid = c.steps_alone.new.self in
+    let done = l.done + c.steps_alone.result in
+    let went = went_on t l.done c.steps_alone.result m l.self mid a b l.invariant.0 c.steps_alone.ensures.event c.steps_alone.ensures.sound.1 in
+    let less : done < c.args.steps = omega (arith, c.steps_alone.ensures.few, c.loop-done-test.true, c.if-done-steps.false) in
     let out : SinkState =
     record { bytes = g.S.Sink.bytes c.step.new.out; pieces = g.S.Sink.pieces c.step.new.out; faults = g.S.Sink.faults c.step.new.out } in
     let next = c.step.new.self in
@@ -192,10 +192,10 @@ loop-done-preserved g c =
     record { bytes = g.S.Sink.bytes c.loop-done.out; pieces = g.S.Sink.pieces c.loop-done.out; faults = g.S.Sink.faults c.loop-done.out } in
     let l = c.loop-done in
     let m = c.args.self.now in
-    let mid = c.step_in_frame.new.self in
-    let done = l.done + c.step_in_frame.result in
-    let went = went_on t l.done c.step_in_frame.result m l.self mid a b l.invariant.0 c.step_in_frame.ensures.event c.step_in_frame.ensures.sound.1 in
-    let less : done < c.args.steps = omega (arith, c.step_in_frame.ensures.few, c.loop-done-test.true, c.if-done-steps.false) in
+    let mid = c.steps_alone.new.self in
+    let done = l.done + c.steps_alone.result in
+    let went = went_on t l.done c.steps_alone.result m l.self mid a b l.invariant.0 c.steps_alone.ensures.event c.steps_alone.ensures.sound.1 in
+    let less : done < c.args.steps = omega (arith, c.steps_alone.ensures.few, c.loop-done-test.true, c.if-done-steps.false) in
     let out : SinkState =
     record { bytes = g.S.Sink.bytes c.step.new.out; pieces = g.S.Sink.pieces c.step.new.out; faults = g.S.Sink.faults c.step.new.out } in
     let next = c.step.new.self in
