@@ -1,19 +1,13 @@
 -- What holds of the kernel's machine holds of the first one, and each start, step and opening keeps it.
-use Rattle.std.proofs.Common.{◌≡◌, ℕ, ◌+◌, ◌≤◌, List, length, refl, ap, ◌∙◌, arith, length-append}
+use Rattle.std.proofs.Common.{◌≡◌, ◌+◌, ◌≤◌, List, length, refl, ap, ◌∙◌, arith, length-append}
 use Rattle.std.proofs.lemmas.List.{length-map}
-use Rattle.jk_model.specs.declared.identifiers.ThreadNo.{ThreadNo}
 use Rattle.jk_model.specs.declared.output.Line.{Line}
-use Rattle.jk_model.specs.declared.script.Quotas.{Quotas}
-use Rattle.jk_model_folders.specs.declared.files.FolderFiles.{FolderFiles}
-use Rattle.jk_model_folders.specs.FolderTrees.{AreFiles}
-use Rattle.jk_model_machine_state.specs.Machines.{IsFirstMachine, Machine}
+use Rattle.jk_model_machine_state.specs.Machines.{Machine}
 use Rattle.jk_model_runs.specs.Events.{IsWhole}
 use Rattle.jk_model_runs.specs.Starts.{Starts, StartWords}
-use Rattle.jk_model_runs.specs.Steps.{Steps}
 use Rattle.kernel_events.specs.RisingNumbers.{NumbersRiseInEvents}
-use Rattle.kernel_parts.specs.SoundKernels.{IsSoundKernel}
 use Rattle.machine_laws.specs.LoadingNext.{FirstMachinesLoadNext, LoadsNext, OpeningsLoadNext, StartsLoadNext, StepsLoadNext}
-use Rattle.machine_laws.specs.MachinesOfRuns.{FirstMachinesAreWithoutJk, FolderRefersToNoPackageJk, IsOfRunWithoutJk, OpeningsStayOfRuns, OpensFrom, StartsStayOfRuns, StepsStayOfRuns}
+use Rattle.machine_laws.specs.MachinesOfRuns.{FirstMachinesAreWithoutJk, IsOfRunWithoutJk, OpeningsStayOfRuns, StartsStayOfRuns, StepsStayOfRuns}
 use Rattle.jk_kernel.specs.SoundMachines.{FirstMachinesAreSound, IsSoundMachine, OpeningsKeepSound, StartsKeepSound, StepsKeepSound}
 
 -- what a kernel keeps follows, but for the number of domains

@@ -1,5 +1,5 @@
 -- By what domains share of threads.
-use Rattle.std.proofs.Common.{ℕ, ◌<◌, Option, subst}
+use Rattle.std.proofs.Common.{◌<◌, subst}
 use Rattle.std.specs.Prelude.{IfNone, IfSome}
 use Rattle.jk_model.specs.declared.identifiers.ThreadNo.{ThreadNo}
 use Rattle.jk_model_machine_state.specs.Machines.{IsLiveThread, Machine}
