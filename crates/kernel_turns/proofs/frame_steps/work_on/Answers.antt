@@ -26,18 +26,24 @@ returns-in_default-clause-event g c = λ owns main may.
     owns main may
 
 pub loop-done-init : goal.loop-done-init
-loop-done-init g c =
-    (far_at_first c.local_steps_keep.ensures (stays_without_jk c.heap_rows_keep.ensures c.steps_stay_known_without_jk.ensures) c.args.w.now c.args.shared.now
-    (g.H.ObjectStore.content c.args.heap.now) (g.F.FrameStore.content c.args.frames.now) c.args.own.now c.args.r c.args.most c.requires.budget,
-    c.in-Some.ensures, (let none : 0 ≤ c.args.most = omega arith in none))
+loop-done-init g c = (
+  far_at_first c.local_steps_keep.ensures (stays_without_jk c.heap_rows_keep.ensures c.steps_stay_known_without_jk.ensures) c.args.w.now c.args.shared.now
+      (g.H.ObjectStore.content c.args.heap.now) (g.F.FrameStore.content c.args.frames.now) c.args.own.now c.args.r c.args.most c.requires.budget,
+  c.in-Some.ensures,
+  (let none : 0 ≤ c.args.most = omega arith in none),
+)
 
 pub run_in_frame-done-requires-clause-may : goal.run_in_frame-done-requires-clause-may
-run_in_frame-done-requires-clause-may g c =
-    ((g.H.ObjectStore.content c.loop-done.heap), c.loop-done.own, c.args.shared.now, c.args.r.domain,
-    acts_on c.local_steps_keep.ensures (stays_without_jk c.heap_rows_keep.ensures c.steps_stay_known_without_jk.ensures) c.args.w.now c.args.shared.now
-    (g.H.ObjectStore.content c.args.heap.now) (g.F.FrameStore.content c.args.frames.now) c.args.own.now c.args.r c.args.most c.requires.budget
-    c.loop-done.done (g.H.ObjectStore.content c.loop-done.heap) (g.F.FrameStore.content c.loop-done.frames) c.loop-done.own c.loop-done.invariant.0
-    c.requires.may.0 c.requires.may.1 c.requires.may.2)
+run_in_frame-done-requires-clause-may g c = (
+  (g.H.ObjectStore.content c.loop-done.heap),
+  c.loop-done.own,
+  c.args.shared.now,
+  c.args.r.domain,
+  acts_on c.local_steps_keep.ensures (stays_without_jk c.heap_rows_keep.ensures c.steps_stay_known_without_jk.ensures) c.args.w.now c.args.shared.now
+      (g.H.ObjectStore.content c.args.heap.now) (g.F.FrameStore.content c.args.frames.now) c.args.own.now c.args.r c.args.most c.requires.budget
+      c.loop-done.done (g.H.ObjectStore.content c.loop-done.heap) (g.F.FrameStore.content c.loop-done.frames) c.loop-done.own c.loop-done.invariant.0
+      c.requires.may.0 c.requires.may.1 c.requires.may.2,
+)
 
 pub returns-then-done-most-clause-event : goal.returns-then-done-most-clause-event
 returns-then-done-most-clause-event g c = λ owns main may.
@@ -81,14 +87,16 @@ loop-done-preserved g c =
     let few : c.loop-done.done + c.run_in_frame-done.result ≤ c.args.most = omega (arith, c.run_in_frame-done.ensures.few, c.loop-done.invariant.2) in
     let more : c.loop-done.done + c.run_in_frame-done.result + 1 ≤ c.args.most =
     omega (arith, c.run_in_frame-done.ensures.few, c.loop-done.invariant.2, c.if-done-most.false) in
-    let done : c.work-worked.result ≢ Work.Undone = λ undone. (let both : Work.AtInstruction ≡ Work.Undone = sym c.in-AtInstruction.is ∙ undone in absurd cc) in
-    ((far_by_one c.local_steps_keep.ensures (stays_without_jk c.heap_rows_keep.ensures c.steps_stay_known_without_jk.ensures) c.args.w.now c.args.shared.now
-    (g.H.ObjectStore.content c.args.heap.now) (g.F.FrameStore.content c.args.frames.now) c.args.own.now c.args.r c.args.most c.requires.budget
-    (c.loop-done.done + c.run_in_frame-done.result) (g.H.ObjectStore.content c.loop-done.heap) (g.F.FrameStore.content c.run_in_frame-done.new.frames) c.loop-done.own (far_in_frame c.local_steps_keep.ensures (stays_without_jk c.heap_rows_keep.ensures c.steps_stay_known_without_jk.ensures) c.args.w.now c.args.shared.now
-    (g.H.ObjectStore.content c.args.heap.now) (g.F.FrameStore.content c.args.frames.now) c.args.own.now c.args.r c.args.most c.requires.budget
-    c.loop-done.done (g.H.ObjectStore.content c.loop-done.heap) (g.F.FrameStore.content c.loop-done.frames) c.loop-done.own c.loop-done.invariant.0 c.run_in_frame-done.result (g.F.FrameStore.content c.run_in_frame-done.new.frames) few c.run_in_frame-done.ensures.runs) (g.H.ObjectStore.content c.work-worked.new.heap)
-    (g.F.FrameStore.content c.work-worked.new.frames) c.work-worked.new.own more (c.work-worked.ensures.free done) c.holds.ensures.literals (c.work-worked.ensures.steps done)),
-    c.work-worked.ensures.stands c.in-AtInstruction.is, more)
+    let done : c.work-worked.result ≢ Work.Undone = λ undone. (let both : Work.AtInstruction ≡ Work.Undone = sym c.in-AtInstruction.is ∙ undone in absurd cc) in (
+      (far_by_one c.local_steps_keep.ensures (stays_without_jk c.heap_rows_keep.ensures c.steps_stay_known_without_jk.ensures) c.args.w.now c.args.shared.now
+          (g.H.ObjectStore.content c.args.heap.now) (g.F.FrameStore.content c.args.frames.now) c.args.own.now c.args.r c.args.most c.requires.budget
+          (c.loop-done.done + c.run_in_frame-done.result) (g.H.ObjectStore.content c.loop-done.heap) (g.F.FrameStore.content c.run_in_frame-done.new.frames) c.loop-done.own (far_in_frame c.local_steps_keep.ensures (stays_without_jk c.heap_rows_keep.ensures c.steps_stay_known_without_jk.ensures) c.args.w.now c.args.shared.now
+          (g.H.ObjectStore.content c.args.heap.now) (g.F.FrameStore.content c.args.frames.now) c.args.own.now c.args.r c.args.most c.requires.budget
+          c.loop-done.done (g.H.ObjectStore.content c.loop-done.heap) (g.F.FrameStore.content c.loop-done.frames) c.loop-done.own c.loop-done.invariant.0 c.run_in_frame-done.result (g.F.FrameStore.content c.run_in_frame-done.new.frames) few c.run_in_frame-done.ensures.runs) (g.H.ObjectStore.content c.work-worked.new.heap)
+          (g.F.FrameStore.content c.work-worked.new.frames) c.work-worked.new.own more (c.work-worked.ensures.free done) c.holds.ensures.literals (c.work-worked.ensures.steps done)),
+      c.work-worked.ensures.stands c.in-AtInstruction.is,
+      more,
+    )
 
 pub returns-in-AtNeed-clause-event : goal.returns-in-AtNeed-clause-event
 returns-in-AtNeed-clause-event g c = λ owns main may.
