@@ -98,11 +98,12 @@ items_stay around old new keeps t (v ∷ items) h = (fits_stay around old new ke
 
 object_stays_sealed : (around : Surroundings) (old new : List NamedObject) → Keeps old new → (object : Object) → IsSealedObject around old object
     → IsSealedObject around new object
-object_stays_sealed around old new keeps (Plain c values) (named_, s, t, k, fields) = (
+object_stays_sealed around old new keeps (Plain c values) (named_, s, t, k, r, fields) = (
   named_,
   s,
   t,
   k,
+  r,
   record {
     as_many = fields.as_many;
     each = λ i v field at there. fits_stay around old new keeps field.kind v (fields.each i v field at there);
@@ -324,12 +325,13 @@ copied_is_sealed : (classes : List ClassRecord) (caps : List CapRange) (giver ta
     → ((d : ClassId) → d.0 < length system_classes → IsNamed taker d) → IsCopiable classes giver taker object
     → IsSealedObject (Around classes giver caps) source.heap object → IsCopied classes pairs object other
     → IsSealedObject (Around classes taker caps) copy.heap other
-copied_is_sealed classes caps giver taker source before copy pairs (Plain c vs) (Plain d ws) h knows may (named_, s, t, k, fields) same =
+copied_is_sealed classes caps giver taker source before copy pairs (Plain c vs) (Plain d ws) h knows may (named_, s, t, k, r, fields) same =
     subst (λ (e : ClassId). IsSealedObject (Around classes taker caps) copy.heap (Plain e ws)) same.0 (
       class_is_known classes giver taker c vs knows may,
       s,
       t,
       k,
+      r,
       record {
         as_many = as_many_fields pairs (field_records classes c) vs ws same.1;
         each = fields_fit classes caps source before copy pairs (field_records classes c) vs ws h same.1 fields.each;

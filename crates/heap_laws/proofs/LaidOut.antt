@@ -39,7 +39,7 @@ of_fields classes heap (f ∷ fs) (v ∷ vs) many each = (
 )
 
 pub sealed_laid_out : (around : Surroundings) (heap : List NamedObject) (o : Object) → IsSealedObject around heap o → IsLaidOut around.classes o
-sealed_laid_out around heap (Plain c values) (named, no_text, no_task, no_capability, fields) =
+sealed_laid_out around heap (Plain c values) (named, no_text, no_task, no_capability, no_remote, fields) =
     of_fields around.classes heap (field_records around.classes c) values fields.as_many (λ i v f at of. (fields.each i v f at of).0)
 sealed_laid_out around heap (Array element items) h = tt
 sealed_laid_out around heap (Text units) h = tt

@@ -63,8 +63,8 @@ zeros_fit around heap c = record {
 
 pub new_sealed : (around : Surroundings) (heap : List NamedObject) (shape : Shape) → IsNamedShape around.table shape
     → IsSealedObject around heap (zero_object around.classes shape)
-new_sealed around heap (Of.Plain c) (named, no_text, no_task, no_capability) =
-    (named, no_text, no_task, no_capability, zeros_fit around heap c)
+new_sealed around heap (Of.Plain c) (named, no_text, no_task, no_capability, no_remote) =
+    (named, no_text, no_task, no_capability, no_remote, zeros_fit around heap c)
 new_sealed around heap (Of.Array element n) (base, few) = (
   base,
   few,

@@ -46,14 +46,14 @@ pub led_is_known : (around : Surroundings) (heap : List NamedObject) (object : O
     → Contains (followed around.classes object) (Held.Obj b) → (other : Object) × (object_named heap b ≡ Some other)
 led_is_known around heap (Plain c values) b sealed led =
     let f = kept_is_field (field_records around.classes c) values (Held.Obj b) led in
-    (sealed.4.each f.place (Held.Obj b) f.field f.value f.is_field).1
+    (sealed.5.each f.place (Held.Obj b) f.field f.value f.is_field).1
 led_is_known around heap (Array t items) b sealed led = (each-of _ items (Held.Obj b) sealed.2 led).1
 led_is_known around heap (Text units) b sealed led = absurd (Contains-none (Held.Obj b) led)
 led_is_known around heap (Task s) b sealed led = absurd (Contains-none (Held.Obj b) led)
 
 all_fields : (around : Surroundings) (heap : List NamedObject) (object : Object) → IsSealedObject around heap object
     → HasAllFields around.classes object
-all_fields around heap (Plain c values) sealed = sealed.4.as_many
+all_fields around heap (Plain c values) sealed = sealed.5.as_many
 all_fields around heap (Array t items) sealed = tt
 all_fields around heap (Text units) sealed = tt
 all_fields around heap (Task s) sealed = tt

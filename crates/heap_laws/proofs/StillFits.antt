@@ -98,11 +98,12 @@ module _ (old new : List NamedObject) (g : IsGrown old new) where
       let there = of_class a c (fields, is) in (c, there.0, there.1, below)
 
   pub object_sealed : (around : Surroundings) (o : Object) → IsSealedObject around old o → IsSealedObject around new o
-  object_sealed around (Plain c values) (named, no_text, no_task, no_capability, fields) = (
+  object_sealed around (Plain c values) (named, no_text, no_task, no_capability, no_remote, fields) = (
     named,
     no_text,
     no_task,
     no_capability,
+    no_remote,
     record {
       as_many = fields.as_many;
       each = λ i v field at of.

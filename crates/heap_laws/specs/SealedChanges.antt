@@ -13,6 +13,7 @@ use Rattle.jk_model_domains.specs.OwnStates.{Literal, literal_named, with_state,
 use Rattle.jk_model_heaps.specs.declared.shapes.Shape.{Shape}
 use Rattle.jk_model_heaps.specs.declared.shapes.Shape.TheVariants as Of
 use Rattle.jk_model_heaps.specs.Heaps.{IsAlike, Makes, with_object, zero_object}
+use Rattle.jk_model_heaps.specs.SystemClasses.{REMOTE}
 use Rattle.jk_model_heaps.specs.Workings.{Inside, with_heap, with_own}
 use Rattle.jk_model_sealing.specs.SealedInsides.{IsNamedBase, IsSealedInside, IsSealedObject, Surroundings}
 use Rattle.heap_laws.specs.FittingOutcomes.{IsOfType}
@@ -54,7 +55,7 @@ StatesStaySealed =
 
 -- an object of this shape may be made in a domain with these names
 abbrev pub IsNamedShape : List NamedClass → Shape → Type 0
-IsNamedShape table (Of.Plain c) = IsNamed table c × (c ≢ STRING) × (c ≢ TASK) × (c ≢ CAPABILITY)
+IsNamedShape table (Of.Plain c) = IsNamed table c × (c ≢ STRING) × (c ≢ TASK) × (c ≢ CAPABILITY) × (c ≢ REMOTE)
 IsNamedShape table (Of.Array element n) = IsNamedBase table element.base × (element.dims ≤ 254)
 IsNamedShape table (Of.Text n) = IsNamed table STRING
 IsNamedShape table (Of.Task segment) = IsNamed table TASK

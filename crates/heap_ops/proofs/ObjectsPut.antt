@@ -98,9 +98,9 @@ module _ (heaps : HeapContent) (frames : FrameContent) (h : Here) (k : Doing hea
       → IsSealedObject (around k.may.domain) new (Plain class (slice_set fields place u)) → slice_get fields place ≡ Some v → AreOfKind v u
   field_kind_kept class fields place v u new before after at =
       let low = slice_get_within fields place v at in
-      let record_at = item_there (field_records classes class) place (omega (arith, low, before.4.as_many)) in
-      one_type_kind heap new record_at.0.kind v u (before.4.each place v record_at.0 at record_at.1).0
-      (after.4.each place u record_at.0 (slice_get-set_same fields place u low) record_at.1).0
+      let record_at = item_there (field_records classes class) place (omega (arith, low, before.5.as_many)) in
+      one_type_kind heap new record_at.0.kind v u (before.5.each place v record_at.0 at record_at.1).0
+      (after.5.each place u record_at.0 (slice_get-set_same fields place u low) record_at.1).0
 
   -- and so is an item's
   pub item_kind_kept : (element : TypeRef) (items : List Value) (place : ℕ) (v u : Value) (new : List NamedObject)

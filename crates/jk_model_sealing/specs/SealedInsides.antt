@@ -19,6 +19,7 @@ use Rattle.jk_model_domains.specs.OwnStates.{IsOwnState, Literal, static_of}
 use Rattle.jk_model_domains.specs.ValueTypes.{HoldsDeclared}
 use Rattle.jk_model_heaps.specs.Capabilities.{CapRange, IsGivenOut}
 use Rattle.jk_model_heaps.specs.Heaps.{field_records, heap_words}
+use Rattle.jk_model_heaps.specs.SystemClasses.{REMOTE}
 use Rattle.jk_model_heaps.specs.Throwables.{IsStanding, standing_class}
 use Rattle.jk_model_heaps.specs.Workings.{Inside}
 
@@ -51,10 +52,11 @@ IsNamedBase table (Base.Class c) = IsNamed table c
 IsNamedBase table base = ⊤
 
 -- The class of an object, or of its elements, is one of those that the domain's names mean, and its values fit. Texts, tasks and
--- capabilities aren't plain objects.
+-- capabilities aren't plain objects, and none is of the interface jk/Remote itself.
 abbrev pub IsSealedObject : Surroundings → List NamedObject → Object → Type 0
 IsSealedObject around heap (Plain class values) =
-    IsNamed around.table class × (class ≢ STRING) × (class ≢ TASK) × (class ≢ CAPABILITY) × HasFields around heap class values
+    IsNamed around.table class × (class ≢ STRING) × (class ≢ TASK) × (class ≢ CAPABILITY) × (class ≢ REMOTE)
+    × HasFields around heap class values
 IsSealedObject around heap (Array element items) =
     IsNamedBase around.table element.base × (element.dims ≤ 254)
     × AllByRecursion (λ v. HoldsDeclared around.classes heap v element × IsKnownValue around.caps heap v) items

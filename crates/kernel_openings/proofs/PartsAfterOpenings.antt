@@ -219,7 +219,7 @@ module _ (p : MachineParts) (fit : AreFittingParts p) (new : MachineParts) (a : 
       where
         object_by : IsSoundTable p.world.classes e.table → (object : Object) → IsSealedObject (surroundings (machine_of p) e) inside.heap object
             → HasObject p.world.classes object
-        object_by table (Plain class values) (named, no_text, no_task, no_capability, fields) =
+        object_by table (Plain class values) (named, no_text, no_task, no_capability, no_remote, fields) =
             let there = table.closed class named in has_class-by_record p.world.classes class there.0 there.1
         object_by table (Array element items) h = tt
         object_by table (Text units) h = tt

@@ -1,5 +1,5 @@
 -- A step in which a thread's top segment acted, from what the calls in it promise.
-use Rattle.std.proofs.Common.{◌≡◌, ℕ, List, ◌++◌, slice_set, Option, Some, refl, sym, ap, subst, ◌∙◌}
+use Rattle.std.proofs.Common.{◌≡◌, List, ◌++◌, slice_set, Option, Some, sym, ap, subst, ◌∙◌}
 use Rattle.jk_model.specs.declared.descriptors.MethodType.{MethodType}
 use Rattle.jk_model.specs.declared.output.Line.{Line}
 use Rattle.jk_model_sharing.specs.Segments.{SharedSegment, thread_numbered}

@@ -1,11 +1,7 @@
 -- What follows of a thread that ends, as code makes it.
-use Rattle.std.proofs.Common.{◌≡◌, ℕ, List, slice_get, Some, None, refl, sym, ap, subst, ◌∙◌}
-use Rattle.jk_model.specs.declared.identifiers.ClassId.{ClassId}
-use Rattle.jk_model_domains.specs.Objects.{Plain, object_named}
-use Rattle.jk_model_classes.specs.Worlds.{WorldRecord}
+use Rattle.std.proofs.Common.{◌≡◌}
 use Rattle.jk_model_sharing.specs.SharedStates.{SharedState, popped}
 use Rattle.frame_store.specs.FrameContents.{Ends, FrameContent}
-use Rattle.object_store.specs.HeapContents.{HeapContent}
 use Rattle.segment_steps.specs.declared.meeting.Runs.{Runs}
 use Rattle.kernel_parts.specs.SoundKernels.{KernelContent}
 use Rattle.kernel_turns.specs.SteppedParts.{EndsThread}

@@ -1,5 +1,5 @@
 -- Steps that stay in their frame, one after another over the parts of a kernel, are turns of its machine, and the parts are sound after them.
-use Rattle.std.proofs.Common.{◌≡◌, ◌≢◌, ◌==◌, ℕ, zero, suc, ◌+◌, Bool, true, false, cond, List, [], ◌∷◌, Option, Some, refl, sym, ap, subst, ◌∙◌, arith}
+use Rattle.std.proofs.Common.{◌≡◌, ◌≢◌, ◌==◌, ℕ, zero, suc, ◌+◌, Bool, true, false, cond, List, [], ◌∷◌, Option, Some, refl, sym, ap, subst, ◌∙◌}
 use Rattle.std.specs.Option.{option_map_or}
 use Rattle.std.proofs.lemmas.Bool.{eq-eqb, eqb-true}
 use Rattle.std.proofs.lemmas.List.Sums.{sum_by-append}
@@ -37,7 +37,7 @@ use Rattle.segment_steps.specs.ActingSegments.{goes_on}
 use Rattle.segment_steps.specs.InFrameSteps.{NeedsNoClass, StaysInFrame, StepsInFrame}
 use Rattle.segment_steps.specs.declared.went.Went.TheVariants as Goes
 use Rattle.segment_steps.proofs.ContentsStay.{frames_stay}
-use Rattle.step_contents.specs.Contents.{Becomes, Contents, FramesBecome, HasFrames, Here, Holds, contents_of, left_behind}
+use Rattle.step_contents.specs.Contents.{Becomes, Contents, Here, Holds, contents_of, left_behind}
 use Rattle.step_contents.specs.Settings.{IsSetting}
 use Rattle.kernel_turns.specs.PaidSteps.{HasSteps, spent_times}
 use Rattle.kernel_turns.proofs.PaidTimes.{caps_spent, may_spend, one_paid}

@@ -1,5 +1,5 @@
 -- Where a live thread runs, and what it does where its steps stay in its frame.
-use Rattle.std.proofs.Common.{◌≡◌, ◌==◌, ℕ, ◌≤◌, false, find, List, [], ◌∷◌, map, slice_get, Option, Some, None, option_map, refl, sym, ap, subst, ◌∙◌, arith}
+use Rattle.std.proofs.Common.{◌≡◌, ◌==◌, find, List, [], ◌∷◌, map, slice_get, Option, Some, None, option_map, sym, ap, subst, ◌∙◌}
 use Rattle.std.specs.Prelude.{option_and_then}
 use Rattle.std.proofs.lemmas.Option.{same_Some}
 use Rattle.list_lemmas.proofs.FoundItems.{Finds, finds}
@@ -9,35 +9,21 @@ use Rattle.list_lemmas.proofs.TestsAndOrders.{mapped_option}
 use Rattle.jk_model.specs.declared.identifiers.DomainId.{DomainId}
 use Rattle.jk_model.specs.declared.identifiers.ThreadNo.{ThreadNo}
 use Rattle.jk_model_sharing.specs.Segments.{SharedSegment, SharedThread, top_of, top_segment}
-use Rattle.jk_model_sharing.specs.SharedStates.{SharedState}
-use Rattle.jk_model_machine_state.specs.Places.{LiveDomain, run_of, setting_of}
-use Rattle.jk_model_runs.specs.Events.{Turns}
+use Rattle.jk_model_machine_state.specs.Places.{LiveDomain}
 use Rattle.jk_model_runs.specs.Sealed.{SegmentsFit}
 use Rattle.class_init.specs.KeptStates.{KeptState}
-use Rattle.frame_store.specs.FrameContents.{FrameContent}
 use Rattle.heap_laws.proofs.MappedLists.{mapped}
-use Rattle.object_store.specs.HeapContents.{HeapContent}
 use Rattle.kernel_parts.specs.SoundKernels.{AreKernelParts, KernelContent, kernel_machine, parts_of}
 use Rattle.machine_laws.specs.KnownMachines.{IsKnownWithoutJk}
 use Rattle.machine_parts.specs.MachineParts.{segment_with_frames, thread_with_frames}
-use Rattle.row_laws.specs.LocalStepLaws.{LocalStepsKeep}
 use Rattle.segment_steps.specs.declared.meeting.Runs.{Runs}
-use Rattle.segment_steps.specs.ActingSegments.{MayAct}
-use Rattle.segment_steps.specs.InFrameSteps.{RunsInFrame}
-use Rattle.step_contents.specs.Contents.{contents_of, here_at}
 use Rattle.thread_segments.specs.Asked.{IsLiveDomain}
 use Rattle.kernel_turns.specs.declared.running.Running.{Running}
 use Rattle.kernel_turns.specs.LiveThreads.{IsRunning}
-use Rattle.kernel_turns.specs.PaidSteps.{HasSteps}
 use Rattle.kernel_turns.specs.RunningPlaces.{RunsAt, runs}
-use Rattle.kernel_turns.specs.SteppedParts.{HasRoomsForLiterals}
-use Rattle.kernel_turns.proofs.DomainsByPlace.{names_there, own_of_live, shared_found, shared_is_live, shared_there}
-use Rattle.kernel_turns.proofs.FrameSteps.{after_steps, frame_steps}
+use Rattle.kernel_turns.proofs.DomainsByPlace.{own_of_live, shared_found, shared_is_live, shared_there}
 use Rattle.kernel_turns.proofs.KeptParts.{single_threads}
-use Rattle.kernel_turns.proofs.PlacedThreads.{own_at, place}
-use Rattle.kernel_turns.proofs.SegmentsMayAct.{holds, may_act}
-use Rattle.kernel_turns.proofs.SettingsOfPlaces.{is_setting}
-use Rattle.kernel_turns.proofs.StaysWithoutJk.{StaysWithoutJk}
+use Rattle.kernel_turns.proofs.PlacedThreads.{own_at}
 
 -- ---- The own state of the domain in which a thread's only segment runs.
 

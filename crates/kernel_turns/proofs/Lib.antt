@@ -28,7 +28,6 @@ mod StaysWithoutJk
 mod StepsOfActs
 mod StepsOfRaises
 mod ThrownObjects
-pub mod NoCapabilityCalled
 mod WholeSteps
 mod TurnsInTurn
 mod WorkedSteps

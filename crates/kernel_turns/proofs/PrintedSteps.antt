@@ -1,5 +1,5 @@
 -- What a step prints that prints nothing, and how its answer is told.
-use Rattle.std.proofs.Common.{◌≡◌, ℕ, ◌<◌, ◌^◌, List, [], Result, Ok, Err, Bool, refl, sym, append-nil}
+use Rattle.std.proofs.Common.{◌<◌, ◌^◌, List, [], Ok, Err, refl, sym, append-nil}
 use Rattle.jk_model.specs.declared.output.Line.{Line}
 use Rattle.jk_model.proofs.AppendsInTurn.{Appends-nil}
 use Rattle.jk_model.proofs.CountsNeverFall.{NeverFalls-refl}

@@ -1,12 +1,10 @@
 -- A step in which something was pending, from what the calls in it promise.
-use Rattle.std.proofs.Common.{◌≡◌, ℕ, List, slice_get, slice_set, Option, Some, None, option_map, refl, sym, ap, subst, ◌∙◌}
-use Rattle.std.specs.Prelude.{option_and_then}
+use Rattle.std.proofs.Common.{◌≡◌, List, slice_get, slice_set, Option, Some, option_map, sym, ap, subst, ◌∙◌}
 use Rattle.jk_model.specs.declared.descriptors.MethodType.{MethodType}
 use Rattle.jk_model.specs.declared.output.Line.{Line}
-use Rattle.jk_model.specs.declared.steps.Raise.{Raise}
 use Rattle.jk_model.specs.declared.steps.Raise.TheVariants as Raised
 use Rattle.jk_model.specs.declared.steps.Standing.{Standing}
-use Rattle.jk_model_sharing.specs.Segments.{SharedSegment, SharedThread, shared_form, thread_numbered, top_of, with_segment, with_segments}
+use Rattle.jk_model_sharing.specs.Segments.{SharedSegment, shared_form, thread_numbered, with_segment, with_segments}
 use Rattle.jk_model_sharing.specs.SharedStates.{SharedState, spent, with_flags}
 use Rattle.jk_model_runs.specs.Steps.{Steps}
 use Rattle.class_init.specs.KeptStates.{KeptState}
@@ -20,7 +18,7 @@ use Rattle.segment_steps.specs.declared.went.Went.{Went}
 use Rattle.thread_segments.specs.Asked.{IsLiveThread}
 use Rattle.kernel_parts.specs.SoundKernels.{AreKernelParts, KernelContent, kernel_machine}
 use Rattle.kernel_turns.specs.declared.running.Running.{Running}
-use Rattle.kernel_turns.specs.RunningPlaces.{paying, runs}
+use Rattle.kernel_turns.specs.RunningPlaces.{paying}
 use Rattle.kernel_turns.specs.StepsOfThreads.{IsReady, content_of}
 use Rattle.kernel_turns.specs.SteppedParts.{Follows, HasRoomsForLiterals, MayFollow, RaisesAreSteps, RaisesAs, flagged}
 use Rattle.kernel_turns.proofs.FlaggedParts.{threads_change}

@@ -1,15 +1,13 @@
 -- What is known of a thread whose step may be taken, as code asks for it.
-use Rattle.std.proofs.Common.{◌≡◌, ◌⊎◌, inl, inr, ◌≢◌, Bool, true, false, slice_get, Option, Some, None, sym, ap, subst, refl, ◌∙◌}
+use Rattle.std.proofs.Common.{◌≡◌, ◌⊎◌, inl, inr, Bool, true, false, slice_get, Option, Some, None, sym, subst, refl, ◌∙◌}
 use Rattle.std.specs.Prelude.{option_and_then}
 use Rattle.jk_model.specs.declared.identifiers.DomainId.{DomainId}
 use Rattle.jk_model.specs.declared.identifiers.SegmentNo.{SegmentNo}
-use Rattle.jk_model.specs.declared.identifiers.ThreadNo.{ThreadNo}
 use Rattle.jk_model.specs.declared.steps.Raise.TheVariants as Raised
 use Rattle.jk_model.specs.declared.steps.Standing.{Standing}
 use Rattle.jk_model.specs.declared.steps.Standing.TheVariants as Stands
 use Rattle.jk_model_sharing.specs.Segments.{SharedSegment, SharedThread, thread_numbered, top_of, with_revoked, with_stop}
 use Rattle.jk_model_sharing.specs.SharedStates.{SharedState, spent, with_flags}
-use Rattle.class_init.specs.KeptStates.{KeptState}
 use Rattle.segment_steps.specs.declared.meeting.Runs.{Runs}
 use Rattle.thread_segments.specs.Asked.{IsLiveDomain, IsLiveThread, IsThere, MaySpend}
 use Rattle.kernel_parts.specs.SoundKernels.{KernelContent, kernel_machine, parts_of}

@@ -9,7 +9,6 @@ use Rattle.jk_model_running.specs.Initialising.{FrameNeeds, IsInProgressElsewher
 use Rattle.jk_model_running.specs.LocalSteps.{TopFrame}
 use Rattle.jk_model_sharing.specs.Segments.{SharedThread, thread_numbered, top_of, top_segment}
 use Rattle.jk_model_sharing.specs.SharedStates.{SharedDomain, domain_numbered}
-use Rattle.jk_model_machine_state.specs.Machines.{IsLiveThread}
 use Rattle.jk_model_machine_state.specs.Places.{RunningSegment, run_of}
 use Rattle.jk_model_runs.specs.Steps.{IsHeld, Rested, Steps, is_held, is_spent, not_live}
 use Rattle.list_lemmas.proofs.FoundItems.{Finds, finds}

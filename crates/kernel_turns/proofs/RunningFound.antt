@@ -1,12 +1,12 @@
 -- The segment of the number of a thread's top segment is that one.
-use Rattle.std.proofs.Common.{◌≡◌, ℕ, zero, suc, ◌==◌, Bool, true, false, List, [], ◌∷◌, find, length, slice_get, Option, Some, None, option_map, refl, sym, ap, subst, ◌∙◌, arith, eq-eqb}
+use Rattle.std.proofs.Common.{◌≡◌, ℕ, zero, suc, ◌==◌, Bool, true, false, List, [], ◌∷◌, find, slice_get, Option, Some, None, option_map, refl, sym, ap, ◌∙◌, eq-eqb}
 use Rattle.std.specs.Prelude.{option_and_then, ◌||◌}
 use Rattle.std.specs.List.{list_any}
 use Rattle.std.proofs.lemmas.Bool.{eqb-true}
 use Rattle.std.proofs.lemmas.Option.{same_Some}
 use Rattle.jk_model.specs.declared.identifiers.SegmentNo.{SegmentNo}
 use Rattle.jk_model.specs.declared.identifiers.ThreadNo.{ThreadNo}
-use Rattle.jk_model_sharing.specs.Segments.{PlacedSegment, SharedSegment, SharedThread, is_numbered, placed_in, segment_numbered, shared_form, thread_numbered, thread_with, top_of, top_segment}
+use Rattle.jk_model_sharing.specs.Segments.{SharedSegment, SharedThread, is_numbered, placed_in, segment_numbered, shared_form, thread_numbered, thread_with, top_of, top_segment}
 use Rattle.list_lemmas.proofs.FoundItems.{Finds, finds}
 use Rattle.list_lemmas.proofs.ItemsOfLists.{place_of}
 use Rattle.list_lemmas.proofs.TestsAndOrders.{mapped_option}

@@ -1,19 +1,16 @@
 -- Turns one after another, and what several payments leave of what domains share.
-use Rattle.std.proofs.Common.{◌≡◌, ◌==◌, ℕ, zero, suc, ◌+◌, ◌-◌, ◌≤◌, Bool, true, false, cond, List, [], ◌∷◌, ◌++◌, map, Option, Some, None, option_map, refl, sym, ap, subst, ◌∙◌, append_assoc, arith}
+use Rattle.std.proofs.Common.{◌≡◌, ◌==◌, ℕ, zero, suc, ◌+◌, ◌-◌, Bool, true, false, cond, List, [], ◌∷◌, ◌++◌, map, Option, Some, None, option_map, refl, sym, ap, subst, ◌∙◌, append_assoc, arith}
 use Rattle.jk_model.specs.declared.identifiers.DomainId.{DomainId}
 use Rattle.jk_model.specs.declared.identifiers.ThreadNo.{ThreadNo}
 use Rattle.jk_model.specs.declared.output.Line.{Line}
-use Rattle.jk_model_classes.specs.declared.sharing.Stub.{Stub}
-use Rattle.jk_model_sharing.specs.Segments.{SharedThread}
 use Rattle.jk_model_sharing.specs.SharedStates.{SharedDomain, SharedState, caps_of, spent}
-use Rattle.jk_model_heaps.specs.Capabilities.{CapRange}
 use Rattle.jk_model_machine_state.specs.Machines.{Machine}
 use Rattle.jk_model_runs.specs.Events.{Turns}
 use Rattle.machine_laws.specs.KnownMachines.{IsKnownWithoutJk}
 use Rattle.machine_laws.specs.SealedSteps.{StepsStayWithoutJk}
 use Rattle.thread_segments.specs.Answers.{spent_steps}
 use Rattle.kernel_turns.specs.PaidSteps.{spent_times}
-use Rattle.kernel_turns.proofs.PaidTimes.{caps_spent, spent_last}
+use Rattle.kernel_turns.proofs.PaidTimes.{caps_spent}
 
 pub none_added : (n : ℕ) → n ≡ 0 + n
 none_added n = (let is : n ≡ 0 + n = omega arith in is)

@@ -1,5 +1,5 @@
 -- One whole step of a thread, from the parts that tell whether it rests.
-use Rattle.std.proofs.Common.{◌≡◌, ◌≢◌, ◌⊎◌, inl, inr, ◌==◌, ℕ, Bool, true, false, find, List, [], ◌∷◌, ◌++◌, map, slice_get, Contains, Option, Some, None, refl, sym, ap, subst, ◌∙◌}
+use Rattle.std.proofs.Common.{◌≡◌, ◌≢◌, ◌⊎◌, inl, inr, ◌==◌, true, false, find, List, [], ◌∷◌, ◌++◌, map, slice_get, Option, Some, None, refl, sym, ap, subst, ◌∙◌}
 use Rattle.std.specs.Prelude.{MatchOption, option_and_then}
 use Rattle.std.proofs.lemmas.Option.{same_Some}
 use Rattle.list_lemmas.proofs.FoundItems.{Finds, finds}
@@ -15,18 +15,15 @@ use Rattle.jk_model_domains.specs.declared.states.Look.TheVariants as Sees
 use Rattle.jk_model_domains.specs.OwnStates.{IsLook, OwnState, state_of}
 use Rattle.jk_model_frames.specs.Frames.{FrameState}
 use Rattle.jk_model_running.specs.Initialising.{FrameNeeds, IsInProgressElsewhere}
-use Rattle.jk_model_running.specs.LocalSteps.{TopFrame}
 use Rattle.jk_model_sealing.specs.AnsweringFrames.{FramesAnswer}
 use Rattle.jk_model_sharing.specs.Segments.{SharedSegment, SharedThread, top_of, top_segment}
 use Rattle.jk_model_sharing.specs.SharedStates.{SharedDomain, domain_numbered}
-use Rattle.jk_model_machine_state.specs.Places.{run_of}
 use Rattle.jk_model_runs.specs.AnsweredCalls.{SegmentsAnswer}
 use Rattle.jk_model_runs.specs.Steps.{IsHeld, Steps}
-use Rattle.class_init.specs.KeptStates.{KeptState}
 use Rattle.frame_store.specs.FrameContents.{HasTop, StoredSegment}
 use Rattle.frame_store.specs.FrameContents.{TopFrame as StoredTop}
 use Rattle.heap_laws.proofs.MappedLists.{mapped}
-use Rattle.kernel_parts.specs.SoundKernels.{AreKernelParts, KernelContent, kernel_machine, parts_of}
+use Rattle.kernel_parts.specs.SoundKernels.{AreKernelParts, KernelContent, kernel_machine}
 use Rattle.machine_laws.specs.KnownMachines.{IsKnownWithoutJk}
 use Rattle.machine_parts.specs.MachineParts.{frames_in, segment_with_frames, thread_with_frames}
 use Rattle.segment_steps.specs.declared.meeting.Meeting.{Meeting}

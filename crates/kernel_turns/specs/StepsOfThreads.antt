@@ -1,5 +1,5 @@
 -- One step of one thread, over the contents of all parts.
-use Rattle.std.specs.Prelude.{◌≡◌, ℕ, List, [], ◌++◌, Option, Result}
+use Rattle.std.specs.Prelude.{◌≡◌, ℕ, List, Option, Result}
 use Rattle.jk_model.specs.declared.descriptors.MethodType.{MethodType}
 use Rattle.jk_model.specs.declared.output.Line.{Line}
 use Rattle.jk_model_classes.specs.Worlds.{WorldRecord}

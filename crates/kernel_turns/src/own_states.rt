@@ -12,7 +12,6 @@ ghost use Rattle.step_contents.specs.Conditions.{MayRaise};
 ghost use Rattle.step_contents.specs.Contents.{contents_of, here_at, left_behind};
 ghost use Rattle.system_calls.specs.SystemSteps.{printed};
 ghost use Rattle.segment_steps.specs.ActingSegments.{ActsSo, MayAct};
-ghost use Rattle.segment_steps.specs.CallsOnSystem.{LacksRemoteForJk};
 ghost use Rattle.segment_steps.specs.Meetings.{Meets};
 ghost use Rattle.segment_steps.specs.RaisingHere.{RaisedHere};
 ghost use Rattle.segment_steps.specs.StepsAlone.{went_so};
@@ -59,7 +58,6 @@ pub(crate) fn act_in<H: ObjectStore, F: FrameStore, S: Sink>(
 ) -> Result<Went, SinkFailed>
     requires may { (own : KeptState) × (slice_get owns.old.items r.domain.0 ≡ Some (Some own))
         × MayAct (contents_of (H.content heap.old) (F.content frames.old) own) (here_at w.now shared.old r.domain r.segment)
-        × LacksRemoteForJk (contents_of (H.content heap.old) (F.content frames.old) own) (here_at w.now shared.old r.domain r.segment)
         × ((f : AFrame) × TopFrame (F.content frames.old) r.segment f × Meets w.now.classes own.state r f met.now) }
     requires free { met.now.look ≢ Sees.Waits }
     ensures { (own : KeptState) → slice_get owns.old.items r.domain.0 ≡ Some (Some own) → (after : KeptState)

@@ -4,13 +4,11 @@ ghost use Rattle.std.specs.Prelude.{◌≡◌, ◌≢◌, ◌⊎◌, false, true
 ghost use Rattle.jk_model.specs.declared.descriptors.MethodType.{MethodType};
 ghost use Rattle.jk_model.specs.declared.steps.Standing.TheVariants as Stands;
 ghost use Rattle.jk_model_sharing.specs.Segments.{with_revoked, with_stop};
-ghost use Rattle.jk_model_sharing.specs.SharedStates.{spent, with_flags};
+ghost use Rattle.jk_model_sharing.specs.SharedStates.{with_flags};
 ghost use Rattle.jk_model_domains.specs.declared.states.Look.TheVariants as Sees;
 ghost use Rattle.jk_model_frames.specs.Frames.{FrameState as AFrame};
 ghost use Rattle.class_init.specs.KeptStates.{KeptState};
 ghost use Rattle.frame_store.specs.FrameContents.{TopFrame};
-ghost use Rattle.step_contents.specs.Contents.{contents_of, here_at};
-ghost use Rattle.segment_steps.specs.CallsOnSystem.{LacksRemoteForJk};
 ghost use Rattle.segment_steps.specs.Meetings.{Meets};
 ghost use Rattle.thread_segments.specs.Asked.{IsThere};
 ghost use Rattle.kernel_turns.specs.StepsOfThreads.{IsReady, StepsSo, content_of, sink_state};
@@ -72,9 +70,6 @@ pub(crate) fn act_now<H: ObjectStore, F: FrameStore, S: Sink>(
     requires met { (own : KeptState) × (slice_get owns.old.items running.runs.domain.0 ≡ Some (Some own))
         × ((f : AFrame) × TopFrame (F.content frames.old) running.runs.segment f × Meets w.now.classes own.state running.runs f met.now) }
     requires free { met.now.look ≢ Sees.Waits }
-    requires no_remote { (own : KeptState) → slice_get owns.old.items running.runs.domain.0 ≡ Some (Some own)
-        → LacksRemoteForJk (contents_of (H.content heap.old) (F.content frames.old) own)
-        (here_at w.now (spent running.runs.domain shared.old) running.runs.domain running.runs.segment) }
     ensures { (main : MethodType) → IsReady (content_of w.now owns.old.items shared.old (H.content heap.old) (F.content frames.old) main) running
         → StepsSo (content_of w.now owns.old.items shared.old (H.content heap.old) (F.content frames.old) main) running
         (sink_state (S.bytes out.old) (S.pieces out.old) (S.faults out.old)) (sink_state (S.bytes out.new) (S.pieces out.new) (S.faults out.new))

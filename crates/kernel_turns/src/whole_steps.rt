@@ -11,9 +11,6 @@ ghost use Rattle.frame_store.specs.FrameContents.{TopFrame};
 ghost use Rattle.jk_outside.specs.SeveralLines.{PrintsLines};
 ghost use Rattle.kernel_events.specs.PrintedLines.{as_done};
 ghost use Rattle.machine_laws.specs.KnownMachines.{IsKnownWithoutJk};
-ghost use Rattle.jk_model_sharing.specs.SharedStates.{spent};
-ghost use Rattle.step_contents.specs.Contents.{contents_of, here_at};
-ghost use Rattle.segment_steps.specs.CallsOnSystem.{LacksRemoteForJk};
 ghost use Rattle.segment_steps.specs.Meetings.{Meets};
 ghost use Rattle.thread_segments.specs.Asked.{IsLiveDomain};
 ghost use Rattle.thread_segments.specs.Answers.{steps_left_of};
@@ -100,9 +97,6 @@ fn take_step<H: ObjectStore, F: FrameStore, S: Sink>(
     requires met { (own : KeptState) × (slice_get owns.old.items running.runs.domain.0 ≡ Some (Some own))
         × ((f : AFrame) × TopFrame (F.content frames.old) running.runs.segment f × Meets w.now.classes own.state running.runs f met.now) }
     requires free { met.now.look ≢ Sees.Waits }
-    requires no_remote { (own : KeptState) → slice_get owns.old.items running.runs.domain.0 ≡ Some (Some own)
-        → LacksRemoteForJk (contents_of (H.content heap.old) (F.content frames.old) own)
-        (here_at w.now (spent running.runs.domain shared.old) running.runs.domain running.runs.segment) }
     ensures { (main : MethodType) → IsReady (content_of w.now owns.old.items shared.old (H.content heap.old) (F.content frames.old) main) running
         → StepsSo (content_of w.now owns.old.items shared.old (H.content heap.old) (F.content frames.old) main) running
         (sink_state (S.bytes out.old) (S.pieces out.old) (S.faults out.old)) (sink_state (S.bytes out.new) (S.pieces out.new) (S.faults out.new))

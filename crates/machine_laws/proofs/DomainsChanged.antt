@@ -41,11 +41,12 @@ module _ (classes : List ClassRecord) (table : List NamedClass) (old new : List 
   known_more heap Held.Unset h = tt
 
   object_more : (heap : List NamedObject) (o : Object) → IsSealedObject (around old) heap o → IsSealedObject (around new) heap o
-  object_more heap (Plain c values) (named, a, b, d, has) = (
+  object_more heap (Plain c values) (named, a, b, d, e, has) = (
     named,
     a,
     b,
     d,
+    e,
     record {
       as_many = has.as_many;
       each = λ i v field at is. let h = has.each i v field at is in (h.0, known_more heap v h.1);

@@ -104,8 +104,8 @@ module _ (old : Surroundings) (more : List ClassRecord) (ranges : List CapRange)
   base_there base h = tt
 
   object_still : (object : Object) → IsSealedObject old heap object → IsSealedObject new heap object
-  object_still (Plain class values) (named, no_text, no_task, no_capability, fields) =
-      (named, no_text, no_task, no_capability, fields_still class values (there class named) fields)
+  object_still (Plain class values) (named, no_text, no_task, no_capability, no_remote, fields) =
+      (named, no_text, no_task, no_capability, no_remote, fields_still class values (there class named) fields)
   object_still (Array element items) (base, dims, all) = (
     base,
     dims,
@@ -115,7 +115,7 @@ module _ (old : Surroundings) (more : List ClassRecord) (ranges : List CapRange)
   object_still (Task segment) h = h
 
   object_there : (object : Object) → IsSealedObject old heap object → HasObject old.classes object
-  object_there (Plain class values) (named, no_text, no_task, no_capability, fields) = there class named
+  object_there (Plain class values) (named, no_text, no_task, no_capability, no_remote, fields) = there class named
   object_there (Array element items) h = tt
   object_there (Text units) h = tt
   object_there (Task segment) h = tt

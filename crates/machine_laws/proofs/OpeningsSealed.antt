@@ -12,6 +12,7 @@ use Rattle.jk_model_typing.specs.FrameTypes.{STRING}
 use Rattle.jk_model_domains.specs.Objects.{CAPABILITY, NamedObject, PRINT_STREAM, Plain, TASK, Task, object_named}
 use Rattle.jk_model_heaps.specs.declared.shapes.Shape.TheVariants as Of
 use Rattle.jk_model_heaps.specs.Heaps.{zero_fields, zero_object}
+use Rattle.jk_model_heaps.specs.SystemClasses.{REMOTE}
 use Rattle.jk_model_heaps.specs.Throwables.{standing_class}
 use Rattle.jk_model_heaps.specs.Workings.{Inside}
 use Rattle.jk_model_openings.specs.OpenedDomains.{IsOpening, IsOpeningName}
@@ -30,29 +31,36 @@ another c d e same = false≢true (sym e ∙ eq-eqb c.0 d.0 (ap (λ (x : ClassId
 
 -- a system class of plain objects
 abbrev IsPlainSystem : ClassId → Type 0
-IsPlainSystem c = (c.0 < length system_classes) × (c.0 == STRING.0 ≡ false) × (c.0 == TASK.0 ≡ false) × (c.0 == CAPABILITY.0 ≡ false)
+IsPlainSystem c =
+    (c.0 < length system_classes) × (c.0 == STRING.0 ≡ false) × (c.0 == TASK.0 ≡ false) × (c.0 == CAPABILITY.0 ≡ false)
+    × (c.0 == REMOTE.0 ≡ false)
 
 low : (n : ℕ) → n < 45 → n < length system_classes
 low n h = let many : length system_classes ≡ 45 = refl in omega (arith, many)
 
 stream_plain : IsPlainSystem PRINT_STREAM
-stream_plain = (low 6 (omega arith), refl, refl, refl)
+stream_plain = (low 6 (omega arith), refl, refl, refl, refl)
 
 standing_plain : (s : Standing) → IsPlainSystem (standing_class s)
-standing_plain Stands.OutOfMemoryError = (low 40 (omega arith), refl, refl, refl)
-standing_plain Stands.StackOverflowError = (low 41 (omega arith), refl, refl, refl)
-standing_plain Stands.Revoked = (low 42 (omega arith), refl, refl, refl)
-standing_plain Stands.Quota = (low 43 (omega arith), refl, refl, refl)
-standing_plain Stands.NotCopiable = (low 44 (omega arith), refl, refl, refl)
-standing_plain Stands.Remote = (low 18 (omega arith), refl, refl, refl)
-standing_plain Stands.ThreadDeath = (low 34 (omega arith), refl, refl, refl)
-standing_plain Stands.Security = (low 27 (omega arith), refl, refl, refl)
+standing_plain Stands.OutOfMemoryError = (low 40 (omega arith), refl, refl, refl, refl)
+standing_plain Stands.StackOverflowError = (low 41 (omega arith), refl, refl, refl, refl)
+standing_plain Stands.Revoked = (low 42 (omega arith), refl, refl, refl, refl)
+standing_plain Stands.Quota = (low 43 (omega arith), refl, refl, refl, refl)
+standing_plain Stands.NotCopiable = (low 44 (omega arith), refl, refl, refl, refl)
+standing_plain Stands.Remote = (low 18 (omega arith), refl, refl, refl, refl)
+standing_plain Stands.ThreadDeath = (low 34 (omega arith), refl, refl, refl, refl)
+standing_plain Stands.Security = (low 27 (omega arith), refl, refl, refl, refl)
 
 module _ (around : Surroundings) (quota : ℕ) (inside : Inside) (codes : AreSoundCodes around.classes)
     (sound : IsSoundTable around.classes around.table) (opening : IsOpening around.classes around.table quota inside) where
   shape_named : (c : ClassId) → IsPlainSystem c → IsNamedShape around.table (Of.Plain c)
-  shape_named c (is_low, no_text, no_task, no_capability) =
-      (sound.knows_system c is_low, another c STRING no_text, another c TASK no_task, another c CAPABILITY no_capability)
+  shape_named c (is_low, no_text, no_task, no_capability, no_remote) = (
+    sound.knows_system c is_low,
+    another c STRING no_text,
+    another c TASK no_task,
+    another c CAPABILITY no_capability,
+    another c REMOTE no_remote,
+  )
 
   -- each object is a new one of a class of plain objects
   record IsNewPlain (e : NamedObject) : Type 0 where

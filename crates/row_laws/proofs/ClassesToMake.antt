@@ -1,12 +1,15 @@
--- The classes that instructions name are known to the domain, and those of which new makes objects are no texts, tasks or capabilities.
+-- The classes that instructions name are known to the domain, and those of which new makes objects are no texts, tasks or capabilities, and
+-- no interfaces of the system.
 use Rattle.std.proofs.Common.{◌≡◌, ◌≢◌, ◌≤◌, ℕ, Bool, true, not, List, Contains, Some, slice_get, refl, sym, subst, ◌∙◌, arith}
-use Rattle.std.specs.Prelude.{bytes_eq}
+use Rattle.std.specs.Prelude.{IsFalse, bytes_eq}
 use Rattle.std.specs.List.{list_all}
+use Rattle.std.proofs.lemmas.Bool.{both_ways}
 use Rattle.std.proofs.lemmas.Option.{same_Some, slice_get_within}
 use Rattle.std.proofs.lemmas.Slice.Eq.{bytes_eq-Decides}
 use Rattle.list_lemmas.proofs.ItemsByPlace.{item_there}
 use Rattle.list_lemmas.proofs.ItemsOfLists.{Contains-at, passed_at, place_of}
 use Rattle.list_lemmas.proofs.TestsAndOrders.{so_not}
+use Rattle.jk_model.specs.Flags.{has, INTERFACE}
 use Rattle.jk_model.specs.SystemTable.{SystemClass, SystemMethod, system_classes}
 use Rattle.jk_model.specs.declared.identifiers.ClassId.{ClassId}
 use Rattle.jk_model.specs.declared.opcodes.TheConstants.{NEW}
@@ -22,6 +25,7 @@ use Rattle.jk_model_typing.specs.FrameTypes.{STRING}
 use Rattle.jk_model_typing.specs.Scopes.{LeadsToLink, NamesClass}
 use Rattle.jk_model_domains.specs.Objects.{CAPABILITY, TASK}
 use Rattle.jk_model_heaps.specs.RunningCode.{RunsCode}
+use Rattle.jk_model_heaps.specs.SystemClasses.{REMOTE}
 use Rattle.jk_model_heaps.specs.Workings.{Setting, Working}
 use Rattle.jk_model_sealing.specs.SealedInsides.{IsNamedBase, Surroundings}
 use Rattle.jk_model_sealing.specs.SealedRuns.{KnowsClassOf}
@@ -58,6 +62,17 @@ module _ (classes : List ClassRecord) (sound : AreSoundCodes classes) where
 
   pub made_no_capability : (c : ClassId) → MayBeMade classes c → c ≢ CAPABILITY
   made_no_capability c made is = not_made 11 _ refl refl refl (subst (MayBeMade classes) is made)
+
+  -- nor are interfaces
+
+  interface_not_made : (n : ℕ) (entry : SystemClass) → slice_get system_classes n ≡ Some entry → has entry.flags INTERFACE ≡ true
+      → MayBeMade classes (numbered n) → ⊥
+  interface_not_made n entry listed interface made =
+      let said = entry_of classes sound.system (numbered n) entry made.class listed made.is_class in
+      both_ways (has entry.flags INTERFACE) (subst (λ (flags : ℕ). IsFalse (has flags INTERFACE)) said.flags made.no_interface) interface
+
+  pub made_no_remote : (c : ClassId) → MayBeMade classes c → c ≢ REMOTE
+  made_no_remote c made is = interface_not_made 10 _ refl refl (subst (MayBeMade classes) is made)
 
 -- ---- What the pool names.
 

@@ -80,7 +80,7 @@ module _ (order : StandInOneOrder) (around : Surroundings) (quota : ℕ) (inside
   object_there = sealed.objects (named f.name (Plain f.class f.fields)) (found_stands f.name (Plain f.class f.fields) inside.heap f.object)
 
   pub fields_there : HasFields around inside.heap f.class f.fields
-  fields_there = object_there.4
+  fields_there = object_there.5
 
   pub record_there : slice_get (field_records around.classes f.class) f.place ≡ Some field
   record_there =

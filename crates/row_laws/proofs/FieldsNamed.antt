@@ -107,7 +107,7 @@ module _ (around : Surroundings) (sound : AreSoundCodes around.classes) (quota :
   plain_has a d values object up =
       let stands = found_stands a (Plain d values) inside.heap object in
       let fields = sealed.objects (named a (Plain d values)) stands in
-      has_field around inside.heap a d values m field object fields.4 is plain up
+      has_field around inside.heap a d values m field object fields.5 is plain up
 
   -- an object that fits a class below the field's
   object_has : (a : ℕ) (o : Object) (e : ClassId) → object_named inside.heap a ≡ Some o → IsSubclass around.classes e m.class

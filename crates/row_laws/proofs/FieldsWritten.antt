@@ -73,7 +73,7 @@ module _ (order : StandInOneOrder) (around : Surroundings) (x : Setting) (inside
   field_put_keeps =
       let was = object_there order around x.quota inside sealed m field is v f in
       written_keeps around x inside f.name (Plain f.class f.fields) (Plain f.class values) sealed f.object alike
-      (was.0, was.1, was.2, was.3, fields_then) (λ n e. absurd cc)
+      (was.0, was.1, was.2, was.3, was.4, fields_then) (λ n e. absurd cc)
 
 -- ---- The rows.
 

@@ -32,7 +32,7 @@ module _ (around : Surroundings) (x : Setting) (sound : AreSoundCodes around.cla
     (a : ℕ) (c : ClassId) (text : Value) (others : List Value) (there : object_named inside.heap a ≡ Some (Plain c (text ∷ others)))
     (begins : BeginsWithText around.classes c) where
   abbrev fields : HasFields around inside.heap c (text ∷ others)
-  fields = (plain_sealed around sound x.quota inside sealed a c (text ∷ others) there).4
+  fields = (plain_sealed around sound x.quota inside sealed a c (text ∷ others) there).5
 
   first_at : slice_get (field_records around.classes c) 0 ≡ Some begins.field
   first_at = ap (λ (fs : List FieldRecord). slice_get fs 0) begins.records
@@ -71,7 +71,7 @@ module _ (around : Surroundings) (x : Setting) (sound : AreSoundCodes around.cla
     object_sealed : IsSealedObject around new_heap (Plain c (t ∷ others))
     object_sealed =
         let s = plain_sealed around sound x.quota inside sealed a c (text ∷ others) there in
-        (s.0, s.1, s.2, s.3, record { as_many = fields.as_many; each = each_fits })
+        (s.0, s.1, s.2, s.3, s.4, record { as_many = fields.as_many; each = each_fits })
 
     pub text_kept : KeepsInside around x inside (with_heap inside (with_object a (Plain c (t ∷ others)) inside.heap))
     text_kept =

@@ -29,7 +29,7 @@ use Rattle.heap_laws.specs.SoundCodes.{AreSoundCodes}
 use Rattle.row_laws.proofs.FreshObjects.{made_fit}
 use Rattle.row_laws.proofs.InstancesFitTypes.{instance_fits}
 use Rattle.typing_lemmas.proofs.OneScope.{one_link}
-use Rattle.row_laws.proofs.ClassesToMake.{class_known, made_no_capability, made_no_task, made_no_text, new_made, type_known}
+use Rattle.row_laws.proofs.ClassesToMake.{class_known, made_no_capability, made_no_remote, made_no_task, made_no_text, new_made, type_known}
 use Rattle.row_laws.proofs.HeapFramesLeft.{Keeps, StaysInLine, fresh_raised, in_line, shape_at, took, typed, went_on}
 use Rattle.row_laws.proofs.InsidesMade.{pushed_keeps}
 
@@ -70,6 +70,7 @@ module _ (around : Surroundings) (x : Setting) (w new : Working) (outcome : Outc
         made_no_text around.classes sound h.class made,
         made_no_task around.classes sound h.class made,
         made_no_capability around.classes sound h.class made,
+        made_no_remote around.classes sound h.class made,
       ) (λ n e. absurd cc)
       (λ a heap there kept goes.
       let t = typed around x w runs code in

@@ -27,7 +27,7 @@ use Rattle.heap_laws.specs.KeptInsides.{KeepsInside}
 use Rattle.heap_laws.specs.RaisableObjects.{IsThrowable, MayBeRaised}
 use Rattle.heap_laws.specs.RunningFrames.{IsKnownSetting}
 use Rattle.heap_laws.specs.SoundCodes.{AreSoundCodes}
-use Rattle.row_laws.proofs.SystemParents.{below_listed, no_capability, no_task, no_text}
+use Rattle.row_laws.proofs.SystemParents.{below_listed, no_capability, no_remote, no_task, no_text}
 
 -- ---- Classes.
 
@@ -111,6 +111,7 @@ module _ (around : Surroundings) (x : Setting) (known : IsKnownSetting around x)
         no_text around.classes known.codes c below,
         no_task around.classes known.codes c below,
         no_capability around.classes known.codes c below,
+        no_remote around.classes known.codes c below,
       )
 
   pub thrown : (new : Inside) (r : Raise) (a : ℕ) → MayBeRaised around.classes old.heap r → IsRaised x old r new a → IsThrown new a

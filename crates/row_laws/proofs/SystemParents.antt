@@ -12,6 +12,7 @@ use Rattle.jk_model_classes.specs.declared.records.ClassRecord.{ClassRecord}
 use Rattle.jk_model_classes.specs.Classes.{IsSubclass, parents_of}
 use Rattle.jk_model_typing.specs.FrameTypes.{STRING, THROWABLE}
 use Rattle.jk_model_domains.specs.Objects.{CAPABILITY, TASK}
+use Rattle.jk_model_heaps.specs.SystemClasses.{REMOTE}
 use Rattle.class_table.proofs.StandingAbove.{is-own_superclass, superclasses-cases, superclasses-lower, superclasses-of_parent}
 use Rattle.heap_laws.specs.SoundCodes.{AreSoundCodes}
 use Rattle.system_facts.proofs.SystemEntries.{entry_of}
@@ -91,3 +92,7 @@ module _ (classes : List ClassRecord) (sound : AreSoundCodes classes) where
   pub no_capability : (c : ClassId) → IsSubclass classes c THROWABLE → c ≢ CAPABILITY
   no_capability c below is =
       no_throwable 11 (λ e. absurd cc) (parents_listed 11 0 refl) (subst (λ (d : ClassId). IsSubclass classes d THROWABLE) is below)
+
+  pub no_remote : (c : ClassId) → IsSubclass classes c THROWABLE → c ≢ REMOTE
+  no_remote c below is =
+      no_throwable 10 (λ e. absurd cc) (parents_listed 10 0 refl) (subst (λ (d : ClassId). IsSubclass classes d THROWABLE) is below)

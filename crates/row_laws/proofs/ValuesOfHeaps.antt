@@ -319,4 +319,4 @@ module _ (around : Surroundings) (sound : AreSoundCodes around.classes) (quota :
       )
 
   pub holds_text : (v : Value) (c : ClassId) → IsPlainValue v c → BeginsWithText around.classes c → HoldsText heap v
-  holds_text v c p begins = holds_fields v p.name c p.fields p.names p.object begins (plain_sealed p.name c p.fields p.object).4
+  holds_text v c p begins = holds_fields v p.name c p.fields p.names p.object begins (plain_sealed p.name c p.fields p.object).5

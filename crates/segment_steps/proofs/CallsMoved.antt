@@ -1,13 +1,9 @@
 -- A call of a method of the system that is still to be done, after what changed nothing.
-use Rattle.std.proofs.Common.{◌≡◌, List, None, refl, sym, ap, subst, ◌∙◌}
-use Rattle.jk_model.specs.declared.frames.FrameHead.{FrameHead}
+use Rattle.std.proofs.Common.{List, refl, sym, subst}
 use Rattle.jk_model.specs.declared.identifiers.MemberId.{MemberId}
 use Rattle.jk_model.specs.declared.identifiers.ThreadNo.{ThreadNo}
 use Rattle.jk_model.specs.declared.output.Line.{Line}
-use Rattle.jk_model_classes.specs.Worlds.{WorldRecord}
-use Rattle.jk_model_domains.specs.Objects.{CAPABILITY}
 use Rattle.jk_model_heaps.specs.Workings.{Setting}
-use Rattle.jk_model_sharing.specs.SharedStates.{SharedState}
 use Rattle.class_init.specs.KeptStates.{KeptState}
 use Rattle.frame_store.specs.FrameContents.{FrameContent, IsSame}
 use Rattle.object_store.specs.HeapContents.{HeapContent}
@@ -15,10 +11,8 @@ use Rattle.step_contents.specs.Conditions.{MayDo}
 use Rattle.step_contents.specs.Contents.{Becomes, Contents, Here, LeftBehind, contents_of}
 use Rattle.step_contents.specs.PlacesInCode.{PlaceInCode}
 use Rattle.step_contents.specs.Settings.{IsSetting}
-use Rattle.step_contents.proofs.InstructionsBegin.{is_some_setting, some_setting}
-use Rattle.system_calls.specs.PackageJk.{HasNoRemote}
 use Rattle.segment_steps.specs.ActingSegments.{ActsSo, MayAct}
-use Rattle.segment_steps.specs.CallsOnSystem.{CallsMethod, LacksRemoteForJk}
+use Rattle.segment_steps.specs.CallsOnSystem.{CallsMethod}
 use Rattle.segment_steps.specs.FollowedCalls.{LeavesToSystem}
 use Rattle.segment_steps.specs.StepsAlone.{StandsReady}
 use Rattle.segment_steps.specs.declared.meeting.Runs.{Runs}
@@ -26,7 +20,7 @@ use Rattle.segment_steps.specs.declared.went.Went.{Went}
 use Rattle.segment_steps.proofs.ChangesInTurn.{free_after, holds_after}
 use Rattle.segment_steps.proofs.FramesMoved.{acts_before, moved, stands_still}
 use Rattle.segment_steps.proofs.KnownAfterwards.{known_after, setting_after}
-use Rattle.segment_steps.proofs.StandingHere.{becomes_same, code, here, may_do, top}
+use Rattle.segment_steps.proofs.StandingHere.{becomes_same}
 
 same_back : (a b : FrameContent) → IsSame a b → IsSame b a
 same_back a b same = record {
@@ -105,17 +99,3 @@ module _ (old new : Contents) (h : Here) (at : PlaceInCode) (m : MemberId) (left
       → ActsSo old h t after went GoOut
   acts_as_before t after went GoOut acts =
       acts_before old h new.frames left.frames t after went GoOut (back (λ (c : Contents). ActsSo c h t after went GoOut) acts)
-
-pub lacks_remote : (old new : Contents) (world : WorldRecord) (shared : SharedState) (r : Runs) (at : PlaceInCode)
-    (st : StandsReady old.frames world.classes old.own.state r at) (m : MemberId) → MayAct old (here old world shared r at st)
-    → LeavesToSystem old new (here old world shared r at st) at m → LacksRemoteForJk old (here old world shared r at st)
-    → m.class ≡ CAPABILITY → HasNoRemote new.heaps r.domain
-lacks_remote old new world shared r at st m may left lacks is_jk =
-    let doing = may_do old world shared r at st may in
-    let x = some_setting doing in
-    let is = is_some_setting doing in
-    let call = left.calls x doing is in
-    subst (λ (hs : HeapContent). HasNoRemote hs r.domain) (sym left.heaps)
-    (lacks x may is (top old world shared r at st may) (subst (λ (f : FrameHead). f.need ≡ None) doing.head doing.no_need)
-    (code old world shared r at st may x is) call.0
-    (ap (λ (k : MemberId). k.class) call.1 ∙ is_jk))

@@ -9,7 +9,6 @@ ghost use Rattle.frame_store.specs.FrameContents.{TopFrame};
 ghost use Rattle.step_contents.specs.Contents.{contents_of, here_at, left_behind};
 ghost use Rattle.system_calls.specs.SystemSteps.{printed};
 ghost use Rattle.segment_steps.specs.ActingSegments.{ActsSo, MayAct};
-ghost use Rattle.segment_steps.specs.CallsOnSystem.{LacksRemoteForJk};
 ghost use Rattle.segment_steps.specs.Meetings.{Meets};
 ghost use Rattle.segment_steps.specs.StepsAlone.{went_so};
 ghost use Rattle.segment_steps.specs.declared.went.Went.TheVariants as Goes;
@@ -28,10 +27,9 @@ use object_store::ObjectStore;
 use thread_segments::Shared;
 
 /// One step of a segment whose top frame meets this: at a class that isn't ready, else the need of the frame, else its instruction. It
-/// asks that the thread doesn't wait for a class, and that no object of the domain is of the interface jk/Remote itself where a method of
-/// package jk is called. A line that the domain says goes out; where the sink fails, the whole step is done, and the line went out in part.
-/// It takes no memory, and time in proportion to what the step touches: to the methods of a class whose initialiser frame is put on top, and
-/// else as the functions of the step crates say.
+/// asks that the thread doesn't wait for a class. A line that the domain says goes out; where the sink fails, the whole step is done, and the
+/// line went out in part. It takes no memory, and time in proportion to what the step touches: to the methods of a class whose initialiser
+/// frame is put on top, and else as the functions of the step crates say.
 pub fn act<H: ObjectStore, F: FrameStore, S: Sink>(
     w: &World,
     heap: &mut H,
@@ -45,8 +43,6 @@ pub fn act<H: ObjectStore, F: FrameStore, S: Sink>(
     requires may { MayAct (contents_of (H.content heap.old) (F.content frames.old) own.old) (here_at w.now shared.old r.domain r.segment) }
     requires met { (f : AFrame) × TopFrame (F.content frames.old) r.segment f × Meets w.now.classes own.old.state r f met.now }
     requires free { met.now.look ≢ Sees.Waits }
-    requires no_remote { LacksRemoteForJk (contents_of (H.content heap.old) (F.content frames.old) own.old)
-        (here_at w.now shared.old r.domain r.segment) }
     ensures ok { IfOk result (λ went. ActsSo (contents_of (H.content heap.old) (F.content frames.old) own.old)
         (here_at w.now shared.old r.domain r.segment) r.thread
         (left_behind (contents_of (H.content heap.new) (F.content frames.new) own.new) shared.new) went
@@ -86,8 +82,6 @@ fn go_on<H: ObjectStore, F: FrameStore, S: Sink>(
     requires may { MayAct (contents_of (H.content heap.old) (F.content frames.old) own.old) (here_at w.now shared.old r.domain r.segment) }
     requires met { (f : AFrame) × TopFrame (F.content frames.old) r.segment f × Meets w.now.classes own.old.state r f met.now }
     requires ready { met.now.look ≡ Sees.Ready }
-    requires no_remote { LacksRemoteForJk (contents_of (H.content heap.old) (F.content frames.old) own.old)
-        (here_at w.now shared.old r.domain r.segment) }
     ensures { ActsSo (contents_of (H.content heap.old) (F.content frames.old) own.old) (here_at w.now shared.old r.domain r.segment) r.thread
         (left_behind (contents_of (H.content heap.new) (F.content frames.new) own.new) shared.new) (went_so result)
         (λ lines. PrintsLines (S.bytes out.old) (S.bytes out.new) (S.pieces out.old) (S.pieces out.new) (S.faults out.old) (S.faults out.new)

@@ -1,8 +1,6 @@
 //! The instruction at which the top frame stands, and what follows it in the segment.
 
-ghost use Rattle.std.specs.Prelude.{◌≡◌};
 ghost use Rattle.jk_model_domains.specs.NumberRows.{IsOfNumbers};
-ghost use Rattle.jk_model_domains.specs.Objects.{CAPABILITY};
 ghost use Rattle.jk_model_call_rows.specs.CallRows.{IsOfCalls};
 ghost use Rattle.jk_model_heap_rows.specs.HeapRows.{IsOfHeaps};
 ghost use Rattle.jk_model_sharing.specs.SharedStates.{SharedState};
@@ -10,10 +8,9 @@ ghost use Rattle.jk_outside.specs.SeveralLines.{PrintsLines};
 ghost use Rattle.type_rows.specs.CodeViews.{scope_of};
 ghost use Rattle.step_contents.specs.Contents.{contents_of, here_at, left_behind};
 ghost use Rattle.step_contents.specs.StandingFrames.{place_of};
-ghost use Rattle.system_calls.specs.PackageJk.{HasNoRemote};
 ghost use Rattle.system_calls.specs.SystemSteps.{printed};
 ghost use Rattle.segment_steps.specs.ActingSegments.{ActsSo, MayAct};
-ghost use Rattle.segment_steps.specs.CallsOnSystem.{CallsMethod, LacksRemoteForJk};
+ghost use Rattle.segment_steps.specs.CallsOnSystem.{CallsMethod};
 ghost use Rattle.segment_steps.specs.FollowedCalls.{ComesTo};
 ghost use Rattle.segment_steps.specs.StepsAlone.{StandsReady, Steps, went_so};
 
@@ -44,8 +41,6 @@ pub(crate) fn execute<H: ObjectStore, F: FrameStore, S: Sink>(
 ) -> Result<Went, SinkFailed>
     requires may { MayAct (contents_of (H.content heap.old) (F.content frames.old) own.old) (here_at w.now shared.old r.domain r.segment) }
     requires stands { StandsReady (F.content frames.old) w.now.classes own.old.state r (place_of at.now) }
-    requires no_remote { LacksRemoteForJk (contents_of (H.content heap.old) (F.content frames.old) own.old)
-        (here_at w.now shared.old r.domain r.segment) }
     ensures { ActsSo (contents_of (H.content heap.old) (F.content frames.old) own.old) (here_at w.now shared.old r.domain r.segment) r.thread
         (left_behind (contents_of (H.content heap.new) (F.content frames.new) own.new) shared.new) (went_so result)
         (λ lines. PrintsLines (S.bytes out.old) (S.bytes out.new) (S.pieces out.old) (S.pieces out.new) (S.faults out.old) (S.faults out.new)
@@ -168,7 +163,6 @@ fn call_system<H: ObjectStore, F: FrameStore, S: Sink>(
     requires stands { StandsReady (F.content frames.old) w.now.classes own.old.state r (place_of at.now) }
     requires calls { CallsMethod (contents_of (H.content heap.old) (F.content frames.old) own.old) (here_at w.now shared.old r.domain r.segment)
         (place_of at.now) m }
-    requires no_remote { m.class ≡ CAPABILITY → HasNoRemote (H.content heap.old) r.domain }
     ensures { ActsSo (contents_of (H.content heap.old) (F.content frames.old) own.old) (here_at w.now shared.old r.domain r.segment) r.thread
         (left_behind (contents_of (H.content heap.new) (F.content frames.new) own.new) shared.new) (went_so result)
         (λ lines. PrintsLines (S.bytes out.old) (S.bytes out.new) (S.pieces out.old) (S.pieces out.new) (S.faults out.old) (S.faults out.new)

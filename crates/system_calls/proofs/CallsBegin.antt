@@ -2,8 +2,6 @@
 use Rattle.std.proofs.Common.{◌≡◌, ℕ, ◌+◌, ◌<◌, ◌^◌, List, [], ◌∷◌, length, take, Option, Some, None, Result, Ok, Err, sym, ap, subst, ◌∙◌, arith}
 use Rattle.std.specs.Result.{IfOk}
 use Rattle.std.proofs.lemmas.Option.{none-some, slice_get_within}
-use Rattle.list_lemmas.proofs.ItemsByPlace.{item_there}
-use Rattle.jk_model.specs.SystemTable.{system_classes}
 use Rattle.jk_model.specs.declared.identifiers.MemberId.{MemberId}
 use Rattle.jk_model.specs.declared.output.Line.{Line}
 use Rattle.jk_model.specs.declared.output.Line.TheVariants.{Said}
@@ -11,7 +9,6 @@ use Rattle.jk_model.specs.declared.steps.After.{After}
 use Rattle.jk_model.specs.declared.steps.After.TheVariants as Next
 use Rattle.jk_model.specs.declared.steps.Raise.{Raise}
 use Rattle.jk_model.specs.declared.values.Value.{Value}
-use Rattle.jk_model_classes.specs.Lookups.{MethodIs}
 use Rattle.jk_model_classes.specs.Worlds.{DomainRecord, domain_of}
 use Rattle.jk_model_heaps.specs.Workings.{Setting}
 use Rattle.jk_model_call_rows.specs.CallRows.{CallsSystem}
@@ -31,12 +28,10 @@ use Rattle.step_contents.proofs.InstructionsBegin.{is_some_setting, some_setting
 use Rattle.system_calls.specs.declared.here.Here.{Here}
 use Rattle.system_calls.specs.DoneRows.{Finds}
 use Rattle.system_calls.specs.GivenOnTop.{FramesAfter, HasGiven, HasRoomAfter, IsGiven, TakesOff, given_count, next_after}
-use Rattle.system_calls.specs.MethodGroups.{IsOfCapabilities}
 use Rattle.system_calls.specs.MethodsDone.{MayAnswer, MethodDone, among}
 use Rattle.system_calls.specs.SystemSteps.{MayCall, SystemDone, SystemFollows, call_site}
 use Rattle.system_calls.proofs.CallsDone.{ended, method_follows, said}
 use Rattle.system_calls.proofs.CallsFound as found
-use Rattle.system_calls.proofs.ClassOfCapabilities.{class_of_capabilities}
 use Rattle.system_calls.proofs.RoomForAnswers as rooms
 
 module _ (heaps : HeapContent) (frames : FrameContent) (shared : SharedState) (h : Here) (at : PlaceInCode) (m : MemberId) where

@@ -19,7 +19,7 @@ use Rattle.jk_model_classes.specs.Stubs.{ImplementsRemote}
 use Rattle.jk_model_domains.specs.Objects.{NamedObject, Object, Array, Plain, Task, Text, object_named}
 use Rattle.jk_model_heaps.specs.declared.shapes.Shape.TheVariants as Of
 use Rattle.jk_model_heaps.specs.Heaps.{shape_of}
-use Rattle.jk_model_heaps.specs.SystemClasses.{ILLEGAL_ARGUMENT_EXCEPTION, REMOTE}
+use Rattle.jk_model_heaps.specs.SystemClasses.{ILLEGAL_ARGUMENT_EXCEPTION}
 use Rattle.jk_model_heaps.specs.Workings.{Creates, Inside, Revokes, Setting}
 use Rattle.jk_model_sharing.specs.Answers.{Answers, as_capability, as_nothing, creates, revokes}
 use Rattle.jk_model_sharing.specs.SharedStates.{SharedState, stub_for}
@@ -27,11 +27,12 @@ use Rattle.jk_model_system_rows.specs.declared.meanings.SystemMeaning.TheVariant
 use Rattle.jk_model_system_rows.specs.Answers.{Answer, Wants, fails_by, with_answer}
 use Rattle.jk_model_system_rows.specs.PackageJk.{IsRemoteObject}
 use Rattle.jk_model_system_rows.specs.SystemRows.{SystemRow}
+use Rattle.jk_model_sealing.specs.SealedInsides.{IsSealedObject}
 use Rattle.object_store.specs.HeapContents.{HeapContent, IsLive}
+use Rattle.step_contents.specs.Conditions.{around}
 use Rattle.thread_segments.specs.Answers.{CreatesFor, RevokesFor, has_stub, no_stub}
 use Rattle.system_calls.specs.declared.here.Here.{Here}
 use Rattle.system_calls.specs.MethodsDone.{IsAround, MayAnswer, MethodDone, asks}
-use Rattle.system_calls.specs.PackageJk.{HasNoRemote}
 use Rattle.system_calls.proofs.MethodsAreDone.{asked, failed}
 use Rattle.system_calls.proofs.MethodsMayBeDone.{object_sealed, ready}
 use Rattle.system_calls.proofs.RemoteClasses.{remote_alone}
@@ -52,11 +53,12 @@ module _ (heaps : HeapContent) (shared : SharedState) (h : Here) (target : ℕ)
   pub named_object : (o : Object) × IsLive heaps h.domain target o
   named_object = may.known.0
 
-  module _ (no_remote : HasNoRemote heaps h.domain) (c : ClassId) (fields : List Value) (live : IsLive heaps h.domain target (Plain c fields)) where
+  module _ (c : ClassId) (fields : List Value) (live : IsLive heaps h.domain target (Plain c fields)) where
+    abbrev sealed : IsSealedObject (around may.may.domain) (heaps.heap h.domain) (Plain c fields)
+    sealed = object_sealed heaps shared h may.own may.frames may.may target (Plain c fields) live
+
     class_there : (r : ClassRecord) × (record_of classes c ≡ Some r)
-    class_there =
-        let found = may.may.domain.table.closed c (object_sealed heaps shared h may.own may.frames may.may target (Plain c fields) live).0 in
-        (found.0, found.1)
+    class_there = let found = may.may.domain.table.closed c sealed.0 in (found.0, found.1)
 
     -- a class with a stub implements jk/Remote
     implements : (stub : Stub) → stub_for shared c ≡ Some stub → ImplementsRemote classes c
@@ -69,15 +71,14 @@ module _ (heaps : HeapContent) (shared : SharedState) (h : Here) (target : ℕ)
               absurd (none-some class_there.0 (sym none ∙ class_there.1))
         ]
 
-    -- and one without a stub doesn't
+    -- and one without a stub doesn't, since no object is of jk/Remote itself
     no_other : stub_for shared c ≡ None → ImplementsRemote classes c → ⊥
     no_other none remote = by_home class_there.0.home refl
       where
         by_home : (home : Option DomainId) → class_there.0.home ≡ home → ⊥
         by_home None is =
             let low = may.may.domain.codes.of_system c class_there.0 class_there.1 is in
-            let same : c ≡ REMOTE = remote_alone classes may.may.domain.codes c low remote in
-            no_remote target fields (subst (λ (d : ClassId). IsLive heaps h.domain target (Plain d fields)) same live)
+            sealed.4 (remote_alone classes may.may.domain.codes c low remote)
         by_home (Some d) is =
             let homed : class_there.0.home ≢ None = λ none_home. none-some d (sym none_home ∙ is) in
             let found = may.may.domain.shares.remote c class_there.0 class_there.1 homed remote in
@@ -137,13 +138,13 @@ module _ (heaps : HeapContent) (shared : SharedState) (h : Here) (target : ℕ)
           inr (not_remote x.classes o refl, refl),
         ))
 
-  module _ (no_remote : HasNoRemote heaps h.domain) (c : ClassId) (answer : Result CapId Raise) (new : SharedState)
+  module _ (c : ClassId) (answer : Result CapId Raise) (new : SharedState)
       (made : CreatesFor shared h.domain c target answer new) where
     created_of : (o : Object) → IsLive heaps h.domain target o → Of.Plain c ≡ shape_of o
         → MethodDone heaps heaps shared new h Means.CreatesCapability (Held.Obj target ∷ []) (as_capability answer)
     created_of (Plain d fields) live shape =
         let same : c ≡ d = cc in
-        by_stub no_remote c fields (subst (λ (e : ClassId). IsLive heaps h.domain target (Plain e fields)) (sym same) live) answer new made
+        by_stub c fields (subst (λ (e : ClassId). IsLive heaps h.domain target (Plain e fields)) (sym same) live) answer new made
     created_of (Array t items) live shape = absurd cc
     created_of (Text units) live shape = absurd cc
     created_of (Task n) live shape = absurd cc

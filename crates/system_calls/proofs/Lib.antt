@@ -28,4 +28,3 @@ mod TasksAsked
 mod TextRows
 mod TextsJoined
 mod UnitsRead
-mod ClassOfCapabilities

@@ -7,6 +7,5 @@ pub mod Magnitudes
 pub mod MeaningsByPlace
 pub mod MethodGroups
 pub mod MethodsDone
-pub mod PackageJk
 pub mod SystemSteps
 pub mod Wordings

@@ -5,7 +5,6 @@ ghost use Rattle.jk_model.specs.Outside.{HasRisen, NeverFalls};
 ghost use Rattle.jk_model.specs.declared.output.Line.TheVariants as line;
 ghost use Rattle.jk_model.specs.declared.steps.After.TheVariants as Next;
 ghost use Rattle.jk_model_classes.specs.Worlds.{DomainRecord, domain_of};
-ghost use Rattle.jk_model_domains.specs.Objects.{CAPABILITY};
 ghost use Rattle.jk_model_system_rows.specs.declared.meanings.SystemMeaning.TheVariants as Means;
 ghost use Rattle.jk_model_system_rows.specs.Answers.{Tells};
 ghost use Rattle.jk_outside.specs.SeveralLines.{PrintsLines};
@@ -16,9 +15,8 @@ ghost use Rattle.step_contents.specs.Contents.{contents_of, here_at, left_behind
 ghost use Rattle.step_contents.specs.StandingFrames.{place_of};
 ghost use Rattle.system_calls.specs.DoneRows.{Finds};
 ghost use Rattle.system_calls.specs.GivenOnTop.{FramesAfter, HasGiven, HasRoomAfter, next_after};
-ghost use Rattle.system_calls.specs.MethodGroups.{IsAnswered, IsOfCapabilities, IsOfJk, Prints};
+ghost use Rattle.system_calls.specs.MethodGroups.{IsAnswered, IsOfJk, Prints};
 ghost use Rattle.system_calls.specs.MethodsDone.{MayAnswer, MethodDone};
-ghost use Rattle.system_calls.specs.PackageJk.{HasNoRemote};
 ghost use Rattle.system_calls.specs.SystemSteps.{MayCall, SystemDone, call_site, printed};
 ghost use Rattle.system_calls.specs.Wordings.{IsWorded};
 
@@ -50,9 +48,6 @@ use thread_segments::Shared;
 /// doesn't fit. After `Terminate` nothing changed: the running domain is to be killed. A line that is printed goes out in pieces; where
 /// the sink fails, all else is done, as after `Goto`, and the text went out in part. Nothing here takes memory. A call takes time in
 /// proportion to the texts and the items that it reads and writes.
-///
-/// Of a method of package jk one thing more is asked: no object is of the interface jk/Remote itself, which would be remote but has no
-/// stub. A caller that runs no method of package jk has nothing to show.
 pub fn call<H: ObjectStore, F: FrameStore, S: Sink>(
     heap: &mut H,
     frames: &mut F,
@@ -64,9 +59,8 @@ pub fn call<H: ObjectStore, F: FrameStore, S: Sink>(
     m: MemberId,
     out: &mut S,
 ) -> Result<After, SinkFailed>
-    requires may { (own : KeptState) × MayCall (contents_of (H.content heap.old) (F.content frames.old) own)
+    requires { (own : KeptState) × MayCall (contents_of (H.content heap.old) (F.content frames.old) own)
         (call_site (here_at w.now shared.old d s) (place_of at.now) m) }
-    requires no_remote { m.class ≡ CAPABILITY → HasNoRemote (H.content heap.old) d }
     ensures ok { IfOk result (λ after. (own : KeptState)
         → SystemDone (contents_of (H.content heap.old) (F.content frames.old) own) (call_site (here_at w.now shared.old d s) (place_of at.now) m)
         (left_behind (contents_of (H.content heap.new) (F.content frames.new) own) shared.new) after
@@ -142,7 +136,6 @@ fn answer<H: ObjectStore>(
 ) -> Answer
     requires may { MayAnswer (H.content heap.old) shared.old here.now meaning given.now }
     requires answered { IsAnswered meaning }
-    requires no_remote { IsOfCapabilities meaning → HasNoRemote (H.content heap.old) here.now.domain }
     ensures { MethodDone (H.content heap.old) (H.content heap.new) shared.old shared.new here.now meaning given.now result }
 {
     let (t, d) = (here.world.classes(), here.domain);
@@ -179,7 +172,6 @@ fn jk_answer<H: ObjectStore>(
     requires may { MayAnswer (H.content heap.old) shared.old here.now meaning given.now }
     requires group { IsOfJk meaning }
     requires goes_on { meaning ≢ Means.TerminatesDomain }
-    requires no_remote { IsOfCapabilities meaning → HasNoRemote (H.content heap.old) here.now.domain }
     ensures { MethodDone (H.content heap.old) (H.content heap.new) shared.old shared.new here.now meaning given.now result }
 {
     match meaning {

@@ -5,7 +5,6 @@ ghost use Rattle.jk_model.specs.declared.values.Value.TheVariants as Held;
 ghost use Rattle.jk_model_system_rows.specs.declared.meanings.SystemMeaning.TheVariants as Means;
 ghost use Rattle.system_calls.specs.MethodGroups.{IsOfCapabilities};
 ghost use Rattle.system_calls.specs.MethodsDone.{MayAnswer, MethodDone};
-ghost use Rattle.system_calls.specs.PackageJk.{HasNoRemote};
 
 use crate::answers::Answer;
 use crate::given::{capability_alone, value_alone};
@@ -27,7 +26,6 @@ pub(crate) fn capability_answer<H: ObjectStore>(
 ) -> Answer
     requires may { MayAnswer (H.content heap.now) shared.old here.now meaning given.now }
     requires group { IsOfCapabilities meaning }
-    requires no_remote { HasNoRemote (H.content heap.now) here.now.domain }
     ensures { MethodDone (H.content heap.now) (H.content heap.now) shared.old shared.new here.now meaning given.now result }
 {
     match meaning {
@@ -41,8 +39,7 @@ pub(crate) fn capability_answer<H: ObjectStore>(
 /// IllegalArgumentException at a capability and at an object that isn't remote; where the domain has made all of its capabilities, the
 /// standing QuotaException.
 fn create<H: ObjectStore>(heap: &H, shared: &mut Shared, here: &Here<'_>, v: Value) -> Answer
-    requires may { MayAnswer (H.content heap.now) shared.old here.now Means.CreatesCapability (v ∷ []) }
-    requires no_remote { HasNoRemote (H.content heap.now) here.now.domain }
+    requires { MayAnswer (H.content heap.now) shared.old here.now Means.CreatesCapability (v ∷ []) }
     ensures { MethodDone (H.content heap.now) (H.content heap.now) shared.old shared.new here.now Means.CreatesCapability (v ∷ []) result }
 {
     match v {
@@ -55,8 +52,7 @@ fn create<H: ObjectStore>(heap: &H, shared: &mut Shared, here: &Here<'_>, v: Val
 
 /// As `create`, for an object.
 fn create_for<H: ObjectStore>(heap: &H, shared: &mut Shared, here: &Here<'_>, target: u32) -> Answer
-    requires may { MayAnswer (H.content heap.now) shared.old here.now Means.CreatesCapability (Held.Obj target ∷ []) }
-    requires no_remote { HasNoRemote (H.content heap.now) here.now.domain }
+    requires { MayAnswer (H.content heap.now) shared.old here.now Means.CreatesCapability (Held.Obj target ∷ []) }
     ensures { MethodDone (H.content heap.now) (H.content heap.now) shared.old shared.new here.now Means.CreatesCapability (Held.Obj target ∷ [])
         result }
 {

@@ -1,5 +1,5 @@
 -- The own state among those of all is the one of the domain in which it acts.
-use Rattle.std.proofs.Common.{◌≡◌, List, None, Some, slice_get, refl, sym, subst, ◌∙◌}
+use Rattle.std.proofs.Common.{◌≡◌, List, None, Some, refl, sym, subst, ◌∙◌}
 use Rattle.std.proofs.lemmas.Option.{same_Some, slice_get_within}
 use Rattle.jk_model.specs.declared.output.Line.{Line}
 use Rattle.class_init.specs.KeptStates.{KeptState}
@@ -8,7 +8,6 @@ use Rattle.list_lemmas.proofs.ItemsByPlace.{item_read}
 use Rattle.step_contents.specs.Contents.{contents_of, here_at, left_behind}
 use Rattle.system_calls.specs.SystemSteps.{printed}
 use Rattle.segment_steps.specs.ActingSegments.{ActsSo}
-use Rattle.segment_steps.specs.CallsOnSystem.{LacksRemoteForJk}
 use Rattle.segment_steps.specs.StepsAlone.{went_so}
 use Rattle.kernel_turns.specs.StepsOfThreads.{sink_state}
 use Rattle.kernel_turns.proofs.EitherAnswer.{acts_either}
@@ -22,19 +21,6 @@ unreachable-requires g c =
     (slice_get_within c.args.owns.now.items c.args.r.domain.0 (Some own) is) c.index_mut-own.ensures.value in
     let both : None ≡ Some own = sym c.in-None.is ∙ same_Some c.index_mut-own.result.now (Some own) (sym there ∙ is) in
     cc
-
-pub act-went-requires-clause-no_remote : goal.act-went-requires-clause-no_remote
-act-went-requires-clause-no_remote g c =
-    let own = c.requires.may.0 in
-    let is = c.requires.may.1 in
-    let there = item_read c.args.owns.now.items c.args.r.domain.0 c.index_mut-own.result.now
-    (slice_get_within c.args.owns.now.items c.args.r.domain.0 (Some own) is) c.index_mut-own.ensures.value in
-    let lent : c.index_mut-own.result.now ≡ Some own = same_Some c.index_mut-own.result.now (Some own) (sym there ∙ is) in
-    let same : own ≡ c.in-Some.own = same_Some own c.in-Some.own (sym lent ∙ c.in-Some.is) in
-    subst
-    (λ (o : KeptState). LacksRemoteForJk (contents_of (g.H.ObjectStore.content c.args.heap.now) (g.F.FrameStore.content c.args.frames.now) o)
-    (here_at c.args.w.now c.args.shared.now c.args.r.domain c.args.r.segment))
-    same c.requires.may.3
 
 pub returns : goal.returns
 returns g c = λ own is.

@@ -1,5 +1,5 @@
 -- The own state among those of all is the one that the thread meets.
-use Rattle.std.proofs.Common.{◌≡◌, Option, Some, Bor, slice_get, sym, subst, ◌∙◌}
+use Rattle.std.proofs.Common.{◌≡◌, Some, sym, subst, ◌∙◌}
 use Rattle.std.proofs.lemmas.Option.{same_Some, slice_get_within}
 use Rattle.class_init.specs.KeptStates.{KeptState}
 use Rattle.list_lemmas.proofs.ItemsByPlace.{item_read}

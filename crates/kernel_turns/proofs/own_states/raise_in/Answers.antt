@@ -1,5 +1,5 @@
 -- The own state among those of all is the one that is raised in.
-use Rattle.std.proofs.Common.{◌≡◌, Some, slice_get, refl, sym, subst, ◌∙◌}
+use Rattle.std.proofs.Common.{◌≡◌, Some, refl, sym, subst, ◌∙◌}
 use Rattle.std.proofs.lemmas.Option.{same_Some, slice_get_within}
 use Rattle.jk_model.specs.declared.steps.Raise.TheVariants as Raised
 use Rattle.class_init.specs.KeptStates.{KeptState}

@@ -1,9 +1,8 @@
 -- The segment of a number is that of its thread.
-use Rattle.std.proofs.Common.{◌≡◌, Option, Some, None, option_map, sym, ap, ◌∙◌}
+use Rattle.std.proofs.Common.{◌≡◌, Some, None, option_map, sym, ap, ◌∙◌}
 use Rattle.std.proofs.lemmas.Option.{same_Some}
-use Rattle.jk_model_sharing.specs.Segments.{PlacedSegment}
 use Rattle.thread_segments.specs.Answers.{info_of}
-use Rattle.thread_segments.specs.declared.segments.SegmentInfo.{SegmentInfo}
+use Rattle.thread_stacks.specs.declared.segments.SegmentInfo.{SegmentInfo}
 use Rattle.kernel_turns.proofs.RunningFound.{running_found}
 use Rattle.kernel_turns.proofs.running.run_of.Goals as goal
 

@@ -3,14 +3,12 @@ use Rattle.std.proofs.Common.{◌≡◌, List, [], ◌++◌, Some, Result, Ok, E
 use Rattle.std.proofs.lemmas.Option.{same_Some}
 use Rattle.jk_model.specs.declared.output.Line.{Line}
 use Rattle.jk_outside.specs.declared.sinks.SinkFailed.{SinkFailed}
-use Rattle.jk_model_sharing.specs.SharedStates.{SharedState}
 use Rattle.class_init.specs.KeptStates.{KeptState}
 use Rattle.kernel_events.specs.PrintedLines.{Prints}
 use Rattle.jk_model_runs.specs.Steps.{Steps}
 use Rattle.step_contents.specs.Contents.{contents_of, here_at, left_behind}
 use Rattle.system_calls.specs.SystemSteps.{printed}
 use Rattle.segment_steps.specs.ActingSegments.{ActsSo}
-use Rattle.segment_steps.specs.CallsOnSystem.{LacksRemoteForJk}
 use Rattle.segment_steps.specs.Meetings.{Meets}
 use Rattle.segment_steps.specs.StepsAlone.{went_so}
 use Rattle.segment_steps.specs.declared.went.Went.{Went}
@@ -41,10 +39,6 @@ act_in-requires-clause-may g c =
       ready.at.own,
       own_there k x ready,
       may_act c.acts_are_steps.ensures k x ready calm c.spend_step.new.self c.spend_step.ensures,
-      subst
-          (λ (sh : SharedState). LacksRemoteForJk (contents_of k.heap k.frames ready.at.own)
-          (here_at k.world sh x.runs.domain x.runs.segment))
-          (sym c.spend_step.ensures) (c.requires.no_remote ready.at.own (own_there k x ready)),
       (met.2.0, met.2.1, subst (λ (o : KeptState). Meets c.args.w.now.classes o.state x.runs met.2.0 c.args.met.now) same met.2.2),
     )
 

@@ -1,8 +1,6 @@
 -- The flag falls, and its throwable is raised.
-use Rattle.std.proofs.Common.{◌≡◌, List, [], Some, slice_set, refl, sym, subst}
-use Rattle.jk_outside.specs.declared.sinks.SinkFailed.{SinkFailed}
-use Rattle.jk_model.specs.declared.output.Line.{Line}
-use Rattle.jk_model_sharing.specs.SharedStates.{SharedState, spent}
+use Rattle.std.proofs.Common.{[], Some, slice_set, sym, subst}
+use Rattle.jk_model_sharing.specs.SharedStates.{SharedState}
 use Rattle.segment_steps.proofs.ActingAlone.{prints_none}
 use Rattle.thread_segments.specs.Asked.{IsThere}
 use Rattle.kernel_parts.specs.SoundKernels.{KernelContent}

@@ -3,7 +3,6 @@ use Rattle.std.proofs.Common.{◌≡◌, ℕ, List, [], ◌∷◌, ◌++◌, sli
 use Rattle.std.specs.Slice.{IsItemAt}
 use Rattle.jk_model.specs.declared.identifiers.ClassId.{ClassId}
 use Rattle.std.proofs.lemmas.Option.{same_Some}
-use Rattle.jk_model.specs.declared.output.Line.{Line}
 use Rattle.jk_model.specs.declared.output.Line.TheVariants as Says
 use Rattle.jk_model_classes.specs.declared.records.ClassRecord.{ClassRecord}
 use Rattle.jk_model_classes.specs.Worlds.{WorldRecord}

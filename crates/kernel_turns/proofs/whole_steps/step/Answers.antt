@@ -1,18 +1,15 @@
 -- A thread that rests does nothing, and the step of each other one is taken.
-use Rattle.std.proofs.Common.{◌≡◌, Bool, Result, [], Ok, Err, refl, sym, ap, subst, ◌∙◌}
+use Rattle.std.proofs.Common.{Bool, Result, [], refl, sym, subst}
 use Rattle.std.proofs.lemmas.Result.{err_from_is_err_and}
 use Rattle.jk_model.specs.declared.identifiers.ThreadNo.{ThreadNo}
 use Rattle.jk_model_machine_state.specs.Machines.{Machine}
 use Rattle.jk_model_runs.specs.Steps.{Steps}
-use Rattle.jk_model_sharing.specs.SharedStates.{spent}
 use Rattle.jk_outside.specs.declared.sinks.SinkFailed.{SinkFailed}
-use Rattle.step_contents.specs.Contents.{contents_of, here_at}
 use Rattle.kernel_events.specs.PrintedLines.{Prints, SinkState, as_done}
 use Rattle.kernel_parts.specs.SoundKernels.{KernelContent, kernel_machine, parts_of}
 use Rattle.machine_laws.specs.KnownMachines.{IsKnownWithoutJk}
 use Rattle.kernel_turns.proofs.FramesOfThreads.{lives, runs_at}
 use Rattle.kernel_turns.proofs.SegmentsApart.{apart_in_shared, sealed_apart}
-use Rattle.kernel_turns.proofs.NoCapabilityCalled.{lacks_remote}
 use Rattle.kernel_turns.proofs.PrintedSteps.{failed_as, printed_none}
 use Rattle.kernel_turns.proofs.WholeSteps.{none_steps, own_there, ready_so, rests_so, running_there, same_thread, top_there}
 use Rattle.kernel_turns.proofs.whole_steps.step.Goals as goal
@@ -193,21 +190,6 @@ take_step-requires-clause-met g c =
     let no = c.rests.ensures.no c.if-rests.false in
     let ready = ready_so k x c.k.invariant known here top.0 c.meet_in-met.result top.1 meets no.0 no.1 no.2 in
     ((runs_at k u c.k.invariant known here.segment here.is_top).own, own, (top.0, top.1, meets))
-
-pub take_step-requires-clause-no_remote : goal.take_step-requires-clause-no_remote
-take_step-requires-clause-no_remote g c =
-    let k : KernelContent = record {
-      world = c.k.inside.world;
-      owns = c.k.inside.owns.items;
-      shared = c.k.inside.shared;
-      heap = g.H.ObjectStore.content c.k.inside.heap;
-      frames = g.F.FrameStore.content c.k.inside.frames;
-      main_kind = c.k.inside.main_kind;
-    } in
-    let known : IsKnownWithoutJk (kernel_machine k) = subst IsKnownWithoutJk (sym c.k.view_is) c.requires.known in
-    let runs = c.in-Some.running.runs in
-    λ own is.
-    lacks_remote (kernel_machine k) (contents_of k.heap k.frames own) (here_at k.world (spent runs.domain k.shared) runs.domain runs.segment) refl known.1
 
 pub invariant_of-k : goal.invariant_of-k
 invariant_of-k g c =

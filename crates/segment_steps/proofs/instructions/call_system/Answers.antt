@@ -12,8 +12,8 @@ use Rattle.segment_steps.proofs.StandingHere.{may_do}
 use Rattle.segment_steps.proofs.SystemCalled.{ends, goes, has_top, may_call, may_raise, nothing_else, raisable, rises}
 use Rattle.segment_steps.proofs.instructions.call_system.Goals as goal
 
-pub call-requires-clause-may : goal.call-requires-clause-may
-call-requires-clause-may g c = (
+pub call-requires : goal.call-requires
+call-requires g c = (
   c.args.own.now,
   may_call (g.H.ObjectStore.content c.args.heap.now) (g.F.FrameStore.content c.args.frames.now) c.args.own.now c.args.w.now
       c.args.shared.now c.args.r (place_of c.args.at.now) c.requires.stands c.args.m c.requires.calls

@@ -5,7 +5,7 @@ use Rattle.jk_outside.specs.declared.sinks.SinkFailed.{SinkFailed}
 use Rattle.step_contents.specs.Contents.{Contents, Here, contents_of, here_at}
 use Rattle.step_contents.specs.StandingFrames.{place_of}
 use Rattle.segment_steps.proofs.ActingAlone.{acts_alone, gone_out, prints_none}
-use Rattle.segment_steps.proofs.CallsMoved.{acts_as_before, calls_it_still, may_still_act, lacks_remote, stands_ready_still}
+use Rattle.segment_steps.proofs.CallsMoved.{acts_as_before, calls_it_still, may_still_act, stands_ready_still}
 use Rattle.segment_steps.proofs.NumbersBegin.{has_row}
 use Rattle.segment_steps.proofs.StandingHere.{may_do}
 use Rattle.segment_steps.proofs.instructions.execute.Goals as goal
@@ -38,14 +38,6 @@ call_system-requires-clause-calls g c =
     let here : Here = here_at c.args.w.now c.args.shared.now c.args.r.domain c.args.r.segment in
     let left = c.in-OfSystem.ensures c.args.shared.now in
     calls_it_still old new here (place_of c.args.at.now) c.in-OfSystem.m left
-
-pub call_system-requires-clause-no_remote : goal.call_system-requires-clause-no_remote
-call_system-requires-clause-no_remote g c =
-    let old : Contents = contents_of (g.H.ObjectStore.content c.args.heap.now) (g.F.FrameStore.content c.args.frames.now) c.args.own.now in
-    let new : Contents = contents_of (g.H.ObjectStore.content c.do_call.new.heap) (g.F.FrameStore.content c.do_call.new.frames) c.do_call.new.own in
-    let left = c.in-OfSystem.ensures c.args.shared.now in
-    lacks_remote old new c.args.w.now c.args.shared.now c.args.r (place_of c.args.at.now) c.requires.stands c.in-OfSystem.m c.requires.may left
-    c.requires.no_remote
 
 pub returns-in-Numbers : goal.returns-in-Numbers
 returns-in-Numbers g c =

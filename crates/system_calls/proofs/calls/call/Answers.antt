@@ -1,10 +1,9 @@
 -- The call begins as its meaning asks, and what is done is what comes of it.
-use Rattle.std.proofs.Common.{◌≡◌, ◌∙◌, inl, inr, [], Some, take, sym, subst, refl, rules}
+use Rattle.std.proofs.Common.{◌≡◌, ◌∙◌, [], Some, take, sym, subst, refl, rules}
 use Rattle.jk_model.proofs.CountsNeverFall.{NeverFalls-refl}
 use Rattle.jk_model_system_rows.specs.Meanings.{meaning_of}
 use Rattle.step_contents.specs.StandingFrames.{place_of}
 use Rattle.system_calls.specs.GivenOnTop.{HasGiven, TakesOff}
-use Rattle.system_calls.proofs.ClassOfCapabilities.{class_of_capabilities}
 use Rattle.system_calls.proofs.CallsBegin.{as_read, comes_so, end_comes, has_given, line_comes, may_answer, place_fits, room_if, some_meaning}
 use Rattle.system_calls.proofs.LinesSaid.{err_printed, none_printed, ok_printed}
 use Rattle.system_calls.proofs.calls.call.Goals as goal
@@ -13,14 +12,14 @@ pub unreachable-requires : goal.unreachable-requires
 unreachable-requires g c =
     some_meaning (g.H.ObjectStore.content c.args.heap.now) (g.F.FrameStore.content c.args.frames.now) c.args.shared.now
     (record { world = c.args.w; domain = c.args.d; segment = c.args.s }) (place_of c.args.at.now) c.args.m
-    c.requires.may (sym c.meaning.ensures ∙ c.in_default.is)
+    c.requires (sym c.meaning.ensures ∙ c.in_default.is)
 
 pub read_given-values-requires-clause-given : goal.read_given-values-requires-clause-given
 read_given-values-requires-clause-given g c =
     subst (HasGiven (g.F.FrameStore.content c.args.frames.now) c.args.s) (sym c.count_given-count.ensures)
     (has_given (g.H.ObjectStore.content c.args.heap.now) (g.F.FrameStore.content c.args.frames.now) c.args.shared.now
     (record { world = c.args.w; domain = c.args.d; segment = c.args.s }) (place_of c.args.at.now) c.args.m
-    c.requires.may c.in-Some.meaning (sym c.meaning.ensures ∙ c.in-Some.is))
+    c.requires c.in-Some.meaning (sym c.meaning.ensures ∙ c.in-Some.is))
 
 pub print_line-line-requires-clause-given : goal.print_line-line-requires-clause-given
 print_line-line-requires-clause-given g c =
@@ -32,13 +31,13 @@ print_line-line-requires-clause-given g c =
     c.read_given-values.ensures.given c.read_given-values.ensures.many in
     (may_answer (g.H.ObjectStore.content c.args.heap.now) (g.F.FrameStore.content c.args.frames.now) c.args.shared.now
     (record { world = c.args.w; domain = c.args.d; segment = c.args.s }) (place_of c.args.at.now) c.args.m
-    c.requires.may c.in-Some.meaning means (take c.from.result c.read_given-values.result) read.0 read.1).given_for
+    c.requires c.in-Some.meaning means (take c.from.result c.read_given-values.result) read.0 read.1).given_for
 
 pub overflow_add-result : goal.overflow_add-result
 overflow_add-result g c =
     record {
       fits = place_fits (g.H.ObjectStore.content c.args.heap.now) (g.F.FrameStore.content c.args.frames.now) c.args.shared.now
-          (record { world = c.args.w; domain = c.args.d; segment = c.args.s }) (place_of c.args.at.now) c.args.m c.requires.may;
+          (record { world = c.args.w; domain = c.args.d; segment = c.args.s }) (place_of c.args.at.now) c.args.m c.requires;
     }
 
 pub answer-answer-requires : goal.answer-answer-requires
@@ -53,9 +52,8 @@ answer-answer-requires g c =
       may =
           may_answer (g.H.ObjectStore.content c.args.heap.now) (g.F.FrameStore.content c.args.frames.now) c.args.shared.now
           (record { world = c.args.w; domain = c.args.d; segment = c.args.s }) (place_of c.args.at.now) c.args.m
-          c.requires.may c.in-Some.meaning means (take c.from.result c.read_given-values.result) read.0 read.1;
+          c.requires c.in-Some.meaning means (take c.from.result c.read_given-values.result) read.0 read.1;
       answered = (search rules, search rules);
-      no_remote = λ caps. c.requires.no_remote (class_of_capabilities c.args.m c.in-Some.meaning means caps);
     }
 
 pub finish-requires : goal.finish-requires
@@ -71,15 +69,15 @@ finish-requires g c =
           subst (HasGiven (g.F.FrameStore.content c.args.frames.now) c.args.s) (sym c.count_given-count.ensures)
           (has_given (g.H.ObjectStore.content c.args.heap.now) (g.F.FrameStore.content c.args.frames.now) c.args.shared.now
           (record { world = c.args.w; domain = c.args.d; segment = c.args.s }) (place_of c.args.at.now) c.args.m
-          c.requires.may c.in-Some.meaning means);
+          c.requires c.in-Some.meaning means);
       room =
           room_if (g.H.ObjectStore.content c.args.heap.now) (g.F.FrameStore.content c.args.frames.now) c.args.shared.now
           (record { world = c.args.w; domain = c.args.d; segment = c.args.s }) (place_of c.args.at.now) c.args.m
-          c.requires.may c.in-Some.meaning means (take c.from.result c.read_given-values.result) read.0 read.1
+          c.requires c.in-Some.meaning means (take c.from.result c.read_given-values.result) read.0 read.1
           (g.met.F.FrameStore.holds c.args.frames.now) (g.H.ObjectStore.content c.answer-answer.new.heap) c.answer-answer.new.shared
           c.answer-answer.result c.count_given-count.result c.count_given-count.ensures c.answer-answer.ensures;
       next = place_fits (g.H.ObjectStore.content c.args.heap.now) (g.F.FrameStore.content c.args.frames.now) c.args.shared.now
-          (record { world = c.args.w; domain = c.args.d; segment = c.args.s }) (place_of c.args.at.now) c.args.m c.requires.may;
+          (record { world = c.args.w; domain = c.args.d; segment = c.args.s }) (place_of c.args.at.now) c.args.m c.requires;
     }
 
 pub returns-in-Ok-clause-ok : goal.returns-in-Ok-clause-ok
