@@ -21,9 +21,9 @@ use Rattle.list_lemmas.proofs.LastItems.{each-append}
 use Rattle.thread_segments.specs.declared.domains.DomainEntry.{DomainEntry}
 use Rattle.thread_segments.specs.ClassedRanges.{CreatesIn, has_room_in, used_up_in}
 use Rattle.thread_segments.specs.DomainEntries.{AreCounted, spare}
-use Rattle.thread_segments.specs.ThreadEntries.{ThreadList}
+use Rattle.thread_stacks.specs.Stacks.{ThreadList}
 use Rattle.thread_segments.proofs.CapsOfDomains.{one_range}
-use Rattle.thread_segments.proofs.ThreadsOfEntries.{one_if}
+use Rattle.thread_stacks.proofs.Filtered.{one_if}
 
 -- ---- Threads.
 

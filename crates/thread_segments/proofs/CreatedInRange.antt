@@ -17,7 +17,7 @@ use Rattle.jk_model_heaps.specs.Capabilities.{CapRange, Capability}
 use Rattle.jk_model_sharing.specs.CapabilityCalls.{next_number as next_cap, with_created}
 use Rattle.thread_segments.specs.ClassedRanges.{AreApart, AreChained, AreClassed, CreatesIn, IsWithinClasses, has_room_in, used_up_in, class_at, made_with, no_class, range_with, ranges_with}
 use Rattle.thread_segments.proofs.StubsByClass.{find_past}
-use Rattle.thread_segments.proofs.ThreadsOfEntries.{find_hit, find_miss, head_fails}
+use Rattle.thread_stacks.proofs.FoundInStacks.{find_hit, find_miss, head_fails}
 
 -- ---- Ranges after one more: they follow one another, and their owners differ.
 

@@ -97,15 +97,15 @@ module _ (change : SharedDomain → SharedDomain) (k : ℕ) where
 
 -- where what is seen of an entry stays, nothing is changed
 pub same_domains : (n i : ℕ) (es : List DomainEntry) (rs : List CapRange) (e new : DomainEntry) → slice_get es i ≡ Some e → new.quotas ≡ e.quotas
-    → new.steps_left ≡ e.steps_left → domains_with n (set es i new) rs ≡ domains_with n es rs
-same_domains n i [] rs e new at quotas steps = absurd cc
-same_domains n zero (x ∷ es) [] e new at quotas steps = refl
-same_domains n (suc i) (x ∷ es) [] e new at quotas steps = refl
-same_domains n zero (x ∷ es) (y ∷ rs) e new at quotas steps =
+    → new.steps_left ≡ e.steps_left → new.live ≡ e.live → domains_with n (set es i new) rs ≡ domains_with n es rs
+same_domains n i [] rs e new at quotas steps live = absurd cc
+same_domains n zero (x ∷ es) [] e new at quotas steps live = refl
+same_domains n (suc i) (x ∷ es) [] e new at quotas steps live = refl
+same_domains n zero (x ∷ es) (y ∷ rs) e new at quotas steps live =
     let here : e ≡ x = sym (same_Some x e at) in
-    rw (quotas, steps, here) refl
-same_domains n (suc i) (x ∷ es) (y ∷ rs) e new at quotas steps =
-    ap (λ zs. domain_with n x y ∷ zs) (same_domains (suc n) i es rs e new at quotas steps)
+    rw (quotas, steps, live, here) refl
+same_domains n (suc i) (x ∷ es) (y ∷ rs) e new at quotas steps live =
+    ap (λ zs. domain_with n x y ∷ zs) (same_domains (suc n) i es rs e new at quotas steps live)
 
 -- ---- All of them.
 

@@ -20,8 +20,8 @@ use Rattle.jk_model_sharing.specs.KnownStubs.{AreKnownStubs, AreRising}
 use Rattle.jk_model_sharing.specs.SharedStates.{SharedState, caps_of, stub_for, stub_of}
 use Rattle.list_lemmas.proofs.FoundItems.{Finds, finds}
 use Rattle.list_lemmas.proofs.ItemsOfLists.{Contains-at, Contains-cases, Contains-here, Contains-none, Contains-there}
-use Rattle.thread_segments.proofs.ThreadsOfEntries.{head_fails}
-use Rattle.thread_segments.specs.Places.{IsOnlyAt, IsPlaceOf, has_key}
+use Rattle.thread_stacks.proofs.FoundInStacks.{head_fails}
+use Rattle.thread_stacks.specs.Places.{IsOnlyAt, IsPlaceOf, has_key}
 use Rattle.thread_segments.specs.KnownStubs.{known_capabilities}
 
 -- ---- A class that isn't there implements nothing.

@@ -3,19 +3,18 @@ pub mod CapsOfDomains
 pub mod CountsAreKept
 pub mod CreatedInRange
 pub mod DomainsByNumber
+pub mod DomainsEnded
 pub mod InterfacesShown
-pub mod ItemsByKey
 pub mod NamesAreCounted
 pub mod NamesByPlace
 pub mod NamesOfStates
-pub mod NextLive
 pub mod OneMore
 pub mod OwnersByNumber
-pub mod OrderIsKept
 pub mod RangesWithClasses
 pub mod Remaining
 pub mod RevokedInRange
 pub mod SameInstances
+pub mod SegmentRoom
 pub mod SoundAdmission
 pub mod SoundCapabilities
 pub mod SoundDomains
@@ -25,4 +24,4 @@ pub mod SoundNames
 pub mod SoundThreads
 pub mod StatesByPart
 pub mod StubsByClass
-pub mod ThreadsOfEntries
+pub mod ThreadsTakenOut

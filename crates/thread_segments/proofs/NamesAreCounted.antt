@@ -16,7 +16,7 @@ use Rattle.thread_segments.specs.NameEntries.{NameList}
 use Rattle.thread_segments.proofs.CountsAreKept.{part_le, part_set, stands_after}
 use Rattle.thread_segments.proofs.NamesByPlace.{count_removed, count_set, length-removed}
 use Rattle.thread_segments.proofs.OneMore.{last_more, one_passes}
-use Rattle.thread_segments.proofs.ThreadsOfEntries.{one_if}
+use Rattle.thread_stacks.proofs.Filtered.{one_if}
 
 -- One entry is replaced, and the names are others: what that takes to keep the counts right.
 pub record Renames (es : List DomainEntry) (n new : NameList) (i : ℕ) (e other : DomainEntry) : Type 0 where

@@ -8,12 +8,12 @@ use Rattle.std.proofs.lemmas.List.{drop-map, map-append, map-set, take-map}
 use Rattle.std.proofs.lemmas.Option.{same_Some}
 use Rattle.jk_model.specs.declared.identifiers.CapId.{CapId}
 use Rattle.jk_model.specs.declared.identifiers.DomainId.{DomainId}
-use Rattle.jk_model_sharing.specs.BoundNames.{BoundName, bound_as, count_bound_by}
+use Rattle.jk_model_sharing.specs.BoundNames.{BoundName, bound_as, count_bound_by, without_names_of}
 use Rattle.list_lemmas.proofs.ItemsByPlace.{mapped_at}
 use Rattle.thread_segments.specs.declared.names.NameEntry.{NameEntry}
 use Rattle.thread_segments.specs.NameEntries.{IsPlaceOfName, name_of, names_of}
 use Rattle.thread_segments.proofs.SoundNames.{text_same}
-use Rattle.thread_segments.proofs.ThreadsOfEntries.{one_if}
+use Rattle.thread_stacks.proofs.Filtered.{one_if}
 
 -- ---- Finding.
 
@@ -160,3 +160,12 @@ pub length-removed : {X : Type 0} (xs : List X) (i : ℕ) → i < length xs → 
 length-removed [] i low = absurd (omega arith)
 length-removed (x ∷ xs) zero low = omega arith
 length-removed (x ∷ xs) (suc i) low = let rest = length-removed xs i (omega arith) in omega (arith, rest)
+
+-- the names of other domains
+pub names_of_others : (d : DomainId) (es : List NameEntry) → names_of (filter (λ (e : NameEntry). not (e.binder.0 == d.0)) es)
+    ≡ without_names_of d (names_of es)
+names_of_others d [] = refl
+names_of_others d (e ∷ es) = elim (cases_Bool (e.binder.0 == d.0)) [
+  | inl hit ↦ rw hit (names_of_others d es)
+  | inr miss ↦ rw miss (ap (λ (ns : List BoundName). name_of e ∷ ns) (names_of_others d es))
+]

@@ -5,7 +5,7 @@ use Rattle.std.proofs.lemmas.Option.{same_Some}
 use Rattle.std.proofs.lemmas.List.Elements.{Contains-append_cases, Contains-append_left, Contains-append_right}
 use Rattle.list_lemmas.proofs.ItemsOfLists.{Contains-at, Contains-cases, Contains-here, Contains-there, place_of}
 use Rattle.thread_segments.proofs.Remaining.{DifferBy}
-use Rattle.thread_segments.proofs.ThreadsOfEntries.{one_if}
+use Rattle.thread_stacks.proofs.Filtered.{one_if}
 
 pub record HasOneMore {X : Type 0} (n : X) (xs ys : List X) : Type 0 where
   pub front : List X

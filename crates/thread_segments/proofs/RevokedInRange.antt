@@ -3,6 +3,7 @@ use Rattle.std.proofs.Common.{◌≡◌, ℕ, suc, ◌+◌, ◌-◌, inl, inr, L
 use Rattle.std.specs.Prelude.{◌==◌, if◌then◌else◌}
 use Rattle.std.specs.List.{AllByRecursion}
 use Rattle.std.proofs.lemmas.Bool.{cases_Bool}
+use Rattle.std.proofs.lemmas.List.{length-map}
 use Rattle.std.proofs.lemmas.List.Sums.{sum_by-cons}
 use Rattle.jk_model.specs.Capabilities.{Creation, Range, is_owned_by, numbers, range_of}
 use Rattle.jk_model.specs.Capabilities as low
@@ -10,10 +11,10 @@ use Rattle.jk_model.specs.declared.identifiers.CapId.{CapId}
 use Rattle.jk_model.specs.declared.identifiers.ClassId.{ClassId}
 use Rattle.jk_model.specs.declared.identifiers.DomainId.{DomainId}
 use Rattle.jk_model_heaps.specs.Capabilities.{CapRange, IsGivenOut, has_number}
-use Rattle.jk_model_sharing.specs.CapabilityCalls.{revoked_at}
-use Rattle.thread_segments.specs.ClassedRanges.{AreApart, AreChained, AreClassed, IsWithinClasses, made_with, range_with, ranges_with, revoked_in}
+use Rattle.jk_model_sharing.specs.CapabilityCalls.{revoked_at, revoked_capability}
+use Rattle.thread_segments.specs.ClassedRanges.{AreApart, AreChained, AreClassed, IsWithinClasses, made_with, range_with, ranges_with, revoked_in, all_revoked_in}
 use Rattle.thread_segments.proofs.RangesWithClasses.{status_is}
-use Rattle.thread_segments.proofs.ThreadsOfEntries.{find_miss, head_fails}
+use Rattle.thread_stacks.proofs.FoundInStacks.{find_miss, head_fails}
 
 -- ---- Ranges changed, but for their owners and numbers.
 
@@ -121,3 +122,31 @@ known_in_table classes k ranges (c, is) = rw (status_is classes k ranges, is) re
 
 pub revoked_in-owner : (k : CapId) (r : CapRange) → (revoked_in k r).owner ≡ r.owner
 revoked_in-owner k r = elim (cases_Bool (has_number k r)) [ inl hit ↦ rw hit refl | inr miss ↦ rw miss refl ]
+
+-- ---- All of a domain are revoked.
+
+abbrev all_in_table : DomainId → Range → Range
+all_in_table d r = if is_owned_by d r then record r { made = map low.revoked_creation r.made } else r
+
+pub all_keep : (d : DomainId) → KeepsNumbers (all_in_table d)
+all_keep d = record {
+  owner = λ r. elim (cases_Bool (is_owned_by d r)) [ inl hit ↦ rw hit refl | inr miss ↦ rw miss refl ];
+  first = λ r. elim (cases_Bool (is_owned_by d r)) [ inl hit ↦ rw hit refl | inr miss ↦ rw miss refl ];
+  count = λ r. elim (cases_Bool (is_owned_by d r)) [ inl hit ↦ rw hit refl | inr miss ↦ rw miss refl ];
+  made = λ r. elim (cases_Bool (is_owned_by d r)) [ inl hit ↦ rw hit (length-map r.made low.revoked_creation) | inr miss ↦ rw miss refl ];
+}
+
+made_with-all : (classes : List ClassId) (n : ℕ) (made : List Creation)
+    → made_with classes n (map low.revoked_creation made) ≡ map revoked_capability (made_with classes n made)
+made_with-all classes n [] = refl
+made_with-all classes n (c ∷ made) = rw (made_with-all classes (suc n) made) refl
+
+range_all : (classes : List ClassId) (d : DomainId) (r : Range) → range_with classes (all_in_table d r) ≡ all_revoked_in d (range_with classes r)
+range_all classes d r = elim (cases_Bool (r.owner.0 == d.0)) [
+  | inl hit ↦ rw (hit, made_with-all classes r.first r.made) refl
+  | inr miss ↦ rw miss refl
+]
+
+pub ranges_all : (classes : List ClassId) (d : DomainId) (ranges : List Range)
+    → ranges_with classes (low.revoked_all ranges d) ≡ map (all_revoked_in d) (ranges_with classes ranges)
+ranges_all classes d ranges = ranges_with-mapped classes (all_in_table d) (all_revoked_in d) ranges (range_all classes d)

@@ -19,7 +19,8 @@ use Rattle.thread_segments.proofs.Remaining.{Remains, changed_remain, filtered_r
 use Rattle.thread_segments.proofs.SoundDomains.{IsSoundDomain, Refits, found_mapped, one_changed, one_refits, refit, sound_domain, sound_one, was_mapped}
 use Rattle.thread_segments.proofs.SoundGrowth.{found_domain}
 use Rattle.thread_segments.proofs.SoundNames.{sound_without}
-use Rattle.thread_segments.proofs.SoundThreads.{Lessens, SameSegment, SameThread, live_have_segments, live_segments, segments_in, segments_lessened, thread_is, threads_changed}
+use Rattle.thread_stacks.specs.StackAnswers.{segments_in}
+use Rattle.thread_segments.proofs.SoundThreads.{Lessens, SameSegment, SameThread, live_have_segments, live_segments, segments_lessened, thread_is, threads_changed}
 
 -- ---- Segments of a domain go.
 

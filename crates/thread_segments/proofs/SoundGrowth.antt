@@ -15,8 +15,9 @@ use Rattle.thread_segments.specs.Asked.{HasRoomForSegment, IsAdmitted, IsLiveDom
 use Rattle.thread_segments.specs.SoundStates.{AreNumbered, AreSound, AreSoundSegments, AreSoundThreads, all_segments}
 use Rattle.thread_segments.proofs.OneMore.{HasOneMore, differ_more, last_more, more_behind, more_in_front, new_or_old, one_passes}
 use Rattle.thread_segments.proofs.Remaining.{changed_remain}
-use Rattle.thread_segments.proofs.ThreadsOfEntries.{one_if}
-use Rattle.thread_segments.proofs.SoundThreads.{SameThread, counted_in, one_thread, segment_number, segments_in, threads_left}
+use Rattle.thread_stacks.proofs.Filtered.{one_if}
+use Rattle.thread_stacks.specs.StackAnswers.{segments_in}
+use Rattle.thread_segments.proofs.SoundThreads.{SameThread, counted_in, one_thread, segment_number, threads_left}
 
 -- ---- Domains stand at their numbers.
 

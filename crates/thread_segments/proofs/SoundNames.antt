@@ -19,7 +19,7 @@ use Rattle.thread_segments.proofs.OneMore.{last_more, new_or_old, one_passes}
 use Rattle.thread_segments.proofs.Remaining.{filtered_remain, no_more_pass, remained, still_differ}
 use Rattle.thread_segments.proofs.SoundDomains.{was_mapped}
 use Rattle.thread_segments.proofs.SoundGrowth.{of_domain}
-use Rattle.thread_segments.proofs.ThreadsOfEntries.{one_if}
+use Rattle.thread_stacks.proofs.Filtered.{one_if}
 
 -- ---- Texts.
 

@@ -1,5 +1,5 @@
 -- Threads and segments stay sound where some are taken out and others are changed but for their numbers and domains.
-use Rattle.std.proofs.Common.{◌≡◌, ◌≢◌, ℕ, ◌+◌, ◌≤◌, inl, inr, Bool, true, false, List, [], ◌∷◌, ◌++◌, length, filter, flat_map, map, Contains, refl, sym, ap, subst, ◌∙◌, arith, length-append}
+use Rattle.std.proofs.Common.{◌≡◌, ◌≢◌, ℕ, ◌+◌, ◌≤◌, inl, inr, Bool, true, false, List, [], ◌∷◌, ◌++◌, length, filter, map, Contains, refl, sym, ap, subst, ◌∙◌, arith, length-append}
 use Rattle.std.specs.Prelude.{◌==◌, if◌then◌else◌}
 use Rattle.std.proofs.lemmas.Bool.{cases_Bool}
 use Rattle.std.proofs.lemmas.List.Elements.{filter-append}
@@ -10,6 +10,7 @@ use Rattle.jk_model.specs.declared.identifiers.ThreadNo.{ThreadNo}
 use Rattle.jk_model_sharing.specs.Segments.{SharedSegment, SharedThread, count_segments_of, count_started_in, has_segments, is_of, live_threads, shared_form, with_segments, with_stacks, without_top, with_segment, is_numbered}
 use Rattle.jk_model_sharing.specs.SharedStates.{SharedDomain, SharedState, popped, with_flags}
 use Rattle.list_lemmas.proofs.ItemsOfLists.{Contains-cases, Contains-here, Contains-none, Contains-there}
+use Rattle.thread_stacks.specs.StackAnswers.{segments_in}
 use Rattle.thread_segments.specs.Asked.{IsAdmitted, IsLiveDomain}
 use Rattle.thread_segments.specs.SoundStates.{AreSound, AreSoundSegments, AreSoundThreads, all_segments}
 use Rattle.thread_segments.proofs.Remaining.{Remains, all_remain, changed_remain, filtered_remain, goes, no_more_pass, nothing, remain_further, remain_together, remained, stays, still_differ, still_rise}
@@ -71,9 +72,6 @@ threads_left old new keeps left next whole h = record {
 }
 
 -- ---- Segments.
-
-abbrev pub segments_in : List SharedThread → List SharedSegment
-segments_in threads = flat_map (λ (t : SharedThread). t.segments) threads
 
 pub counted_in : (d : DomainId) (threads : List SharedThread)
     → count_segments_of threads d ≡ length (filter (is_of shared_form d) (segments_in threads))

@@ -24,10 +24,10 @@ use Rattle.thread_segments.specs.Answers.{CreatesFor, RevokesFor, count_numbers_
 use Rattle.thread_segments.specs.declared.domains.DomainEntry.{DomainEntry}
 use Rattle.thread_segments.specs.DomainEntries.{AreCounted, domain_with, domains_with, state_of}
 use Rattle.thread_segments.specs.NameEntries.{NameList}
-use Rattle.thread_segments.specs.ThreadEntries.{ThreadList}
+use Rattle.thread_stacks.specs.Stacks.{ThreadList}
 use Rattle.thread_segments.specs.SoundStates.{AreSound}
 use Rattle.thread_segments.proofs.OwnersByNumber.{put_back, revoked_for}
-use Rattle.thread_segments.proofs.ItemsByKey.{found_none}
+use Rattle.thread_stacks.proofs.ItemsByKey.{found_none}
 use Rattle.thread_segments.proofs.CapsOfDomains.{AreOwnedFrom, caps_changed, one_range, owner_found, range_stays}
 use Rattle.thread_segments.proofs.DomainsByNumber.{changed_at, domains_with-mapped, domains_with-push, length-domains_with, ranges_of-domains_with, same_domains, stands_at}
 
@@ -103,6 +103,7 @@ module _ (es : List DomainEntry) (rs : List CapRange) (stubs : List Stub) (ns : 
   -- ---- What the calls make of the state.
 
   pub begun_is : (d : DomainId) (a : Admitted d) (more : DomainEntry) (new : ThreadList) → more.quotas ≡ a.entry.quotas → more.steps_left ≡ a.entry.steps_left
+      → more.live ≡ a.entry.live
       → new ≡ record t {
         threads = t.threads ++ record {
           number = record { 0 = t.next_thread };
@@ -113,39 +114,40 @@ module _ (es : List DomainEntry) (rs : List CapRange) (stubs : List Stub) (ns : 
         next_segment = suc t.next_segment;
       }
       → state_of (set es d.0 more) rs stubs ns new ≡ begun d here
-  begun_is d a more new quotas steps is = rw (is, same_domains 0 d.0 es rs a.entry more a.there quotas steps) refl
+  begun_is d a more new quotas steps live is = rw (is, same_domains 0 d.0 es rs a.entry more a.there quotas steps live) refl
 
   pub popped_is : (thread : ThreadNo) (i : ℕ) (e less : DomainEntry) (new : ThreadList) → slice_get es i ≡ Some e → less.quotas ≡ e.quotas
-      → less.steps_left ≡ e.steps_left → new ≡ record t { threads = live_threads (with_stack thread without_top t.threads) }
+      → less.steps_left ≡ e.steps_left → less.live ≡ e.live → new ≡ record t { threads = live_threads (with_stack thread without_top t.threads) }
       → state_of (set es i less) rs stubs ns new ≡ popped thread here
-  popped_is thread i e less new at quotas steps is = rw (is, same_domains 0 i es rs e less at quotas steps) refl
+  popped_is thread i e less new at quotas steps live is = rw (is, same_domains 0 i es rs e less at quotas steps live) refl
 
-  pub admitted_is : (d : DomainId) (q : Quotas) (more : List Stub) (e : DomainEntry) → d.0 ≡ length es → e.quotas ≡ q → e.steps_left ≡ q.steps
+  pub admitted_is : (d : DomainId) (q : Quotas) (more : List Stub) (e : DomainEntry) → d.0 ≡ length es → e.quotas ≡ q → e.steps_left ≡ q.steps → e.live ≡ true
       → admitted d q more here
       ≡ record here { domains = domains_with 0 (es ++ e ∷ []) (rs ++ first_range rs d q.caps ∷ []); stubs = stubs ++ more }
-  admitted_is d q more e next quotas steps =
+  admitted_is d q more e next quotas steps live =
       let push = domains_with-push 0 d.0 es rs e (first_range rs d q.caps) h.as_many (omega (arith, next)) in
-      rw (push, caps_are, quotas, steps) refl
+      rw (push, caps_are, quotas, steps, live) refl
 
   pub spent_is : (d : DomainId) (a : Admitted d) (new : DomainEntry) → new.quotas ≡ a.entry.quotas
-      → new.steps_left ≡ option_map (λ (n : ℕ). n - 1) a.entry.steps_left
+      → new.steps_left ≡ option_map (λ (n : ℕ). n - 1) a.entry.steps_left → new.live ≡ a.entry.live
       → record here { domains = domains_with 0 (set es d.0 new) rs } ≡ spent d here
-  spent_is d a new quotas steps =
+  spent_is d a new quotas steps live =
       let change : SharedDomain → SharedDomain = λ e. record e { steps_left = option_map (λ (n : ℕ). n - 1) e.steps_left } in
       ap (λ (ds : List SharedDomain). record here { domains = ds })
-      (changed_at change d.0 0 d.0 es rs a.entry new a.there (omega arith) (λ r. rw (quotas, steps) refl))
+      (changed_at change d.0 0 d.0 es rs a.entry new a.there (omega arith) (λ r. rw (quotas, steps, live) refl))
 
   pub spent_steps_is : (n : ℕ) (d : DomainId) (a : Admitted d) (new : DomainEntry) → new.quotas ≡ a.entry.quotas
-      → new.steps_left ≡ option_map (λ (k : ℕ). k - n) a.entry.steps_left
+      → new.steps_left ≡ option_map (λ (k : ℕ). k - n) a.entry.steps_left → new.live ≡ a.entry.live
       → record here { domains = domains_with 0 (set es d.0 new) rs } ≡ spent_steps n d here
-  spent_steps_is n d a new quotas steps =
+  spent_steps_is n d a new quotas steps live =
       let change : SharedDomain → SharedDomain = λ e. record e { steps_left = option_map (λ (k : ℕ). k - n) e.steps_left } in
       ap (λ (ds : List SharedDomain). record here { domains = ds })
-      (changed_at change d.0 0 d.0 es rs a.entry new a.there (omega arith) (λ r. rw (quotas, steps) refl))
+      (changed_at change d.0 0 d.0 es rs a.entry new a.there (omega arith) (λ r. rw (quotas, steps, live) refl))
 
   pub domains_stay : (d : DomainId) (a : Admitted d) (new : DomainEntry) → new.quotas ≡ a.entry.quotas → new.steps_left ≡ a.entry.steps_left
+      → new.live ≡ a.entry.live
       → domains_with 0 (set es d.0 new) rs ≡ domains_with 0 es rs
-  domains_stay d a new quotas steps = same_domains 0 d.0 es rs a.entry new a.there quotas steps
+  domains_stay d a new quotas steps live = same_domains 0 d.0 es rs a.entry new a.there quotas steps live
 
   -- ---- Capabilities.
 
@@ -250,10 +252,11 @@ module _ (es : List DomainEntry) (rs : List CapRange) (stubs : List Stub) (ns : 
 
   -- an entry is changed but for what is seen of it, and the names are others
   pub names_are : (i : ℕ) (e other : DomainEntry) (new : NameList) (names : List BoundName) → slice_get es i ≡ Some e → other.quotas ≡ e.quotas
-      → other.steps_left ≡ e.steps_left → new ≡ record ns { names = names } → state_of (set es i other) rs stubs new t ≡ record here { names = names }
-  names_are i e other new names at quotas steps becomes =
+      → other.steps_left ≡ e.steps_left → other.live ≡ e.live → new ≡ record ns { names = names } → state_of (set es i other) rs stubs new t ≡ record
+      here { names = names }
+  names_are i e other new names at quotas steps live becomes =
       let same : new.names ≡ names = ap (λ (x : NameList). x.names) becomes in
-      rw (same, same_domains 0 i es rs e other at quotas steps) refl
+      rw (same, same_domains 0 i es rs e other at quotas steps live) refl
 
   pub names_alone : (new : NameList) (names : List BoundName) → new ≡ record ns { names = names } → state_of es rs stubs new t ≡ record here { names = names }
   names_alone new names becomes =

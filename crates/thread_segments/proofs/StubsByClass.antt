@@ -8,7 +8,7 @@ use Rattle.list_lemmas.proofs.ItemsByPlace.{slice_get-longer, slice_get-last}
 use Rattle.list_lemmas.proofs.LastItems.{take_next}
 use Rattle.thread_segments.specs.declared.stub_index.StubPlace.{StubPlace}
 use Rattle.thread_segments.specs.StubPlaces.{ArePlacesOf, IsEntered, LeadsTo, has_class, stub_at, stubs_in}
-use Rattle.thread_segments.proofs.ThreadsOfEntries.{head_fails}
+use Rattle.thread_stacks.proofs.FoundInStacks.{head_fails}
 
 pub find_front : {X : Type 0} (test : X → Bool) (xs ys : List X) (x : X) → find test xs ≡ Some x → find test (xs ++ ys) ≡ Some x
 find_front test [] ys x e = absurd cc

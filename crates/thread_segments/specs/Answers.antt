@@ -1,5 +1,5 @@
 -- What the calls answer, and the state that those which may be refused leave.
-use Rattle.std.specs.Prelude.{◌≡◌, ℕ, ◌-◌, ◌<◌, ◌≤◌, List, [], Contains, Option, Some, None, option_and_then, option_map, Result, Err}
+use Rattle.std.specs.Prelude.{◌≡◌, ℕ, ◌-◌, List, Option, Some, None, option_and_then, option_map, Result, Err}
 use Rattle.jk_model.specs.Capabilities.{last_number}
 use Rattle.jk_model.specs.declared.capabilities.CapStatus.{CapStatus}
 use Rattle.jk_model.specs.declared.identifiers.CapId.{CapId}
@@ -15,9 +15,10 @@ use Rattle.jk_model_heaps.specs.Capabilities.{CapRange, capability_numbered}
 use Rattle.jk_model_heaps.specs.SystemClasses.{ILLEGAL_ARGUMENT_EXCEPTION}
 use Rattle.jk_model_sharing.specs.BoundNames.{Binds, BoundName, Unbinds}
 use Rattle.jk_model_sharing.specs.CapabilityCalls.{Creates, Revokes, count_numbers, status_of}
-use Rattle.jk_model_sharing.specs.Segments.{PlacedSegment, SharedSegment, SharedThread, segment_below, segment_numbered, segments_left, shared_form, top_segment}
+use Rattle.jk_model_sharing.specs.Segments.{segment_below, segment_numbered, top_segment}
 use Rattle.jk_model_sharing.specs.SharedStates.{MayBegin, SharedDomain, SharedState, begun, caps_of, domain_numbered, stub_for, with_caps, with_domain}
-use Rattle.thread_segments.specs.declared.segments.SegmentInfo.{SegmentInfo}
+use Rattle.thread_stacks.specs.declared.segments.SegmentInfo.{SegmentInfo}
+pub use Rattle.thread_stacks.specs.StackAnswers.{EndsWith, IsLeastAbove, IsLiveNumber, info_of, number_of, thread_number}
 
 -- ---- Domains.
 
@@ -38,9 +39,6 @@ count_numbers_left s = last_number - count_numbers (caps_of s)
 
 -- ---- Segments.
 
-abbrev pub number_of : SharedSegment → SegmentNo
-number_of s = s.number
-
 -- the number of a thread's top segment; none of a thread that isn't live
 abbrev pub top_number : SharedState → ThreadNo → Option SegmentNo
 top_number s t = option_map number_of (top_segment s.threads t)
@@ -48,16 +46,6 @@ top_number s t = option_map number_of (top_segment s.threads t)
 -- the number of the segment directly below one; none below a lowest one
 abbrev pub number_below : SharedState → SegmentNo → Option SegmentNo
 number_below s n = option_map number_of (segment_below s.threads n)
-
-abbrev pub info_of : PlacedSegment → SegmentInfo
-info_of p = record {
-  thread = p.thread.number;
-  domain = p.segment.domain;
-  suspended = p.segment.suspended;
-  stop = p.segment.stop;
-  revoked = p.segment.revoked;
-  orphan = p.segment.orphan;
-}
 
 -- what is known of a segment; nothing where it isn't there
 abbrev pub segment_info : SharedState → SegmentNo → Option SegmentInfo
@@ -69,23 +57,6 @@ segment_info s n = option_map info_of (segment_numbered s.threads n)
 pub data Begins (s : SharedState) (d : DomainId) : Option ThreadNo → SharedState → Type 0 where
   refused : (MayBegin s d → ⊥) → Begins s d None s
   begins : MayBegin s d → Begins s d (Some (record { 0 = s.next_thread })) (begun d s)
-
--- the least number above for which this holds; none where there is no such number
-abbrev pub IsLeastAbove : (ℕ → Type 0) → ℕ → Option ℕ → Type 0
-IsLeastAbove P above None = (t : ℕ) → P t → t ≤ above
-IsLeastAbove P above (Some t) = P t × (above < t) × ((other : ℕ) → P other → above < other → t ≤ other)
-
--- a live thread has this number
-abbrev pub IsLiveNumber : List SharedThread → ℕ → Type 0
-IsLiveNumber threads t = (e : SharedThread) × Contains threads e × (e.number.0 ≡ t)
-
--- a live thread has this number, and the end of the domain leaves nothing of it
-abbrev pub EndsWith : List SharedThread → DomainId → ℕ → Type 0
-EndsWith threads d t =
-    (e : SharedThread) × Contains threads e × (e.number.0 ≡ t) × (segments_left shared_form d e.segments ≡ [])
-
-abbrev pub thread_number : ThreadNo → ℕ
-thread_number t = t.0
 
 -- ---- Capabilities.
 

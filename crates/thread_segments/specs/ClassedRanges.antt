@@ -4,11 +4,12 @@ use Rattle.std.specs.List.{AllByRecursion}
 use Rattle.jk_model.specs.Capabilities.{Creation, Range, last_number, numbers, range_of}
 use Rattle.jk_model.specs.declared.identifiers.CapId.{CapId}
 use Rattle.jk_model.specs.declared.identifiers.ClassId.{ClassId}
+use Rattle.jk_model.specs.declared.identifiers.DomainId.{DomainId}
 use Rattle.jk_model.specs.declared.steps.Raise.{Raise}
 use Rattle.jk_model.specs.declared.steps.Raise.TheVariants.{Standing}
 use Rattle.jk_model.specs.declared.steps.Standing.TheVariants as Stands
 use Rattle.jk_model_heaps.specs.Capabilities.{CapRange, Capability, has_number}
-use Rattle.jk_model_sharing.specs.CapabilityCalls.{next_number, with_capability_revoked, with_created}
+use Rattle.jk_model_sharing.specs.CapabilityCalls.{next_number, with_capability_revoked, with_created, all_revoked}
 
 -- what stands where no capability has the number
 abbrev pub no_class : ClassId
@@ -63,3 +64,7 @@ pub data CreatesIn (caps : List CapRange) (class : ClassId) (target : ℕ) (r : 
 -- the range that has the number, with its capability revoked
 abbrev pub revoked_in : CapId → CapRange → CapRange
 revoked_in k r = if has_number k r then with_capability_revoked k r else r
+
+-- the range of a domain, with all of its capabilities revoked
+abbrev pub all_revoked_in : DomainId → CapRange → CapRange
+all_revoked_in d r = if r.owner.0 == d.0 then all_revoked r else r

@@ -1,5 +1,5 @@
--- Domains as a list of entries and the list of their ranges of capabilities keep them. None has ended so far.
-use Rattle.std.specs.Prelude.{◌≡◌, ℕ, suc, ◌+◌, ◌-◌, ◌<◌, ◌≤◌, true, List, [], ◌∷◌, length, sum_by, Some, slice_get}
+-- Domains as a list of entries and the list of their ranges of capabilities keep them.
+use Rattle.std.specs.Prelude.{◌≡◌, ℕ, suc, ◌+◌, ◌-◌, ◌<◌, ◌≤◌, List, [], ◌∷◌, length, sum_by, Some, slice_get}
 use Rattle.std.specs.List.{AllByRecursion}
 use Rattle.jk_model_classes.specs.declared.sharing.Stub.{Stub}
 use Rattle.jk_model_heaps.specs.Capabilities.{CapRange}
@@ -9,10 +9,10 @@ use Rattle.jk_model_sharing.specs.SharedStates.{SharedDomain, SharedState}
 use Rattle.thread_segments.specs.declared.domains.DomainEntry.{DomainEntry}
 use Rattle.thread_segments.specs.NameEntries.{NameList}
 use Rattle.thread_segments.specs.SoundStates.{AreSound}
-use Rattle.thread_segments.specs.ThreadEntries.{ThreadList}
+use Rattle.thread_stacks.specs.Stacks.{ThreadList}
 
 abbrev pub domain_with : ℕ → DomainEntry → CapRange → SharedDomain
-domain_with n e r = record { number = record { 0 = n }; live = true; quotas = e.quotas; steps_left = e.steps_left; caps = r }
+domain_with n e r = record { number = record { 0 = n }; live = e.live; quotas = e.quotas; steps_left = e.steps_left; caps = r }
 
 -- the domains from this number on
 abbrev pub domains_with : ℕ → List DomainEntry → List CapRange → List SharedDomain
@@ -33,6 +33,14 @@ pub record AreCounted (entries : List DomainEntry) (ranges : List CapRange) (t :
   pub homes : AllByRecursion (λ (thread : SharedThread). thread.domain.0 < length entries) t.threads
   -- there is room for all threads that may be started
   pub room : length t.threads + sum_by spare entries ≤ t.most
+
+abbrev pub chunks_of : DomainEntry → ℕ
+chunks_of e = e.quotas.chunks
+
+-- There is room for a segment for each chunk that a domain may have, and for all domains.
+pub record HasSegmentRoom (entries : List DomainEntry) (t : ThreadList) : Type 0 where
+  pub room : sum_by chunks_of entries ≤ t.most_segments
+  pub homes : length entries ≤ t.domains
 
 -- how many more names may be bound
 abbrev pub spare_names : DomainEntry → ℕ
@@ -62,4 +70,5 @@ state_of entries caps stubs n t = record {
 pub record IsKept (entries : List DomainEntry) (caps : List CapRange) (stubs : List Stub) (n : NameList) (t : ThreadList) : Type 0 where
   pub counted : AreCounted entries caps t
   pub named : AreNamed entries n
+  pub segments : HasSegmentRoom entries t
   pub sound : AreSound (state_of entries caps stubs n t)

@@ -3,11 +3,10 @@ pub mod Answers
 pub mod Asked
 pub mod ClassedRanges
 pub mod DomainEntries
+pub mod DomainsEnding
 pub mod KnownStubs
 pub mod NameEntries
-pub mod Places
 pub mod SoundLaws
 pub mod SoundStates
 pub mod StateParts
 pub mod StubPlaces
-pub mod ThreadEntries

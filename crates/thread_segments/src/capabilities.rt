@@ -4,7 +4,7 @@ ghost use Rattle.std.specs.Prelude.{◌≡◌, ℕ, ◌+◌, ◌-◌, ◌<◌, �
 ghost use Rattle.jk_model.specs.Capabilities.{last_number};
 ghost use Rattle.jk_model_heaps.specs.Capabilities.{CapRange, IsGivenOut, OwnedCapability, capability_numbered};
 ghost use Rattle.jk_model_sharing.specs.CapabilityCalls.{LacksNumbers, count_numbers, first_range, status_of};
-ghost use Rattle.thread_segments.specs.ClassedRanges.{CreatesIn, no_class, revoked_in};
+ghost use Rattle.thread_segments.specs.ClassedRanges.{CreatesIn, all_revoked_in, no_class, revoked_in};
 
 use capability_table::{CapabilityTable, CapsError};
 use jk_model::{CapId, CapStatus, ClassId, DomainId, OutOfMemory, Raise, Standing};
@@ -104,6 +104,14 @@ impl Capabilities {
         ensures { self.new ≡ map (revoked_in k) self.old }
     {
         self.table.revoke(k);
+    }
+
+    /// Revokes all capabilities of a domain that has a range. Those that are revoked stay so.
+    pub(crate) fn revoke_all(&mut self, owner: DomainId)
+        requires { IsSome (find (λ (r : CapRange). r.owner.0 == owner.0) self.old) }
+        ensures { self.new ≡ map (all_revoked_in owner) self.old }
+    {
+        self.table.revoke_all(owner);
     }
 
     /// The class that a capability's target had. None exactly where it wasn't given out.

@@ -5,6 +5,8 @@ use jk_model::Quotas;
 /// A domain that was admitted.
 #[derive(Drop)]
 pub(crate) struct DomainEntry {
+    /// False after its end.
+    pub(crate) live: bool,
     pub(crate) quotas: Quotas,
     /// How many steps it may still take; none where it has no budget.
     pub(crate) steps_left: Option<u32>,

@@ -5,15 +5,14 @@
 
 mod capabilities;
 mod domains;
+mod endings;
 pub mod laws;
 mod names;
 mod parts;
-mod segments;
 mod shared;
 mod stub_index;
-mod threads;
 
 pub use capability_table::CapsError;
 pub use parts::{CapPart, DomainPart, NamePart, SegmentPart, SharedParts, ThreadPart};
-pub use segments::SegmentInfo;
 pub use shared::Shared;
+pub use thread_stacks::SegmentInfo;

@@ -1,7 +1,7 @@
 //! The repository: names that domains bound to capabilities.
 
 ghost use Rattle.std.specs.Prelude.{◌≡◌, ℕ, ◌+◌, ◌<◌, ◌≤◌, ◌++◌, ◌∷◌, [], Some, None, MatchOption, OnOk, OnErr, bytes_eq, length, position, remove, set, slice_get};
-ghost use Rattle.jk_model_sharing.specs.BoundNames.{BoundName, LooksUp, bound_as, longest_name};
+ghost use Rattle.jk_model_sharing.specs.BoundNames.{BoundName, LooksUp, bound_as, longest_name, without_names_of};
 ghost use Rattle.thread_segments.specs.NameEntries.{IsPlaceOfName, names_of};
 ghost use Rattle.thread_segments.specs.declared.names.NameEntry.{NameEntry as ANameEntry};
 
@@ -121,6 +121,13 @@ impl Names {
         ensures { self.new ≡ record self.old { names = remove self.old.names place } }
     {
         let _ = self.entries.remove(place);
+    }
+
+    /// Removes all names that a domain bound. It goes over all names.
+    pub(crate) fn remove_all(&mut self, binder: DomainId)
+        ensures { self.new ≡ record self.old { names = without_names_of binder self.old.names } }
+    {
+        self.entries.retain(|entry| entry.binder.0 != binder.0);
     }
 }
 

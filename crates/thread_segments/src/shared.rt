@@ -4,24 +4,25 @@ ghost use Rattle.std.specs.Prelude.{◌≡◌, ◌≢◌, ◌⊎◌, ℕ, ◌-�
 ghost use Rattle.jk_model.specs.declared.identifiers.ClassId.{ClassId as Class};
 ghost use Rattle.jk_model_classes.specs.declared.records.BaseRef.TheVariants as Base;
 ghost use Rattle.jk_model_classes.specs.declared.sharing.Stub.{Stub as AStub};
+ghost use Rattle.frame_store.specs.FrameContents.{Closes, IsAdmitted as HasDomain};
 ghost use Rattle.jk_model_heaps.specs.Capabilities.{IsGivenOut, has_number};
 ghost use Rattle.jk_model_sharing.specs.BoundNames.{BoundName as Name, LooksUp, bound_as, longest_name};
 ghost use Rattle.jk_model_sharing.specs.CapabilityCalls.{LacksNumbers};
 ghost use Rattle.jk_model_sharing.specs.KnownStubs.{AreRising};
 ghost use Rattle.jk_model_sharing.specs.Segments.{with_revoked, with_stop};
-ghost use Rattle.jk_model_sharing.specs.SharedStates.{MayBegin, Resumes, SharedDomain as Domain, Stops, Suspends, admitted, caps_of, domain_numbered, first_state, popped, spent, stub_of, with_flags};
-ghost use Rattle.thread_segments.specs.Answers.{Begins, BindsFor, CreatesFor, IsLeastAbove, IsLiveNumber, RevokesFor, UnbindsFor, count_numbers_left, known_status, number_below, quotas_of, segment_info, spent_steps, steps_left_of, top_number};
+ghost use Rattle.jk_model_sharing.specs.SharedStates.{Drops, MayBegin, Resumes, SharedDomain as Domain, Stops, Suspends, admitted, caps_of, domain_numbered, first_state, popped, pushed, spent, stub_of, with_flags};
+ghost use Rattle.thread_segments.specs.Answers.{Begins, BindsFor, CreatesFor, EndsWith, IsLeastAbove, IsLiveNumber, RevokesFor, UnbindsFor, count_numbers_left, known_status, number_below, quotas_of, segment_info, spent_steps, steps_left_of, thread_number, top_number};
 ghost use Rattle.thread_segments.specs.Asked.{AreWithin, HasRoomForSegment, IsAdmitted, IsLiveDomain, IsLiveThread, IsNext, IsThere, MayDrawSegment, MayDrawThread, MaySpend, MaySpendSteps};
 ghost use Rattle.thread_segments.specs.SoundStates.{AreSound};
 
 use crate::capabilities::Capabilities;
 use crate::domains::DomainEntry;
+use crate::endings::take_out_all;
 use crate::names::{MOST_UNITS, Names};
-use crate::segments::SegmentInfo;
 use crate::stub_index::StubIndex;
-use crate::threads::Threads;
 use capability_table::CapsError;
 use class_table::ClassTable;
+use frame_store::FrameStore;
 use instance_tests::CapabilityTests;
 use jk_model::{
     CapId, CapStatus, ClassId, DomainId, List, OutOfMemory, Quotas, Raise, SegmentNo, Standing,
@@ -31,6 +32,7 @@ use jk_model_classes::{BaseRef, Stub, TypeRef};
 use jk_model_heaps::system_classes::{CAPABILITY, ILLEGAL_ARGUMENT_EXCEPTION, OBJECT, REMOTE};
 use std::alloc::Global;
 use std::marker::Model;
+use thread_stacks::{Flag, SegmentInfo, Threads};
 
 /// The threads and their segments, the capabilities with their stubs, the repository, and what is counted of each domain. The
 /// memory for all that a domain may have is taken when it is admitted, and no other call takes any.
@@ -89,11 +91,12 @@ impl Shared {
         }
         reserve(&mut self.domains)?;
         self.stubs.reserve(stubs.len())?;
-        self.threads.reserve(q.threads)?;
+        self.threads.reserve(q.threads, q.chunks)?;
         self.names.reserve(q.names)?;
         self.caps.admit(d, q.caps)?;
         self.stubs.add(stubs);
         self.domains.push_reserved(DomainEntry {
+            live: true,
             quotas: *q,
             steps_left: q.steps,
             threads: 0,
@@ -181,12 +184,27 @@ impl Shared {
         Some(t)
     }
 
+    /// Puts a segment of a live domain, which has fewer segments than chunks, on top of a live thread, and answers its number.
+    pub fn push(&mut self, t: ThreadNo, d: DomainId) -> SegmentNo
+        requires live { IsLiveDomain self.old d }
+        requires thread { IsLiveThread self.old t }
+        requires room { HasRoomForSegment self.old d }
+        requires number { MayDrawSegment self.old }
+        ensures number { result.0 ≡ self.old.next_segment }
+        ensures pushed { self.new ≡ pushed t d self.old }
+    {
+        self.threads.push(t, d)
+    }
+
     /// Takes the top segment off a live thread. A thread that has none left has ended.
     pub fn pop(&mut self, t: ThreadNo)
         requires { IsLiveThread self.old t }
         ensures { self.new ≡ popped t self.old }
     {
-        let started = self.threads.pop(t);
+        let started = match self.threads.pop(t) {
+            Some(started) => started,
+            None => return,
+        };
         let entry = &mut self.domains[started.0 as usize];
         entry.threads -= 1;
     }
@@ -213,6 +231,15 @@ impl Shared {
         self.threads.next_live(above)
     }
 
+    /// The least live thread above this number of which the end of a live domain leaves nothing. None exactly where there is none. It
+    /// goes over the live threads from there on, over segments of the domain, and over one more of each thread.
+    pub fn next_ending(&self, d: DomainId, above: u32) -> Option<ThreadNo>
+        requires { IsLiveDomain self.now d }
+        ensures { IsLeastAbove (EndsWith self.now.threads d) above (option_map thread_number result) }
+    {
+        self.threads.next_ending(d, above)
+    }
+
     /// What is known of a segment. None exactly where it isn't there.
     pub fn segment(&self, s: SegmentNo) -> Option<SegmentInfo>
         ensures { result ≡ segment_info self.now s }
@@ -225,7 +252,7 @@ impl Shared {
         requires { IsThere self.old s }
         ensures { self.new ≡ with_flags s (with_revoked on) self.old }
     {
-        self.threads.set_revoked(s, on);
+        self.threads.set_flag(s, Flag::Revoked, on);
     }
 
     /// Clears that ThreadDeath is pending in a segment that is there.
@@ -233,28 +260,46 @@ impl Shared {
         requires { IsThere self.old s }
         ensures { self.new ≡ with_flags s (with_stop false) self.old }
     {
-        self.threads.set_stop(s, false);
+        self.threads.set_flag(s, Flag::Stop, false);
     }
 
     /// Lets a segment rest while it is on top. Nothing changes where it isn't there.
     pub fn suspend(&mut self, s: SegmentNo)
         ensures { Suspends self.old s self.new }
     {
-        self.threads.set_suspended(s, true);
+        self.threads.set_flag(s, Flag::Suspended, true);
     }
 
     /// Lets a segment rest no longer. Nothing changes where it isn't there.
     pub fn resume(&mut self, s: SegmentNo)
         ensures { Resumes self.old s self.new }
     {
-        self.threads.set_suspended(s, false);
+        self.threads.set_flag(s, Flag::Suspended, false);
     }
 
     /// Lets ThreadDeath be pending in a segment. Nothing changes where it isn't there.
     pub fn stop(&mut self, s: SegmentNo)
         ensures { Stops self.old s self.new }
     {
-        self.threads.set_stop(s, true);
+        self.threads.set_flag(s, Flag::Stop, true);
+    }
+
+    /// Ends a live domain: its segments are taken out of all threads, its capabilities are revoked, and the names that it bound are
+    /// removed; and closes it in the store of frames. It takes time in proportion to its segments, with a logarithm, to its
+    /// capabilities, and to the names that are bound.
+    pub fn drop_domain<F: FrameStore>(&mut self, frames: &mut F, d: DomainId)
+        requires live { IsLiveDomain self.old d }
+        requires frames { HasDomain (F.content frames.old) d }
+        ensures dropped { Drops self.old d self.new }
+        ensures closed { Closes (F.content frames.old) (F.content frames.new) d }
+    {
+        take_out_all(&mut self.threads, &mut self.domains, d);
+        self.caps.revoke_all(d);
+        self.names.remove_all(d);
+        let entry = &mut self.domains[d.0 as usize];
+        entry.live = false;
+        entry.names = 0;
+        frames.close(d);
     }
 
     /// Creates a capability of a live domain at an object of its heap, of this class. IllegalArgumentException is raised exactly

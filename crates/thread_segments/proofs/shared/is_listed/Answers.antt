@@ -4,7 +4,7 @@ use Rattle.std.specs.Ordering.{nat_cmp}
 use Rattle.std.proofs.lemmas.Fn.{always_returns_same}
 use Rattle.jk_model.specs.declared.identifiers.ClassId.{ClassId}
 use Rattle.thread_segments.proofs.InterfacesShown.{class_key, says_listed}
-use Rattle.thread_segments.proofs.ItemsByKey.{says_place}
+use Rattle.thread_stacks.proofs.ItemsByKey.{says_place}
 use Rattle.thread_segments.proofs.shared.is_listed.Goals as goal
 
 pub returns : goal.returns

@@ -8,8 +8,9 @@ use Rattle.jk_model_sharing.specs.SharedStates.{SharedState, caps_of}
 use Rattle.thread_segments.specs.Asked.{IsNext}
 use Rattle.thread_segments.specs.DomainEntries.{state_of}
 use Rattle.thread_segments.specs.SoundStates.{AreSound}
-use Rattle.thread_segments.specs.ThreadEntries.{ThreadList}
+use Rattle.thread_stacks.specs.Stacks.{ThreadList}
 use Rattle.thread_segments.proofs.CountsAreKept.{counts_admitted}
+use Rattle.thread_segments.proofs.SegmentRoom.{room_admitted}
 use Rattle.thread_segments.proofs.SoundAdmission.{none_bound, sound_admitted}
 use Rattle.thread_segments.proofs.StatesByPart.{admitted_is, here_lacks, lacks_here, next_is, no_range}
 use Rattle.thread_segments.proofs.NamesAreCounted.{named_admitted}
@@ -117,10 +118,13 @@ invariant_of-self-2 c =
           (subst (λ (k : ℕ). count_bound_by s.names.names (record { 0 = k }) ≡ 0) next
           (none_bound now c.args.d c.args.q.now c.args.stubs (subst P (sym c.self.view_is) c.requires.next) fits c.self.invariant.sound)) refl
           c.requires.quotas.names c.in_ok-reserve-4.ensures.ok;
+      segments =
+          room_admitted s.domains.items s.threads c.reserve-3.new.self _ c.self.invariant.segments
+          (ap (λ (t : ThreadList). t.most_segments) c.in_ok-reserve-3.ensures.ok) (ap (λ (t : ThreadList). t.domains) c.in_ok-reserve-3.ensures.ok);
       sound =
           rw (c.in_ok-reserve-3.ensures.ok, c.in_ok-reserve-4.ensures.ok)
           (subst V (admitted_is s.domains.items s.caps s.stubs.stubs s.names s.threads c.self.invariant.counted c.args.d c.args.q.now c.args.stubs _
-          next refl refl)
+          next refl refl refl)
           (sound_admitted now c.args.d c.args.q.now c.args.stubs (subst P (sym c.self.view_is) c.requires.next) fits c.self.invariant.sound));
     })
 
@@ -140,4 +144,4 @@ returns-clause-ok c =
       c.add.ensures,
       c.in_ok-reserve-2.ensures.same,
     )
-    (sym (admitted_is s.domains.items s.caps s.stubs.stubs s.names s.threads c.self.invariant.counted c.args.d c.args.q.now c.args.stubs _ next refl refl))
+    (sym (admitted_is s.domains.items s.caps s.stubs.stubs s.names s.threads c.self.invariant.counted c.args.d c.args.q.now c.args.stubs _ next refl refl refl))

@@ -7,11 +7,12 @@ use Rattle.thread_segments.specs.declared.domains.DomainEntry.{DomainEntry}
 use Rattle.thread_segments.specs.Asked.{HasRoomForSegment, IsLiveDomain, MayDrawSegment, MayDrawThread}
 use Rattle.thread_segments.specs.DomainEntries.{state_of}
 use Rattle.thread_segments.specs.SoundStates.{AreSound}
-use Rattle.thread_segments.specs.ThreadEntries.{ThreadList}
+use Rattle.thread_stacks.specs.Stacks.{ThreadList}
 use Rattle.thread_segments.proofs.CountsAreKept.{recounted, recounts_begun, room_for_one, few_started}
 use Rattle.thread_segments.proofs.StatesByPart.{begun_is, live_at, low_of, started_few}
 use Rattle.thread_segments.proofs.SoundGrowth.{sound_begun}
 use Rattle.thread_segments.proofs.NamesAreCounted.{named_same}
+use Rattle.thread_segments.proofs.SegmentRoom.{room_entry, room_for_segment}
 use Rattle.thread_segments.proofs.shared.Shared.begin.Goals as goal
 
 pub returns-then-not-may_begin : goal.returns-then-not-may_begin
@@ -27,6 +28,19 @@ begin-t-requires-clause-room c =
     started_few s.domains.items s.caps s.stubs.stubs s.names s.threads c.self.invariant.counted c.args.d a (subst Q (sym c.self.view_is) (c.may_begin.ensures.0
     (search rules))) in
     room_for_one s.domains.items s.caps s.threads c.args.d.0 a.entry c.self.invariant.counted a.there few
+
+pub begin-t-requires-clause-segment_room : goal.begin-t-requires-clause-segment_room
+begin-t-requires-clause-segment_room c =
+    let s = c.self.inside in
+    let R : SharedState → Type 0 = λ x. HasRoomForSegment x c.args.d in
+    room_for_segment s.domains.items s.caps s.stubs.stubs s.names s.threads c.self.invariant c.args.d (subst R (sym c.self.view_is) c.requires.room)
+
+pub begin-t-requires-clause-domain : goal.begin-t-requires-clause-domain
+begin-t-requires-clause-domain c =
+    let s = c.self.inside in
+    let P : SharedState → Type 0 = λ x. IsLiveDomain x c.args.d in
+    let a = live_at s.domains.items s.caps s.stubs.stubs s.names s.threads c.self.invariant.counted c.args.d (subst P (sym c.self.view_is) c.requires.live) in
+    omega (arith, low_of s.domains.items s.caps s.stubs.stubs s.names s.threads c.self.invariant.counted c.args.d a, c.self.invariant.segments.homes)
 
 pub index_mut-entry-requires : goal.index_mut-entry-requires
 index_mut-entry-requires c =
@@ -74,10 +88,15 @@ invariant_of-self c =
       named =
           named_same s.domains.items s.names c.args.d.0 a.entry _ c.self.invariant.named a.there (ap (λ (e : DomainEntry). e.quotas) read)
           (ap (λ (e : DomainEntry). e.names) read);
+      segments =
+          room_entry s.domains.items s.threads c.begin-t.new.self c.args.d.0 a.entry _ c.self.invariant.segments a.there
+          (ap (λ (e : DomainEntry). e.quotas) read)
+          (ap (λ (t : ThreadList). t.most_segments) c.begin-t.ensures.begun) (ap (λ (t : ThreadList). t.domains) c.begin-t.ensures.begun);
       sound =
           subst V
           (sym (begun_is s.domains.items s.caps s.stubs.stubs s.names s.threads c.self.invariant.counted c.args.d a _ c.begin-t.new.self
-          (ap (λ (e : DomainEntry). e.quotas) read) (ap (λ (e : DomainEntry). e.steps_left) read) c.begin-t.ensures.begun))
+          (ap (λ (e : DomainEntry). e.quotas) read) (ap (λ (e : DomainEntry). e.steps_left) read) (ap (λ (e : DomainEntry). e.live) read)
+          c.begin-t.ensures.begun))
           (sound_begun now c.args.d (subst P (sym c.self.view_is) c.requires.live) (subst R (sym c.self.view_is) c.requires.room)
           (subst T (sym c.self.view_is) c.requires.thread) (subst U (sym c.self.view_is) c.requires.segment)
           (subst Q (sym c.self.view_is) (c.may_begin.ensures.0 (search rules))) c.self.invariant.sound);
@@ -94,5 +113,5 @@ returns c =
     (subst (λ (x : SharedState). Begins (state_of s.domains.items s.caps s.stubs.stubs s.names s.threads) c.args.d
     (Some (record { 0 = s.threads.next_thread })) x)
     (sym (begun_is s.domains.items s.caps s.stubs.stubs s.names s.threads c.self.invariant.counted c.args.d a _ c.begin-t.new.self
-    (ap (λ (e : DomainEntry). e.quotas) read) (ap (λ (e : DomainEntry). e.steps_left) read) c.begin-t.ensures.begun))
+    (ap (λ (e : DomainEntry). e.quotas) read) (ap (λ (e : DomainEntry). e.steps_left) read) (ap (λ (e : DomainEntry). e.live) read) c.begin-t.ensures.begun))
     (begins (subst Q (sym c.self.view_is) (c.may_begin.ensures.0 (search rules)))))

@@ -45,6 +45,7 @@ invariant_of-self c =
     record {
       counted = c.self.invariant.counted;
       named = named_anew s.domains.items s.names c.set_cap.new.self c.args.place n (record n { cap = c.args.k }) c.self.invariant.named item.1 refl becomes;
+      segments = c.self.invariant.segments;
       sound =
           sound_bound now c.self.invariant.sound asked (Ok tt) (state_of s.domains.items s.caps s.stubs.stubs c.set_cap.new.self s.threads)
           (e, is, c.requires.live.2) (subst G (sym c.self.view_is) c.requires.given)

@@ -13,6 +13,7 @@ use Rattle.thread_segments.proofs.NamesAreCounted.{named_new, room_for_name}
 use Rattle.thread_segments.proofs.NamesOfStates.{binds_new, binds_none}
 use Rattle.thread_segments.proofs.SoundNames.{sound_bound}
 use Rattle.thread_segments.proofs.StatesByPart.{live_at, low_of, names_are}
+use Rattle.thread_segments.proofs.SegmentRoom.{room_entry}
 use Rattle.thread_segments.proofs.shared.Shared.bind_new.Goals as goal
 
 pub index-entry-requires : goal.index-entry-requires
@@ -91,13 +92,16 @@ invariant_of-self c =
       named =
           named_new s.domains.items s.names c.add.new.self c.args.d.0 a.entry _ asked c.self.invariant.named a.there few
           (ap (λ (e : DomainEntry). record e { names = e.names + 1 }) same) refl c.add.ensures;
+      segments =
+          room_entry s.domains.items s.threads s.threads c.args.d.0 a.entry _ c.self.invariant.segments a.there (ap (λ (e : DomainEntry). e.quotas) same)
+          refl refl;
       sound =
           sound_bound now c.self.invariant.sound asked (Ok tt) _ (subst P (sym c.self.view_is) c.requires.live)
           (subst G (sym c.self.view_is) c.requires.given)
           (subst Q
           (sym (names_are s.domains.items s.caps s.stubs.stubs s.names s.threads c.self.invariant.counted c.args.d.0 a.entry _ c.add.new.self
           (s.names.names ++ asked ∷ []) a.there
-          (ap (λ (e : DomainEntry). e.quotas) same) (ap (λ (e : DomainEntry). e.steps_left) same) c.add.ensures))
+          (ap (λ (e : DomainEntry). e.quotas) same) (ap (λ (e : DomainEntry). e.steps_left) same) (ap (λ (e : DomainEntry). e.live) same) c.add.ensures))
           (binds_new now asked (domain_with c.args.d.0 a.entry a.range) a.is c.requires.short (subst N (sym c.self.view_is) c.requires.new)
           (omega (arith, c.self.invariant.named.bound c.args.d.0 a.entry a.there, few))));
     }
@@ -120,6 +124,6 @@ returns c =
     (subst Q
     (sym (names_are s.domains.items s.caps s.stubs.stubs s.names s.threads c.self.invariant.counted c.args.d.0 a.entry _ c.add.new.self
     (s.names.names ++ asked ∷ []) a.there
-    (ap (λ (e : DomainEntry). e.quotas) same) (ap (λ (e : DomainEntry). e.steps_left) same) c.add.ensures))
+    (ap (λ (e : DomainEntry). e.quotas) same) (ap (λ (e : DomainEntry). e.steps_left) same) (ap (λ (e : DomainEntry). e.live) same) c.add.ensures))
     (binds_new now asked (domain_with c.args.d.0 a.entry a.range) a.is c.requires.short (subst N (sym c.self.view_is) c.requires.new)
     (omega (arith, c.self.invariant.named.bound c.args.d.0 a.entry a.there, few))))

@@ -31,6 +31,7 @@ invariant_of-self c =
           counts_created s.domains.items s.caps s.threads c.args.class c.args.target a.range c.create.result c.create.new.self c.self.invariant.counted
           (c.create.ensures a.range (range_found s.domains.items s.caps s.stubs.stubs s.names s.threads c.self.invariant.counted c.args.d a));
       named = c.self.invariant.named;
+      segments = c.self.invariant.segments;
       sound =
           sound_created now c.args.d c.args.class c.args.target c.create.result
           (state_of s.domains.items c.create.new.self s.stubs.stubs s.names s.threads) (subst P (sym c.self.view_is) c.requires) creates c.self.invariant.sound;

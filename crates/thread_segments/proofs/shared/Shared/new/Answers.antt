@@ -1,10 +1,10 @@
 -- Nothing is counted yet.
-use Rattle.std.proofs.Common.{◌≡◌, ap, refl, subst, sym}
+use Rattle.std.proofs.Common.{◌≡◌, ap, arith, refl, subst, sym}
 use Rattle.jk_model_sharing.specs.SharedStates.{SharedState, first_state}
 use Rattle.thread_segments.specs.DomainEntries.{state_of}
 use Rattle.thread_segments.specs.NameEntries.{NameList}
 use Rattle.thread_segments.specs.SoundStates.{AreSound}
-use Rattle.thread_segments.specs.ThreadEntries.{ThreadList}
+use Rattle.thread_stacks.specs.Stacks.{ThreadList}
 use Rattle.thread_segments.proofs.CountsAreKept.{counts_none}
 use Rattle.thread_segments.proofs.SoundGrowth.{sound_first}
 use Rattle.thread_segments.proofs.NamesAreCounted.{named_none}
@@ -21,6 +21,8 @@ invariant_of-result c =
           (ap (λ (t : ThreadList). t.threads) c.new-threads.ensures);
       named =
           named_none c.new-domains.result.items c.new-names.result c.new-domains.ensures.items (ap (λ (n : NameList). n.names) c.new-names.ensures);
+      segments =
+          record { room = rw c.new-domains.ensures.items (omega arith); homes = rw c.new-domains.ensures.items (omega arith) };
       sound = subst V (sym first) sound_first;
     }
 

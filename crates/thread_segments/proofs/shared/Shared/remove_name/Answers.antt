@@ -1,5 +1,5 @@
 -- The name at the place alone goes, and is counted of the domain no longer.
-use Rattle.std.proofs.Common.{◌≡◌, ◌∙◌, ◌-◌, ◌<◌, Some, Ok, ap, arith, length, slice_get, subst, sym}
+use Rattle.std.proofs.Common.{◌≡◌, ◌∙◌, ◌-◌, ◌<◌, Some, Ok, ap, arith, length, slice_get, subst, sym, refl}
 use Rattle.std.specs.Prelude.{◌==◌}
 use Rattle.std.specs.List.{remove}
 use Rattle.std.proofs.lemmas.Bool.{eqb-true}
@@ -16,6 +16,7 @@ use Rattle.thread_segments.proofs.NamesAreCounted.{named_removed, some_bound}
 use Rattle.thread_segments.proofs.NamesOfStates.{unbinds_not, unbinds_own}
 use Rattle.thread_segments.proofs.SoundNames.{sound_unbound}
 use Rattle.thread_segments.proofs.StatesByPart.{live_at, low_of, names_are}
+use Rattle.thread_segments.proofs.SegmentRoom.{room_entry}
 use Rattle.thread_segments.proofs.shared.Shared.remove_name.Goals as goal
 
 pub returns-then-not-is_same : goal.returns-then-not-is_same
@@ -71,12 +72,15 @@ invariant_of-self c =
       named =
           named_removed s.domains.items s.names c.remove.new.self c.args.d.0 c.args.place a.entry _ n c.self.invariant.named a.there item.1 home
           (ap (λ (e : DomainEntry). record e { names = e.names - 1 }) same) c.remove.ensures;
+      segments =
+          room_entry s.domains.items s.threads s.threads c.args.d.0 a.entry _ c.self.invariant.segments a.there (ap (λ (e : DomainEntry). e.quotas) same)
+          refl refl;
       sound =
           sound_unbound now c.self.invariant.sound c.args.d n.text (Ok tt) _
           (subst Q
           (sym (names_are s.domains.items s.caps s.stubs.stubs s.names s.threads c.self.invariant.counted c.args.d.0 a.entry _ c.remove.new.self
           (remove s.names.names c.args.place) a.there
-          (ap (λ (e : DomainEntry). e.quotas) same) (ap (λ (e : DomainEntry). e.steps_left) same) c.remove.ensures))
+          (ap (λ (e : DomainEntry). e.quotas) same) (ap (λ (e : DomainEntry). e.steps_left) same) (ap (λ (e : DomainEntry). e.live) same) c.remove.ensures))
           (unbinds_own now c.self.invariant.sound c.args.place n item.1 c.args.d told));
     }
 
@@ -96,5 +100,5 @@ returns c =
     (subst Q
     (sym (names_are s.domains.items s.caps s.stubs.stubs s.names s.threads c.self.invariant.counted c.args.d.0 a.entry _ c.remove.new.self
     (remove s.names.names c.args.place) a.there
-    (ap (λ (e : DomainEntry). e.quotas) same) (ap (λ (e : DomainEntry). e.steps_left) same) c.remove.ensures))
+    (ap (λ (e : DomainEntry). e.quotas) same) (ap (λ (e : DomainEntry). e.steps_left) same) (ap (λ (e : DomainEntry). e.live) same) c.remove.ensures))
     (unbinds_own now c.self.invariant.sound c.args.place n there c.args.d told))

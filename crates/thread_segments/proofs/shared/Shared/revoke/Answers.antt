@@ -29,6 +29,7 @@ invariant_of-self c =
     (record {
       counted = counts_ranges (revoked_in c.args.k) (revoked_in-owner c.args.k) s.domains.items s.caps s.threads c.self.invariant.counted;
       named = c.self.invariant.named;
+      segments = c.self.invariant.segments;
       sound =
           sound_revoked now (state_of s.domains.items (map (revoked_in c.args.k) s.caps) s.stubs.stubs s.names s.threads) c.args.d c.args.k (Ok tt)
           (e, is, c.requires.live.2)

@@ -1,5 +1,5 @@
 -- The budget alone is changed, of one domain.
-use Rattle.std.proofs.Common.{◌∙◌, ◌-◌, ℕ, option_map, ap, arith, subst, sym}
+use Rattle.std.proofs.Common.{◌∙◌, ◌-◌, ℕ, option_map, ap, arith, subst, sym, refl}
 use Rattle.std.proofs.lemmas.Option.{get_or_from_slice_get}
 use Rattle.jk_model_sharing.specs.SharedStates.{SharedState}
 use Rattle.thread_segments.specs.declared.domains.DomainEntry.{DomainEntry}
@@ -10,6 +10,7 @@ use Rattle.thread_segments.proofs.CountsAreKept.{recounted, recounts_paid}
 use Rattle.thread_segments.proofs.SoundDomains.{sound_spent}
 use Rattle.thread_segments.proofs.StatesByPart.{live_at, low_of, may_spend, spent_is}
 use Rattle.thread_segments.proofs.NamesAreCounted.{named_same}
+use Rattle.thread_segments.proofs.SegmentRoom.{room_entry}
 use Rattle.thread_segments.proofs.shared.Shared.spend_step.Goals as goal
 
 pub index_mut-entry-requires : goal.index_mut-entry-requires
@@ -46,10 +47,13 @@ invariant_of-self c =
       named =
           named_same s.domains.items s.names c.args.d.0 a.entry _ c.self.invariant.named a.there (ap (λ (e : DomainEntry). e.quotas) read)
           (ap (λ (e : DomainEntry). e.names) read);
+      segments =
+          room_entry s.domains.items s.threads s.threads c.args.d.0 a.entry _ c.self.invariant.segments a.there (ap (λ (e : DomainEntry). e.quotas) read)
+          refl refl;
       sound =
           subst V
           (sym (spent_is s.domains.items s.caps s.stubs.stubs s.names s.threads c.self.invariant.counted c.args.d a _ (ap (λ (e : DomainEntry). e.quotas) read)
-          (c.one_less-entry.ensures ∙ ap (λ (e : DomainEntry). option_map (λ (n : ℕ). n - 1) e.steps_left) read)))
+          (c.one_less-entry.ensures ∙ ap (λ (e : DomainEntry). option_map (λ (n : ℕ). n - 1) e.steps_left) read) (ap (λ (e : DomainEntry). e.live) read)))
           (sound_spent now c.args.d c.self.invariant.sound);
     }
 
@@ -61,4 +65,4 @@ returns c =
     let read = c.index_mut-entry.ensures.value ∙ get_or_from_slice_get s.domains.items c.args.d.0 a.entry c.index_mut-entry.result.now a.there in
     rw (← c.self.view_is)
     (spent_is s.domains.items s.caps s.stubs.stubs s.names s.threads c.self.invariant.counted c.args.d a _ (ap (λ (e : DomainEntry). e.quotas) read)
-    (c.one_less-entry.ensures ∙ ap (λ (e : DomainEntry). option_map (λ (n : ℕ). n - 1) e.steps_left) read))
+    (c.one_less-entry.ensures ∙ ap (λ (e : DomainEntry). option_map (λ (n : ℕ). n - 1) e.steps_left) read) (ap (λ (e : DomainEntry). e.live) read))

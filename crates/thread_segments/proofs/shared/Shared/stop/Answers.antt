@@ -3,7 +3,7 @@ use Rattle.std.proofs.Common.{ap, refl, subst, sym, true}
 use Rattle.jk_model_sharing.specs.Segments.{with_stop}
 use Rattle.thread_segments.specs.DomainEntries.{state_of}
 use Rattle.thread_segments.specs.SoundStates.{AreSound}
-use Rattle.thread_segments.specs.ThreadEntries.{ThreadList}
+use Rattle.thread_stacks.specs.Stacks.{ThreadList}
 use Rattle.thread_segments.proofs.CountsAreKept.{recounts_same}
 use Rattle.thread_segments.proofs.SoundThreads.{sound_flags}
 use Rattle.thread_segments.proofs.shared.Shared.stop.Goals as goal
@@ -15,11 +15,13 @@ invariant_of-self c =
     let now = state_of s.domains.items s.caps s.stubs.stubs s.names s.threads in
     record {
       counted =
-          recounts_same s.domains.items s.caps s.threads c.set_stop.new.self _ c.self.invariant.counted
-          (ap (λ (t : ThreadList). t.threads) c.set_stop.ensures) (ap (λ (t : ThreadList). t.most) c.set_stop.ensures);
+          recounts_same s.domains.items s.caps s.threads c.set_flag.new.self _ c.self.invariant.counted
+          (ap (λ (t : ThreadList). t.threads) c.set_flag.ensures) (ap (λ (t : ThreadList). t.most) c.set_flag.ensures);
       named = c.self.invariant.named;
-      sound = subst P (sym c.set_stop.ensures) (sound_flags now c.self.invariant.sound c.args.s (with_stop true) (λ x. (refl, refl)));
+      segments =
+          record { room = rw c.set_flag.ensures c.self.invariant.segments.room; homes = rw c.set_flag.ensures c.self.invariant.segments.homes };
+      sound = subst P (sym c.set_flag.ensures) (sound_flags now c.self.invariant.sound c.args.s (with_stop true) (λ x. (refl, refl)));
     }
 
 pub returns : goal.returns
-returns c = rw (← c.self.view_is, c.set_stop.ensures) refl
+returns c = rw (← c.self.view_is, c.set_flag.ensures) refl

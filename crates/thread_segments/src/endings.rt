@@ -1,0 +1,26 @@
+//! How the end of a domain takes its segments out of all threads.
+
+ghost use Rattle.std.specs.Prelude.{◌≡◌, ◌<◌, List};
+ghost use Rattle.jk_model_heaps.specs.Capabilities.{CapRange};
+ghost use Rattle.thread_segments.specs.DomainEntries.{AreCounted};
+ghost use Rattle.thread_segments.specs.DomainsEnding.{AreRecounted, after_end};
+
+use crate::domains::DomainEntry;
+use jk_model::DomainId;
+use thread_stacks::Threads;
+
+/// Takes the segments of a domain out of all threads, and counts the threads that end with them where they were started. It takes a
+/// logarithm for each of these segments.
+pub(crate) fn take_out_all(threads: &mut Threads, domains: &mut Vec<DomainEntry>, d: DomainId)
+    requires counted { (ranges : List CapRange) × AreCounted domains.old.items ranges threads.old }
+    requires home { d.0 < threads.old.domains }
+    ensures left { threads.new ≡ after_end d threads.old }
+    ensures recounted { AreRecounted domains.old.items domains.new.items threads.old threads.new }
+{
+    while let Some(taken) = threads.take_out(d) {
+        if let Some(home) = taken.ended {
+            let entry = &mut domains[home.0 as usize];
+            entry.threads -= 1;
+        }
+    }
+}

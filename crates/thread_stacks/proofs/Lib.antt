@@ -1,0 +1,25 @@
+-- Lemmas on threads, entries and slots.
+pub mod Chains
+pub mod CountedAlive
+pub mod EndingThreads
+pub mod Filtered
+pub mod FlagsOfSegments
+pub mod FoundInStacks
+pub mod ItemsByKey
+pub mod KeptChains
+pub mod KeptInOrder
+pub mod KeptLinks
+pub mod NextEntry
+pub mod NextRunning
+pub mod OneFewerOfADomain
+pub mod Owned
+pub mod PushedAndPopped
+pub mod Relinked
+pub mod StacksWalked
+pub mod StandsOnThreads
+pub mod TakenFromStacks
+pub mod LeftTheSame
+pub mod ThreadsAfter
+pub mod ToldOfSegments
+pub mod SegmentsTakenOff
+pub mod Warned

@@ -1,0 +1,16 @@
+-- What is kept are the live ones.
+use Rattle.std.proofs.Common.{arith, rules}
+use Rattle.std.proofs.lemmas.Fn.{filter_same}
+use Rattle.list_lemmas.proofs.ItemsThatPass.{filter_short}
+use Rattle.thread_stacks.specs.StackChanges.{dropped}
+use Rattle.thread_stacks.specs.Stacks.{is_live}
+use Rattle.thread_stacks.proofs.slots.close_up_slots.Goals as goal
+
+pub overflow_mul-live : goal.overflow_mul-live
+overflow_mul-live c =
+    let v = c.args.slots.now in
+    omega (arith, filter_short is_live v.items, c.requires, v.ok.0, v.ok.1, v.small)
+
+pub returns-then-len-live-clause-closed : goal.returns-then-len-live-clause-closed
+returns-then-len-live-clause-closed c =
+    dropped (filter_same _ is_live _ (λ x b g h. search rules) c.args.slots.now.items c.retain.new.self.items c.retain.ensures.filtered)

@@ -1,0 +1,11 @@
+//! Live threads, each a stack of segments, in memory that is taken beforehand. Which frames a segment has is told elsewhere.
+#![tactic(auto)]
+
+mod endings;
+mod entries;
+mod segments;
+mod slots;
+mod threads;
+
+pub use segments::{Flag, SegmentInfo, TakenOut};
+pub use threads::Threads;
