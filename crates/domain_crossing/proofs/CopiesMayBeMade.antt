@@ -106,8 +106,8 @@ fields_laid_out classes heap (f ∷ fields) (v ∷ values) as_many each = (
 laid_out : (around : Surroundings) (heap : List NamedObject) (object : Object) → IsSealedObject around heap object
     → IsLaidOut around.classes object
 laid_out around heap (Plain c values) sealed =
-    fields_laid_out around.classes heap (field_records around.classes c) values sealed.4.as_many
-    (λ i v f at there. (sealed.4.each i v f at there).0)
+    fields_laid_out around.classes heap (field_records around.classes c) values sealed.5.as_many
+    (λ i v f at there. (sealed.5.each i v f at there).0)
 laid_out around heap (Array t items) sealed = tt
 laid_out around heap (Text units) sealed = tt
 laid_out around heap (Task s) sealed = tt

@@ -1,6 +1,24 @@
--- The derivations of the laws.
+-- The derivations of the laws, and lemmas on which the calls stand.
+pub mod AnswersGoDown
+pub mod CalleesMet
+pub mod CallsAsked
+pub mod CallsEnter
+pub mod ChunksCounted
 pub mod CopiesMayBeMade
+pub mod DomainsByPlace
+pub mod EntriesOnTop
+pub mod FitsAfterwards
+pub mod FitsAgain
+pub mod FramesGoOn
+pub mod FramesOfParts
 pub mod HalvesTogether
+pub mod LocalsFilled
+pub mod NothingReached
 pub mod PassagesOfParts
 pub mod PartsEntered
 pub mod PartsLeft
+pub mod SegmentsArrive
+pub mod SegmentsFound
+pub mod SegmentsLeft
+pub mod SegmentsPushed
+pub mod TopsTakenOff

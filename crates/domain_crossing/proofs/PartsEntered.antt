@@ -115,11 +115,14 @@ module _ (p new : MachineParts) (t : ThreadNo) (c : RemoteCall (machine_of p) t)
   frame_there : frames_in new.frames (record { 0 = p.shared.next_segment }) ≡ frame ∷ []
   frame_there = ap (λ (o : Option StoredSegment). option_map_or (λ (g : StoredSegment). g.frames) o []) h.begun.becomes
 
+  pub begins_on_top : machine_of (record begun { shared = pushed t c.known.owner p.shared })
+      ≡ with_segment_on_top t c.known.owner frame (machine_of copied)
+  begins_on_top =
+      pushes_change_machines begun t c.known.owner frame frame_there ∙ ap (with_segment_on_top t c.known.owner frame) is_begun
+
   -- the segment is on top
   is_on_top : machine_of (record begun { shared = pushed t c.known.owner p.shared }) ≡ arrived owner t heap frame (departed c)
-  is_on_top =
-      pushes_change_machines begun t c.known.owner frame frame_there
-      ∙ ap (with_segment_on_top t c.known.owner frame) (is_begun ∙ is_copied)
+  is_on_top = begins_on_top ∙ ap (with_segment_on_top t c.known.owner frame) is_copied
 
   pub enters_change_machines : machine_of new ≡ arrived owner t heap frame (departed c)
   enters_change_machines =

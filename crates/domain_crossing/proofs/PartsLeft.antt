@@ -88,7 +88,7 @@ module _ (m : Machine) (t : ThreadNo) (r : RunningSegment m t) where
         segment_cut (h.thread.number.0 == t.0) h.thread k s (Contains-at m.threads i h.thread h.is) refl
         (ap (λ (x : Thread). slice_get x.segments k) h.same ∙ at)
 
-    apart_below : AreSegmentsApart (without_top r)
+    pub apart_below : AreSegmentsApart (without_top r)
     apart_below = record {
       threads = λ i j a b at there same.
           let x = stood_at i a at in

@@ -1,29 +1,7 @@
 -- What `enter`, `leave` and `raise_across` answer, and to which machine each leads. Each does what is done across two domains; what is
 -- raised after it in the segment that is on top then is the caller's, and both together are one of the cases by which a thread goes on.
---
--- In the clauses `parts w owns shared heap frames` is the record of these parts, `old` at entry and `new` at the return. The own states of
--- domains aren't lent: each clause holds for all that fit.
---
--- enter<H: ObjectStore, F: FrameStore>(heap: &mut H, frames: &mut F, shared: &mut Shared, w: &World, t: ThreadNo, k: CapId, method: MemberId)
---     -> Crossed
---   requires may       { (owns : List (Option OwnState)) × MayEnter (old owns) t k method }
---   ensures answer     { (owns : List (Option OwnState)) (may : MayEnter (old owns) t k method)
---                        → CrossesSo may.call result (machine_of (new owns)) }
---   ensures as_before  { (r : Raise) → result ≡ Crossed.Refused r → (shared.new ≡ shared.old) × IsSame (H.content heap.old) (H.content heap.new)
---                        × IsSame (F.content frames.old) (F.content frames.new) }
---   ensures fitting    { (owns : List (Option OwnState)) → AreFittingParts (old owns) → AreFittingParts (new owns) }
---
--- leave<H: ObjectStore, F: FrameStore>(heap: &mut H, frames: &mut F, shared: &mut Shared, w: &World, t: ThreadNo, returned: Option<Value>) -> Left
---   requires may       { (owns : List (Option OwnState)) × MayLeave (old owns) t returned }
---   ensures answer     { (owns : List (Option OwnState)) → MayLeave (old owns) t returned
---                        → LeavesByReturn (machine_of (old owns)) t returned result (machine_of (new owns)) }
---   ensures fitting    { (owns : List (Option OwnState)) → AreFittingParts (old owns) → AreFittingParts (new owns) }
---
--- raise_across<H: ObjectStore, F: FrameStore>(heap: &mut H, frames: &mut F, shared: &mut Shared, w: &World, t: ThreadNo, throwable: u32) -> Left
---   requires may       { (owns : List (Option OwnState)) × MayRaise (old owns) t throwable }
---   ensures answer     { (owns : List (Option OwnState)) → MayRaise (old owns) t throwable
---                        → LeavesByThrow (machine_of (old owns)) t throwable result (machine_of (new owns)) }
---   ensures fitting    { (owns : List (Option OwnState)) → AreFittingParts (old owns) → AreFittingParts (new owns) }
+-- The clauses stand at the three functions, in src/entering.rt, src/leaving.rt and src/raising.rt. The own states of domains aren't lent:
+-- each clause holds for all that fit.
 --
 -- None is lent an allocator, and none has an answer for want of memory. That all marks are 0 after each is a part of how parts fit.
 use Rattle.std.specs.Prelude.{◌≡◌, ℕ, suc, true, false, List, [], ◌∷◌, Option, Some, None}

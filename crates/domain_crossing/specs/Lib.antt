@@ -1,6 +1,13 @@
+pub mod AnsweredFrames
 pub mod AskedOfCrossings
+pub mod CalleesFound
 pub mod CopiesAndPassages
 pub mod Crossings
 pub mod EnteredParts
+pub mod EnteringCalls
 pub mod LeftParts
+pub mod MovedArguments
+pub mod NoObjects
+pub mod PassedValues
 pub mod PrintedOfThreads
+pub mod TakenSegments

@@ -1,0 +1,130 @@
+//! The arguments of a call through a capability: they are read from the caller's operand stack, come into the locals of a new frame, and
+//! leave the stack.
+
+ghost use Rattle.std.specs.Prelude.{◌≡◌, ◌≢◌, ◌+◌, ◌<◌, ◌≤◌, ◌^◌, ◌∷◌, ◌++◌, [], false, length, List, None, Some, slice_get, ℕ};
+ghost use Rattle.jk_model.specs.declared.frames.FrameHead.{FrameHead as AHead};
+ghost use Rattle.jk_model.specs.declared.values.Value.{Value as AValue};
+ghost use Rattle.jk_model.specs.declared.values.Value.TheVariants as Held;
+ghost use Rattle.jk_model_frames.specs.Frames.{FrameState as AFrame, called_frame, head_chunks, locals_of};
+ghost use Rattle.frame_store.specs.FrameContents.{Changes, IsAdmitted, SetsTop, TopFrame, free_chunks};
+ghost use Rattle.domain_crossing.specs.MovedArguments.{AreGiven, BeginsWith, FitsLocals, HasOnTop};
+ghost use Rattle.domain_crossing.specs.NoObjects.{NameNoObject};
+
+use crate::callees::Callee;
+use frame_store::FrameStore;
+use jk_model::{Args, NoChunks, SegmentNo, Value};
+
+/// Whether one of so many entries on top of a segment's operand stack names an object.
+pub(crate) fn names_object<F: FrameStore>(frames: &F, s: SegmentNo, count: u16) -> bool
+    requires { (values : List AValue) × HasOnTop (F.content frames.now) s values × (length values ≡ count) }
+    ensures { (values : List AValue) → HasOnTop (F.content frames.now) s values → length values ≡ count → result ≡ false
+        → NameNoObject values }
+{
+    for above in 0..count {
+        if let Value::Obj(_) = frames.peek(s, above) {
+            return true;
+        }
+    }
+    false
+}
+
+/// So many entries on top of a segment's operand stack, the lowest first.
+pub(crate) fn entries<F: FrameStore>(frames: &F, s: SegmentNo, count: u16) -> Args
+    requires few { count ≤ 255 }
+    requires on_top { (values : List AValue) × HasOnTop (F.content frames.now) s values × (length values ≡ count) }
+    ensures { (values : List AValue) → HasOnTop (F.content frames.now) s values → length values ≡ count → result ≡ values }
+{
+    let mut values = Args::new();
+    for i in 0..count {
+        values.put(frames.peek(s, count - 1 - i));
+    }
+    values
+}
+
+/// The argument at a place, counted from 0.
+fn argument<F: FrameStore>(
+    frames: &F,
+    s: SegmentNo,
+    count: u16,
+    i: u16,
+    copies: Option<&Args>,
+) -> Value
+    requires at { i < count }
+    requires given { (values : List AValue) × AreGiven (F.content frames.now) s copies values × (length values ≡ count) }
+    ensures { (values : List AValue) → AreGiven (F.content frames.now) s copies.entry values → length values ≡ count
+        → slice_get values i ≡ Some result }
+{
+    match copies {
+        Some(values) => values.get(usize::from(i)),
+        None => frames.peek(s, count - 1 - i),
+    }
+}
+
+/// Begins a segment of the callee's owner, whose frame has the target in its first local. There are chunks enough.
+pub(crate) fn begin<F: FrameStore>(frames: &mut F, n: SegmentNo, callee: &Callee)
+    requires admitted { IsAdmitted (F.content frames.old) callee.now.owner }
+    requires new { (F.content frames.old).segment n ≡ None }
+    requires chunks { 1 + head_chunks callee.now.head ≤ free_chunks (F.content frames.old) callee.now.owner }
+    requires local { 1 ≤ callee.now.head.max_locals }
+    ensures { Changes (F.content frames.old) (F.content frames.new) n callee.now.owner
+        (Some (record { domain = callee.now.owner; frames = called_frame callee.now.head (Held.Obj callee.now.target ∷ []) ∷ [] }))
+        ((F.content frames.old).used callee.now.owner + 1 + head_chunks callee.now.head) }
+{
+    match frames.begin(callee.owner, n, callee.head) {
+        Ok(()) => {}
+        Err(NoChunks) => unreachable!(),
+    }
+    frames.set_local(n, 0, Value::Obj(callee.target));
+}
+
+/// Puts a value into the next local of a segment's top frame, and answers which local is next: a long takes two.
+fn put<F: FrameStore>(frames: &mut F, n: SegmentNo, at: u16, v: Value) -> u16
+    requires { (head : AHead) × (before : List AValue) × BeginsWith (F.content frames.old) n head before × (at ≡ length (locals_of before))
+        × FitsLocals head (before ++ v ∷ []) × (head.max_locals < 2 ^ 16) }
+    ensures { (head : AHead) (before : List AValue) → BeginsWith (F.content frames.old) n head before → at ≡ length (locals_of before)
+        → FitsLocals head (before ++ v ∷ [])
+        → SetsTop (F.content frames.old) (F.content frames.new) n (called_frame head (before ++ v ∷ []))
+        × (result ≡ length (locals_of (before ++ v ∷ []))) }
+{
+    frames.set_local(n, at, v);
+    match v {
+        Value::Long(_) => at + 2,
+        _ => at + 1,
+    }
+}
+
+/// Puts the arguments into the locals behind the receiver, which takes one.
+pub(crate) fn fill<F: FrameStore>(
+    frames: &mut F,
+    s: SegmentNo,
+    n: SegmentNo,
+    count: u16,
+    copies: Option<&Args>,
+)
+    requires apart { s ≢ n }
+    requires fits { (head : AHead) × (a : ℕ) × (values : List AValue) × BeginsWith (F.content frames.old) n head (Held.Obj a ∷ [])
+        × AreGiven (F.content frames.old) s copies values × (length values ≡ count) × FitsLocals head (Held.Obj a ∷ values)
+        × (head.max_locals < 2 ^ 16) }
+    ensures { (head : AHead) (a : ℕ) (values : List AValue) → BeginsWith (F.content frames.old) n head (Held.Obj a ∷ [])
+        → AreGiven (F.content frames.old) s copies.entry values → length values ≡ count → FitsLocals head (Held.Obj a ∷ values)
+        → SetsTop (F.content frames.old) (F.content frames.new) n (called_frame head (Held.Obj a ∷ values)) }
+{
+    let mut at = 1;
+    for i in 0..count {
+        let v = argument(frames, s, count, i, copies);
+        at = put(frames, n, at, v);
+    }
+}
+
+/// Takes so many entries off a segment's operand stack.
+pub(crate) fn drop_entries<F: FrameStore>(frames: &mut F, s: SegmentNo, count: u16)
+    requires { (values : List AValue) × HasOnTop (F.content frames.old) s values × (length values ≡ count) }
+    ensures { (f : AFrame) (below values : List AValue) → TopFrame (F.content frames.old) s f → f.stack ≡ below ++ values
+        → length values ≡ count → SetsTop (F.content frames.old) (F.content frames.new) s (record f { stack = below }) }
+{
+    let mut left = count;
+    while left > 0 {
+        let _ = frames.pop_value(s);
+        left -= 1;
+    }
+}
