@@ -21,7 +21,7 @@ use Rattle.frame_store.specs.ChainMoves.{count, place}
 use Rattle.frame_store.specs.DomainMoves.{depth_of, frames_of, locals_at, start_of, top_number, value_at, HasTop, IsSlot, IsTopOf, IsFrameNumber, Becomes}
 use Rattle.frame_store.specs.StoreContents.{content_of, IsStore, IsFound, IsStanding, StandsAt}
 use Rattle.frame_store.specs.StoreIsContent.{stands}
-use Rattle.frame_store.specs.Cursors.{HasDomainAt, HasValuesAt, IsAimed, IsCursor, IsRightFor, IsTopAt, PointsAt}
+use Rattle.frame_store.specs.Cursors.{AimsIfThere, HasDomainAt, HasValuesAt, IsAimed, IsCursor, IsRightFor, IsTopAt, PointsAt}
 use Rattle.frame_store.proofs.StoreChanges.{found_slot, found_top, found_top_is, get_here, standing_at, standing_there}
 use Rattle.frame_store.proofs.TopIsWritten.{is_top_frame}
 use Rattle.frame_store.proofs.WrittenAt.{read_at, written_at}
@@ -252,6 +252,11 @@ module _ {S : Type 0} (m : IndexMap ℕ DomainFrames S) (t : SegmentTable) (owed
         aimed_again b aimed here =
             let P : ℕ → Type 0 = λ r. IsRightFor (with_value_at m c.domain y) t r b in
             subst P (sym (aimed.segment ∙ here)) (right_again b aimed.place aimed.domain (λ _. aimed.frame) (λ _. aimed.values))
+
+        pub aims_again : (b : Cursor) → AimsIfThere y c b → c.segment ≡ s.0 → IsCursor (with_value_at m c.domain y) t b
+        aims_again b aims here =
+            let P : ℕ → Type 0 = λ r. IsRightFor (with_value_at m c.domain y) t r b in
+            subst P (sym (aims.segment ∙ here)) (right_again b aims.place aims.domain aims.frame aims.values)
 
 module _ {S : Type 0} (m : IndexMap ℕ DomainFrames S) (t : SegmentTable) (owed : ℕ) (s : SegmentNo) (h : IsStore m t owed) (c : Cursor)
     (k : IsRightFor m t s.0 c) (there : IsThere (content_of m t) s) (x : DomainFrames) (d : ℕ) (reads : slice_get m.entries c.domain ≡ Some (d, x))

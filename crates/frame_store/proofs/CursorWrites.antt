@@ -1,5 +1,5 @@
 -- What a write in the domain at the cursor makes of a store's content.
-use Rattle.std.proofs.Common.{◌≡◌, ℕ, ◌<◌, ◌++◌, ◌∷◌, [], length, Some, nat_eq, slice_get, sym, ap, subst, ◌∙◌, List}
+use Rattle.std.proofs.Common.{◌≡◌, ℕ, ◌<◌, ◌≤◌, ◌++◌, ◌∷◌, [], length, Some, nat_eq, slice_get, sym, ap, subst, ◌∙◌, List}
 use Rattle.std.specs.HashMap.{WritesThrough}
 use Rattle.jk_model.specs.declared.identifiers.SegmentNo.{SegmentNo}
 use Rattle.jk_model.specs.declared.values.Value.{Value}
@@ -9,10 +9,11 @@ use Rattle.frame_store.specs.declared.cursor.Cursor.{Cursor}
 use Rattle.frame_store.specs.declared.domain_frames.DomainFrames.{DomainFrames}
 use Rattle.frame_store.specs.declared.segment_table.Place.{Place}
 use Rattle.frame_store.specs.declared.segment_table.SegmentTable.{SegmentTable}
-use Rattle.frame_store.specs.FrameContents.{FrameContent, TopFrame, SetsTop, TakesEntry}
-use Rattle.frame_store.specs.DomainMoves.{locals_at, lower_of, top_of, value_at, IsFrameNumber, IsTopOf, Becomes, TakesTopEntry}
+use Rattle.frame_store.specs.FrameContents.{FrameContent, TopFrame, SetsTop, TakesEntry, DropsEntries, ExchangesEntries}
+use Rattle.frame_store.specs.DomainMoves.{locals_at, lower_of, top_of, value_at, IsFrameNumber, IsTopOf, Becomes, TakesTopEntry, DropsTopEntries, ExchangesTopEntries}
 use Rattle.frame_store.specs.StoreContents.{content_of, IsStore, IsFound}
 use Rattle.frame_store.specs.Cursors.{HasValuesAt, IsCursor, IsRightFor, PointsAt}
+use Rattle.frame_store.proofs.TopEntries.{SomeOnTop, some_on_top}
 use Rattle.frame_store.proofs.StoreChanges.{found_top, found_top_is, store_kept}
 use Rattle.frame_store.proofs.StoreSteps.{steps_top}
 use Rattle.frame_store.proofs.WrittenAt.{written_at}
@@ -106,3 +107,42 @@ module _ {S : Type 0} (old : FrameContent) (m : IndexMap ℕ DomainFrames S) (t 
             ap (λ (g : FrameState). g.stack) (was_top f top) ∙ e.1,
             subst P (sym (was_top f top)) (sets_by f (record (top_of x slot) { stack = e.0 }) top e.2),
           )
+
+      -- several entries are taken off the top frame
+      module _ (many : ℕ) where
+        enough_on_top : many ≤ length (value_at x c.frame).stack → SomeOnTop (top_of x slot).stack many
+        enough_on_top enough = some_on_top (top_of x slot).stack many (subst (λ q. many ≤ length (value_at x q).stack) top_is.is enough)
+
+        abbrev DropsOff : Type 0
+        DropsOff = (i : ℕ) → IsTopOf x i c.frame → DropsTopEntries x y i many
+
+        pub dropped_stays : DropsOff → many ≤ length (value_at x c.frame).stack → y.frames ≡ x.frames → y.parts ≡ x.parts → SameLocals
+            → c.segment ≡ s.0 → Stays
+        dropped_stays b enough frames parts locals at =
+            let split = enough_on_top enough in
+            stays_by _ (b slot top_is split.below split.given split.are split.many) frames parts locals at
+
+        pub drops : DropsOff → (f : FrameState) → TopFrame old s f → DropsEntries old (content_of n t) s f many
+        drops b f top below given stack as_many =
+            let same = was_top f top in
+            let e = b slot top_is below given (ap (λ (g : FrameState). g.stack) (sym same) ∙ stack) as_many in
+            let P : FrameState → Type 0 = λ g. SetsTop old (content_of n t) s (record g { stack = below }) in
+            subst P (sym same) (sets_by f (record (top_of x slot) { stack = below }) top e)
+
+        -- and a value comes in their place
+        module _ (v : Value) where
+          abbrev Exchanges : Type 0
+          Exchanges = (i : ℕ) → IsTopOf x i c.frame → ExchangesTopEntries x y i many v
+
+          pub exchanged_stays : Exchanges → many ≤ length (value_at x c.frame).stack → y.frames ≡ x.frames → y.parts ≡ x.parts → SameLocals
+              → c.segment ≡ s.0 → Stays
+          exchanged_stays b enough frames parts locals at =
+              let split = enough_on_top enough in
+              stays_by _ (b slot top_is split.below split.given split.are split.many) frames parts locals at
+
+          pub exchanges : Exchanges → (f : FrameState) → TopFrame old s f → ExchangesEntries old (content_of n t) s f many v
+          exchanges b f top below given stack as_many =
+              let same = was_top f top in
+              let e = b slot top_is below given (ap (λ (g : FrameState). g.stack) (sym same) ∙ stack) as_many in
+              let P : FrameState → Type 0 = λ g. SetsTop old (content_of n t) s (record g { stack = below ++ v ∷ [] }) in
+              subst P (sym same) (sets_by f (record (top_of x slot) { stack = below ++ v ∷ [] }) top e)

@@ -27,10 +27,10 @@ module _ (d : DomainFrames) (f : ℕ) (is : IsFrameNumber d f) (t : FrameRecord)
   entry p = value_of d.parts d.values.items f (r.head.max_locals + p)
 
   module _ (below given : List Value) (stack : (value_at d f).stack ≡ below ++ given) (many : length given ≡ count) where
-    heights : r.height ≡ length below + count
+    pub heights : r.height ≡ length below + count
     heights = omega (arith, length-build entry r.height, ap (λ (l : List Value). length l) stack, length-append below given, many)
 
-    kept : build entry (r.height - count) ≡ below
+    pub kept : build entry (r.height - count) ≡ below
     kept =
         let split = build-split entry (r.height - count) count r.height (omega (arith, heights)) in
         same_front (build entry (r.height - count)) (build (λ k. entry (r.height - count + k)) count) below given

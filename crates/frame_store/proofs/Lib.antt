@@ -15,11 +15,15 @@ pub mod FrameIsAdded
 pub mod FramesCalled
 pub mod FrameIsOff
 pub mod FrameValues
+pub mod GivenBack
 pub mod FreeChains
+pub mod LentCalls
+pub mod LentStores
 pub mod MovesKeepChains
 pub mod NodeOfAKey
 pub mod PlacesApart
 pub mod RoomIsTested
+pub mod SegmentsAlone
 pub mod SegmentBegins
 pub mod SegmentGoes
 pub mod SegmentIsEmptied
@@ -29,5 +33,6 @@ pub mod StoreChanges
 pub mod StoreReads
 pub mod StoreSteps
 pub mod TableIsMoved
+pub mod TopEntries
 pub mod TopIsWritten
 pub mod TopValues

@@ -74,8 +74,9 @@ module _ {S : Type 0} (m n : IndexMap ℕ DomainFrames S) (t : SegmentTable) (ow
         | inr ne ↦ ap (option_map f) (get_other q ne)
       ]
 
-  pub store_kept : y.chunks ≡ x.chunks → y.slots ≡ x.slots → IsStore n t owed
-  store_kept same_chunks same_slots =
+  pub store_kept_by : y.chunks ≡ x.chunks → y.slots.live ≡ x.slots.live → ((i : ℕ) → place_in y.slots i ≡ place_in x.slots i)
+      → ((i : ℕ) → number_of y.slots i ≡ number_of x.slots i) → IsStore n t owed
+  store_kept_by same_chunks same_live same_places same_numbers =
       record {
         in_domain =
             λ r q e.
@@ -85,18 +86,23 @@ module _ {S : Type 0} (m n : IndexMap ℕ DomainFrames S) (t : SegmentTable) (ow
         is_live =
             λ r q e.
             lt_by _ _ _ _ (h.is_live r q e)
-            (read_same (λ (z : DomainFrames). place_in z.slots q.slot) (ap (λ (k : SlotSet). place_in k q.slot) same_slots) q.domain)
-            (read_same (λ (z : DomainFrames). z.slots.live) (ap (λ (k : SlotSet). k.live) same_slots) q.domain);
+            (read_same (λ (z : DomainFrames). place_in z.slots q.slot) (same_places q.slot) q.domain)
+            (read_same (λ (z : DomainFrames). z.slots.live) same_live q.domain);
         has_number =
             λ r q e.
-            read_same (λ (z : DomainFrames). number_of z.slots q.slot) (ap (λ (k : SlotSet). number_of k q.slot) same_slots) q.domain ∙ h.has_number r q e;
+            read_same (λ (z : DomainFrames). number_of z.slots q.slot) (same_numbers q.slot) q.domain ∙ h.has_number r q e;
         owes =
             h.owes
             ∙ sum_same (sum_by owed_by (values n)) (owed_by x) (sum_by owed_by (values m)) (owed_by y)
             (ap (λ es. sum_by owed_by (values_of es) + owed_by x) wrote.0 ∙ sum_by-set_value owed_by (nat_eq p.domain) m.entries x y is)
-            (ap (λ k. k - y.slots.live) same_chunks ∙ ap (λ (k : SlotSet). x.chunks - k.live) same_slots);
+            (ap (λ k. k - y.slots.live) same_chunks ∙ ap (λ k. x.chunks - k) same_live);
         enough = h.enough;
       }
+
+  pub store_kept : y.chunks ≡ x.chunks → y.slots ≡ x.slots → IsStore n t owed
+  store_kept same_chunks same_slots =
+      store_kept_by same_chunks (ap (λ (k : SlotSet). k.live) same_slots) (λ i. ap (λ (k : SlotSet). place_in k i) same_slots)
+      (λ i. ap (λ (k : SlotSet). number_of k i) same_slots)
 
   -- another segment of the domain is in another slot
   pub other_slot : (r : ℕ) (q : Place) → table.place_in t r ≡ Some q → q.domain ≡ p.domain → r ≢ s.0 → q.slot ≢ p.slot

@@ -6,14 +6,15 @@ use Rattle.std.proofs.lemmas.Bool.{cases_eq}
 use Rattle.std.proofs.lemmas.Option.{same_Some}
 use Rattle.jk_model.specs.declared.frames.FrameHead.{FrameHead}
 use Rattle.jk_model.specs.declared.identifiers.SegmentNo.{SegmentNo}
+use Rattle.jk_model.specs.declared.values.Value.{Value}
 use Rattle.jk_model_frames.specs.Frames.{FrameState, called_frame, new_frame, head_chunks}
 use Rattle.indexmap.specs.IndexMap.{IndexMap, get}
 use Rattle.frame_store.specs.declared.domain_frames.DomainFrames.{DomainFrames}
 use Rattle.frame_store.specs.declared.segment_table.Place.{Place}
 use Rattle.frame_store.specs.declared.segment_table.SegmentTable.{SegmentTable}
-use Rattle.frame_store.specs.FrameContents.{StoredSegment, Calls, Changes, IsSame, SetsTop, Pops, Pushes}
+use Rattle.frame_store.specs.FrameContents.{StoredSegment, Calls, Changes, GivesBack, IsSame, SetsTop, Pops, Pushes, gone_on}
 use Rattle.frame_store.specs.TableMoves as table
-use Rattle.frame_store.specs.DomainMoves.{frames_of, top_of, lower_of, HasTop, Becomes, CallsOn}
+use Rattle.frame_store.specs.DomainMoves.{frames_of, top_of, lower_of, HasTop, Becomes, CallsOn, GivesTopBack}
 use Rattle.frame_store.specs.StoreContents.{content_of, stored, IsFound, IsStore}
 use Rattle.frame_store.proofs.TopIsWritten.{frames_more}
 use Rattle.frame_store.proofs.StoreChanges.{segment_in, found_top_is, get_here, get_other, store_changes, used_is, segment_is}
@@ -83,6 +84,17 @@ module _ {S : Type 0} (m n : IndexMap ℕ DomainFrames S) (t : SegmentTable) (ow
       let two : Q segment_here top.lower (top_of x p.slot) = subst (λ l. Q segment_here l (top_of x p.slot)) (sym same.0) one in
       let three : Q segment_here top.lower f = subst (λ g. Q segment_here top.lower g) (sym same.1) two in
       subst (λ k. Q k top.lower f) segment three
+
+  pub steps_give_back : (v : Option Value) → GivesTopBack x y p.slot v → GivesBack (content_of m t) (content_of n t) s v
+  steps_give_back v gives g there lower below top are =
+      let segment = same_Some segment_here g (sym (segment_is m n t owed s p x y h at is wrote) ∙ there) in
+      let c = store_changes m n t owed s p x y h at is wrote (lower ++ gone_on v below ∷ []) (x.used - head_chunks top.head)
+      (gives lower below top (ap (λ (k : StoredSegment). k.frames) segment ∙ are)) in
+      let P : ℕ → Type 0 = λ u. ChangesTo (lower ++ gone_on v below ∷ []) (u - head_chunks top.head) in
+      let Q : StoredSegment → Type 0 = λ (k : StoredSegment).
+      Changes (content_of m t) (content_of n t) s k.domain (Some (record k { frames = lower ++ gone_on v below ∷ [] }))
+      ((content_of m t).used k.domain - head_chunks top.head) in
+      subst Q segment (subst P (sym use_is) c)
 
   -- nothing is written
   get_all : y ≡ x → (q : ℕ) → get nat_eq n q ≡ get nat_eq m q

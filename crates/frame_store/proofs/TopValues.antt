@@ -1,5 +1,5 @@
 -- What a write of a value or of a record makes of a frame.
-use Rattle.std.proofs.Common.{◌≡◌, ℕ, ◌+◌, ◌-◌, ◌*◌, ◌<◌, List, [], ◌∷◌, ◌++◌, length, set, refl, sym, ap, subst, arith, ◌∙◌}
+use Rattle.std.proofs.Common.{◌≡◌, ℕ, ◌+◌, ◌-◌, ◌*◌, ◌<◌, ◌≤◌, List, [], ◌∷◌, ◌++◌, length, set, refl, sym, ap, subst, arith, ◌∙◌}
 use Rattle.jk_model.specs.declared.values.Value.{Value}
 use Rattle.jk_model_frames.specs.Frames.{FrameState}
 use Rattle.frame_store.specs.declared.frame_blocks.FrameRecord.{FrameRecord}
@@ -69,6 +69,35 @@ module _ (d : DomainFrames) (f : ℕ) (is : IsFrameNumber d f) where
       subst P (sym k_is)
       (ap (λ y. frame_with y w) at
       ∙ ap (λ (xs : List Value). let s : FrameState = record { head = r.head; locals = xs; stack = build (λ p. w (locals + p)) (r.height + 1) } in s) of_locals
+      ∙ ap (λ (xs : List Value). let s : FrameState = record { head = r.head; locals = build v locals; stack = xs } in s) of_stack)
+
+  -- an entry is in the place of several
+  pub entries_are_exchanged : (k count : ℕ) (x : Value) (below : List Value) (t : FrameRecord) → t ≡ r
+      → k ≡ index_of d.parts f (locals + (r.height - count)) → 1 ≤ count → count ≤ r.height → build (λ p. v (locals + p)) (r.height - count) ≡ below
+      → frame_of d.parts (set d.records.items f (record t { height = t.height - count + 1 })) (set d.values.items k x) f
+      ≡ record (value_at d f) { stack = below ++ x ∷ [] }
+  entries_are_exchanged k count x below t t_is k_is some enough kept =
+      let h = r.height - count in
+      let q = locals + h in
+      let new = set d.values.items (index_of d.parts f q) x in
+      let w = value_of d.parts new f in
+      let lt : h < r.head.max_stack = omega (arith, is.framed.low) in
+      let of_locals : build w locals ≡ build v locals =
+      build-same v w locals (λ p p_lt. other_value d f q f p x is is (entry_in h lt) (local_in p p_lt) (λ _ e. omega arith)) in
+      let of_lower : build (λ p. w (locals + p)) h ≡ build (λ p. v (locals + p)) h =
+      build-same (λ p. v (locals + p)) (λ p. w (locals + p)) h
+      (λ p p_lt. other_value d f q f (locals + p) x is is (entry_in h lt) (entry_in p (omega arith)) (λ _ e. omega arith)) in
+      let of_stack : build (λ p. w (locals + p)) (h + 1) ≡ below ++ x ∷ [] =
+      build-more (λ p. w (locals + p)) h (h + 1) refl
+      ∙ ap (λ xs. xs ++ w (locals + h) ∷ []) (of_lower ∙ kept)
+      ∙ ap (λ y. below ++ y ∷ []) (this_value d f q x is (entry_in h lt)) in
+      let to : FrameRecord → FrameRecord = λ (y : FrameRecord). record y { height = y.height - count + 1 } in
+      let at : record_at (set d.records.items f (to t)) f ≡ to r = record_of d.records.items f (to t) (record_lt d f is) ∙ ap to t_is in
+      let P : ℕ → Type 0 = λ j. frame_of d.parts (set d.records.items f (to t)) (set d.values.items j x) f
+      ≡ record (value_at d f) { stack = below ++ x ∷ [] } in
+      subst P (sym k_is)
+      (ap (λ y. frame_with y w) at
+      ∙ ap (λ (xs : List Value). let s : FrameState = record { head = r.head; locals = xs; stack = build (λ p. w (locals + p)) (h + 1) } in s) of_locals
       ∙ ap (λ (xs : List Value). let s : FrameState = record { head = r.head; locals = build v locals; stack = xs } in s) of_stack)
 
   -- an entry is taken off

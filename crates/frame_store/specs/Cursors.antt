@@ -23,6 +23,14 @@ pub record IsAimed (x : DomainFrames) (old new : Cursor) : Type 0 where
   pub frame : new.frame ≡ top_number x old.place.slot
   pub values : HasValuesAt x new
 
+-- A cursor at a segment of this domain is moved to the segment's top frame, if it has one.
+pub record AimsIfThere (x : DomainFrames) (old new : Cursor) : Type 0 where
+  pub segment : new.segment ≡ old.segment
+  pub place : new.place ≡ old.place
+  pub domain : new.domain ≡ old.domain
+  pub frame : HasTop x old.place.slot → new.frame ≡ top_number x old.place.slot
+  pub values : HasTop x old.place.slot → HasValuesAt x new
+
 module _ {S : Type 0} where
   -- The segment is in the table. The domain and the slot in which it is found: the domain is at this place of the map,
   -- and the slot's top frame has this number.

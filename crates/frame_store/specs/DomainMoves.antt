@@ -1,11 +1,12 @@
 -- What the calls of a domain's frames do.
-use Rattle.std.specs.Prelude.{◌≡◌, ◌≢◌, ℕ, ◌+◌, ◌-◌, ◌*◌, ◌^◌, ◌<◌, ◌≤◌, List, [], ◌∷◌, ◌++◌, length}
+use Rattle.std.specs.Prelude.{◌≡◌, ◌≢◌, ℕ, ◌+◌, ◌-◌, ◌*◌, ◌^◌, ◌<◌, ◌≤◌, List, [], ◌∷◌, ◌++◌, length, Option}
 use Rattle.jk_model.specs.declared.frames.FrameHead.{FrameHead}
 use Rattle.jk_model.specs.declared.values.Value.{Value}
 use Rattle.jk_model_frames.specs.Frames.{FrameState, called_frame, head_chunks, locals_of, new_frame, segment_chunks}
 use Rattle.frame_store.specs.declared.domain_frames.DomainFrames.{DomainFrames}
 use Rattle.frame_store.specs.ChainMoves.{count, place}
 use Rattle.frame_store.specs.SlotMoves.{IsLive, TakesSlot, GivesSlot}
+use Rattle.frame_store.specs.FrameContents.{gone_on}
 use Rattle.frame_store.specs.FrameBlocks.{frame_of, lowest_in, record_at, IsFramed}
 
 -- how many frames a segment has
@@ -132,3 +133,23 @@ TakesTopEntry old new i v =
     let f = top_of old i in
     (below : List Value) × (f.stack ≡ below ++ v ∷ [])
     × Becomes old new i (lower_of old i ++ record f { stack = below } ∷ []) old.used
+
+-- So many entries are taken off the operand stack of the top frame.
+abbrev pub DropsTopEntries : DomainFrames → DomainFrames → ℕ → ℕ → Type 0
+DropsTopEntries old new i count =
+    let f = top_of old i in
+    (below given : List Value) → f.stack ≡ below ++ given → length given ≡ count
+    → Becomes old new i (lower_of old i ++ record f { stack = below } ∷ []) old.used
+
+-- A value is in the place of so many entries of the operand stack of the top frame.
+abbrev pub ExchangesTopEntries : DomainFrames → DomainFrames → ℕ → ℕ → Value → Type 0
+ExchangesTopEntries old new i count v =
+    let f = top_of old i in
+    (below given : List Value) → f.stack ≡ below ++ given → length given ≡ count
+    → Becomes old new i (lower_of old i ++ record f { stack = below ++ v ∷ [] } ∷ []) old.used
+
+-- The top frame goes, and the frame below goes on after its call, with what was given back.
+abbrev pub GivesTopBack : DomainFrames → DomainFrames → ℕ → Option Value → Type 0
+GivesTopBack old new i v =
+    (lower : List FrameState) (below top : FrameState) → frames_of old i ≡ lower ++ below ∷ top ∷ []
+    → Becomes old new i (lower ++ gone_on v below ∷ []) (old.used - head_chunks top.head)

@@ -1,6 +1,6 @@
 -- What a store of frames holds: the frames of each segment, and how many chunks each domain uses; and what its calls
 -- make of that. A chunk is a page of the store's pool, where it has one.
-use Rattle.std.specs.Prelude.{◌≡◌, ◌≢◌, ℕ, ◌+◌, ◌-◌, ◌<◌, ◌≤◌, ◌⊎◌, Bool, ◌==◌, List, [], ◌∷◌, ◌++◌, length, Option, Some, None, IsSome, slice_get}
+use Rattle.std.specs.Prelude.{◌≡◌, ◌≢◌, ℕ, ◌+◌, ◌-◌, ◌^◌, ◌<◌, ◌≤◌, ◌⊎◌, Bool, ◌==◌, List, [], ◌∷◌, ◌++◌, length, Option, Some, None, IsSome, slice_get}
 use Rattle.std.specs.Option.{option_map_or}
 use Rattle.std.specs.List.{AllByRecursion, IsDistinct}
 use Rattle.jk_model.specs.declared.frames.FrameHead.{FrameHead}
@@ -64,6 +64,10 @@ HasLocal c s i = (f : FrameState) × TopFrame c s f × (i < length f.locals)
 abbrev pub HasEntry : FrameContent → SegmentNo → ℕ → Type 0
 HasEntry c s above = (f : FrameState) × TopFrame c s f × (above < length f.stack)
 
+-- the operand stack of the top frame has so many entries
+abbrev pub HasEntries : FrameContent → SegmentNo → ℕ → Type 0
+HasEntries c s count = (f : FrameState) × TopFrame c s f × (count ≤ length f.stack)
+
 -- the operand stack of the top frame has room for another entry
 abbrev pub HasFreeEntry : FrameContent → SegmentNo → Type 0
 HasFreeEntry c s = (f : FrameState) × TopFrame c s f × (length f.stack < f.head.max_stack)
@@ -84,6 +88,28 @@ abbrev pub HasArguments : FrameContent → SegmentNo → FrameHead → ℕ → T
 HasArguments c s head count =
     (f : FrameState) × TopFrame c s f × (below : List Value) × (given : List Value) × (f.stack ≡ below ++ given)
     × (length given ≡ count) × (length (locals_of given) ≤ head.max_locals)
+
+-- what a call leaves on the stack of the frame that made it: the value that is given back, where there is one
+abbrev pub given_back : Option Value → List Value
+given_back (Some v) = v ∷ []
+given_back None = []
+
+-- the frame goes on after its call
+abbrev pub gone_on : Option Value → FrameState → FrameState
+gone_on v f = record f { head = record f.head { at = f.head.at + 1; need = None }; stack = f.stack ++ given_back v }
+
+-- A frame is on top of another one, which has a place after its call, and room for what is given back.
+pub record TwoFrames (frames : List FrameState) (v : Option Value) : Type 0 where
+  pub lower : List FrameState
+  pub below : FrameState
+  pub top : FrameState
+  pub are : frames ≡ lower ++ below ∷ top ∷ []
+  pub place : below.head.at + 1 < 2 ^ 32
+  pub room : length below.stack + length (given_back v) ≤ below.head.max_stack
+
+-- the top frame of the segment may give this back to the one below it
+abbrev pub MayGiveBack : FrameContent → SegmentNo → Option Value → Type 0
+MayGiveBack c s v = (g : StoredSegment) × (c.segment s ≡ Some g) × TwoFrames g.frames v
 
 -- ---- Changes.
 
@@ -150,6 +176,41 @@ SetsTop old new s g =
 abbrev pub TakesEntry : FrameContent → FrameContent → SegmentNo → FrameState → Value → Type 0
 TakesEntry old new s f v =
     (below : List Value) × (f.stack ≡ below ++ v ∷ []) × SetsTop old new s (record f { stack = below })
+
+-- So many entries are taken off the operand stack of the top frame.
+abbrev pub DropsEntries : FrameContent → FrameContent → SegmentNo → FrameState → ℕ → Type 0
+DropsEntries old new s f count =
+    (below given : List Value) → f.stack ≡ below ++ given → length given ≡ count → SetsTop old new s (record f { stack = below })
+
+-- A value is in the place of so many entries of the operand stack of the top frame.
+abbrev pub ExchangesEntries : FrameContent → FrameContent → SegmentNo → FrameState → ℕ → Value → Type 0
+ExchangesEntries old new s f count v =
+    (below given : List Value) → f.stack ≡ below ++ given → length given ≡ count → SetsTop old new s (record f { stack = below ++ v ∷ [] })
+
+-- The top frame goes, and the frame below goes on after its call, with what was given back.
+abbrev pub GivesBack : FrameContent → FrameContent → SegmentNo → Option Value → Type 0
+GivesBack old new s v =
+    (g : StoredSegment) → old.segment s ≡ Some g
+    → (lower : List FrameState) (below top : FrameState) → g.frames ≡ lower ++ below ∷ top ∷ []
+    → Changes old new s g.domain (Some (record g { frames = lower ++ gone_on v below ∷ [] })) (old.used g.domain - head_chunks top.head)
+
+-- ---- One segment.
+
+-- What one segment has of a content: the segment itself, and what its domain may use and uses, and its first page. No other segment is
+-- there; nothing is said of the pool and of other domains.
+pub record IsOnly (c : FrameContent) (s : SegmentNo) (one : FrameContent) : Type 0 where
+  pub segment : one.segment s ≡ c.segment s
+  pub others : (r : SegmentNo) → r ≢ s → one.segment r ≡ None
+  pub quota : (g : StoredSegment) → c.segment s ≡ Some g → one.quota g.domain ≡ c.quota g.domain
+  pub used : (g : StoredSegment) → c.segment s ≡ Some g → one.used g.domain ≡ c.used g.domain
+  pub first_page : (g : StoredSegment) → c.segment s ≡ Some g → one.first_page g.domain ≡ c.first_page g.domain
+
+-- A segment has other frames, and its domain uses what it uses then; all else is as before.
+pub record KeepsOthers (old new : FrameContent) (s : SegmentNo) : Type 0 where
+  pub domains : KeepsDomains old new
+  pub segment : (g : StoredSegment) → old.segment s ≡ Some g → (frames : List FrameState) × (new.segment s ≡ Some (record g { frames = frames }))
+  pub others : (r : SegmentNo) → r ≢ s → new.segment r ≡ old.segment r
+  pub other_domains : (g : StoredSegment) → old.segment s ≡ Some g → (e : DomainId) → e ≢ g.domain → new.used e ≡ old.used e
 
 -- ---- Domains.
 

@@ -6,6 +6,7 @@ pub mod DomainMoves
 pub mod Entries
 pub mod FrameBlocks
 pub mod FrameContents
+pub mod LentSegments
 pub mod SlotMoves
 pub mod Slots
 pub mod StoreContents

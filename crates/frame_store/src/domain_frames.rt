@@ -29,12 +29,13 @@ pub(crate) struct DomainFrames {
 }
 
 impl DomainFrames {
-    ghost use Rattle.std.specs.Prelude.{◌≡◌, ℕ, ◌+◌, ◌-◌, ◌*◌, ◌^◌, ◌<◌, ◌≤◌, ◌++◌, ◌∷◌, [], List, Some, length, slice_get, slice_set, IfOk, OnOk, OnErr};
+    ghost use Rattle.std.specs.Prelude.{◌≡◌, ℕ, ◌+◌, ◌-◌, ◌*◌, ◌^◌, ◌<◌, ◌≤◌, ◌++◌, ◌∷◌, [], List, Some, None, length, slice_get, slice_set, IfOk, OnOk, OnErr};
     ghost use Rattle.jk_model.specs.declared.values.Value.{Value as AValue};
     ghost use Rattle.jk_model_frames.specs.Frames.{FrameState as AFrame, called_frame, new_frame, head_chunks, frames_chunks};
     ghost use Rattle.frame_store.specs.ChainMoves.{MovesTop, place};
-    ghost use Rattle.frame_store.specs.Cursors.{HasValuesAt, IsAimed};
-    ghost use Rattle.frame_store.specs.DomainMoves.{MayGive, GivesTo, HasGiven, CallsOn, depth_of, frames_of, top_of, top_number, locals_at, lower_of, start_of, value_at, IsSlot, HasTop, IsTopOf, IsFrameNumber, IsFresh, Opens, Becomes, Begins, Ends, TakesTopEntry};
+    ghost use Rattle.frame_store.specs.FrameContents.{TwoFrames};
+    ghost use Rattle.frame_store.specs.Cursors.{HasValuesAt, IsAimed, AimsIfThere};
+    ghost use Rattle.frame_store.specs.DomainMoves.{MayGive, GivesTo, HasGiven, CallsOn, depth_of, frames_of, top_of, top_number, locals_at, lower_of, start_of, value_at, IsSlot, HasTop, IsTopOf, IsFrameNumber, IsFresh, Opens, Becomes, Begins, Ends, TakesTopEntry, DropsTopEntries, ExchangesTopEntries, GivesTopBack};
 
     /// A domain without segments, which may use so many chunks.
     pub(crate) fn new(alloc: Global, chunks: u32) -> Result<DomainFrames, OutOfMemory>
@@ -326,6 +327,103 @@ impl DomainFrames {
         self.values[index]
     }
 
+    /// Takes so many entries off the operand stack of a top frame.
+    #[inline(always)]
+    pub(crate) fn drop_entries(&mut self, frame: usize, count: u16)
+        requires frame { IsFrameNumber self.old frame }
+        requires enough { count ≤ length (value_at self.old frame).stack }
+        ensures frames { self.new.frames ≡ self.old.frames }
+        ensures parts { self.new.parts ≡ self.old.parts }
+        ensures locals { locals_at self.new frame ≡ locals_at self.old frame }
+        ensures becomes { (slot : ℕ) → IsTopOf self.old slot frame → DropsTopEntries self.old self.new slot count }
+    {
+        self.shorten(frame, count);
+    }
+
+    /// Puts a value in the place of so many entries of the operand stack of a top frame, at which the cursor is.
+    #[inline(always)]
+    pub(crate) fn exchange(&mut self, c: Cursor, count: u16, v: Value)
+        requires frame { IsFrameNumber self.old c.frame }
+        requires values { HasValuesAt self.old c }
+        requires some { 1 ≤ count }
+        requires enough { count ≤ length (value_at self.old c.frame).stack }
+        ensures frames { self.new.frames ≡ self.old.frames }
+        ensures parts { self.new.parts ≡ self.old.parts }
+        ensures locals { locals_at self.new c.frame ≡ locals_at self.old c.frame }
+        ensures becomes { (slot : ℕ) → IsTopOf self.old slot c.frame → ExchangesTopEntries self.old self.new slot count v }
+    {
+        let record = &mut self.records[c.frame];
+        let height = record.height - count;
+        record.height = height + 1;
+        let locals = record.head.max_locals;
+        let index = entry_index(&self.parts, c.frame, c.base, c.room, locals, height);
+        self.values[index] = v;
+    }
+
+    /// Puts a frame on top of a segment, where the chunks that it costs are free, and moves the cursor, which is at the segment,
+    /// to the new frame.
+    #[inline(always)]
+    pub(crate) fn push_top(&mut self, c: &mut Cursor, head: FrameHead, blocks: u32)
+        requires slot { IsSlot self.old c.old.place.slot }
+        requires cost { blocks ≡ head_chunks head }
+        requires room { blocks ≤ self.old.chunks - self.old.used }
+        requires small { head.max_stack < 2 ^ 16 }
+        ensures becomes { let slot = c.old.place.slot in
+            Becomes self.old self.new slot (frames_of self.old slot ++ new_frame head ∷ []) (self.old.used + head_chunks head) }
+        ensures aims { IsAimed self.new c.old c.new }
+    {
+        self.push(c.place.slot, head, blocks);
+        self.aim(c);
+    }
+
+    /// Takes the top frame off a segment, and moves the cursor, which is at the segment, to the frame below, if there is one.
+    #[inline(always)]
+    pub(crate) fn pop_top(&mut self, c: &mut Cursor)
+        requires { HasTop self.old c.old.place.slot }
+        ensures becomes { let slot = c.old.place.slot in
+            Becomes self.old self.new slot (lower_of self.old slot) (self.old.used - head_chunks (top_of self.old slot).head) }
+        ensures aims { AimsIfThere self.new c.old c.new }
+    {
+        self.pop(c.place.slot);
+        if self.depth(c.place.slot) > 0 {
+            self.aim(c);
+        }
+    }
+
+    /// Takes the top frame off a segment, at which the cursor is, and lets the frame below go on after its call, with this value
+    /// on its operand stack, if it is one. The cursor moves to that frame.
+    pub(crate) fn give_back(&mut self, c: &mut Cursor, v: Option<Value>)
+        requires slot { IsSlot self.old c.old.place.slot }
+        requires two { TwoFrames (frames_of self.old c.old.place.slot) v }
+        ensures gives { GivesTopBack self.old self.new c.old.place.slot v }
+        ensures aims { IsAimed self.new c.old c.new }
+    {
+        let mut below = *c;
+        self.pop(below.place.slot);
+        self.aim(&mut below);
+        self.go_on(below.frame);
+        if let Some(v) = v {
+            self.push_value(below, v);
+        }
+        *c = below;
+    }
+
+    /// Lets a top frame go on after its call.
+    #[inline(always)]
+    fn go_on(&mut self, frame: usize)
+        requires frame { IsFrameNumber self.old frame }
+        requires place { (value_at self.old frame).head.at + 1 < 2 ^ 32 }
+        ensures frames { self.new.frames ≡ self.old.frames }
+        ensures parts { self.new.parts ≡ self.old.parts }
+        ensures locals { locals_at self.new frame ≡ locals_at self.old frame }
+        ensures becomes { (slot : ℕ) → IsTopOf self.old slot frame → let f = top_of self.old slot in
+            Becomes self.old self.new slot (lower_of self.old slot ++ record f { head = record f.head { at = f.head.at + 1; need = None } }
+            ∷ []) self.old.used }
+    {
+        let at = self.records[frame].head.at;
+        self.go(frame, at + 1, None);
+    }
+
     /// Copies the topmost entries of a frame's operand stack, so many, into the first locals of the frame above. The values of
     /// both begin at these places.
     fn give(&mut self, caller: usize, low: usize, frame: usize, start: usize, count: u16)
@@ -346,11 +444,13 @@ impl DomainFrames {
     }
 
     /// Takes so many entries off the operand stack of a frame.
+    #[inline(always)]
     fn shorten(&mut self, frame: usize, count: u16)
         requires frame { IsFrameNumber self.old frame }
         requires enough { count ≤ length (value_at self.old frame).stack }
         ensures frames { self.new.frames ≡ self.old.frames }
         ensures parts { self.new.parts ≡ self.old.parts }
+        ensures locals { locals_at self.new frame ≡ locals_at self.old frame }
         ensures becomes { (slot n : ℕ) (below given : List AValue) → slot < self.old.chunks → n < depth_of self.old slot → frame ≡ place self.old.frames slot n
             → (value_at self.old frame).stack ≡ below ++ given → length given ≡ count
             → Becomes self.old self.new slot (slice_set (frames_of self.old slot) n (record (value_at self.old frame) { stack = below })) self.old.used }

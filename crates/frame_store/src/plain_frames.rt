@@ -8,12 +8,14 @@ ghost use Rattle.frame_store.specs.Cursors.{IsCursor};
 use crate::cursor::{Cursor, NOWHERE};
 use crate::domain_frames::DomainFrames;
 use crate::frame_blocks::head_chunks;
+use crate::one_segment::lend;
 use crate::segment_table::{Place, SegmentTable};
 use crate::slot_set::SlotSet;
-use crate::store::FrameStore;
+use crate::store::{FrameStore, OnSegment, SegmentFrames};
 use indexmap::IndexMap;
 use jk_model::{AdmitError, ClassId, DomainId, FrameHead, NoChunks, OutOfMemory, SegmentNo, Value};
 use std::alloc::Global;
+use std::marker::Brand;
 
 /// A store of frames that keeps each domain's frames in vectors, which `admit` reserves.
 #[derive(Drop)]
@@ -247,46 +249,10 @@ impl PlainFrames {
     }
 }
 
-impl FrameStore for PlainFrames {
+impl SegmentFrames for PlainFrames {
     ghost use Rattle.frame_store.specs.StoreContents.{content_of};
-    ghost use Rattle.frame_store.specs.StoreIsContent.{store_holds};
 
     ghost content = { λ x. content_of x.domains x.places };
-
-    fn admit(&mut self, d: DomainId, chunks: u32) -> Result<(), AdmitError> {
-        let fresh = DomainFrames::new(self.alloc, chunks)?;
-        self.enter(d.0, fresh)?;
-        Ok(())
-    }
-
-    fn free(&self, d: DomainId) -> u32 {
-        self.domain(d.0).free()
-    }
-
-    fn begin(&mut self, d: DomainId, s: SegmentNo, head: FrameHead) -> Result<(), NoChunks> {
-        let domain = self.index_of(d.0);
-        // The segment isn't in the table yet, so the cursor may be at it.
-        self.cursor.segment = s.0;
-        let (_, x) = self.domains.pair_mut(domain);
-        let slot = x.begin(s.0, head)?;
-        let place = Place { domain: d.0, slot };
-        self.places.insert(s.0, place);
-        self.owed -= 1;
-        self.cursor = cursor_at(s.0, place, domain);
-        x.aim(&mut self.cursor);
-        Ok(())
-    }
-
-    fn end(&mut self, s: SegmentNo) {
-        let p = self.place(s);
-        // The segment goes from the table, so the cursor may be at it.
-        self.cursor.segment = s.0;
-        if let Some(x) = self.domains.get_mut(&p.domain) {
-            x.end(p.slot);
-            self.places.remove(s.0);
-            self.owed += 1;
-        }
-    }
 
     fn push(&mut self, s: SegmentNo, head: FrameHead) -> Result<(), NoChunks> {
         self.touch(s);
@@ -295,8 +261,7 @@ impl FrameStore for PlainFrames {
         if blocks > x.free() {
             return Err(NoChunks);
         }
-        x.push(self.cursor.place.slot, head, blocks);
-        x.aim(&mut self.cursor);
+        x.push_top(&mut self.cursor, head, blocks);
         Ok(())
     }
 
@@ -313,12 +278,8 @@ impl FrameStore for PlainFrames {
 
     fn pop(&mut self, s: SegmentNo) {
         self.touch(s);
-        let slot = self.cursor.place.slot;
         let (_, x) = self.domains.pair_mut(self.cursor.domain);
-        x.pop(slot);
-        if x.depth(slot) > 0 {
-            x.aim(&mut self.cursor);
-        }
+        x.pop_top(&mut self.cursor);
     }
 
     #[inline(always)]
@@ -391,6 +352,65 @@ impl FrameStore for PlainFrames {
         x.pop_value(self.cursor)
     }
 
+    #[inline(always)]
+    fn drop_entries(&mut self, s: SegmentNo, count: u16) {
+        self.touch(s);
+        let (_, x) = self.domains.pair_mut(self.cursor.domain);
+        x.drop_entries(self.cursor.frame, count);
+    }
+
+    #[inline(always)]
+    fn exchange(&mut self, s: SegmentNo, count: u16, v: Value) {
+        self.touch(s);
+        let (_, x) = self.domains.pair_mut(self.cursor.domain);
+        x.exchange(self.cursor, count, v);
+    }
+
+    fn give_back(&mut self, s: SegmentNo, v: Option<Value>) {
+        self.touch(s);
+        let (_, x) = self.domains.pair_mut(self.cursor.domain);
+        x.give_back(&mut self.cursor, v);
+    }
+}
+
+impl FrameStore for PlainFrames {
+    ghost use Rattle.frame_store.specs.StoreIsContent.{store_holds};
+
+    fn admit(&mut self, d: DomainId, chunks: u32) -> Result<(), AdmitError> {
+        let fresh = DomainFrames::new(self.alloc, chunks)?;
+        self.enter(d.0, fresh)?;
+        Ok(())
+    }
+
+    fn free(&self, d: DomainId) -> u32 {
+        self.domain(d.0).free()
+    }
+
+    fn begin(&mut self, d: DomainId, s: SegmentNo, head: FrameHead) -> Result<(), NoChunks> {
+        let domain = self.index_of(d.0);
+        // The segment isn't in the table yet, so the cursor may be at it.
+        self.cursor.segment = s.0;
+        let (_, x) = self.domains.pair_mut(domain);
+        let slot = x.begin(s.0, head)?;
+        let place = Place { domain: d.0, slot };
+        self.places.insert(s.0, place);
+        self.owed -= 1;
+        self.cursor = cursor_at(s.0, place, domain);
+        x.aim(&mut self.cursor);
+        Ok(())
+    }
+
+    fn end(&mut self, s: SegmentNo) {
+        let p = self.place(s);
+        // The segment goes from the table, so the cursor may be at it.
+        self.cursor.segment = s.0;
+        if let Some(x) = self.domains.get_mut(&p.domain) {
+            x.end(p.slot);
+            self.places.remove(s.0);
+            self.owed += 1;
+        }
+    }
+
     fn close(&mut self, d: DomainId) {
         if let Some(x) = self.domains.get(&d.0) {
             let chunks = x.chunks;
@@ -432,6 +452,19 @@ impl FrameStore for PlainFrames {
         } else {
             None
         }
+    }
+
+    #[inline(always)]
+    fn with_segment<A, B, W: OnSegment<A, B>>(
+        &mut self,
+        s: SegmentNo,
+        work: &mut W,
+        a: &mut A,
+        b: &mut B,
+    ) {
+        self.touch(s);
+        let (_, x) = self.domains.pair_mut(self.cursor.domain);
+        lend::<Brand, A, B, W>(x, &mut self.cursor, work, a, b);
     }
 
     ghost holds = { λ x. store_holds x.domains x.places x.owed x.ok };
