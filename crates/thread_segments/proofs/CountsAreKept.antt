@@ -2,7 +2,7 @@
 use Rattle.std.proofs.Common.{◌≡◌, ◌≢◌, ℕ, zero, suc, ◌+◌, ◌-◌, ◌<◌, ◌≤◌, ◌⊎◌, inl, inr, Bool, true, false, List, [], ◌∷◌, ◌++◌, length, set, filter, sum_by, get_or, Some, slice_get, refl, sym, ap, subst, ◌∙◌, arith, length-append, map, Result}
 use Rattle.std.specs.Prelude.{◌==◌}
 use Rattle.std.specs.List.{AllByRecursion}
-use Rattle.std.proofs.lemmas.Bool.{cases_Bool, cases_eq, eq-eqb, ne_eqb}
+use Rattle.std.proofs.lemmas.Bool.{cases_Bool, eq-eqb, ne_eqb}
 use Rattle.std.proofs.lemmas.List.{length-map, length-set}
 use Rattle.std.proofs.lemmas.List.Elements.{filter-append}
 use Rattle.std.proofs.lemmas.List.Sums.{sum_by-append, sum_by-cons, sum_by-set}
@@ -16,11 +16,13 @@ use Rattle.jk_model.specs.declared.steps.Raise.{Raise}
 use Rattle.jk_model_sharing.specs.CapabilityCalls.{with_created}
 use Rattle.jk_model_heaps.specs.Capabilities.{CapRange}
 use Rattle.jk_model_sharing.specs.Segments.{SharedSegment, SharedThread, count_started_in, live_threads, has_segments, thread_numbered, with_segments, with_stack, with_stacks}
-use Rattle.list_lemmas.proofs.ItemsByPlace.{comes_from, old_or_last, slice_get-set_other, slice_get-set_same}
+use Rattle.list_lemmas.proofs.ItemsByPlace.{comes_from, old_or_last}
 use Rattle.list_lemmas.proofs.LastItems.{each-append}
+use Rattle.thread_stacks.proofs.StandsOnThreads.{stands_after}
 use Rattle.thread_segments.specs.declared.domains.DomainEntry.{DomainEntry}
 use Rattle.thread_segments.specs.ClassedRanges.{CreatesIn, has_room_in, used_up_in}
 use Rattle.thread_segments.specs.DomainEntries.{AreCounted, spare}
+use Rattle.thread_segments.specs.DomainsEnding.{outlived}
 use Rattle.thread_stacks.specs.Stacks.{ThreadList}
 use Rattle.thread_segments.proofs.CapsOfDomains.{one_range}
 use Rattle.thread_stacks.proofs.Filtered.{one_if}
@@ -111,26 +113,27 @@ spare_set : (es : List DomainEntry) (i : ℕ) (e new : DomainEntry) → slice_ge
     → sum_by spare (set es i new) + spare e ≡ sum_by spare es + spare new
 spare_set es i e new at = part_set spare es i e new at
 
+-- how many more threads a domain may start
+
+pub spare_live : (e : DomainEntry) → e.live ≡ true → spare e ≡ e.quotas.threads - e.threads
+spare_live e lives = rw lives refl
+
+pub spare_few : (e : DomainEntry) → spare e ≤ e.quotas.threads
+spare_few e = elim (cases_Bool e.live) [
+  | inl lives ↦ let part = spare_live e lives in omega (arith, part)
+  | inr ended ↦ let none : spare e ≡ 0 = rw ended refl in omega (arith, none)
+]
+
 -- one more thread has room where one more may be started
 pub room_for_one : (es : List DomainEntry) (rs : List CapRange) (t : ThreadList) (i : ℕ) (e : DomainEntry) → AreCounted es rs t → slice_get es i ≡ Some e
-    → e.threads < e.quotas.threads → length t.threads < t.most
-room_for_one es rs t i e h at few = omega (arith, h.room, spare_le es i e at)
+    → e.live ≡ true → e.threads < e.quotas.threads → length t.threads < t.most
+room_for_one es rs t i e h at lives few = omega (arith, h.room, spare_le es i e at, spare_live e lives, few)
 
 pub few_started : (es : List DomainEntry) (rs : List CapRange) (t : ThreadList) (i : ℕ) (e : DomainEntry) → AreCounted es rs t → slice_get es i ≡ Some e
     → e.threads < e.quotas.threads → e.threads < 4096
 few_started es rs t i e h at few = omega (arith, h.small i e at, few)
 
 -- ---- All counts.
-
--- after an item is replaced, what stands at a place is the new one there, or what stood elsewhere
-pub stands_after : {X : Type 0} (xs : List X) (i j : ℕ) (new x : X) → slice_get (set xs i new) j ≡ Some x → i < length xs
-    → ((i ≡ j) × (new ≡ x)) ⊎ ((i ≢ j) × (slice_get xs j ≡ Some x))
-stands_after xs i j new x at low = elim (cases_eq i j) [
-  | inl same ↦
-      let here : slice_get (set xs i new) j ≡ Some new = ap (slice_get (set xs i new)) (sym same) ∙ slice_get-set_same xs i new low in
-      inl (same, same_Some new x (sym here ∙ at))
-  | inr other ↦ inr (other, sym (slice_get-set_other xs i j new other) ∙ at)
-]
 
 -- One entry is replaced, and the threads are others: what that takes to keep the counts right.
 pub record Recounts (es : List DomainEntry) (t new : ThreadList) (i : ℕ) (e other : DomainEntry) : Type 0 where
@@ -140,8 +143,7 @@ pub record Recounts (es : List DomainEntry) (t new : ThreadList) (i : ℕ) (e ot
   pub here : other.threads ≡ count_started_in new.threads (record { 0 = i })
   pub elsewhere : (d : DomainId) → i ≢ d.0 → count_started_in new.threads d ≡ count_started_in t.threads d
   pub homes : AreBelow (length es) new.threads
-  pub room : length new.threads + spare other ≤ length t.threads + spare e
-  pub most : new.most ≡ t.most
+  pub room : length new.threads + spare other + t.most ≤ length t.threads + spare e + new.most
 
 pub recounted : (es : List DomainEntry) (rs : List CapRange) (t new : ThreadList) (i : ℕ) (e other : DomainEntry) → AreCounted es rs t
     → Recounts es t new i e other → AreCounted (set es i other) rs new
@@ -152,7 +154,7 @@ recounted es rs t new i e other h r = record {
   within = λ j x at. within_at j x (stands_after es i j other x at low);
   small = λ j x at. small_at j x (stands_after es i j other x at low);
   homes = subst (λ n. AreBelow n new.threads) (sym same) r.homes;
-  room = omega (arith, h.room, r.room, spare_set es i e other r.there, r.most, spare_le es i e r.there);
+  room = omega (arith, h.room, r.room, spare_set es i e other r.there, spare_le es i e r.there);
 }
   where
     low : i < length es
@@ -178,9 +180,9 @@ recounted es rs t new i e other h r = record {
 
 -- A thread begins.
 pub recounts_begun : (es : List DomainEntry) (rs : List CapRange) (t new : ThreadList) (i : ℕ) (e more : DomainEntry) (thread : SharedThread)
-    → AreCounted es rs t → slice_get es i ≡ Some e → e.threads < e.quotas.threads → more ≡ record e { threads = e.threads + 1 }
+    → AreCounted es rs t → slice_get es i ≡ Some e → e.live ≡ true → e.threads < e.quotas.threads → more ≡ record e { threads = e.threads + 1 }
     → thread.domain.0 ≡ i → new.threads ≡ t.threads ++ thread ∷ [] → new.most ≡ t.most → Recounts es t new i e more
-recounts_begun es rs t new i e more thread h at few is home threads most = record {
+recounts_begun es rs t new i e more thread h at lives few is home threads most = record {
   there = at;
   quotas = ap (λ (x : DomainEntry). x.quotas) is;
   within = rw is (omega (arith, few));
@@ -200,16 +202,15 @@ recounts_begun es rs t new i e more thread h at few is home threads most = recor
       (omega (arith, home, slice_get_within es i e at), tt));
   room =
       let longer : length new.threads ≡ length t.threads + 1 = ap length threads ∙ length-append t.threads (thread ∷ []) in
-      let spared : spare more ≡ e.quotas.threads - (e.threads + 1) = ap spare is in
-      omega (arith, longer, spared, few);
-  most = most;
+      let spared : spare more ≡ e.quotas.threads - (e.threads + 1) = ap spare is ∙ rw lives refl in
+      omega (arith, longer, spared, spare_live e lives, few, most);
 }
 
 -- A thread ends.
 pub recounts_ended : (es : List DomainEntry) (rs : List CapRange) (t new : ThreadList) (i : ℕ) (e less : DomainEntry) → AreCounted es rs t
     → slice_get es i ≡ Some e → 0 < e.threads → less ≡ record e { threads = e.threads - 1 } → AreBelow (length es) new.threads
     → ((d : DomainId) → count_started_in new.threads d + one_if (i == d.0) ≡ count_started_in t.threads d)
-    → length new.threads + 1 ≡ length t.threads → new.most ≡ t.most → Recounts es t new i e less
+    → length new.threads + 1 ≡ length t.threads → new.most + outlived e ≡ t.most → Recounts es t new i e less
 recounts_ended es rs t new i e less h at some is homes counted fewer most = record {
   there = at;
   quotas = ap (λ (x : DomainEntry). x.quotas) is;
@@ -224,10 +225,17 @@ recounts_ended es rs t new i e less h at some is homes counted fewer most = reco
       let none : one_if (i == d.0) ≡ 0 = rw miss refl in
       omega (arith, counted d, none);
   homes = homes;
-  room =
-      let spared : spare less ≡ e.quotas.threads - (e.threads - 1) = ap spare is in
-      omega (arith, fewer, spared, h.within i e at, some);
-  most = most;
+  room = elim (cases_Bool e.live) [
+    | inl lives ↦
+        let spared : spare less ≡ e.quotas.threads - (e.threads - 1) = ap spare is ∙ rw lives refl in
+        let stays : outlived e ≡ 0 = rw lives refl in
+        omega (arith, fewer, spared, spare_live e lives, h.within i e at, some, most, stays)
+    | inr ended ↦
+        let spared : spare less ≡ 0 = ap spare is ∙ rw ended refl in
+        let none : spare e ≡ 0 = rw ended refl in
+        let goes : outlived e ≡ 1 = rw ended refl in
+        omega (arith, fewer, spared, none, most, goes)
+  ];
 }
 
 -- where a thread ends, one was counted
@@ -254,8 +262,8 @@ recounts_same es rs t new change h threads most = record {
 }
 
 pub recounts_paid : (es : List DomainEntry) (rs : List CapRange) (t : ThreadList) (i : ℕ) (e other : DomainEntry) → AreCounted es rs t
-    → slice_get es i ≡ Some e → other.quotas ≡ e.quotas → other.threads ≡ e.threads → Recounts es t t i e other
-recounts_paid es rs t i e other h at quotas threads = record {
+    → slice_get es i ≡ Some e → other.quotas ≡ e.quotas → other.threads ≡ e.threads → other.live ≡ e.live → Recounts es t t i e other
+recounts_paid es rs t i e other h at quotas threads live = record {
   there = at;
   quotas = quotas;
   within = rw (quotas, threads) (h.within i e at);
@@ -263,9 +271,25 @@ recounts_paid es rs t i e other h at quotas threads = record {
   elsewhere = λ d ne. refl;
   homes = h.homes;
   room =
-      let spared : spare other ≡ spare e = rw (quotas, threads) refl in
+      let spared : spare other ≡ spare e = rw (quotas, threads, live) refl in
       omega (arith, spared);
-  most = refl;
+}
+
+-- The domain ends, and room is left for all other threads.
+pub recounts_finished : (es : List DomainEntry) (rs : List CapRange) (t new : ThreadList) (i : ℕ) (e : DomainEntry) → AreCounted es rs t
+    → slice_get es i ≡ Some e → new.threads ≡ t.threads → t.most ≤ new.most + spare e
+    → Recounts es t new i e (record e { live = false; names = 0 })
+recounts_finished es rs t new i e h at threads most = record {
+  there = at;
+  quotas = refl;
+  within = h.within i e at;
+  here = h.started i e at ∙ ap (λ (xs : List SharedThread). count_started_in xs (record { 0 = i })) (sym threads);
+  elsewhere = λ d ne. ap (λ (xs : List SharedThread). count_started_in xs d) threads;
+  homes = subst (λ (xs : List SharedThread). AreBelow (length es) xs) (sym threads) h.homes;
+  room =
+      let long : length new.threads ≡ length t.threads = ap (λ (xs : List SharedThread). length xs) threads in
+      let none : spare (record e { live = false; names = 0 }) ≡ 0 = refl in
+      omega (arith, long, none, most);
 }
 
 -- A domain is admitted.
@@ -281,7 +305,7 @@ counts_admitted es rs t new e r h owner none few threads most = record {
   homes = rw threads (below_more (length es) (length (es ++ e ∷ [])) t.threads (omega (arith, length-append es (e ∷ []))) h.homes);
   room =
       let sum : sum_by spare (es ++ e ∷ []) ≡ sum_by spare es + sum_by spare (e ∷ []) = sum_by-append spare es (e ∷ []) in
-      omega (arith, h.room, sum, none, most, ap length threads);
+      omega (arith, h.room, sum, sum_by-cons spare e [], spare_few e, most, ap length threads);
 }
   where
     owner_at : (i : ℕ) (x : CapRange) → ((i < length rs) × (slice_get rs i ≡ Some x)) ⊎ ((i ≡ length rs) × (x ≡ r)) → x.owner.0 ≡ i

@@ -1,5 +1,5 @@
 -- A domain has ended: what is seen of the domains then, and that names and room are counted right.
-use Rattle.std.proofs.Common.{◌≡◌, ◌≢◌, ℕ, zero, suc, ◌+◌, ◌<◌, inl, inr, true, false, List, [], ◌∷◌, length, map, set, sum_by, Some, slice_get, refl, sym, ap, ◌∙◌, arith}
+use Rattle.std.proofs.Common.{◌≡◌, ◌≢◌, ℕ, zero, suc, ◌+◌, ◌<◌, ◌≤◌, inl, inr, true, false, List, [], ◌∷◌, length, map, set, sum_by, Some, slice_get, refl, sym, ap, ◌∙◌, arith}
 use Rattle.std.specs.Prelude.{◌==◌, if◌then◌else◌}
 use Rattle.std.proofs.lemmas.Bool.{cases_Bool, eq-eqb, eqb-true, ne_eqb}
 use Rattle.std.proofs.lemmas.List.{length-map}
@@ -18,7 +18,8 @@ use Rattle.thread_segments.specs.DomainEntries.{AreNamed, HasSegmentRoom, chunks
 use Rattle.thread_segments.specs.DomainsEnding.{uncounted, after_end}
 use Rattle.thread_segments.specs.NameEntries.{NameList}
 use Rattle.thread_segments.proofs.CapsOfDomains.{AreOwnedFrom}
-use Rattle.thread_segments.proofs.NamesAreCounted.{renamed}
+use Rattle.thread_segments.proofs.CountsAreKept.{part_le}
+use Rattle.thread_segments.proofs.NamesAreCounted.{names_live, renamed}
 use Rattle.thread_stacks.specs.Stacks.{ThreadList}
 
 -- ---- Counts of threads aside.
@@ -161,10 +162,9 @@ others_by d e (n ∷ names) ne = elim (cases_Bool (n.binder.0 == d.0)) [
   ]
 ]
 
-pub named_ended : (es : List DomainEntry) (n new : NameList) (d : DomainId) (e : DomainEntry) → AreNamed es n → slice_get es d.0 ≡ Some e
-    → new ≡ record n { names = without_names_of d n.names } → AreNamed (set es d.0 (record e { live = false; names = 0 })) new
-named_ended es n new d e h at is =
-    let names : new.names ≡ without_names_of d n.names = ap (λ (x : NameList). x.names) is in
+pub named_ended : (es : List DomainEntry) (n new : NameList) (d : DomainId) (e : DomainEntry) → AreNamed es n → slice_get es d.0 ≡ Some e → e.live ≡ true
+    → new.names ≡ without_names_of d n.names → n.most ≤ new.most + e.quotas.names → AreNamed (set es d.0 (record e { live = false; names = 0 })) new
+named_ended es n new d e h at lives names most =
     renamed es n new d.0 e (record e { live = false; names = 0 }) h
     (record {
       there = at;
@@ -174,25 +174,41 @@ named_ended es n new d e h at is =
       elsewhere = λ other ne. rw names (others_by d other n.names ne);
       room =
           let parted = names_parted d n.names in
-          let spared : spare_names (record e { live = false; names = 0 }) ≡ e.quotas.names = omega arith in
-          omega (arith, ap (λ (xs : List BoundName). length xs) names, parted, spared, h.bound d.0 e at, h.within d.0 e at);
-      most = ap (λ (x : NameList). x.most) is;
+          let none : spare_names (record e { live = false; names = 0 }) ≡ 0 = refl in
+          omega (
+            arith,
+            ap (λ (xs : List BoundName). length xs) names,
+            parted,
+            none,
+            h.bound d.0 e at,
+            h.within d.0 e at,
+            names_live e lives,
+            most,
+          );
     })
+
+-- the names that are left, and as many as the domain might bind, have room
+pub names_to_leave : (es : List DomainEntry) (n : NameList) (d : DomainId) (e : DomainEntry) → AreNamed es n → slice_get es d.0 ≡ Some e → e.live ≡ true
+    → length (without_names_of d n.names) + e.quotas.names ≤ n.most
+names_to_leave es n d e h at lives =
+    omega (arith, h.room, part_le spare_names es d.0 e at, names_live e lives, names_parted d n.names, h.bound d.0 e at, h.within d.0 e at)
 
 -- ---- All of it.
 
 pub dropped_is : (es now : List DomainEntry) (rs : List CapRange) (stubs : List Stub) (ns new : NameList) (t left : ThreadList) → AreCounted es rs t
-    → (d : DomainId) (e : DomainEntry) → map uncounted now ≡ map uncounted es → slice_get now d.0 ≡ Some e → left ≡ after_end d t
-    → new ≡ record ns { names = without_names_of d ns.names }
+    → (d : DomainId) (e : DomainEntry) → map uncounted now ≡ map uncounted es → slice_get now d.0 ≡ Some e
+    → (let x : ThreadList = after_end d t in
+    (left.threads ≡ x.threads) × (left.next_thread ≡ x.next_thread) × (left.next_segment ≡ x.next_segment))
+    → new.names ≡ without_names_of d ns.names
     → Drops (state_of es rs stubs ns t) d
     (state_of (set now d.0 (record e { live = false; names = 0 })) (map (all_revoked_in d) rs) stubs new left)
 dropped_is es now rs stubs ns new t left h d e alike at after names = record {
   domains =
       ended_seen d 0 d.0 now rs e (λ i r there. let own = h.owners i r there in omega (arith, own)) at (omega arith)
       ∙ ap (λ (ds : List SharedDomain). map (ended_domain d.0) ds) (domains_alike es now alike 0 rs);
-  names = ap (λ (n : NameList). n.names) names;
-  threads = ap (λ (x : ThreadList). x.threads) after;
-  next_thread = ap (λ (x : ThreadList). x.next_thread) after;
-  next_segment = ap (λ (x : ThreadList). x.next_segment) after;
+  names = names;
+  threads = after.0;
+  next_thread = after.1;
+  next_segment = after.2;
   stubs = refl;
 }

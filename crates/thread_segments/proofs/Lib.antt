@@ -4,12 +4,15 @@ pub mod CountsAreKept
 pub mod CreatedInRange
 pub mod DomainsByNumber
 pub mod DomainsEnded
+pub mod EndOfDomain
 pub mod InterfacesShown
 pub mod NamesAreCounted
 pub mod NamesByPlace
 pub mod NamesOfStates
 pub mod OneMore
 pub mod OwnersByNumber
+pub mod PartsByNumber
+pub mod PartsOfDomains
 pub mod RangesWithClasses
 pub mod Remaining
 pub mod RevokedInRange

@@ -2,21 +2,33 @@
 use Rattle.std.proofs.Common.{◌≡◌, ◌≢◌, ℕ, ◌+◌, ◌-◌, ◌<◌, ◌≤◌, ◌⊎◌, inl, inr, List, [], ◌∷◌, ◌++◌, length, set, sum_by, Some, slice_get, refl, sym, ap, subst, ◌∙◌, arith, length-append, true, false}
 use Rattle.std.specs.Prelude.{◌==◌}
 use Rattle.std.specs.List.{remove}
-use Rattle.std.proofs.lemmas.Bool.{eq-eqb, ne_eqb}
+use Rattle.std.proofs.lemmas.Bool.{cases_Bool, eq-eqb, ne_eqb}
 use Rattle.std.proofs.lemmas.List.{length-set}
-use Rattle.std.proofs.lemmas.List.Sums.{sum_by-append}
+use Rattle.std.proofs.lemmas.List.Sums.{sum_by-append, sum_by-cons}
 use Rattle.std.proofs.lemmas.Option.{slice_get_within}
 use Rattle.jk_model.specs.declared.identifiers.DomainId.{DomainId}
 use Rattle.jk_model.specs.declared.script.Quotas.{Quotas}
 use Rattle.jk_model_sharing.specs.BoundNames.{BoundName, count_bound_by}
 use Rattle.list_lemmas.proofs.ItemsByPlace.{old_or_last}
+use Rattle.thread_stacks.proofs.StandsOnThreads.{stands_after}
 use Rattle.thread_segments.specs.declared.domains.DomainEntry.{DomainEntry}
 use Rattle.thread_segments.specs.DomainEntries.{AreNamed, spare_names}
 use Rattle.thread_segments.specs.NameEntries.{NameList}
-use Rattle.thread_segments.proofs.CountsAreKept.{part_le, part_set, stands_after}
+use Rattle.thread_segments.proofs.CountsAreKept.{part_le, part_set}
 use Rattle.thread_segments.proofs.NamesByPlace.{count_removed, count_set, length-removed}
 use Rattle.thread_segments.proofs.OneMore.{last_more, one_passes}
 use Rattle.thread_stacks.proofs.Filtered.{one_if}
+
+-- how many more names a domain may bind
+
+pub names_live : (e : DomainEntry) → e.live ≡ true → spare_names e ≡ e.quotas.names - e.names
+names_live e lives = rw lives refl
+
+names_few : (e : DomainEntry) → spare_names e ≤ e.quotas.names
+names_few e = elim (cases_Bool e.live) [
+  | inl lives ↦ let part = names_live e lives in omega (arith, part)
+  | inr ended ↦ let none : spare_names e ≡ 0 = rw ended refl in omega (arith, none)
+]
 
 -- One entry is replaced, and the names are others: what that takes to keep the counts right.
 pub record Renames (es : List DomainEntry) (n new : NameList) (i : ℕ) (e other : DomainEntry) : Type 0 where
@@ -25,8 +37,7 @@ pub record Renames (es : List DomainEntry) (n new : NameList) (i : ℕ) (e other
   pub within : other.names ≤ other.quotas.names
   pub here : other.names ≡ count_bound_by new.names (record { 0 = i })
   pub elsewhere : (d : DomainId) → i ≢ d.0 → count_bound_by new.names d ≡ count_bound_by n.names d
-  pub room : length new.names + spare_names other ≤ length n.names + spare_names e
-  pub most : new.most ≡ n.most
+  pub room : length new.names + spare_names other + n.most ≤ length n.names + spare_names e + new.most
 
 pub renamed : (es : List DomainEntry) (n new : NameList) (i : ℕ) (e other : DomainEntry) → AreNamed es n → Renames es n new i e other
     → AreNamed (set es i other) new
@@ -34,7 +45,7 @@ renamed es n new i e other h r = record {
   bound = λ j x at. by_place j x (stands_after es i j other x at low);
   within = λ j x at. within_at j x (stands_after es i j other x at low);
   small = λ j x at. small_at j x (stands_after es i j other x at low);
-  room = omega (arith, h.room, r.room, part_set spare_names es i e other r.there, r.most, part_le spare_names es i e r.there);
+  room = omega (arith, h.room, r.room, part_set spare_names es i e other r.there, part_le spare_names es i e r.there);
 }
   where
     low : i < length es
@@ -57,8 +68,8 @@ renamed es n new i e other h r = record {
 
 -- The entry is changed, but for its names.
 pub named_same : (es : List DomainEntry) (n : NameList) (i : ℕ) (e other : DomainEntry) → AreNamed es n → slice_get es i ≡ Some e
-    → other.quotas ≡ e.quotas → other.names ≡ e.names → AreNamed (set es i other) n
-named_same es n i e other h at quotas names =
+    → other.quotas ≡ e.quotas → other.names ≡ e.names → other.live ≡ e.live → AreNamed (set es i other) n
+named_same es n i e other h at quotas names live =
     renamed es n n i e other h
     (record {
       there = at;
@@ -66,15 +77,14 @@ named_same es n i e other h at quotas names =
       within = rw (quotas, names) (h.within i e at);
       here = names ∙ h.bound i e at;
       elsewhere = λ d ne. refl;
-      room = let spared : spare_names other ≡ spare_names e = rw (quotas, names) refl in omega (arith, spared);
-      most = refl;
+      room = let spared : spare_names other ≡ spare_names e = rw (quotas, names, live) refl in omega (arith, spared);
     })
 
 -- A name is bound.
 pub named_new : (es : List DomainEntry) (n new : NameList) (i : ℕ) (e more : DomainEntry) (asked : BoundName) → AreNamed es n → slice_get es i ≡ Some e
-    → e.names < e.quotas.names → more ≡ record e { names = e.names + 1 } → asked.binder.0 ≡ i
+    → e.live ≡ true → e.names < e.quotas.names → more ≡ record e { names = e.names + 1 } → asked.binder.0 ≡ i
     → new ≡ record n { names = n.names ++ asked ∷ [] } → AreNamed (set es i more) new
-named_new es n new i e more asked h at few is home becomes =
+named_new es n new i e more asked h at lives few is home becomes =
     let names : new.names ≡ n.names ++ asked ∷ [] = ap (λ (x : NameList). x.names) becomes in
     renamed es n new i e more h
     (record {
@@ -96,9 +106,8 @@ named_new es n new i e more asked h at few is home becomes =
           rw names (omega (arith, count, none));
       room =
           let longer : length new.names ≡ length n.names + 1 = ap length names ∙ length-append n.names (asked ∷ []) in
-          let spared : spare_names more ≡ e.quotas.names - (e.names + 1) = ap spare_names is in
-          omega (arith, longer, spared, few);
-      most = ap (λ (x : NameList). x.most) becomes;
+          let spared : spare_names more ≡ e.quotas.names - (e.names + 1) = ap spare_names is ∙ rw lives refl in
+          omega (arith, longer, spared, names_live e lives, few, ap (λ (x : NameList). x.most) becomes);
     })
 
 -- One is removed: the domain that bound it has one fewer.
@@ -110,9 +119,9 @@ some_bound es n i p e m h at there home =
     omega (arith, h.bound i e at, count_removed (record { 0 = i }) n.names p m there, one)
 
 pub named_removed : (es : List DomainEntry) (n new : NameList) (i p : ℕ) (e less : DomainEntry) (m : BoundName) → AreNamed es n → slice_get es i ≡ Some e
-    → slice_get n.names p ≡ Some m → m.binder.0 ≡ i → less ≡ record e { names = e.names - 1 } → new ≡ record n { names = remove n.names p }
+    → e.live ≡ true → slice_get n.names p ≡ Some m → m.binder.0 ≡ i → less ≡ record e { names = e.names - 1 } → new ≡ record n { names = remove n.names p }
     → AreNamed (set es i less) new
-named_removed es n new i p e less m h at there home is becomes =
+named_removed es n new i p e less m h at lives there home is becomes =
     let names : new.names ≡ remove n.names p = ap (λ (x : NameList). x.names) becomes in
     let some = some_bound es n i p e m h at there home in
     renamed es n new i e less h
@@ -133,9 +142,8 @@ named_removed es n new i p e less m h at there home is becomes =
           let low = slice_get_within n.names p m there in
           let shorter : length (remove n.names p) + 1 ≡ length n.names = length-removed n.names p low in
           let same = ap length names in
-          let spared : spare_names less ≡ e.quotas.names - (e.names - 1) = ap spare_names is in
-          omega (arith, shorter, same, spared, h.within i e at, some);
-      most = ap (λ (x : NameList). x.most) becomes;
+          let spared : spare_names less ≡ e.quotas.names - (e.names - 1) = ap spare_names is ∙ rw lives refl in
+          omega (arith, shorter, same, spared, names_live e lives, h.within i e at, some, ap (λ (x : NameList). x.most) becomes);
     })
 
 -- One is bound anew by the same domain.
@@ -161,7 +169,7 @@ named_admitted es n new e h unbound none few becomes = record {
   small = λ i x at. small_at i x (old_or_last es e i x at);
   room =
       let sum : sum_by spare_names (es ++ e ∷ []) ≡ sum_by spare_names es + sum_by spare_names (e ∷ []) = sum_by-append spare_names es (e ∷ []) in
-      omega (arith, h.room, sum, none, most, ap length names);
+      omega (arith, h.room, sum, sum_by-cons spare_names e [], names_few e, most, ap length names);
 }
   where
     names : new.names ≡ n.names
@@ -192,5 +200,5 @@ named_none [] n none_es none =
 
 -- one more name has room where one more may be bound
 pub room_for_name : (es : List DomainEntry) (n : NameList) (i : ℕ) (e : DomainEntry) → AreNamed es n → slice_get es i ≡ Some e
-    → e.names < e.quotas.names → length n.names < n.most
-room_for_name es n i e h at few = omega (arith, h.room, part_le spare_names es i e at)
+    → e.live ≡ true → e.names < e.quotas.names → length n.names < n.most
+room_for_name es n i e h at lives few = omega (arith, h.room, part_le spare_names es i e at, names_live e lives, few)

@@ -65,6 +65,9 @@ module _ (es : List DomainEntry) (rs : List CapRange) (stubs : List Stub) (ns : 
   pub live_at : (d : DomainId) → IsLiveDomain here d → Admitted d
   live_at d (e, at, live) = admitted_at d (e, at)
 
+  pub lives_of : (d : DomainId) (a : Admitted d) → IsLiveDomain here d → a.entry.live ≡ true
+  lives_of d a (e, at, live) = ap (λ (x : SharedDomain). x.live) (same_Some (domain_with d.0 a.entry a.range) e (sym a.is ∙ at)) ∙ live
+
   pub low_of : (d : DomainId) (a : Admitted d) → d.0 < length es
   low_of d a = slice_get_within es d.0 a.entry a.there
 
@@ -116,10 +119,10 @@ module _ (es : List DomainEntry) (rs : List CapRange) (stubs : List Stub) (ns : 
       → state_of (set es d.0 more) rs stubs ns new ≡ begun d here
   begun_is d a more new quotas steps live is = rw (is, same_domains 0 d.0 es rs a.entry more a.there quotas steps live) refl
 
-  pub popped_is : (thread : ThreadNo) (i : ℕ) (e less : DomainEntry) (new : ThreadList) → slice_get es i ≡ Some e → less.quotas ≡ e.quotas
-      → less.steps_left ≡ e.steps_left → less.live ≡ e.live → new ≡ record t { threads = live_threads (with_stack thread without_top t.threads) }
+  pub popped_is : (thread : ThreadNo) (i most : ℕ) (e less : DomainEntry) (new : ThreadList) → slice_get es i ≡ Some e → less.quotas ≡ e.quotas
+      → less.steps_left ≡ e.steps_left → less.live ≡ e.live → new ≡ record t { threads = live_threads (with_stack thread without_top t.threads); most = most }
       → state_of (set es i less) rs stubs ns new ≡ popped thread here
-  popped_is thread i e less new at quotas steps live is = rw (is, same_domains 0 i es rs e less at quotas steps live) refl
+  popped_is thread i most e less new at quotas steps live is = rw (is, same_domains 0 i es rs e less at quotas steps live) refl
 
   pub admitted_is : (d : DomainId) (q : Quotas) (more : List Stub) (e : DomainEntry) → d.0 ≡ length es → e.quotas ≡ q → e.steps_left ≡ q.steps → e.live ≡ true
       → admitted d q more here

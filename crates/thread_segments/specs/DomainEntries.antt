@@ -1,5 +1,5 @@
 -- Domains as a list of entries and the list of their ranges of capabilities keep them.
-use Rattle.std.specs.Prelude.{◌≡◌, ℕ, suc, ◌+◌, ◌-◌, ◌<◌, ◌≤◌, List, [], ◌∷◌, length, sum_by, Some, slice_get}
+use Rattle.std.specs.Prelude.{◌≡◌, ℕ, suc, ◌+◌, ◌-◌, ◌<◌, ◌≤◌, List, [], ◌∷◌, length, sum_by, Some, slice_get, if◌then◌else◌}
 use Rattle.std.specs.List.{AllByRecursion}
 use Rattle.jk_model_classes.specs.declared.sharing.Stub.{Stub}
 use Rattle.jk_model_heaps.specs.Capabilities.{CapRange}
@@ -20,9 +20,9 @@ domains_with n [] ranges = []
 domains_with n (e ∷ entries) [] = []
 domains_with n (e ∷ entries) (r ∷ ranges) = domain_with n e r ∷ domains_with (suc n) entries ranges
 
--- how many more threads may be started
+-- how many more threads may be started: none after the domain's end
 abbrev pub spare : DomainEntry → ℕ
-spare e = e.quotas.threads - e.threads
+spare e = if e.live then e.quotas.threads - e.threads else 0
 
 pub record AreCounted (entries : List DomainEntry) (ranges : List CapRange) (t : ThreadList) : Type 0 where
   pub as_many : length ranges ≡ length entries
@@ -34,17 +34,18 @@ pub record AreCounted (entries : List DomainEntry) (ranges : List CapRange) (t :
   -- there is room for all threads that may be started
   pub room : length t.threads + sum_by spare entries ≤ t.most
 
+-- how many chunks a domain may have: none after its end
 abbrev pub chunks_of : DomainEntry → ℕ
-chunks_of e = e.quotas.chunks
+chunks_of e = if e.live then e.quotas.chunks else 0
 
 -- There is room for a segment for each chunk that a domain may have, and for all domains.
 pub record HasSegmentRoom (entries : List DomainEntry) (t : ThreadList) : Type 0 where
   pub room : sum_by chunks_of entries ≤ t.most_segments
   pub homes : length entries ≤ t.domains
 
--- how many more names may be bound
+-- how many more names may be bound: none after the domain's end
 abbrev pub spare_names : DomainEntry → ℕ
-spare_names e = e.quotas.names - e.names
+spare_names e = if e.live then e.quotas.names - e.names else 0
 
 -- Names are counted of the domains that bound them.
 pub record AreNamed (entries : List DomainEntry) (n : NameList) : Type 0 where

@@ -1,13 +1,15 @@
 //! The capabilities, each with the class that its target had when it was created.
 
-ghost use Rattle.std.specs.Prelude.{◌≡◌, ℕ, ◌+◌, ◌-◌, ◌<◌, ◌≤◌, ◌==◌, ◌++◌, ◌∷◌, [], None, Some, IsSome, Err, OnOk, OnErr, find, length, map, option_map, replicate, vec_len, vec_capacity};
+ghost use Rattle.std.specs.Prelude.{◌≡◌, ℕ, ◌+◌, ◌-◌, ◌<◌, ◌≤◌, ◌==◌, ◌++◌, ◌∷◌, [], None, Some, IsSome, Err, IfOk, OnOk, OnErr, find, flat_map, length, map, option_map, replicate, vec_len, vec_capacity};
 ghost use Rattle.jk_model.specs.Capabilities.{last_number};
 ghost use Rattle.jk_model_heaps.specs.Capabilities.{CapRange, IsGivenOut, OwnedCapability, capability_numbered};
 ghost use Rattle.jk_model_sharing.specs.CapabilityCalls.{LacksNumbers, count_numbers, first_range, status_of};
+ghost use Rattle.thread_segments.specs.StateParts.{cap_parts, owned_part, part_at};
 ghost use Rattle.thread_segments.specs.ClassedRanges.{CreatesIn, all_revoked_in, no_class, revoked_in};
 
+use crate::parts::CapPart;
 use capability_table::{CapabilityTable, CapsError};
-use jk_model::{CapId, CapStatus, ClassId, DomainId, OutOfMemory, Raise, Standing};
+use jk_model::{CapId, CapStatus, ClassId, DomainId, List, OutOfMemory, Raise, Standing};
 use std::alloc::Global;
 use std::marker::Model;
 
@@ -112,6 +114,43 @@ impl Capabilities {
         ensures { self.new ≡ map (all_revoked_in owner) self.old }
     {
         self.table.revoke_all(owner);
+    }
+
+    /// All that were given out, rising by number.
+    pub(crate) fn parts(&self, alloc: Global) -> Result<List<CapPart>, OutOfMemory>
+        ensures { IfOk result (λ parts. parts ≡ flat_map cap_parts self.now) }
+    {
+        let mut parts = List::new(alloc);
+        for place in 0..self.classes.len() {
+            self.push_part(&mut parts, CapId(place as u32 + 1))?;
+        }
+        Ok(parts)
+    }
+
+    /// Puts a capability behind others, where it was given out.
+    fn push_part(&self, parts: &mut List<CapPart>, k: CapId) -> Result<(), OutOfMemory>
+        ensures { OnOk result (parts.new ≡ parts.old ++ part_at self.now k.0) }
+    {
+        if let Some(part) = self.part(k) {
+            parts.push(part)?;
+        }
+        Ok(())
+    }
+
+    /// A capability as a part. None exactly where it wasn't given out.
+    fn part(&self, k: CapId) -> Option<CapPart>
+        ensures { result ≡ option_map (owned_part k) (capability_numbered self.now k) }
+    {
+        match self.table.status(k) {
+            Some(status) => Some(CapPart {
+                number: k,
+                owner: status.owner,
+                target: status.target,
+                revoked: status.revoked,
+                class: self.classes[k.0 as usize - 1],
+            }),
+            None => None,
+        }
     }
 
     /// The class that a capability's target had. None exactly where it wasn't given out.

@@ -1,12 +1,14 @@
 //! The repository: names that domains bound to capabilities.
 
-ghost use Rattle.std.specs.Prelude.{◌≡◌, ℕ, ◌+◌, ◌<◌, ◌≤◌, ◌++◌, ◌∷◌, [], Some, None, MatchOption, OnOk, OnErr, bytes_eq, length, position, remove, set, slice_get};
+ghost use Rattle.std.specs.Prelude.{◌≡◌, ℕ, ◌+◌, ◌-◌, ◌<◌, ◌≤◌, ◌++◌, ◌∷◌, [], Some, None, MatchOption, IfOk, OnOk, OnErr, bytes_eq, length, map, position, remove, set, slice_get};
 ghost use Rattle.jk_model_sharing.specs.BoundNames.{BoundName, LooksUp, bound_as, longest_name, without_names_of};
 ghost use Rattle.thread_segments.specs.NameEntries.{IsPlaceOfName, names_of};
+ghost use Rattle.thread_segments.specs.StateParts.{name_part};
 ghost use Rattle.thread_segments.specs.declared.names.NameEntry.{NameEntry as ANameEntry};
 
+use crate::parts::NamePart;
 use arrayvec::ArrayVec;
-use jk_model::{CapId, DomainId, OutOfMemory};
+use jk_model::{CapId, DomainId, List, OutOfMemory, Units};
 use std::alloc::Global;
 use std::marker::Model;
 
@@ -62,6 +64,14 @@ impl Names {
         Ok(())
     }
 
+    /// Lets so many fewer names be bound at once, where no more are. The memory stays, for those of later domains.
+    pub(crate) fn release(&mut self, fewer: u32)
+        requires { length self.old.names + fewer ≤ self.old.most }
+        ensures { self.new ≡ record self.old { most = self.old.most - fewer } }
+    {
+        self.most -= fewer as usize;
+    }
+
     /// The place of a name; none where it isn't bound.
     pub(crate) fn find(&self, text: &[u16]) -> Option<usize>
         ensures { IsPlaceOfName self.now.names text.now result }
@@ -85,6 +95,13 @@ impl Names {
         ensures { (n : BoundName) → slice_get self.now.names place ≡ Some n → result ≡ n.binder }
     {
         self.entries[place].binder
+    }
+
+    /// The names as a plain list.
+    pub(crate) fn parts(&self, alloc: Global) -> Result<List<NamePart>, OutOfMemory>
+        ensures { IfOk result (λ parts. parts ≡ map name_part self.now.names) }
+    {
+        name_parts(alloc, self.entries.as_slice())
     }
 
     /// Lets the name at a place lead to another capability.
@@ -129,6 +146,21 @@ impl Names {
     {
         self.entries.retain(|entry| entry.binder.0 != binder.0);
     }
+}
+
+/// Names as a plain list.
+fn name_parts(alloc: Global, entries: &[NameEntry]) -> Result<List<NamePart>, OutOfMemory>
+    ensures { IfOk result (λ parts. parts ≡ map name_part (names_of entries.now)) }
+{
+    let mut parts = List::new(alloc);
+    for entry in entries {
+        parts.push(NamePart {
+            text: Units::from_slice(alloc, entry.text.as_slice())?,
+            cap: entry.cap,
+            binder: entry.binder,
+        })?;
+    }
+    Ok(parts)
 }
 
 /// Where a text stands; none where it doesn't.

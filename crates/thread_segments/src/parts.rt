@@ -1,6 +1,7 @@
 //! What domains share as plain lists, from which it can be made anew: what an image of a machine has of it.
 
-use jk_model::{CapId, ClassId, DomainId, List, Quotas, SegmentNo, ThreadNo, Units};
+use jk_model::{CapId, ClassId, DomainId, List, Quotas, Units};
+use thread_stacks::ThreadPart;
 
 /// What domains share, but for the stubs.
 #[derive(Drop)]
@@ -47,25 +48,4 @@ pub struct NamePart {
     pub text: Units,
     pub cap: CapId,
     pub binder: DomainId,
-}
-
-/// A live thread.
-#[derive(Drop)]
-pub struct ThreadPart {
-    pub number: ThreadNo,
-    /// The domain in which it was started.
-    pub domain: DomainId,
-    /// Lowest first.
-    pub segments: List<SegmentPart>,
-}
-
-/// A segment, without its frames.
-#[derive(Drop)]
-pub struct SegmentPart {
-    pub number: SegmentNo,
-    pub domain: DomainId,
-    pub suspended: bool,
-    pub stop: bool,
-    pub revoked: bool,
-    pub orphan: bool,
 }

@@ -14,11 +14,13 @@ ghost use Rattle.jk_model_sharing.specs.SharedStates.{Drops, MayBegin, Resumes, 
 ghost use Rattle.thread_segments.specs.Answers.{Begins, BindsFor, CreatesFor, EndsWith, IsLeastAbove, IsLiveNumber, RevokesFor, UnbindsFor, count_numbers_left, known_status, number_below, quotas_of, segment_info, spent_steps, steps_left_of, thread_number, top_number};
 ghost use Rattle.thread_segments.specs.Asked.{AreWithin, HasRoomForSegment, IsAdmitted, IsLiveDomain, IsLiveThread, IsNext, IsThere, MayDrawSegment, MayDrawThread, MaySpend, MaySpendSteps};
 ghost use Rattle.thread_segments.specs.SoundStates.{AreSound};
+ghost use Rattle.thread_segments.specs.StateParts.{ArePartsOf};
 
 use crate::capabilities::Capabilities;
-use crate::domains::DomainEntry;
+use crate::domains::{DomainEntry, count_end, domain_parts, end_entry};
 use crate::endings::take_out_all;
 use crate::names::{MOST_UNITS, Names};
+use crate::parts::SharedParts;
 use crate::stub_index::StubIndex;
 use capability_table::CapsError;
 use class_table::ClassTable;
@@ -35,7 +37,7 @@ use std::marker::Model;
 use thread_stacks::{Flag, SegmentInfo, Threads};
 
 /// The threads and their segments, the capabilities with their stubs, the repository, and what is counted of each domain. The
-/// memory for all that a domain may have is taken when it is admitted, and no other call takes any.
+/// memory for all that a domain may have is taken when it is admitted, and no other call but `parts` takes any.
 #[derive(Drop)]
 pub struct Shared {
     domains: Vec<DomainEntry>,
@@ -110,6 +112,22 @@ impl Shared {
         ensures { AreSound self.now }
     {
         let _ = &self.domains;
+    }
+
+    /// All but the stubs, as plain lists. It takes time in proportion to them and to the quotas of capabilities, with a logarithm for each
+    /// segment.
+    pub fn parts(&self) -> Result<SharedParts, OutOfMemory>
+        ensures { IfOk result (λ parts. ArePartsOf self.now parts) }
+    {
+        let alloc = *self.domains.allocator();
+        Ok(SharedParts {
+            next_thread: self.threads.next_thread(),
+            next_segment: self.threads.next_segment(),
+            domains: domain_parts(alloc, self.domains.as_slice())?,
+            caps: self.caps.parts(alloc)?,
+            names: self.names.parts(alloc)?,
+            threads: self.threads.parts(alloc)?,
+        })
     }
 
     /// How many numbers of capabilities are in no range yet.
@@ -205,8 +223,8 @@ impl Shared {
             Some(started) => started,
             None => return,
         };
-        let entry = &mut self.domains[started.0 as usize];
-        entry.threads -= 1;
+        let room = count_end(&mut self.domains, started);
+        self.threads.release_threads(room);
     }
 
     /// The top segment of a thread. None exactly where the thread isn't live.
@@ -285,8 +303,8 @@ impl Shared {
     }
 
     /// Ends a live domain: its segments are taken out of all threads, its capabilities are revoked, and the names that it bound are
-    /// removed; and closes it in the store of frames. It takes time in proportion to its segments, with a logarithm, to its
-    /// capabilities, and to the names that are bound.
+    /// removed; and closes it in the store of frames. The memory that was taken for it serves the domains that are admitted later. It takes
+    /// time in proportion to its segments, with a logarithm, to its capabilities, and to the names that are bound.
     pub fn drop_domain<F: FrameStore>(&mut self, frames: &mut F, d: DomainId)
         requires live { IsLiveDomain self.old d }
         requires frames { HasDomain (F.content frames.old) d }
@@ -296,9 +314,10 @@ impl Shared {
         take_out_all(&mut self.threads, &mut self.domains, d);
         self.caps.revoke_all(d);
         self.names.remove_all(d);
-        let entry = &mut self.domains[d.0 as usize];
-        entry.live = false;
-        entry.names = 0;
+        let room = end_entry(&mut self.domains, d);
+        self.threads.release_threads(room.threads);
+        self.threads.release_segments(room.segments);
+        self.names.release(room.names);
         frames.close(d);
     }
 

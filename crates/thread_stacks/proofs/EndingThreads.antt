@@ -1,16 +1,18 @@
 -- The end of a domain leaves nothing of the threads that have segments of it alone, and of no others.
-use Rattle.std.proofs.Common.{◌≡◌, ℕ, inl, inr, Bool, true, false, List, [], ◌∷◌, map, Option, Some, None, refl, sym, ap, ◌∙◌}
+use Rattle.std.proofs.Common.{◌≡◌, ℕ, inl, inr, Bool, true, false, List, [], ◌∷◌, map, Contains, Option, Some, None, refl, sym, ap, ◌∙◌}
 use Rattle.std.specs.Prelude.{◌&&◌, if◌then◌else◌}
 use Rattle.std.specs.List.{list_all}
 use Rattle.std.proofs.lemmas.Bool.{and_from, and_parts, cases_Bool}
 use Rattle.jk_model.specs.declared.identifiers.DomainId.{DomainId}
-use Rattle.jk_model_sharing.specs.Segments.{SharedSegment, SharedThread, as_orphan, changed, is_of, left_above, segments_left, shared_form, top_is_of, with_revoked, with_top}
+use Rattle.jk_model_sharing.specs.Segments.{SharedSegment, SharedThread, as_orphan, changed, is_of, left_above, segments_left, shared_form, top_is_of, has_segments, with_revoked, with_top}
 use Rattle.list_lemmas.proofs.ItemsOfLists.{place_of}
 use Rattle.thread_stacks.specs.declared.entries.ThreadEntry.{ThreadEntry}
 use Rattle.thread_stacks.specs.declared.slots.Slot.{Slot}
 use Rattle.thread_stacks.specs.StackAnswers.{EndsWith, IsLeastAbove}
 use Rattle.thread_stacks.specs.Stacks.{IsEntryWith, NameTops, is_in, is_running, runs_only_in, segment_of, slots_on, stack_of, thread_of, threads_of}
+use Rattle.thread_stacks.proofs.LeftTheSame.{all_left}
 use Rattle.thread_stacks.proofs.NextRunning.{entered, is_among}
+use Rattle.thread_stacks.proofs.ThreadsAfter.{runs}
 
 -- ---- Stacks.
 
@@ -83,6 +85,20 @@ module _ (slots : List Slot) (es : List ThreadEntry) (d : DomainId) (tops : Name
         is,
         ends_where_all d (stack_of x.number slots) (mapped_all d (slots_on x.number slots) ∙ parts.1),
       )
+
+  -- none ends where no segment is of the domain
+  pub none_ends : ((u : ℕ) (s : SharedSegment) → Contains (stack_of u slots) s → is_of shared_form d s ≡ false) → (t : ℕ)
+      → EndsWith (threads_of slots es) d t → ⊥
+  none_ends none t (thread, among, is, ends) =
+      let e = entered slots es thread tops among in
+      let left : segments_left shared_form d (stack_of e.0.number slots) ≡ [] =
+      ap (λ (x : SharedThread). segments_left shared_form d x.segments) e.3 ∙ ends in
+      let bare : stack_of e.0.number slots ≡ [] = sym (all_left d (stack_of e.0.number slots) (none e.0.number)) ∙ left in
+      let at = place_of es e.0 e.1 in
+      let has : has_segments (thread_of slots e.0) ≡ true = runs slots e.0 (tops at.0 e.0 at.1) ∙ e.2 in
+      let never : false ≡ true =
+      sym (ap (λ (ss : List SharedSegment). has_segments (record { number = record { 0 = e.0.number }; domain = e.0.domain; segments = ss })) bare) ∙ has in
+      absurd cc
 
   pub least_ending : (above : ℕ) (o : Option ℕ) → IsLeastAbove (IsEntryWith (runs_only_in slots d) es) above o
       → IsLeastAbove (EndsWith (threads_of slots es) d) above o

@@ -15,6 +15,7 @@ pub mod OneFewerOfADomain
 pub mod Owned
 pub mod PushedAndPopped
 pub mod Relinked
+pub mod StacksListed
 pub mod StacksWalked
 pub mod StandsOnThreads
 pub mod TakenFromStacks

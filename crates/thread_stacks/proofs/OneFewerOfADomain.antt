@@ -54,9 +54,10 @@ told_so old new d answer ended is h =
 
 -- ---- Where a domain has nothing.
 
-pub nothing_left : (slots : List Slot) (es : List ThreadEntry) (newest : List (Option SegmentNo)) (d : DomainId) → AreOwned slots newest
-    → slice_get newest d.0 ≡ Some None → live_threads (with_stacks (segments_left shared_form d) (threads_of slots es)) ≡ threads_of slots es
-nothing_left slots es newest d o none = no_end slots es d (λ u s there. of_none u s there (place_of (stack_of u slots) s there))
+-- no segment is of it
+pub nothing_of : (slots : List Slot) (newest : List (Option SegmentNo)) (d : DomainId) → AreOwned slots newest → slice_get newest d.0 ≡ Some None
+    → (u : ℕ) (s : SharedSegment) → Contains (stack_of u slots) s → is_of shared_form d s ≡ false
+nothing_of slots newest d o none u s there = of_none (place_of (stack_of u slots) s there)
   where
     empty : (xs : List Slot) → None ≡ last_or None xs → xs ≡ []
     empty [] is = refl
@@ -65,9 +66,8 @@ nothing_left slots es newest d o none = no_end slots es d (λ u s there. of_none
     nothing : owned_by d.0 slots ≡ []
     nothing = empty (owned_by d.0 slots) (o.lasts d.0 None none)
 
-    of_none : (u : ℕ) (s : SharedSegment) → Contains (stack_of u slots) s → (i : ℕ) × (slice_get (stack_of u slots) i ≡ Some s)
-        → is_of shared_form d s ≡ false
-    of_none u s there (i, at) = by_test (cases_Bool (is_of shared_form d s)) (from_slot (slots_on u slots) i at)
+    of_none : (i : ℕ) × (slice_get (stack_of u slots) i ≡ Some s) → is_of shared_form d s ≡ false
+    of_none (i, at) = by_test (cases_Bool (is_of shared_form d s)) (from_slot (slots_on u slots) i at)
       where
         from_slot : (xs : List Slot) (j : ℕ) → slice_get (map segment_of xs) j ≡ Some s → (x : Slot) × (slice_get xs j ≡ Some x) × (segment_of x ≡ s)
         from_slot [] j is = absurd cc
@@ -83,6 +83,10 @@ nothing_left slots es newest d o none = no_end slots es d (λ u s there. of_none
             ap (λ (b : Bool). b && (x.domain.0 == d.0)) (stands_parts u x stood.passes).0
             ∙ ap (λ (y : SharedSegment). y.domain.0 == d.0) is ∙ hit in
             absurd (nothing_passes (is_own d.0) slots stood.place x nothing stood.there test)
+
+pub nothing_left : (slots : List Slot) (es : List ThreadEntry) (newest : List (Option SegmentNo)) (d : DomainId) → AreOwned slots newest
+    → slice_get newest d.0 ≡ Some None → live_threads (with_stacks (segments_left shared_form d) (threads_of slots es)) ≡ threads_of slots es
+nothing_left slots es newest d o none = no_end slots es d (nothing_of slots newest d o none)
 
 -- ---- Links of changed slots.
 

@@ -52,28 +52,42 @@ one_fails test (z ∷ xs) ys x miss = and_right (test z) (list_all test (xs ++ x
 
 -- ---- The walk.
 
--- The segments of the thread that weren't looked at yet, lowest first, and those that were, which are of the domain.
-pub record IsWalked (slots : List Slot) (t : ℕ) (d : DomainId) (next : Option SegmentNo) : Type 0 where
+-- The segments of the thread that weren't looked at yet, lowest first, and those that were.
+pub record IsWalked (slots : List Slot) (t : ℕ) (next : Option SegmentNo) : Type 0 where
   pub left : List Slot
   pub done : List Slot
   pub parts : slots_on t slots ≡ left ++ done
   pub next_is : next ≡ top_of (map slot_number left)
-  pub ours : list_all (is_in d) done ≡ true
+
+-- Those that were are of the domain.
+pub record IsOurs (slots : List Slot) (t : ℕ) (d : DomainId) (next : Option SegmentNo) : Type 0 where
+  pub walk : IsWalked slots t next
+  pub ours : list_all (is_in d) walk.done ≡ true
 
 -- a number that falls
 abbrev pub to_walk : Option SegmentNo → ℕ
 to_walk next = option_map_or (λ (s : SegmentNo). s.0 + 1) next 0
 
-pub walk_begins : (slots : List Slot) (t : ℕ) (d : DomainId) (next : Option SegmentNo) → next ≡ top_on t slots → IsWalked slots t d next
-walk_begins slots t d next is =
-    record { left = slots_on t slots; done = []; parts = sym (append-nil (slots_on t slots)); next_is = is; ours = refl }
+pub walk_begins : (slots : List Slot) (t : ℕ) (next : Option SegmentNo) → next ≡ top_on t slots → IsWalked slots t next
+walk_begins slots t next is = record { left = slots_on t slots; done = []; parts = sym (append-nil (slots_on t slots)); next_is = is }
 
-pub walk_ends : (slots : List Slot) (t : ℕ) (d : DomainId) → IsWalked slots t d None → list_all (is_in d) (slots_on t slots) ≡ true
-walk_ends slots t d w =
+pub none_done : (slots : List Slot) (t : ℕ) (next : Option SegmentNo) (is : next ≡ top_on t slots) → (walk_begins slots t next is).done ≡ []
+unfolding walk_begins
+none_done slots t next is = refl
+
+pub ours_begins : (slots : List Slot) (t : ℕ) (d : DomainId) (next : Option SegmentNo) → next ≡ top_on t slots → IsOurs slots t d next
+ours_begins slots t d next is =
+    record { walk = walk_begins slots t next is; ours = ap (λ (ws : List Slot). list_all (is_in d) ws) (none_done slots t next is) }
+
+pub all_walked : (slots : List Slot) (t : ℕ) (w : IsWalked slots t None) → slots_on t slots ≡ w.done
+all_walked slots t w =
     let none : w.left ≡ [] = no_ends slot_number w.left (sym w.next_is) in
-    ap (λ (ws : List Slot). list_all (is_in d) ws) (w.parts ∙ ap (λ (ws : List Slot). ws ++ w.done) none) ∙ w.ours
+    w.parts ∙ ap (λ (ws : List Slot). ws ++ w.done) none
 
-module _ (slots : List Slot) (t : ℕ) (d : DomainId) (n : SegmentNo) (rising : AreRisingBy slot_key slots) (w : IsWalked slots t d (Some n)) where
+pub walk_ends : (slots : List Slot) (t : ℕ) (d : DomainId) → IsOurs slots t d None → list_all (is_in d) (slots_on t slots) ≡ true
+walk_ends slots t d o = ap (λ (ws : List Slot). list_all (is_in d) ws) (all_walked slots t o.walk) ∙ o.ours
+
+module _ (slots : List Slot) (t : ℕ) (n : SegmentNo) (rising : AreRisingBy slot_key slots) (w : IsWalked slots t (Some n)) where
   e : Ends slot_number w.left n
   e = ends_of slot_number w.left n (sym w.next_is)
 
@@ -100,8 +114,8 @@ module _ (slots : List Slot) (t : ℕ) (d : DomainId) (n : SegmentNo) (rising : 
     same = same_Some e.last s (sym found ∙ is)
 
     -- it is of another domain
-    pub walk_stops : is_in d s ≡ false → list_all (is_in d) (slots_on t slots) ≡ false
-    walk_stops miss =
+    pub walk_stops : (d : DomainId) → is_in d s ≡ false → list_all (is_in d) (slots_on t slots) ≡ false
+    walk_stops d miss =
         ap (λ (ws : List Slot). list_all (is_in d) ws) whole ∙ one_fails (is_in d) e.rest w.done e.last (ap (is_in d) same ∙ miss)
 
     below_is : NameBelows slots → s.below ≡ top_of (map slot_number e.rest)
@@ -113,14 +127,13 @@ module _ (slots : List Slot) (t : ℕ) (d : DomainId) (n : SegmentNo) (rising : 
         ∙ ap (λ (u : ℕ). top_on u (take stood.place slots)) on.1
         ∙ ap (λ (ws : List Slot). top_of (map slot_number ws)) front
 
-    pub walk_goes_on : NameBelows slots → is_in d s ≡ true → IsWalked slots t d s.below
-    walk_goes_on belows hit = record {
-      left = e.rest;
-      done = e.last ∷ w.done;
-      parts = whole;
-      next_is = below_is belows;
-      ours = and_from (is_in d e.last) (list_all (is_in d) w.done) (ap (is_in d) same ∙ hit) w.ours;
-    }
+    pub walk_goes_on : NameBelows slots → IsWalked slots t s.below
+    walk_goes_on belows = record { left = e.rest; done = e.last ∷ w.done; parts = whole; next_is = below_is belows }
+
+    -- it is the next that was looked at
+    pub now_done : (belows : NameBelows slots) → (walk_goes_on belows).done ≡ s ∷ w.done
+    unfolding walk_goes_on
+    now_done belows = ap (λ (x : Slot). x ∷ w.done) same
 
     lower : (o : Option SegmentNo) → o ≡ top_of (map slot_number e.rest) → to_walk o < n.0 + 1
     lower None none = omega arith
@@ -144,3 +157,12 @@ module _ (slots : List Slot) (t : ℕ) (d : DomainId) (n : SegmentNo) (rising : 
 
     pub walk_falls : NameBelows slots → to_walk s.below < to_walk (Some n)
     walk_falls belows = lower s.below (below_is belows)
+
+pub ours_goes_on : (slots : List Slot) (t : ℕ) (d : DomainId) (n : SegmentNo) (rising : AreRisingBy slot_key slots) (o : IsOurs slots t d (Some n)) (s : Slot)
+    → find (has_key slot_key n.0) slots ≡ Some s → NameBelows slots → is_in d s ≡ true → IsOurs slots t d s.below
+ours_goes_on slots t d n rising o s is belows hit = record {
+  walk = walk_goes_on slots t n rising o.walk s is belows;
+  ours =
+      ap (λ (ws : List Slot). list_all (is_in d) ws) (now_done slots t n rising o.walk s is belows)
+      ∙ and_from (is_in d s) (list_all (is_in d) o.walk.done) hit o.ours;
+}

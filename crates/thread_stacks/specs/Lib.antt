@@ -3,3 +3,4 @@ pub mod Places
 pub mod Stacks
 pub mod StackAnswers
 pub mod StackChanges
+pub mod StackParts

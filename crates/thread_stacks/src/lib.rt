@@ -3,9 +3,11 @@
 
 mod endings;
 mod entries;
+mod parts;
 mod segments;
 mod slots;
 mod threads;
 
+pub use parts::{SegmentPart, ThreadPart};
 pub use segments::{Flag, SegmentInfo, TakenOut};
 pub use threads::Threads;

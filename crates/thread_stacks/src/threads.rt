@@ -1,20 +1,22 @@
 //! The live threads and their stacks of segments.
 
-ghost use Rattle.std.specs.Prelude.{◌≡◌, ◌+◌, ◌-◌, ◌^◌, ◌<◌, ◌∷◌, ◌++◌, [], List, suc, length, option_map, set, slice_get, vec_capacity, OnOk, OnErr, Some};
+ghost use Rattle.std.specs.Prelude.{◌≡◌, ◌+◌, ◌-◌, ◌^◌, ◌<◌, ◌≤◌, ◌∷◌, ◌++◌, [], List, suc, length, option_map, set, slice_get, vec_capacity, IfOk, OnOk, OnErr, IsTrue, map, None, Some};
 ghost use Rattle.jk_model.specs.declared.identifiers.DomainId.{DomainId as Domain};
 ghost use Rattle.jk_model_sharing.specs.Segments.{SharedSegment, SharedThread, count_started_in, live_threads, new_segment, segment_below, segment_numbered, shared_form, thread_numbered, top_segment, with_segment, with_stack, with_stacks, without_top};
 ghost use Rattle.thread_stacks.specs.declared.segments.TakenOut.{TakenOut as Taken};
 ghost use Rattle.thread_stacks.specs.StackAnswers.{EndsWith, IsLeastAbove, IsLive, IsLiveNumber, count_ended, count_ended_in, info_of as told, number_of, segments_in, thread_number};
+ghost use Rattle.thread_stacks.specs.StackParts.{thread_part};
 ghost use Rattle.thread_stacks.specs.StackChanges.{LeavesAll, TakesOut, flag_changed, newest_after};
 
 use crate::endings::next_ending;
 use crate::entries::{ThreadEntry, close_up_entries, entry_of, next_running, set_top};
+use crate::parts::{ThreadPart, all_parts};
 use crate::segments::{Flag, SegmentInfo, TakenOut};
 use crate::slots::{
     Link, Slot, below_of, close_up_slots, info_of, new_slot, place_of_segment, relink,
     set_flag_among, take_off, warn_neighbours,
 };
-use jk_model::{DomainId, OutOfMemory, SegmentNo, ThreadNo};
+use jk_model::{DomainId, List, OutOfMemory, SegmentNo, ThreadNo};
 use std::alloc::Global;
 use std::marker::Model;
 
@@ -98,6 +100,22 @@ impl Threads {
         self.most = most;
         self.most_segments = most_segments;
         Ok(())
+    }
+
+    /// Lets so many fewer threads live at once, where no more do. The memory stays, for those of later domains.
+    pub fn release_threads(&mut self, fewer: u32)
+        requires { length self.old.threads + fewer ≤ self.old.most }
+        ensures { self.new ≡ record self.old { most = self.old.most - fewer } }
+    {
+        self.most -= fewer as usize;
+    }
+
+    /// Lets so many fewer segments live at once, where no more do. The memory stays, for those of later domains.
+    pub fn release_segments(&mut self, fewer: u32)
+        requires { length (segments_in self.old.threads) + fewer ≤ self.old.most_segments }
+        ensures { self.new ≡ record self.old { most_segments = self.old.most_segments - fewer } }
+    {
+        self.most_segments -= fewer as usize;
     }
 
     /// Begins a thread with a segment of a domain, where one more of each may live. Both take the next numbers.
@@ -246,14 +264,39 @@ impl Threads {
     }
 
     /// The least number above of a live thread of which the end of this domain leaves nothing. None exactly where there is none. It
-    /// goes over the live threads from there on, over segments of the domain, and over one more of each thread.
+    /// goes over the live threads from there on, over segments of the domain, and over one more of each thread. Where the domain has no
+    /// segment, it takes constant time.
     pub fn next_ending(&self, d: DomainId, above: u32) -> Option<ThreadNo>
         ensures { IsLeastAbove (EndsWith self.now.threads d) above (option_map thread_number result) }
     {
+        if has_nothing(self.newest.as_slice(), d) {
+            return None;
+        }
         match next_ending(self.entries.as_slice(), self.slots.as_slice(), d, above) {
             Some(number) => Some(ThreadNo(number)),
             None => None,
         }
+    }
+
+    /// The number of the next thread.
+    pub fn next_thread(&self) -> u32
+        ensures { result ≡ self.now.next_thread }
+    {
+        self.next_thread
+    }
+
+    /// The number of the next segment.
+    pub fn next_segment(&self) -> u64
+        ensures { result ≡ self.now.next_segment }
+    {
+        self.next_segment
+    }
+
+    /// The live threads in rising number, each with its segments, lowest first. It takes a logarithm for each segment.
+    pub fn parts(&self, alloc: Global) -> Result<List<ThreadPart>, OutOfMemory>
+        ensures { IfOk result (λ parts. parts ≡ map thread_part self.now.threads) }
+    {
+        all_parts(alloc, self.entries.as_slice(), self.slots.as_slice())
     }
 
     /// What is known of a segment. None exactly where it isn't there.
@@ -271,6 +314,16 @@ impl Threads {
         ensures { self.new ≡ record self.old { threads = with_stacks (with_segment shared_form s (flag_changed flag on)) self.old.threads } }
     {
         set_flag_among(&mut self.slots, s, flag, on);
+    }
+}
+
+/// Whether a domain is there and has no segment.
+fn has_nothing(newest: &[Option<SegmentNo>], d: DomainId) -> bool
+    ensures { IsTrue result → slice_get newest.now d.0 ≡ Some None }
+{
+    match newest.get(d.0 as usize) {
+        Some(s) => s.is_none(),
+        None => false,
     }
 }
 

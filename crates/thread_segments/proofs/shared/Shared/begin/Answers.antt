@@ -9,7 +9,7 @@ use Rattle.thread_segments.specs.DomainEntries.{state_of}
 use Rattle.thread_segments.specs.SoundStates.{AreSound}
 use Rattle.thread_stacks.specs.Stacks.{ThreadList}
 use Rattle.thread_segments.proofs.CountsAreKept.{recounted, recounts_begun, room_for_one, few_started}
-use Rattle.thread_segments.proofs.StatesByPart.{begun_is, live_at, low_of, started_few}
+use Rattle.thread_segments.proofs.StatesByPart.{begun_is, live_at, lives_of, low_of, started_few}
 use Rattle.thread_segments.proofs.SoundGrowth.{sound_begun}
 use Rattle.thread_segments.proofs.NamesAreCounted.{named_same}
 use Rattle.thread_segments.proofs.SegmentRoom.{room_entry, room_for_segment}
@@ -27,13 +27,16 @@ begin-t-requires-clause-room c =
     let few =
     started_few s.domains.items s.caps s.stubs.stubs s.names s.threads c.self.invariant.counted c.args.d a (subst Q (sym c.self.view_is) (c.may_begin.ensures.0
     (search rules))) in
-    room_for_one s.domains.items s.caps s.threads c.args.d.0 a.entry c.self.invariant.counted a.there few
+    room_for_one s.domains.items s.caps s.threads c.args.d.0 a.entry c.self.invariant.counted a.there
+    (lives_of s.domains.items s.caps s.stubs.stubs s.names s.threads c.self.invariant.counted c.args.d a (subst P (sym c.self.view_is) c.requires.live)) few
 
 pub begin-t-requires-clause-segment_room : goal.begin-t-requires-clause-segment_room
 begin-t-requires-clause-segment_room c =
     let s = c.self.inside in
+    let P : SharedState → Type 0 = λ x. IsLiveDomain x c.args.d in
     let R : SharedState → Type 0 = λ x. HasRoomForSegment x c.args.d in
-    room_for_segment s.domains.items s.caps s.stubs.stubs s.names s.threads c.self.invariant c.args.d (subst R (sym c.self.view_is) c.requires.room)
+    room_for_segment s.domains.items s.caps s.stubs.stubs s.names s.threads c.self.invariant.counted c.self.invariant.sound c.args.d
+    (subst P (sym c.self.view_is) c.requires.live) (subst R (sym c.self.view_is) c.requires.room) c.self.invariant.segments
 
 pub begin-t-requires-clause-domain : goal.begin-t-requires-clause-domain
 begin-t-requires-clause-domain c =
@@ -82,15 +85,17 @@ invariant_of-self c =
     record {
       counted =
           recounted s.domains.items s.caps s.threads c.begin-t.new.self c.args.d.0 a.entry _ c.self.invariant.counted
-          (recounts_begun s.domains.items s.caps s.threads c.begin-t.new.self c.args.d.0 a.entry _ _ c.self.invariant.counted a.there few
+          (recounts_begun s.domains.items s.caps s.threads c.begin-t.new.self c.args.d.0 a.entry _ _ c.self.invariant.counted a.there
+          (lives_of s.domains.items s.caps s.stubs.stubs s.names s.threads c.self.invariant.counted c.args.d a
+          (subst P (sym c.self.view_is) c.requires.live)) few
           (ap (λ (e : DomainEntry). record e { threads = e.threads + 1 }) read) refl
           (ap (λ (t : ThreadList). t.threads) c.begin-t.ensures.begun) (ap (λ (t : ThreadList). t.most) c.begin-t.ensures.begun));
       named =
           named_same s.domains.items s.names c.args.d.0 a.entry _ c.self.invariant.named a.there (ap (λ (e : DomainEntry). e.quotas) read)
-          (ap (λ (e : DomainEntry). e.names) read);
+          (ap (λ (e : DomainEntry). e.names) read) (ap (λ (e : DomainEntry). e.live) read);
       segments =
           room_entry s.domains.items s.threads c.begin-t.new.self c.args.d.0 a.entry _ c.self.invariant.segments a.there
-          (ap (λ (e : DomainEntry). e.quotas) read)
+          (ap (λ (e : DomainEntry). e.quotas) read) (ap (λ (e : DomainEntry). e.live) read)
           (ap (λ (t : ThreadList). t.most_segments) c.begin-t.ensures.begun) (ap (λ (t : ThreadList). t.domains) c.begin-t.ensures.begun);
       sound =
           subst V

@@ -12,7 +12,7 @@ use Rattle.thread_segments.proofs.CountsAreKept.{recounted, recounts_paid}
 use Rattle.thread_segments.proofs.NamesAreCounted.{named_new, room_for_name}
 use Rattle.thread_segments.proofs.NamesOfStates.{binds_new, binds_none}
 use Rattle.thread_segments.proofs.SoundNames.{sound_bound}
-use Rattle.thread_segments.proofs.StatesByPart.{live_at, low_of, names_are}
+use Rattle.thread_segments.proofs.StatesByPart.{live_at, lives_of, low_of, names_are}
 use Rattle.thread_segments.proofs.SegmentRoom.{room_entry}
 use Rattle.thread_segments.proofs.shared.Shared.bind_new.Goals as goal
 
@@ -46,7 +46,9 @@ add-requires-clause-room c =
     let read = c.index-entry.ensures ∙ get_or_from_slice_get s.domains.items c.args.d.0 a.entry c.index-entry.result.now a.there in
     let names = ap (λ (e : DomainEntry). e.names) read in
     let quota = ap (λ (e : DomainEntry). e.quotas.names) read in
-    room_for_name s.domains.items s.names c.args.d.0 a.entry c.self.invariant.named a.there (omega (arith, names, quota, c.if-entry.false))
+    room_for_name s.domains.items s.names c.args.d.0 a.entry c.self.invariant.named a.there
+    (lives_of s.domains.items s.caps s.stubs.stubs s.names s.threads c.self.invariant.counted c.args.d a (subst P (sym c.self.view_is) c.requires.live))
+    (omega (arith, names, quota, c.if-entry.false))
 
 pub index_mut-entry-requires : goal.index_mut-entry-requires
 index_mut-entry-requires c =
@@ -88,13 +90,15 @@ invariant_of-self c =
       counted =
           recounted s.domains.items s.caps s.threads s.threads c.args.d.0 a.entry _ c.self.invariant.counted
           (recounts_paid s.domains.items s.caps s.threads c.args.d.0 a.entry _ c.self.invariant.counted a.there
-          (ap (λ (e : DomainEntry). e.quotas) same) (ap (λ (e : DomainEntry). e.threads) same));
+          (ap (λ (e : DomainEntry). e.quotas) same) (ap (λ (e : DomainEntry). e.threads) same) (ap (λ (e : DomainEntry). e.live) same));
       named =
-          named_new s.domains.items s.names c.add.new.self c.args.d.0 a.entry _ asked c.self.invariant.named a.there few
+          named_new s.domains.items s.names c.add.new.self c.args.d.0 a.entry _ asked c.self.invariant.named a.there
+          (lives_of s.domains.items s.caps s.stubs.stubs s.names s.threads c.self.invariant.counted c.args.d a
+          (subst P (sym c.self.view_is) c.requires.live)) few
           (ap (λ (e : DomainEntry). record e { names = e.names + 1 }) same) refl c.add.ensures;
       segments =
           room_entry s.domains.items s.threads s.threads c.args.d.0 a.entry _ c.self.invariant.segments a.there (ap (λ (e : DomainEntry). e.quotas) same)
-          refl refl;
+          (ap (λ (e : DomainEntry). e.live) same) refl refl;
       sound =
           sound_bound now c.self.invariant.sound asked (Ok tt) _ (subst P (sym c.self.view_is) c.requires.live)
           (subst G (sym c.self.view_is) c.requires.given)

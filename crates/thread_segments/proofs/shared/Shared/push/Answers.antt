@@ -18,8 +18,10 @@ push-requires-clause-thread c =
 pub push-requires-clause-room : goal.push-requires-clause-room
 push-requires-clause-room c =
     let s = c.self.inside in
+    let P : SharedState → Type 0 = λ x. IsLiveDomain x c.args.d in
     let R : SharedState → Type 0 = λ x. HasRoomForSegment x c.args.d in
-    room_for_segment s.domains.items s.caps s.stubs.stubs s.names s.threads c.self.invariant c.args.d (subst R (sym c.self.view_is) c.requires.room)
+    room_for_segment s.domains.items s.caps s.stubs.stubs s.names s.threads c.self.invariant.counted c.self.invariant.sound c.args.d
+    (subst P (sym c.self.view_is) c.requires.live) (subst R (sym c.self.view_is) c.requires.room) c.self.invariant.segments
 
 pub push-requires-clause-domain : goal.push-requires-clause-domain
 push-requires-clause-domain c =

@@ -15,7 +15,7 @@ use Rattle.thread_segments.proofs.CountsAreKept.{recounted, recounts_paid}
 use Rattle.thread_segments.proofs.NamesAreCounted.{named_removed, some_bound}
 use Rattle.thread_segments.proofs.NamesOfStates.{unbinds_not, unbinds_own}
 use Rattle.thread_segments.proofs.SoundNames.{sound_unbound}
-use Rattle.thread_segments.proofs.StatesByPart.{live_at, low_of, names_are}
+use Rattle.thread_segments.proofs.StatesByPart.{live_at, lives_of, low_of, names_are}
 use Rattle.thread_segments.proofs.SegmentRoom.{room_entry}
 use Rattle.thread_segments.proofs.shared.Shared.remove_name.Goals as goal
 
@@ -68,13 +68,15 @@ invariant_of-self c =
       counted =
           recounted s.domains.items s.caps s.threads s.threads c.args.d.0 a.entry _ c.self.invariant.counted
           (recounts_paid s.domains.items s.caps s.threads c.args.d.0 a.entry _ c.self.invariant.counted a.there
-          (ap (λ (e : DomainEntry). e.quotas) same) (ap (λ (e : DomainEntry). e.threads) same));
+          (ap (λ (e : DomainEntry). e.quotas) same) (ap (λ (e : DomainEntry). e.threads) same) (ap (λ (e : DomainEntry). e.live) same));
       named =
-          named_removed s.domains.items s.names c.remove.new.self c.args.d.0 c.args.place a.entry _ n c.self.invariant.named a.there item.1 home
+          named_removed s.domains.items s.names c.remove.new.self c.args.d.0 c.args.place a.entry _ n c.self.invariant.named a.there
+          (lives_of s.domains.items s.caps s.stubs.stubs s.names s.threads c.self.invariant.counted c.args.d a
+          (subst P (sym c.self.view_is) c.requires.live)) item.1 home
           (ap (λ (e : DomainEntry). record e { names = e.names - 1 }) same) c.remove.ensures;
       segments =
           room_entry s.domains.items s.threads s.threads c.args.d.0 a.entry _ c.self.invariant.segments a.there (ap (λ (e : DomainEntry). e.quotas) same)
-          refl refl;
+          (ap (λ (e : DomainEntry). e.live) same) refl refl;
       sound =
           sound_unbound now c.self.invariant.sound c.args.d n.text (Ok tt) _
           (subst Q

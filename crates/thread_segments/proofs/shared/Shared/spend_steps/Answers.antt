@@ -43,13 +43,13 @@ invariant_of-self c =
       counted =
           recounted s.domains.items s.caps s.threads s.threads c.args.d.0 a.entry _ c.self.invariant.counted
           (recounts_paid s.domains.items s.caps s.threads c.args.d.0 a.entry _ c.self.invariant.counted a.there
-          (ap (λ (e : DomainEntry). e.quotas) read) (ap (λ (e : DomainEntry). e.threads) read));
+          (ap (λ (e : DomainEntry). e.quotas) read) (ap (λ (e : DomainEntry). e.threads) read) (ap (λ (e : DomainEntry). e.live) read));
       named =
           named_same s.domains.items s.names c.args.d.0 a.entry _ c.self.invariant.named a.there (ap (λ (e : DomainEntry). e.quotas) read)
-          (ap (λ (e : DomainEntry). e.names) read);
+          (ap (λ (e : DomainEntry). e.names) read) (ap (λ (e : DomainEntry). e.live) read);
       segments =
           room_entry s.domains.items s.threads s.threads c.args.d.0 a.entry _ c.self.invariant.segments a.there (ap (λ (e : DomainEntry). e.quotas) read)
-          refl refl;
+          (ap (λ (e : DomainEntry). e.live) read) refl refl;
       sound =
           subst V
           (sym (spent_steps_is s.domains.items s.caps s.stubs.stubs s.names s.threads c.self.invariant.counted c.args.steps c.args.d a _
