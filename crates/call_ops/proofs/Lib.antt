@@ -2,5 +2,6 @@
 pub mod CallFound
 pub mod CallsDone
 pub mod CallsFollow
+pub mod FramesBegin
 pub mod SelectedIsMethod
 pub mod TargetsByReceiver

@@ -1,5 +1,5 @@
 -- What becomes of the frames of a segment where a method runs, by the answer.
-use Rattle.std.specs.Prelude.{◌≡◌, ℕ, List}
+use Rattle.std.specs.Prelude.{◌≡◌, ◌<◌, ℕ, List, length}
 use Rattle.jk_model.specs.declared.identifiers.MemberId.{MemberId}
 use Rattle.jk_model.specs.declared.identifiers.SegmentNo.{SegmentNo}
 use Rattle.jk_model.specs.declared.steps.After.{After}
@@ -14,6 +14,10 @@ use Rattle.frame_store.specs.FrameContents.{FrameContent, Calls, HasArguments, H
 -- where the method has code, the top frame has so much to give it
 abbrev pub MayRun : List ClassRecord → FrameContent → SegmentNo → MemberId → ℕ → Type 0
 MayRun classes c s m given = (scope : CodeScope) → IsScopeOf classes m scope → HasArguments c s (call_head m scope.code) given
+
+-- where the method has code, that has a first instruction
+abbrev pub HasFirst : List ClassRecord → MemberId → Type 0
+HasFirst classes m = (scope : CodeScope) → IsScopeOf classes m scope → 0 < length scope.code.instrs
 
 -- the method has code, and its frame is on top
 abbrev pub PutsFrame : List ClassRecord → FrameContent → FrameContent → SegmentNo → MemberId → ℕ → Type 0

@@ -1,13 +1,17 @@
 //! The frame of a method that is called.
 
-ghost use Rattle.std.specs.Prelude.{◌≡◌};
+ghost use Rattle.std.specs.Prelude.{◌≡◌, ◌≢◌, ℕ};
+ghost use Rattle.jk_model.specs.declared.steps.After.TheVariants as Next;
 ghost use Rattle.jk_model_heaps.specs.CalledFrames.{call_head};
-ghost use Rattle.call_ops.specs.FramesRun.{MayRun, Ran};
+ghost use Rattle.step_contents.specs.StandingFrames.{place_of};
+ghost use Rattle.step_contents.specs.StandingTops.{StandsThere};
+ghost use Rattle.call_ops.specs.FramesRun.{HasFirst, MayRun, Ran};
 
 use class_table::ClassTable;
-use frame_store::FrameStore;
+use frame_store::SegmentFrames;
 use jk_model::{After, FrameHead, MemberId, NoChunks, Raise, SegmentNo, Standing};
 use jk_model_classes::LinkedCode;
+use step_contents::StandsAt;
 use type_rows::CodeView;
 
 /// The head of a frame that begins a method with this code.
@@ -25,21 +29,36 @@ pub fn call_head(m: MemberId, code: &LinkedCode) -> FrameHead
 }
 
 /// Runs a method on the topmost `given` entries of the stack, its receiver among them. A method without code is one of the system.
-pub(crate) fn run<F: FrameStore>(
+/// Where the method's frame is on top then, `at` is where it stands; else it is as it was.
+#[inline(always)]
+pub(crate) fn run<'a, F: SegmentFrames>(
     frames: &mut F,
-    t: &ClassTable,
+    t: &'a ClassTable,
     s: SegmentNo,
     m: MemberId,
     given: u16,
+    at: &mut StandsAt<'a>,
 ) -> After
-    requires { MayRun t.now (F.content frames.old) s m given }
-    ensures { Ran t.now (F.content frames.old) (F.content frames.new) s m given result }
+    requires may { MayRun t.now (F.content frames.old) s m given }
+    requires first { HasFirst t.now m }
+    ensures ran { Ran t.now (F.content frames.old) (F.content frames.new) s m given result }
+    ensures stands { (n : ℕ) → result ≡ Next.Goto n → StandsThere (F.content frames.new) t.now s (place_of at.new) }
+    ensures stays { ((n : ℕ) → result ≢ Next.Goto n) → at.new ≡ at.old }
 {
     match CodeView::of(t, m) {
-        Some(view) => match frames.call(s, call_head(m, view.code), given) {
-            Ok(()) => After::Goto(0),
-            Err(NoChunks) => After::Raise(Raise::Standing(Standing::StackOverflowError)),
-        },
+        Some(code) => {
+            let head = call_head(m, code.code);
+            match frames.call(s, head, given) {
+                Ok(()) => match code.code.instrs.get(0) {
+                    Some(instr) => {
+                        *at = StandsAt { head, code, instr };
+                        After::Goto(0)
+                    }
+                    None => unreachable!(),
+                },
+                Err(NoChunks) => After::Raise(Raise::Standing(Standing::StackOverflowError)),
+            }
+        }
         None => After::Call(m),
     }
 }

@@ -1,17 +1,20 @@
 //! What an instruction of call does.
 
+ghost use Rattle.std.specs.Prelude.{◌≡◌, ◌≢◌, ℕ};
+ghost use Rattle.jk_model.specs.declared.steps.After.TheVariants as Next;
 ghost use Rattle.jk_model_call_rows.specs.CallRows.{IsOfCalls};
 ghost use Rattle.jk_model_sharing.specs.SharedStates.{SharedState};
 ghost use Rattle.class_init.specs.KeptStates.{KeptState};
 ghost use Rattle.step_contents.specs.Conditions.{MayDo};
 ghost use Rattle.step_contents.specs.Contents.{contents_of, here_at};
 ghost use Rattle.step_contents.specs.StandingFrames.{place_of};
+ghost use Rattle.step_contents.specs.StandingTops.{StandsThere};
 ghost use Rattle.call_ops.specs.CallSteps.{CallDone};
 
 use crate::running::run;
 use crate::targets::{Target, target_at};
 use domain_resolver::World;
-use frame_store::FrameStore;
+use frame_store::SegmentFrames;
 use jk_model::opcodes::INVOKESTATIC;
 use jk_model::{After, DomainId, Raise, SegmentNo};
 use member_lookup::method_record;
@@ -24,21 +27,25 @@ use step_contents::{StandsAt, method_of};
 /// A method with code has taken its receiver and arguments off the stack, and its new frame goes on at place 0: `Goto(0)`. Where
 /// that frame's chunks don't fit, the standing StackOverflowError is raised. A method m of the system answers `Call(m)`, and a
 /// method m that is called through a capability k `Crossing(k, m)`. After these, and after what is raised, the frame is as it was.
+/// Where a frame is new, `at` is where it stands afterwards; else it is as it was.
+///
 /// Nothing here takes memory. A call takes time in proportion to the classes above the receiver's and to its arguments.
-pub fn step<H: ObjectStore, F: FrameStore>(
+pub fn step<'a, H: ObjectStore, F: SegmentFrames>(
     heap: &H,
     frames: &mut F,
-    w: &World,
+    w: &'a World,
     d: DomainId,
     s: SegmentNo,
-    at: &StandsAt<'_>,
+    at: &mut StandsAt<'a>,
 ) -> After
     requires may { (own : KeptState) × (shared : SharedState)
-        × MayDo (contents_of (H.content heap.now) (F.content frames.old) own) (here_at w.now shared d s) (place_of at.now) }
-    requires kind { IsOfCalls at.now.instr.now }
-    ensures { (own : KeptState) (shared : SharedState)
+        × MayDo (contents_of (H.content heap.now) (F.content frames.old) own) (here_at w.now shared d s) (place_of at.old) }
+    requires kind { IsOfCalls at.old.instr.now }
+    ensures call { (own : KeptState) (shared : SharedState)
         → CallDone (contents_of (H.content heap.now) (F.content frames.old) own)
-        (contents_of (H.content heap.now) (F.content frames.new) own) (here_at w.now shared d s) (place_of at.now) result }
+        (contents_of (H.content heap.now) (F.content frames.new) own) (here_at w.now shared d s) (place_of at.old) result }
+    ensures stands { (n : ℕ) → result ≡ Next.Goto n → StandsThere (F.content frames.new) w.now.classes s (place_of at.new) }
+    ensures stays { ((n : ℕ) → result ≢ Next.Goto n) → at.new ≡ at.old }
 {
     let t = w.classes();
     let named = method_of(at);
@@ -48,11 +55,11 @@ pub fn step<H: ObjectStore, F: FrameStore>(
     };
     let arguments = method.params.get().len() as u16;
     if at.instr.op == INVOKESTATIC {
-        return run(frames, t, s, named, arguments);
+        return run(frames, t, s, named, arguments, at);
     }
     let receiver = frames.peek(s, arguments);
     match target_at(heap, t, d, at, named, method, receiver) {
-        Target::Runs(m) => run(frames, t, s, m, arguments + 1),
+        Target::Runs(m) => run(frames, t, s, m, arguments + 1, at),
         Target::Fails(c) => After::Raise(Raise::Fresh(c)),
         Target::Crosses(k) => After::Crossing(k, named),
     }

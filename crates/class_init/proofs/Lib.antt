@@ -13,7 +13,7 @@ mod PartOfAClass
 mod PlaceOfAText
 mod PlacesInLists
 mod RestoredState
-mod SameElements
+pub mod SameElements
 mod TextAdded
 mod TextsInTurn
 mod WhatIsThere

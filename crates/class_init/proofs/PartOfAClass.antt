@@ -2,11 +2,12 @@
 use Rattle.std.proofs.Common.{◌≡◌, ℕ, ◌<◌, ◌≤◌, ◌⊎◌, inl, inr, true, List, [], ◌∷◌, length, map, refl, sym, ◌∙◌, ap, arith, Option, Some, None, slice_get, get_or, nat_eq, is_some}
 use Rattle.std.specs.Prelude.{MatchOption, position}
 use Rattle.std.specs.List.{IsDistinct, list_any}
+use Rattle.std.specs.Option.{option_map}
 use Rattle.std.proofs.lemmas.Bool.{eqb-true, eq-eqb, cases_lt}
 use Rattle.std.proofs.lemmas.List.{length-map, get_or-map}
 use Rattle.std.proofs.lemmas.List.Quantifiers.{position-Some}
 use Rattle.std.proofs.lemmas.Map.Keys.{apart_from_distinct}
-use Rattle.std.proofs.lemmas.Option.{slice_get_within, slice_get-get_or, get_or_from_slice_get}
+use Rattle.std.proofs.lemmas.Option.{slice_get_within, slice_get-get_or, slice_get-map, get_or_from_slice_get}
 use Rattle.jk_model.specs.declared.identifiers.ClassId.{ClassId}
 use Rattle.jk_model_domains.specs.declared.states.ClassState.TheVariants as State
 use Rattle.jk_model_domains.specs.OwnStates.{ClassPart}
@@ -47,6 +48,19 @@ differ_from_distinct {X = X} key xs h i j a b p q e = by_order (cases_lt i j) (c
 pub parts_differ : (ps : List Part) (numbers : List ℕ) → AreNumbered ps numbers → Differ number (map class_part ps)
 parts_differ ps numbers h =
     differ_from_distinct number (map class_part ps) (rw (numbers_of ps, ← h.are) h.apart)
+
+-- the class's part is the one that has its number, wherever that stands
+pub part_at : (ps lent : List Part) (numbers : List ℕ) (c : ClassId) (place : ℕ) (p : Part) → AreNumbered ps numbers → lent ≡ ps
+    → slice_get lent place ≡ Some p → p.class.0 ≡ c.0 → IsPartAt (map class_part ps) c place
+part_at ps lent numbers c place p h is at same =
+    let here : slice_get ps place ≡ Some p = ap (λ (xs : List Part). slice_get xs place) (sym is) ∙ at in
+    let there : slice_get (map class_part ps) place ≡ Some (class_part p) = slice_get-map class_part ps place ∙ ap (option_map class_part) here in
+    record {
+      part = class_part p;
+      there = there;
+      is = same_class p.class c same;
+      found = found_at number (map class_part ps) place c.0 (class_part p) (parts_differ ps numbers h) there same;
+    }
 
 abbrev pub IsPlaceOf : List ClassPart → ClassId → Option ℕ → Type 0
 IsPlaceOf parts c r = MatchOption r (part_in parts c ≡ None) (λ place. IsPartAt parts c place)

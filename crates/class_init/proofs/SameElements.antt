@@ -55,7 +55,7 @@ module _ {X : Type 0} where
       by_side (inl h) = Contains-append_left front (x ∷ back) y h
       by_side (inr h) = Contains-append_right front (x ∷ back) y (an_other x back y h)
 
-  without_middle : (front : List X) (x : X) (back : List X) (y : X) → Contains (front ++ x ∷ back) y → (x ≡ y → ⊥) → Contains (front ++ back) y
+  pub without_middle : (front : List X) (x : X) (back : List X) (y : X) → Contains (front ++ x ∷ back) y → (x ≡ y → ⊥) → Contains (front ++ back) y
   without_middle front x back y has other = by_side (Contains-append_cases front (x ∷ back) y has)
     where
       by_first : (x ≡ y) ⊎ Contains back y → Contains (front ++ back) y

@@ -1,6 +1,6 @@
 //! The parts that classes have in a domain.
 
-ghost use Rattle.std.specs.Prelude.{◌≡◌, ◌≤◌, ◌↔◌, ◌++◌, ◌∷◌, [], ℕ, IsTrue, MatchOption, None, OnErr, OnOk, Some, length, map, option_and_then, option_map, slice_get};
+ghost use Rattle.std.specs.Prelude.{◌≡◌, ◌≤◌, ◌↔◌, ◌++◌, ◌∷◌, [], ℕ, IfSome, IsTrue, MatchOption, None, OnErr, OnOk, Some, length, map, option_and_then, option_map, slice_get};
 ghost use Rattle.jk_model_domains.specs.OwnStates.{ClassPart, static_in, with_field, with_part};
 ghost use Rattle.class_init.specs.Parts.{FitsAll, HasPartOf, IsPartAt, class_part, first_part, part_in, restored, restored_all};
 
@@ -150,8 +150,36 @@ impl ClassParts {
         let _parts = &self.parts;
     }
 
-    /// Where the part of a class stands.
+    /// Where the part of a class stands. A domain's own classes mostly have numbers in a row, so the place is looked at first that is
+    /// as far from the first one as the number is from the first number.
+    #[inline(always)]
     fn place_of(&self, c: ClassId) -> Option<usize>
+        ensures { MatchOption result (part_in self.now c ≡ None) (λ place. IsPartAt self.now c place) }
+    {
+        match self.place_in_row(c) {
+            Some(place) => Some(place),
+            None => self.place_by_number(c),
+        }
+    }
+
+    /// Where the part of a class stands, if that is as far from the first part as the class's number is from that of the first.
+    #[inline(always)]
+    fn place_in_row(&self, c: ClassId) -> Option<usize>
+        ensures { IfSome result (λ place. IsPartAt self.now c place) }
+    {
+        let Some(first) = self.parts.first() else {
+            return None;
+        };
+        let place = c.0.wrapping_sub(first.class.0) as usize;
+        match self.parts.get(place) {
+            Some(part) if part.class.0 == c.0 => Some(place),
+            _ => None,
+        }
+    }
+
+    /// Where the part of a class stands, by all their numbers.
+    #[inline(never)]
+    fn place_by_number(&self, c: ClassId) -> Option<usize>
         ensures { MatchOption result (part_in self.now c ≡ None) (λ place. IsPartAt self.now c place) }
     {
         self.numbers.get_index_of(&c.0)

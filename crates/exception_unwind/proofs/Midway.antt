@@ -129,7 +129,7 @@ module _ (old now : Contents) (here : Here) (x : Setting) (may : MayRaise old he
     typed_by (inl none) = inl none
     typed_by (inr has) = inr (subst (λ (classes : List ClassRecord). HasTyping classes n.frame) (sym set.classes) has.typing)
 
-    typed : (n.frame.head.method ≡ None) ⊎ HasTyping x.classes n.frame
+    pub typed : (n.frame.head.method ≡ None) ⊎ HasTyping x.classes n.frame
     typed = typed_by may_catch
 
     pub has_place : HasPlace x.classes n.frame

@@ -1,4 +1,5 @@
 -- What raising an object makes of the stores.
+pub mod CaughtHere
 pub mod Handlers
 pub mod LeftFrames
 pub mod RaisedObjects

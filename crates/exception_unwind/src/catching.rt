@@ -3,13 +3,21 @@
 ghost use Rattle.std.specs.Prelude.{◌≡◌, ◌≤◌, ◌∷◌, [], ℕ, None, IsTrue, IfNone, IfSome};
 ghost use Rattle.jk_model.specs.declared.values.Value.TheVariants as Held;
 ghost use Rattle.jk_model_frames.specs.Frames.{FrameState as AFrame};
+ghost use Rattle.jk_model_heaps.specs.declared.shapes.Unwound.TheVariants as Ended;
+ghost use Rattle.jk_model_sharing.specs.SharedStates.{SharedState};
+ghost use Rattle.class_init.specs.KeptStates.{KeptState};
 ghost use Rattle.frame_store.specs.FrameContents.{HasTop, SetsTop, TopFrame};
 ghost use Rattle.object_store.specs.HeapContents.{IsName};
+ghost use Rattle.heap_laws.specs.RaisableObjects.{IsThrowable};
+ghost use Rattle.step_contents.specs.Conditions.{MayRaise};
+ghost use Rattle.step_contents.specs.Contents.{contents_of, here_at};
+ghost use Rattle.exception_unwind.specs.CaughtHere.{StandsAtHandler};
 ghost use Rattle.exception_unwind.specs.Trials.{CatchesNowhere, IsCaughtBy, IsCaughtThere, IsTried, place_of};
+ghost use Rattle.exception_unwind.specs.UnwoundFrames.{IsUnwound};
 
 use crate::handlers::first_handler;
 use domain_resolver::World;
-use frame_store::FrameStore;
+use frame_store::SegmentFrames;
 use jk_model::{DomainId, FrameHead, MemberId, SegmentNo, Value};
 use object_store::ObjectStore;
 use type_rows::CodeView;
@@ -26,6 +34,38 @@ pub(crate) const NOWHERE: CodePlace = CodePlace {
     method: None,
     at: 0,
 };
+
+/// The top frame of segment s of domain d, with this head, catches an object that is raised there, as in `unwind`, if a handler of its own
+/// does: the answer is where the handler begins, and there the frame goes on, with the object alone on its stack. Its need is none
+/// then. None, and nothing changed, where it doesn't catch: the frames below aren't looked at.
+///
+/// It takes no memory, and time in proportion to the handlers of the frame's method.
+pub fn catch_here<H: ObjectStore, F: SegmentFrames>(
+    heap: &H,
+    frames: &mut F,
+    w: &World,
+    d: DomainId,
+    s: SegmentNo,
+    head: &FrameHead,
+    thrown: u32,
+) -> Option<u32>
+    requires may { (own : KeptState) × (shared : SharedState)
+        × MayRaise (contents_of (H.content heap.now) (F.content frames.old) own) (here_at w.now shared d s) }
+    requires top { (f : AFrame) × TopFrame (F.content frames.old) s f × (head.now ≡ f.head) }
+    requires throwable { IsThrowable w.now.classes ((H.content heap.now).heap d) thrown }
+    ensures none { IfNone result (CatchesNowhere w.now.classes ((H.content heap.now).heap d) head.now thrown) }
+    ensures same { IfNone result (F.content frames.new ≡ F.content frames.old) }
+    ensures caught { IfSome result (λ n. (own : KeptState) (shared : SharedState)
+        → IsUnwound (contents_of (H.content heap.now) (F.content frames.old) own) (contents_of (H.content heap.now) (F.content frames.new) own)
+        (here_at w.now shared d s) thrown Ended.Caught) }
+    ensures sets { IfSome result (λ n. (f : AFrame) → TopFrame (F.content frames.old) s f → SetsTop (F.content frames.old) (F.content frames.new) s
+        (record f { head = record f.head { at = n; need = None }; stack = Held.Obj thrown ∷ [] })) }
+    ensures stands { IfSome result (λ n. StandsAtHandler (F.content frames.new) w.now.classes s head.now n) }
+{
+    let handler = handler_in(heap, w, d, head, thrown, NOWHERE)?;
+    catch(frames, s, handler, thrown);
+    Some(handler)
+}
 
 /// Where the handler begins by which a frame with this head catches an object. None where it doesn't, as where its need stands, or
 /// where it stands at the place that was tried with this object: handlers aren't looked at then.
@@ -81,7 +121,7 @@ fn handler_at<H: ObjectStore>(
 }
 
 /// The top frame of a segment goes on at a handler, with an object alone on its stack.
-pub(crate) fn catch<F: FrameStore>(frames: &mut F, s: SegmentNo, handler: u32, thrown: u32)
+pub(crate) fn catch<F: SegmentFrames>(frames: &mut F, s: SegmentNo, handler: u32, thrown: u32)
     requires { (f : AFrame) × TopFrame (F.content frames.old) s f × (1 ≤ f.head.max_stack) }
     ensures { (f : AFrame) → TopFrame (F.content frames.old) s f → SetsTop (F.content frames.old) (F.content frames.new) s
         (record f { head = record f.head { at = handler; need = None }; stack = Held.Obj thrown ∷ [] }) }
@@ -92,12 +132,10 @@ pub(crate) fn catch<F: FrameStore>(frames: &mut F, s: SegmentNo, handler: u32, t
 }
 
 /// Takes all entries off the operand stack of the top frame of a segment.
-fn clear_stack<F: FrameStore>(frames: &mut F, s: SegmentNo)
+fn clear_stack<F: SegmentFrames>(frames: &mut F, s: SegmentNo)
     requires { HasTop (F.content frames.old) s }
     ensures { (f : AFrame) → TopFrame (F.content frames.old) s f
         → SetsTop (F.content frames.old) (F.content frames.new) s (record f { stack = [] }) }
 {
-    for _ in 0..frames.height(s) {
-        let _entry = frames.pop_value(s);
-    }
+    frames.drop_entries(s, frames.height(s));
 }

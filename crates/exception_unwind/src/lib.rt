@@ -7,5 +7,6 @@ mod leaving;
 mod raising;
 mod unwinding;
 
+pub use catching::catch_here;
 pub use raising::raised;
 pub use unwinding::unwind;

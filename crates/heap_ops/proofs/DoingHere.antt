@@ -22,8 +22,10 @@ use Rattle.number_laws.proofs.FrameParts.{with_stack}
 use Rattle.step_contents.specs.Conditions.{MayDo, around, working}
 use Rattle.step_contents.specs.Contents.{Contents, contents_of}
 use Rattle.step_contents.specs.Contents.{Here as Within}
+use Rattle.step_contents.specs.InstructionKinds.{IsAccess}
 use Rattle.step_contents.specs.Settings.{IsSetting}
 use Rattle.step_contents.proofs.InstructionsBegin.{is_some_setting, runs_code, runs_well, some_setting, top_frame}
+use Rattle.step_contents.proofs.KindsByOpcode.{access_of_heaps}
 use Rattle.heap_ops.specs.declared.here.Here.{Here}
 use Rattle.heap_ops.specs.OneInstruction.{MayStep, MayStepAmong, MayStepWith, among, answer, place_in}
 use Rattle.heap_ops.specs.TopEntries.{HasEntries, PutsFor, StandsBelow, TakesOff}
@@ -59,6 +61,12 @@ doing_among heaps frames caps h step =
 abbrev pub doing_with : (heaps : HeapContent) (frames : FrameContent) (own : KeptState) (h : Here) → MayStepWith heaps frames own h → Doing heaps frames h
 doing_with heaps frames own h step =
     doing heaps frames h (record { own = own; shared = step.shared; may = step.may; kind = step.kind })
+
+-- an access may be done where it may be done for some own state and some state that domains share
+pub accessing : (heaps : HeapContent) (frames : FrameContent) (h : Here) → IsAccess (place_in h).instr.op
+    → (own : KeptState) × (shared : SharedState) × MayDo (contents_of heaps frames own) (among h shared) (place_in h) → MayStep heaps frames h
+accessing heaps frames h access (own, shared, may) =
+    record { own = own; shared = shared; may = may; kind = access_of_heaps (place_in h) access }
 
 module _ (heaps : HeapContent) (frames : FrameContent) (h : Here) (k : Doing heaps frames h) where
   abbrev pub c : Contents

@@ -1,94 +1,10 @@
--- Entries that are taken off one by one are taken off together.
-use Rattle.std.proofs.Common.{◌≡◌, ℕ, ◌+◌, ◌<◌, ◌≤◌, List, [], ◌∷◌, ◌++◌, length, refl, sym, ap, subst, ◌∙◌, append_assoc, arith}
-use Rattle.std.proofs.lemmas.List.{append-nil, length-append}
-use Rattle.list_lemmas.proofs.EndsOfLists.{one_split}
-use Rattle.std.specs.List.{AllByRecursion}
+-- Entries that are to be taken off the stack are there.
+use Rattle.std.proofs.Common.{ℕ, ap, arith, length}
+use Rattle.std.proofs.lemmas.List.{length-append}
 use Rattle.jk_model.specs.declared.identifiers.SegmentNo.{SegmentNo}
-use Rattle.jk_model.specs.declared.values.Value.{Value}
-use Rattle.jk_model_frames.specs.Frames.{FrameState}
-use Rattle.frame_store.specs.FrameContents.{FrameContent, HasEntry, HasFreeEntry, IsContent, IsSized, SetsTop, TakesEntry, TopFrame}
-use Rattle.number_laws.proofs.FrameParts.{with_stack}
-use Rattle.number_ops.proofs.TopFrames.{same_top, stays, then_sets, top_after}
-use Rattle.heap_ops.specs.TopEntries.{HasEntries, PutsFor, TakesOff}
+use Rattle.frame_store.specs.FrameContents.{FrameContent}
+use Rattle.frame_store.specs.FrameContents.{HasEntries as HasAsMany}
+use Rattle.heap_ops.specs.TopEntries.{HasEntries}
 
-each-last : {X : Type 0} (P : X → Type 0) (xs : List X) (x : X) → AllByRecursion P (xs ++ x ∷ []) → P x
-each-last P [] x h = h.0
-each-last P (y ∷ xs) x h = each-last P xs x h.1
-
--- So many entries are off, and others may be taken off.
-pub record TakenSoFar (old now : FrameContent) (s : SegmentNo) (done : ℕ) : Type 0 where
-  pub frame : FrameState
-  pub top : TopFrame old s frame
-  pub below : List Value
-  pub gone : List Value
-  pub stack : frame.stack ≡ below ++ gone
-  pub as_many : length gone ≡ done
-  pub sets : SetsTop old now s (with_stack frame below)
-
-pub none_taken : (c : FrameContent) (s : SegmentNo) (count : ℕ) → HasEntries c s count → TakenSoFar c c s 0
-none_taken c s count h = record {
-  frame = h.frame;
-  top = h.top;
-  below = h.frame.stack;
-  gone = [];
-  stack = sym (append-nil h.frame.stack);
-  as_many = refl;
-  sets = stays c s h.frame h.top;
-}
-
--- one more is there
-pub more_there : (old now : FrameContent) (s : SegmentNo) (count done : ℕ) → HasEntries old s count → TakenSoFar old now s done → done < count
-    → HasEntry now s 0
-more_there old now s count done h so_far low =
-    let same : h.frame ≡ so_far.frame = same_top old s h.frame so_far.frame h.top so_far.top in
-    let whole : h.below ++ h.entries ≡ so_far.below ++ so_far.gone = sym h.stack ∙ ap (λ (f : FrameState). f.stack) same ∙ so_far.stack in (
-      with_stack so_far.frame so_far.below,
-      top_after old now s (with_stack so_far.frame so_far.below) so_far.sets,
-      omega (arith, ap length whole, length-append h.below h.entries, length-append so_far.below so_far.gone, h.many, so_far.as_many),
-    )
-
-pub one_more_taken : (old now new : FrameContent) (s : SegmentNo) (done : ℕ) (v : Value) → (so_far : TakenSoFar old now s done)
-    → TakesEntry now new s (with_stack so_far.frame so_far.below) v → TakenSoFar old new s (done + 1)
-one_more_taken old now new s done v so_far takes = record {
-  frame = so_far.frame;
-  top = so_far.top;
-  below = takes.0;
-  gone = v ∷ so_far.gone;
-  stack = so_far.stack ∙ ap (λ (xs : List Value). xs ++ so_far.gone) takes.1 ∙ append_assoc takes.0 (v ∷ []) so_far.gone;
-  as_many = omega (arith, so_far.as_many);
-  sets = then_sets old now new s (with_stack so_far.frame so_far.below) (with_stack so_far.frame takes.0) so_far.sets takes.2;
-}
-
-pub all_taken : (old new : FrameContent) (s : SegmentNo) (count done : ℕ) → TakenSoFar old new s done → done ≡ count → TakesOff old new s count
-all_taken old new s count done so_far end = λ f below taken top stack many.
-    let same : f ≡ so_far.frame = same_top old s f so_far.frame top so_far.top in
-    let whole : below ++ taken ≡ so_far.below ++ so_far.gone = sym stack ∙ ap (λ (x : FrameState). x.stack) same ∙ so_far.stack in
-    let both = one_split below so_far.below taken so_far.gone whole (many ∙ sym end ∙ sym so_far.as_many) in
-    let as_frame : SetsTop old new s (with_stack f so_far.below) = subst (λ (x : FrameState). SetsTop old new s (with_stack x so_far.below)) (sym same)
-    so_far.sets in
-    subst (λ (xs : List Value). SetsTop old new s (with_stack f xs)) (sym both.0) as_frame
-
--- ---- Another one is pushed.
-
--- no frame has more entries than its head says
-pub stack_fits : (c : FrameContent) (s : SegmentNo) (f : FrameState) → IsContent c → TopFrame c s f → length f.stack ≤ f.head.max_stack
-stack_fits c s f is top =
-    let all = subst (AllByRecursion IsSized) top.frames (is.sized s top.segment top.is_there) in
-    (each-last IsSized top.lower f all).stack
-
-pub room_left : (old now : FrameContent) (s : SegmentNo) (count : ℕ) → IsContent old → HasEntries old s count → 1 ≤ count → TakesOff old now s count
-    → HasFreeEntry now s
-room_left old now s count is h some off =
-    let g = with_stack h.frame h.below in
-    let few = stack_fits old s h.frame is h.top in (
-      g,
-      top_after old now s g (off h.frame h.below h.entries h.top h.stack h.many),
-      omega (arith, few, ap length h.stack, length-append h.below h.entries, h.many),
-    )
-
-pub put_for : (old now new : FrameContent) (s : SegmentNo) (count : ℕ) (v : Value) → TakesOff old now s count
-    → ((f : FrameState) → TopFrame now s f → SetsTop now new s (with_stack f (f.stack ++ v ∷ []))) → PutsFor old new s count v
-put_for old now new s count v off push = λ f below taken top stack many.
-    let first = off f below taken top stack many in
-    then_sets old now new s (with_stack f below) (with_stack f (below ++ v ∷ [])) first
-    (push (with_stack f below) (top_after old now s (with_stack f below) first))
+pub has_as_many : (c : FrameContent) (s : SegmentNo) (count : ℕ) → HasEntries c s count → HasAsMany c s count
+has_as_many c s count h = (h.frame, h.top, omega (arith, ap length h.stack, length-append h.below h.entries, h.many))

@@ -1,13 +1,11 @@
 -- A field has one place among those of a class and of all classes below it.
-use Rattle.std.proofs.Common.{inl, inr, ◌≡◌, ◌⊎◌, ℕ, zero, suc, ◌+◌, ◌==◌, ◌&&◌, ◌<◌, ◌≤◌, Bool, true, false, cond, List, [], ◌∷◌, ◌++◌, length, map, filter, flat_map, Contains, Option, Some, None, slice_get, get_or, option_map, refl, sym, ap, subst, ◌∙◌, arith}
+use Rattle.std.proofs.Common.{inl, inr, ◌≡◌, ◌⊎◌, ℕ, zero, suc, ◌+◌, ◌<◌, ◌≤◌, Bool, true, false, cond, List, [], ◌∷◌, ◌++◌, length, map, filter, flat_map, Contains, Option, Some, None, slice_get, get_or, option_map, refl, sym, ap, subst, ◌∙◌, arith}
 use Rattle.std.specs.List.{enumerate_from}
 use Rattle.std.specs.Option.{option_map_or}
-use Rattle.std.proofs.lemmas.Bool.{eqb-true}
 use Rattle.std.proofs.lemmas.Option.{same_Some, slice_get-get_or}
 use Rattle.std.proofs.lemmas.List.Quantifiers.{position-Some}
 use Rattle.list_lemmas.proofs.ItemsByPlace.{comes_from, slice_get-longer}
 use Rattle.list_lemmas.proofs.ItemsOfLists.{Contains-here}
-use Rattle.model_lemmas.proofs.SameNumbers.{same_class, same_member}
 use Rattle.jk_model.specs.declared.identifiers.ClassId.{ClassId}
 use Rattle.jk_model.specs.declared.identifiers.MemberId.{MemberId}
 use Rattle.jk_model_classes.specs.declared.records.ClassRecord.{ClassRecord}
@@ -18,6 +16,7 @@ use Rattle.class_table.proofs.HeightsAreEnough.{instance_fields-step}
 use Rattle.class_table.proofs.LayoutsBegin.{instance_fields-parent, layouts-begin}
 use Rattle.class_table.proofs.StandingAbove.{is-own_superclass, one-parent, parent-lower, superclasses-lower, superclasses-of_parent}
 use Rattle.jk_model_heap_rows.specs.FieldRows.{field_place, is_field}
+use Rattle.row_laws.proofs.FieldsByPlace.{is_member}
 use Rattle.heap_ops.specs.HeapValues.{IsOwnPlace}
 
 -- ---- Numbered items of which some are left out.
@@ -183,16 +182,6 @@ module _ (classes : List ClassRecord) (ordered : AreOrdered classes) where
     where
       one_item : (a b : ClassId) → a ∷ [] ≡ b ∷ [] → a ≡ b
       one_item a b e = cc
-
-  both_of : (a b : Bool) → (a && b) ≡ true → (a ≡ true) × (b ≡ true)
-  both_of true b e = (refl, e)
-  both_of false b e = absurd cc
-
-  is_member : (m : MemberId) (g : InstanceField) → is_field m g ≡ true → g.member ≡ m
-  is_member m g e =
-      let both = both_of (g.member.class.0 == m.class.0) (g.member.index == m.index) e in
-      same_member g.member m (same_class g.member.class m.class (eqb-true g.member.class.0 m.class.0 both.0))
-      (eqb-true g.member.index m.index both.1)
 
   -- the place that a class table tells is the place in each object that has the field
   pub place_is_own : (c : ClassId) (m : MemberId) (place own : ℕ) → field_place classes c m ≡ Some place → IsOwnPlace classes m own → place ≡ own

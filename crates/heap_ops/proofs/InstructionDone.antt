@@ -1,6 +1,5 @@
 -- What was done to the stores is what a row says.
 use Rattle.std.proofs.Common.{◌≡◌, ℕ, ◌+◌, List, [], ◌∷◌, ◌++◌, Option, Some, refl, sym, ap, subst, ◌∙◌}
-use Rattle.std.proofs.lemmas.List.Sums.{sum_by_push}
 use Rattle.std.proofs.lemmas.Option.{same_Some}
 use Rattle.list_lemmas.proofs.LastItems.{one_last}
 use Rattle.jk_model.specs.declared.frames.FrameHead.{FrameHead}
@@ -21,6 +20,7 @@ use Rattle.frame_store.specs.FrameContents.{Changes, SetsTop, StoredSegment}
 use Rattle.object_store.specs.HeapContents.{HeapBecomes, HeapContent, IsSame}
 use Rattle.number_laws.proofs.FrameParts.{with_stack}
 use Rattle.number_ops.proofs.TopFrames.{stays}
+use Rattle.row_laws.proofs.FramesInARow.{chunks_same}
 use Rattle.step_contents.specs.AnsweredSteps.{IsAnswered}
 use Rattle.step_contents.specs.Conditions.{MayDo, working}
 use Rattle.step_contents.specs.Contents.{Becomes, Contents, FramesBecome, Here, InsideBecomes, inside_in, with_frame}
@@ -77,12 +77,6 @@ is_same c = record {
 
 -- ---- The frames.
 
-same_chunks : (callers : List FrameState) (f g : FrameState) → g.head ≡ f.head → frames_chunks (callers ++ f ∷ []) ≡ frames_chunks (callers ++ g ∷ [])
-same_chunks callers f g same =
-    sum_by_push (λ (x : FrameState). head_chunks x.head) callers f
-    ∙ ap (λ (h : FrameHead). frames_chunks callers + head_chunks h) (sym same)
-    ∙ sym (sum_by_push (λ (x : FrameState). head_chunks x.head) callers g)
-
 module _ (c new : Contents) (here : Here) (at : PlaceInCode) (may : MayDo c here at) where
   frames_become : (g : FrameState) → SetsTop c.frames new.frames here.segment g → g.head ≡ may.frame.head
       → FramesBecome c new here may.run.frames (may.callers ++ g ∷ [])
@@ -100,7 +94,7 @@ module _ (c new : Contents) (here : Here) (at : PlaceInCode) (may : MayDo c here
       record {
         used = c.frames.used here.domain;
         chunks = ap (λ (n : ℕ). c.frames.used here.domain + n)
-            (ap frames_chunks may.are_frames ∙ same_chunks may.callers may.frame g same);
+            (ap frames_chunks may.are_frames ∙ chunks_same may.callers g may.frame (ap head_chunks (sym same)));
         changes = subst (λ (l : List FrameState). Changes c.frames new.frames here.segment here.domain
             (Some (let x : StoredSegment = record { domain = here.domain; frames = l ++ g ∷ [] } in x)) (c.frames.used here.domain)) lower there;
       }

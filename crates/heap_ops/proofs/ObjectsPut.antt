@@ -1,54 +1,39 @@
 -- A value that is put into an object: it is of the kind of the value that stands there, and small; and the heap that is left.
-use Rattle.std.proofs.Common.{◌≡◌, ℕ, ◌+◌, List, [], ◌∷◌, ◌++◌, Some, slice_get, sym, ap, subst, ◌∙◌, arith}
+use Rattle.std.proofs.Common.{◌≡◌, ℕ, ◌+◌, List, Some, slice_get, sym, ap, subst, ◌∙◌, arith}
 use Rattle.std.specs.Prelude.{slice_set}
 use Rattle.std.specs.List.{AllByRecursion}
 use Rattle.std.proofs.lemmas.Option.{slice_get_within}
 use Rattle.list_lemmas.proofs.ItemsByPlace.{item_there, slice_get-set_same}
 use Rattle.jk_model.specs.declared.identifiers.ClassId.{ClassId}
 use Rattle.jk_model.specs.declared.values.Value.{Value}
-use Rattle.jk_model.specs.declared.values.Value.TheVariants as Held
-use Rattle.jk_model.proofs.EachItem.{all_at}
+use Rattle.jk_model.proofs.EachItem.{all_at, all_back}
 use Rattle.jk_model_classes.specs.declared.records.ClassRecord.{ClassRecord}
 use Rattle.jk_model_classes.specs.declared.records.TypeRef.{TypeRef}
 use Rattle.jk_model_domains.specs.NumberRows.{IsOnTop}
 use Rattle.jk_model_domains.specs.Objects.{NamedObject, Object, Array, Plain, object_named}
 use Rattle.jk_model_domains.specs.OwnStates.{zero_of}
 use Rattle.jk_model_domains.specs.ValueTypes.{HoldsDeclared}
-use Rattle.jk_model_heaps.specs.Capabilities.{CapRange}
 use Rattle.jk_model_heaps.specs.Heaps.{IsAlike, field_records, heap_words, named, with_object}
 use Rattle.jk_model_heaps.specs.StoredValues.{stored}
 use Rattle.jk_model_heaps.specs.Workings.{GoesOn, Working, with_heap}
+use Rattle.object_store.proofs.ObjectsByName.{named_in_place}
+use Rattle.object_store.proofs.KindsOfValues.{alike}
 use Rattle.jk_model_heap_rows.specs.HeapRows.{HeapRow}
 use Rattle.jk_model_sealing.specs.SealedInsides.{IsKnownValue, IsSealedInside, IsSealedObject}
 use Rattle.jk_model_sharing.specs.SharedStates.{caps_of}
 use Rattle.frame_store.specs.FrameContents.{FrameContent}
-use Rattle.heap_laws.proofs.ObjectsAfterChanges.{found_stands, written_there, written_words}
+use Rattle.heap_laws.proofs.ObjectsAfterChanges.{found_stands, written_words}
 use Rattle.row_laws.specs.HeapRowLaws.{HeapRowsKeep}
 use Rattle.object_store.specs.HeapContents.{AreOfKind, HeapBecomes, HeapContent, IsHeapContent, IsSmall, WritesObject}
+use Rattle.row_laws.proofs.InsidesWritten.{stored_known}
 use Rattle.step_contents.specs.Conditions.{around}
-use Rattle.heap_laws.proofs.KindsOfTypes.{kind_of_zero, one_kind}
+use Rattle.heap_laws.proofs.KindsOfTypes.{kind_of_zero}
 use Rattle.heap_laws.proofs.LaidOut.{known_small}
 use Rattle.step_contents.proofs.InstructionsBegin.{runs_code, runs_well}
 use Rattle.heap_ops.specs.declared.here.Here.{Here}
 use Rattle.heap_ops.specs.OneInstruction.{place_in}
 use Rattle.heap_ops.proofs.DoingHere.{Doing, c, here, i, s, same_heap, w}
 use Rattle.heap_ops.proofs.InstructionDone.{heap_words_used}
-
--- ---- Lists.
-
-last_known : (P : Value → Type 0) (below taken : List Value) → AllByRecursion P (below ++ taken) → AllByRecursion P taken
-last_known P [] taken h = h
-last_known P (v ∷ below) taken h = last_known P below taken h.1
-
--- ---- Values.
-
-stored_known : (caps : List CapRange) (heap : List NamedObject) (t : TypeRef) (v : Value) → IsKnownValue caps heap v → IsKnownValue caps heap (stored t v)
-stored_known caps heap t (Held.Int n) h = tt
-stored_known caps heap t (Held.Long n) h = h
-stored_known caps heap t Held.Null h = h
-stored_known caps heap t (Held.Obj a) h = h
-stored_known caps heap t (Held.Cap k) h = h
-stored_known caps heap t Held.Unset h = h
 
 module _ (heaps : HeapContent) (frames : FrameContent) (h : Here) (k : Doing heaps frames h) where
   abbrev heap : List NamedObject
@@ -60,7 +45,7 @@ module _ (heaps : HeapContent) (frames : FrameContent) (h : Here) (k : Doing hea
   -- what is known of the values on top
   pub top_known : (taken : List Value) → IsOnTop (w heaps frames h k).frame taken → AllByRecursion (IsKnownValue (caps_of k.shared) heap) taken
   top_known taken on_top =
-      last_known (IsKnownValue (caps_of k.shared) heap) on_top.0 taken
+      all_back (IsKnownValue (caps_of k.shared) heap) on_top.0 taken
       (subst (AllByRecursion (IsKnownValue (caps_of k.shared) heap)) on_top.1
       (runs_well k.may k.setting k.is_setting).known.1)
 
@@ -85,12 +70,12 @@ module _ (heaps : HeapContent) (frames : FrameContent) (h : Here) (k : Doing hea
     new_sealed =
         let sealed : IsSealedInside (around k.may.domain) k.setting.quota (with_heap (w heaps frames h k).inside (with_object a new heap)) =
         subst (IsSealedInside (around k.may.domain) k.setting.quota) leaves after_sealed in
-        sealed.objects (named a new) (found_stands a new (with_object a new heap) (written_there a new o heap there))
+        sealed.objects (named a new) (found_stands a new (with_object a new heap) (named_in_place a new o heap there))
 
   one_type_kind : (before after : List NamedObject) (t : TypeRef) (v u : Value) → HoldsDeclared classes before v t → HoldsDeclared classes after u t
       → AreOfKind v u
   one_type_kind before after t v u first second =
-      one_kind (zero_of t) v u (kind_of_zero classes before t v first) (kind_of_zero classes after t u second)
+      alike (zero_of t) v u (kind_of_zero classes before t v first) (kind_of_zero classes after t u second)
 
   -- a field's value is of the kind of the one that takes its place
   pub field_kind_kept : (class : ClassId) (fields : List Value) (place : ℕ) (v u : Value) (new : List NamedObject)

@@ -15,6 +15,7 @@ use Rattle.jk_model_classes.specs.declared.records.Link.{Link}
 use Rattle.jk_model_classes.specs.declared.records.Link.TheVariants as To
 use Rattle.jk_model_domains.specs.OwnStates.{ClassPart, OwnState, StaticField, literal_named, with_field, with_static}
 use Rattle.jk_model_heap_rows.specs.Constants.{constant_text, with_constant, with_constants}
+use Rattle.row_laws.proofs.ConstantsWritten.{index_by}
 use Rattle.heap_ops.proofs.TextsInTurn.{of_fields}
 
 -- ---- The field at the end of a list.
@@ -48,10 +49,6 @@ map_twice f g h [] e = refl
 map_twice f g h (x ∷ xs) e = ap (λ (y : _). y ∷ map f (map g xs)) (e x) ∙ ap (λ (l : List _). h x ∷ l) (map_twice f g h xs e)
 
 -- ---- Nothing is set before the first field.
-
-index_by : (g : StaticField) (o : Option ℕ) → (option_map_or (λ (b : ℕ). record g { value = Held.Obj b }) o g).index ≡ g.index
-index_by g None = refl
-index_by g (Some b) = refl
 
 pub index_stays : (own : OwnState) (r : ClassRecord) (g : StaticField) → (with_constant own r g).index ≡ g.index
 index_stays own r g = index_by g (option_and_then (literal_named own) (constant_text r g.index))

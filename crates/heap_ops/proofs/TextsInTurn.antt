@@ -15,9 +15,11 @@ use Rattle.jk_model_classes.specs.declared.records.FieldRecord.{FieldRecord}
 use Rattle.jk_model_classes.specs.declared.records.Link.{Link}
 use Rattle.jk_model_classes.specs.declared.records.Link.TheVariants as To
 use Rattle.jk_model_domains.specs.OwnStates.{Literal, OwnState, literal_named}
+use Rattle.class_init.proofs.SameElements.{AllDiffer, all_differ}
 use Rattle.jk_model_heap_rows.specs.Constants.{new_texts}
 use Rattle.class_init.specs.MissingTexts.{HasTextConstant, IsCostOfMissing, IsMissing, text_words}
-use Rattle.heap_ops.proofs.CostsOfTexts.{AllDiffer, all_differ, same_sum}
+use Rattle.row_laws.proofs.TextsOfLiterals.{lacks_by}
+use Rattle.heap_ops.proofs.CostsOfTexts.{same_sum}
 
 abbrev Text : Type 0
 Text = List ℕ
@@ -351,10 +353,6 @@ constant_by f t false static e = absurd cc
 pub is_constant : (f : FieldRecord) (t : Text) → static_said f ≡ Some t → HasTextConstant f t
 is_constant f t e = constant_by f t (has f.flags STATIC) refl e
 
-none_named : (o : Option ℕ) → option_map_or (λ (a : ℕ). false) o true ≡ true → o ≡ None
-none_named None e = refl
-none_named (Some a) e = absurd cc
-
 has_of : (xs : List Text) (t : Text) → Contains xs t → has_text xs t ≡ true
 has_of [] t has = absurd (Contains-none t has)
 has_of (x ∷ xs) t has = elim (Contains-cases t x xs has) [
@@ -378,7 +376,7 @@ is_missing own r t there =
       field = field.0;
       among = field.1;
       has = is_constant field.0 t field.2;
-      no_object = none_named (literal_named own t) (passes (lacks_object own) (firsts ts) t there);
+      no_object = lacks_by (literal_named own t) (passes (lacks_object own) (firsts ts) t there);
     }
 
 pub is_new : (own : OwnState) (r : ClassRecord) (t : Text) → IsMissing own r.fields t → Contains (new_texts own r) t

@@ -1,7 +1,6 @@
 -- One instruction on objects, as functions do it that see some of the stores alone: it may be done, and is, whatever the others hold.
-use Rattle.std.specs.Prelude.{◌+◌, Result, Ok, Err}
+use Rattle.std.specs.Prelude.{Result}
 use Rattle.jk_model.specs.declared.steps.After.{After}
-use Rattle.jk_model.specs.declared.steps.After.TheVariants as Next
 use Rattle.jk_model.specs.declared.steps.Raise.{Raise}
 use Rattle.jk_model_heaps.specs.Capabilities.{KnownCapabilities}
 use Rattle.jk_model_heap_rows.specs.HeapRows.{IsOfHeaps}
@@ -15,7 +14,7 @@ use Rattle.step_contents.specs.Contents.{contents_of, here_at}
 use Rattle.step_contents.specs.Contents.{Here as Within}
 use Rattle.step_contents.specs.PlacesInCode.{PlaceInCode}
 use Rattle.step_contents.specs.Settings.{AreKnown}
-use Rattle.heap_ops.specs.HeapSteps.{HeapDone}
+use Rattle.heap_ops.specs.HeapSteps.{HeapDone, after_access}
 use Rattle.heap_ops.specs.declared.here.Here.{Here}
 
 abbrev pub place_in : Here → PlaceInCode
@@ -58,8 +57,7 @@ pub record MayStepAll (heaps : HeapContent) (frames : FrameContent) (own : KeptS
 
 -- the frame goes on at the next place, or this is raised
 abbrev pub answer : Here → Result (Unit {0}) Raise → After
-answer h (Ok done) = Next.Goto (h.at.now.head.at + 1)
-answer h (Err raise) = Next.Raise raise
+answer h result = after_access (place_in h) result
 
 abbrev pub Steps : HeapContent → HeapContent → FrameContent → FrameContent → Here → Result (Unit {0}) Raise → Type 0
 Steps heaps new_heaps frames new_frames h result =

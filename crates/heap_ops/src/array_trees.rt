@@ -12,7 +12,7 @@ ghost use Rattle.heap_ops.specs.OneInstruction.{MayStep, Steps, place_in};
 use crate::entries::replace;
 use crate::here::Here;
 use crate::making::count_at;
-use frame_store::FrameStore;
+use frame_store::SegmentFrames;
 use heap_loops::{arrays_words, make_arrays};
 use jk_model::{Raise, SegmentNo, Standing, Value};
 use object_store::ObjectStore;
@@ -23,7 +23,7 @@ const MOST_COUNTS: usize = 255;
 
 /// Puts as many counts from the top of the stack into the list as it has places, the deepest first. A NegativeArraySizeException
 /// is raised where one of them is below 0.
-fn read_counts<F: FrameStore>(frames: &F, s: SegmentNo, counts: &mut [u32]) -> Result<(), Raise>
+fn read_counts<F: SegmentFrames>(frames: &F, s: SegmentNo, counts: &mut [u32]) -> Result<(), Raise>
     requires few { length counts.old ≤ 255 }
     requires ints { (ks : List ℤ) × AreIntsOnTop (F.content frames.now) s ks × (length ks ≡ length counts.old) }
     ensures ok { OnOk result ((ks : List ℤ) → AreIntsOnTop (F.content frames.now) s ks → length ks ≡ length counts.old
@@ -53,7 +53,7 @@ fn fits(words: Option<u64>, free: u64) -> bool
 
 /// Makes the arrays that these counts ask for, which stand on top of the stack, and pushes the first in their place. Where all of them
 /// don't fit together, nothing is made.
-fn make_counted<H: ObjectStore, F: FrameStore>(
+fn make_counted<H: ObjectStore, F: SegmentFrames>(
     heap: &mut H,
     frames: &mut F,
     here: &Here<'_>,
@@ -88,7 +88,7 @@ fn many_counts(at: &StandsAt<'_>) -> usize
 }
 
 /// Reads the counts into a list that has places for all of them, and makes the arrays.
-fn make_read<H: ObjectStore, F: FrameStore>(
+fn make_read<H: ObjectStore, F: SegmentFrames>(
     heap: &mut H,
     frames: &mut F,
     here: &Here<'_>,
@@ -109,7 +109,7 @@ fn make_read<H: ObjectStore, F: FrameStore>(
 /// Takes counts, and pushes a new array of the type that the instruction names, with all arrays below it that they ask for. Where
 /// one of the counts is below 0, or all of the arrays don't fit together, nothing is made.
 #[inline(never)]
-pub(crate) fn make_array_tree<H: ObjectStore, F: FrameStore>(
+pub(crate) fn make_array_tree<H: ObjectStore, F: SegmentFrames>(
     heap: &mut H,
     frames: &mut F,
     here: &Here<'_>,

@@ -13,7 +13,7 @@ use crate::casts::may_be_cast;
 use crate::entries::{drop_entries, int_at, object_at, replace, value_at};
 use crate::here::Here;
 use crate::stored::stored;
-use frame_store::FrameStore;
+use frame_store::SegmentFrames;
 use instance_tests::CapabilityTests;
 use jk_model::{DomainId, Raise, Value};
 use jk_model_classes::TypeRef;
@@ -57,7 +57,7 @@ fn int_of(len: u32) -> i32
 
 /// Takes an array, and pushes its length.
 #[inline(always)]
-pub(crate) fn array_length<H: ObjectStore, F: FrameStore>(
+pub(crate) fn array_length<H: ObjectStore, F: SegmentFrames>(
     heap: &H,
     frames: &mut F,
     here: &Here<'_>,
@@ -74,7 +74,7 @@ pub(crate) fn array_length<H: ObjectStore, F: FrameStore>(
 
 /// Takes an array and an index, and pushes the element there.
 #[inline(always)]
-pub(crate) fn load_element<H: ObjectStore, F: FrameStore>(
+pub(crate) fn load_element<H: ObjectStore, F: SegmentFrames>(
     heap: &H,
     frames: &mut F,
     here: &Here<'_>,
@@ -94,7 +94,7 @@ pub(crate) fn load_element<H: ObjectStore, F: FrameStore>(
 
 /// Takes an array, an index and a whole number, and stores the number there, as the array's own element type says.
 #[inline(always)]
-pub(crate) fn store_element<H: ObjectStore, F: FrameStore>(
+pub(crate) fn store_element<H: ObjectStore, F: SegmentFrames>(
     heap: &mut H,
     frames: &mut F,
     here: &Here<'_>,
@@ -120,7 +120,7 @@ pub(crate) fn store_element<H: ObjectStore, F: FrameStore>(
 /// Takes an array, an index and a reference, and stores the reference there. An ArrayStoreException is raised where it is neither
 /// null nor an instance of the array's own element type.
 #[inline(never)]
-pub(crate) fn store_reference<H: ObjectStore, F: FrameStore, C: CapabilityTests>(
+pub(crate) fn store_reference<H: ObjectStore, F: SegmentFrames, C: CapabilityTests>(
     heap: &mut H,
     frames: &mut F,
     caps: &C,

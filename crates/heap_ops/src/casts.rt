@@ -10,7 +10,7 @@ ghost use Rattle.heap_ops.specs.OneInstruction.{MayStep, MayStepAmong, Steps, St
 
 use crate::entries::{object_at, replace, value_at};
 use crate::here::Here;
-use frame_store::FrameStore;
+use frame_store::SegmentFrames;
 use instance_tests::{CapabilityTests, is_instance, is_null_or_instance};
 use jk_model::{Raise, Value};
 use jk_model_classes::TypeRef;
@@ -20,7 +20,7 @@ use step_contents::type_named;
 
 /// Raises the object on top, or a NullPointerException where that is null.
 #[inline(never)]
-pub(crate) fn throw<F: FrameStore>(frames: &F, here: &Here<'_>) -> Result<(), Raise>
+pub(crate) fn throw<F: SegmentFrames>(frames: &F, here: &Here<'_>) -> Result<(), Raise>
     requires op { (place_in here.now).instr.op ≡ ATHROW }
     requires may { (heaps : HeapContent) × MayStep heaps (F.content frames.now) here.now }
     ensures { (heaps : HeapContent) → Steps heaps heaps (F.content frames.now) (F.content frames.now) here.now result }
@@ -67,7 +67,7 @@ pub(crate) fn may_be_cast<H: ObjectStore, C: CapabilityTests>(
 
 /// Leaves the top entry, which is null or an instance of the type that the instruction names; else a ClassCastException is raised.
 #[inline(never)]
-pub(crate) fn cast<H: ObjectStore, F: FrameStore, C: CapabilityTests>(
+pub(crate) fn cast<H: ObjectStore, F: SegmentFrames, C: CapabilityTests>(
     heap: &H,
     frames: &F,
     caps: &C,
@@ -88,7 +88,7 @@ pub(crate) fn cast<H: ObjectStore, F: FrameStore, C: CapabilityTests>(
 
 /// Takes a reference, and pushes 1 where it is an instance of the type that the instruction names, else 0. Null is none.
 #[inline(never)]
-pub(crate) fn test_instance<H: ObjectStore, F: FrameStore, C: CapabilityTests>(
+pub(crate) fn test_instance<H: ObjectStore, F: SegmentFrames, C: CapabilityTests>(
     heap: &H,
     frames: &mut F,
     caps: &C,

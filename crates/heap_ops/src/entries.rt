@@ -7,35 +7,32 @@ ghost use Rattle.jk_model.specs.declared.values.Value.TheVariants as Held;
 ghost use Rattle.jk_model_heaps.specs.SystemClasses.{NULL_POINTER_EXCEPTION};
 ghost use Rattle.heap_ops.specs.TopEntries.{HasEntries, IsNullOrName, PutsFor, StandsBelow, TakesOff};
 
-use frame_store::FrameStore;
+use frame_store::SegmentFrames;
 use jk_model::{Raise, SegmentNo, Value};
 use jk_model_heaps::system_classes::NULL_POINTER_EXCEPTION;
 
 /// Takes so many entries off the top.
 #[inline(always)]
-pub(crate) fn drop_entries<F: FrameStore>(frames: &mut F, s: SegmentNo, count: u16)
+pub(crate) fn drop_entries<F: SegmentFrames>(frames: &mut F, s: SegmentNo, count: u16)
     requires { HasEntries (F.content frames.old) s count }
     ensures { TakesOff (F.content frames.old) (F.content frames.new) s count }
 {
-    for _i in 0..count {
-        let _entry = frames.pop_value(s);
-    }
+    frames.drop_entries(s, count);
 }
 
 /// Puts a value in the place of so many entries on top, one or more.
 #[inline(always)]
-pub(crate) fn replace<F: FrameStore>(frames: &mut F, s: SegmentNo, count: u16, v: Value)
+pub(crate) fn replace<F: SegmentFrames>(frames: &mut F, s: SegmentNo, count: u16, v: Value)
     requires many { HasEntries (F.content frames.old) s count }
     requires some { 1 ≤ count }
     ensures { PutsFor (F.content frames.old) (F.content frames.new) s count v }
 {
-    drop_entries(frames, s, count);
-    frames.push_value(s, v);
+    frames.exchange(s, count, v);
 }
 
 /// The value that stands below so many entries.
 #[inline(always)]
-pub(crate) fn value_at<F: FrameStore>(frames: &F, s: SegmentNo, above: u16) -> Value
+pub(crate) fn value_at<F: SegmentFrames>(frames: &F, s: SegmentNo, above: u16) -> Value
     requires { (v : AValue) × StandsBelow (F.content frames.now) s above v }
     ensures { StandsBelow (F.content frames.now) s above result }
 {
@@ -44,7 +41,7 @@ pub(crate) fn value_at<F: FrameStore>(frames: &F, s: SegmentNo, above: u16) -> V
 
 /// The int that stands below so many entries.
 #[inline(always)]
-pub(crate) fn int_at<F: FrameStore>(frames: &F, s: SegmentNo, above: u16) -> i32
+pub(crate) fn int_at<F: SegmentFrames>(frames: &F, s: SegmentNo, above: u16) -> i32
     requires { (n : ℤ) × StandsBelow (F.content frames.now) s above (Held.Int n) }
     ensures { StandsBelow (F.content frames.now) s above (Held.Int result) }
 {
@@ -56,7 +53,11 @@ pub(crate) fn int_at<F: FrameStore>(frames: &F, s: SegmentNo, above: u16) -> i32
 
 /// The object that stands below so many entries; a NullPointerException where that is null.
 #[inline(always)]
-pub(crate) fn object_at<F: FrameStore>(frames: &F, s: SegmentNo, above: u16) -> Result<u32, Raise>
+pub(crate) fn object_at<F: SegmentFrames>(
+    frames: &F,
+    s: SegmentNo,
+    above: u16,
+) -> Result<u32, Raise>
     requires { (v : AValue) × StandsBelow (F.content frames.now) s above v × IsNullOrName v }
     ensures { MatchResult result (λ a. StandsBelow (F.content frames.now) s above (Held.Obj a))
         (λ r. StandsBelow (F.content frames.now) s above Held.Null × (r ≡ Raised.Fresh NULL_POINTER_EXCEPTION)) }

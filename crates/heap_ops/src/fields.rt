@@ -13,7 +13,7 @@ use crate::here::Here;
 use crate::statics::field_kind;
 use crate::stored::stored;
 use class_table::ClassTable;
-use frame_store::FrameStore;
+use frame_store::SegmentFrames;
 use jk_model::{MemberId, Raise};
 use object_store::ObjectStore;
 use row_laws::heap_rows::heap_rows_keep;
@@ -34,7 +34,7 @@ fn place_of(t: &ClassTable, m: MemberId) -> u32
 
 /// Takes an object, and pushes the value of the field that the instruction names. A NullPointerException is raised at null.
 #[inline(always)]
-pub(crate) fn get_field<H: ObjectStore, F: FrameStore>(
+pub(crate) fn get_field<H: ObjectStore, F: SegmentFrames>(
     heap: &H,
     frames: &mut F,
     here: &Here<'_>,
@@ -55,7 +55,7 @@ pub(crate) fn get_field<H: ObjectStore, F: FrameStore>(
 /// Takes an object and a value above it, and stores the value into the field that the instruction names. A NullPointerException
 /// is raised at null.
 #[inline(always)]
-pub(crate) fn put_field<H: ObjectStore, F: FrameStore>(
+pub(crate) fn put_field<H: ObjectStore, F: SegmentFrames>(
     heap: &mut H,
     frames: &mut F,
     here: &Here<'_>,

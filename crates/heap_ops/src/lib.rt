@@ -16,4 +16,4 @@ mod steps;
 mod stored;
 
 pub use constants::set_constants;
-pub use steps::step;
+pub use steps::{access, step};

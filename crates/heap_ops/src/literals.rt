@@ -9,7 +9,7 @@ ghost use Rattle.heap_ops.specs.OneInstruction.{MayStepWith, StepsWith, place_in
 use crate::here::Here;
 use class_init::Own;
 use class_table::ClassTable;
-use frame_store::FrameStore;
+use frame_store::SegmentFrames;
 use heap_loops::make_text;
 use jk_model::{DomainId, NoRoom, Raise, Standing, Value};
 use object_store::ObjectStore;
@@ -65,7 +65,7 @@ pub(crate) fn literal_object<H: ObjectStore>(
 
 /// Pushes the object of the text that the instruction loads.
 #[inline(never)]
-pub(crate) fn load_text<H: ObjectStore, F: FrameStore>(
+pub(crate) fn load_text<H: ObjectStore, F: SegmentFrames>(
     heap: &mut H,
     frames: &mut F,
     own: &mut Own,

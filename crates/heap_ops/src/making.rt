@@ -15,7 +15,7 @@ ghost use Rattle.heap_ops.specs.TopEntries.{StandsBelow};
 
 use crate::entries::{int_at, replace};
 use crate::here::Here;
-use frame_store::FrameStore;
+use frame_store::SegmentFrames;
 use jk_model::{Raise, SegmentNo, Standing, Value};
 use jk_model_classes::{BaseRef, TypeRef};
 use jk_model_heaps::Shape;
@@ -25,7 +25,7 @@ use step_contents::{StandsAt, type_named};
 
 /// Pushes a new object of the class that the instruction names.
 #[inline(always)]
-pub(crate) fn make_object<H: ObjectStore, F: FrameStore>(
+pub(crate) fn make_object<H: ObjectStore, F: SegmentFrames>(
     heap: &mut H,
     frames: &mut F,
     here: &Here<'_>,
@@ -64,7 +64,7 @@ fn number_base(at: &StandsAt<'_>) -> BaseRef
 }
 
 /// The count that stands below so many entries; a NegativeArraySizeException where it is below 0.
-pub(crate) fn count_at<F: FrameStore>(frames: &F, s: SegmentNo, above: u16) -> Result<u32, Raise>
+pub(crate) fn count_at<F: SegmentFrames>(frames: &F, s: SegmentNo, above: u16) -> Result<u32, Raise>
     requires { (n : ℤ) × StandsBelow (F.content frames.now) s above (Held.Int n) }
     ensures { MatchResult result (λ m. StandsBelow (F.content frames.now) s above (Held.Int (pos m)))
         (λ r. ((n : ℤ) × StandsBelow (F.content frames.now) s above (Held.Int n) × (count_of n ≡ None))
@@ -78,7 +78,7 @@ pub(crate) fn count_at<F: FrameStore>(frames: &F, s: SegmentNo, above: u16) -> R
 }
 
 /// Takes a count, and pushes a new array of so many elements of a type.
-fn make_array_of<H: ObjectStore, F: FrameStore>(
+fn make_array_of<H: ObjectStore, F: SegmentFrames>(
     heap: &mut H,
     frames: &mut F,
     here: &Here<'_>,
@@ -102,7 +102,7 @@ fn make_array_of<H: ObjectStore, F: FrameStore>(
 
 /// Takes a count, and pushes a new array of so many whole numbers.
 #[inline(never)]
-pub(crate) fn make_array<H: ObjectStore, F: FrameStore>(
+pub(crate) fn make_array<H: ObjectStore, F: SegmentFrames>(
     heap: &mut H,
     frames: &mut F,
     here: &Here<'_>,
@@ -117,7 +117,7 @@ pub(crate) fn make_array<H: ObjectStore, F: FrameStore>(
 
 /// Takes a count, and pushes a new array of so many references of the type that the instruction names.
 #[inline(never)]
-pub(crate) fn make_reference_array<H: ObjectStore, F: FrameStore>(
+pub(crate) fn make_reference_array<H: ObjectStore, F: SegmentFrames>(
     heap: &mut H,
     frames: &mut F,
     here: &Here<'_>,

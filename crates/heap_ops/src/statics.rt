@@ -13,7 +13,7 @@ use crate::here::Here;
 use crate::stored::stored;
 use class_init::Own;
 use class_table::ClassTable;
-use frame_store::FrameStore;
+use frame_store::SegmentFrames;
 use jk_model::{MemberId, Raise, Value};
 use jk_model_classes::TypeRef;
 use member_lookup::field_record;
@@ -42,7 +42,7 @@ fn is_system_out(t: &ClassTable, m: MemberId) -> bool
 
 /// Pushes the value of the static field that the instruction names.
 #[inline(always)]
-pub(crate) fn get_static<F: FrameStore>(
+pub(crate) fn get_static<F: SegmentFrames>(
     frames: &mut F,
     own: &Own,
     here: &Here<'_>,
@@ -63,7 +63,7 @@ pub(crate) fn get_static<F: FrameStore>(
 
 /// Takes the top entry, and stores it into the static field that the instruction names.
 #[inline(always)]
-pub(crate) fn put_static<F: FrameStore>(
+pub(crate) fn put_static<F: SegmentFrames>(
     frames: &mut F,
     own: &mut Own,
     here: &Here<'_>,

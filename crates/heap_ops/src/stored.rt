@@ -8,6 +8,7 @@ use jk_model_classes::{BaseRef, TypeRef};
 
 /// What a store into a field or an element of a type leaves: of an int 8, 16, 16 or 1 low bits at byte, char, short and boolean,
 /// byte and short with their sign, and all of every other value.
+#[inline(always)]
 pub(crate) fn stored(kind: &TypeRef, v: Value) -> Value
     ensures { result ≡ stored kind.now v }
 {
@@ -18,6 +19,7 @@ pub(crate) fn stored(kind: &TypeRef, v: Value) -> Value
 }
 
 /// What a store into a field or an element of a type leaves of an int.
+#[inline(always)]
 fn stored_int(kind: &TypeRef, n: i32) -> i32
     ensures { result ≡ stored_int kind.now n }
 {

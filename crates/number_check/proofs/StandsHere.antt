@@ -1,40 +1,21 @@
 -- What is known of a frame that runs code and fits: its typing in the scope of that code; and that it fits again where it goes on.
-use Rattle.std.proofs.Common.{◌≡◌, ℕ, List, [], ◌∷◌, Option, Some, slice_get, sym, ap, subst, ◌∙◌}
+use Rattle.std.proofs.Common.{◌≡◌, List, Option, Some, slice_get, sym, subst, ◌∙◌}
 use Rattle.std.proofs.lemmas.Option.{same_Some}
 use Rattle.jk_model.specs.declared.identifiers.MemberId.{MemberId}
-use Rattle.jk_model.specs.declared.values.Value.{Value}
 use Rattle.jk_model_classes.specs.declared.records.ClassRecord.{ClassRecord}
 use Rattle.jk_model_classes.specs.Classes.{AreOrdered}
 use Rattle.jk_model_typing.specs.declared.frames.FrameType.{FrameType}
-use Rattle.jk_model_typing.specs.declared.frames.VType.{VType}
-use Rattle.jk_model_typing.specs.FrameTypes.{EachFits, FrameFits, IsFrameOf}
+use Rattle.jk_model_typing.specs.FrameTypes.{IsFrameOf}
 use Rattle.jk_model_typing.specs.Scopes.{CodeScope, IsScopeOf}
 use Rattle.jk_model_typing.specs.Typing.{FitsAt, FrameAt, GoesWell}
 use Rattle.typing_lemmas.proofs.OneScope.{one-scope}
 use Rattle.jk_model_frames.specs.Frames.{FrameState}
 use Rattle.jk_model_domains.specs.Objects.{NamedObject}
-use Rattle.jk_model_domains.specs.ValueTypes.{EachValueFits, FrameHolds}
+use Rattle.jk_model_domains.specs.ValueTypes.{FrameHolds}
 use Rattle.jk_model_heaps.specs.RunningCode.{RunsCode}
 use Rattle.jk_model_sound_classes.specs.VerifiedMethods.{IsVerified}
-use Rattle.number_laws.proofs.ValuesAbove.{value-above}
+use Rattle.number_laws.proofs.ValuesAbove.{frame-above}
 use Rattle.number_check.specs.TypedFrames.{FitsHere, HasTyping}
-
--- ---- Values that fit a frame type fit each one above it.
-
-module _ (s : CodeScope) (heap : List NamedObject) (ordered : AreOrdered s.classes) where
-  pub values-above : (vs : List Value) (ts us : List VType) → EachValueFits s heap vs ts → EachFits s.classes ts us → EachValueFits s heap vs us
-  values-above [] [] [] h k = tt
-  values-above [] [] (u ∷ us) h k = absurd k
-  values-above [] (t ∷ ts) us h k = absurd h
-  values-above (v ∷ vs) [] us h k = absurd h
-  values-above (v ∷ vs) (t ∷ ts) [] h k = absurd k
-  values-above (v ∷ vs) (t ∷ ts) (u ∷ us) h k = (value-above s heap ordered v t u h.0 k.0, values-above vs ts us h.1 k.1)
-
-  pub frame-above : (f : FrameState) (t u : FrameType) → FrameHolds s heap f t → FrameFits s.classes t u → FrameHolds s heap f u
-  frame-above f t u h k = record {
-    locals = values-above f.locals t.locals u.locals h.locals k.locals;
-    stack = values-above f.stack t.stack u.stack h.stack k.stack;
-  }
 
 -- The frame's typing in the scope of its code, where this is known of it.
 pub record Typed (classes : List ClassRecord) (f : FrameState) (code : RunsCode classes f) (before : FrameType) : Type 0 where

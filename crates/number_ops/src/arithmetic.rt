@@ -10,9 +10,9 @@ ghost use Rattle.number_laws.specs.NumberOpcodes.{int_conversion_opcodes, int_di
 ghost use Rattle.number_ops.specs.Parts.{arithmetic_opcodes};
 ghost use Rattle.number_ops.specs.TopChanges.{OnTop, OnTopWithRoom, Turns};
 
-use crate::entries::{pop_int, pop_long, push, top_int, top_long};
+use crate::entries::{lower_int, pop_int, pop_long, push, replace_both, top_int, top_long};
 use crate::parts::Arithmetic;
-use frame_store::FrameStore;
+use frame_store::SegmentFrames;
 use jk_model::opcodes::{
     I2B, I2C, I2L, I2S, IADD, IAND, IDIV, IMUL, INEG, IOR, IREM, ISHL, ISHR, ISUB, IUSHR, IXOR,
     L2I, LADD, LAND, LDIV, LMUL, LNEG, LOR, LREM, LSHL, LSHR, LSUB, LUSHR, LXOR,
@@ -36,6 +36,7 @@ fn long_distance(n: i32) -> u32
 }
 
 /// What an instruction makes of two ints.
+#[inline(always)]
 fn int_operation(op: u8, x: i32, y: i32) -> i32
     requires { IsTrue (is_among int_opcodes op) }
     ensures { (f : ℤ → ℤ → ℤ) × HasRow int_operations op f × (result ≡ f x y) }
@@ -150,18 +151,19 @@ fn converted_long(op: u8, x: i64) -> Value
 }
 
 /// Takes two ints, and pushes what an instruction makes of them.
-fn calculate_ints<F: FrameStore>(frames: &mut F, s: SegmentNo, op: u8)
+#[inline(always)]
+fn calculate_ints<F: SegmentFrames>(frames: &mut F, s: SegmentNo, op: u8)
     requires op { IsTrue (is_among int_opcodes op) }
     requires finds { (x : ℤ) × (y : ℤ) × OnTopWithRoom (F.content frames.old) s (Int x ∷ Int y ∷ []) 1 }
     ensures { Calculated (F.content frames.old) (F.content frames.new) s op }
 {
-    let y = pop_int(frames, s);
-    let x = pop_int(frames, s);
-    push(frames, s, Value::Int(int_operation(op, x, y)));
+    let y = top_int(frames, s);
+    let x = lower_int(frames, s);
+    replace_both(frames, s, Value::Int(int_operation(op, x, y)));
 }
 
 /// Takes two longs, and pushes what an instruction makes of them.
-fn calculate_longs<F: FrameStore>(frames: &mut F, s: SegmentNo, op: u8)
+fn calculate_longs<F: SegmentFrames>(frames: &mut F, s: SegmentNo, op: u8)
     requires op { IsTrue (is_among long_opcodes op) }
     requires finds { (x : ℤ) × (y : ℤ) × OnTopWithRoom (F.content frames.old) s (Long x ∷ Long y ∷ []) 1 }
     ensures { Calculated (F.content frames.old) (F.content frames.new) s op }
@@ -172,7 +174,7 @@ fn calculate_longs<F: FrameStore>(frames: &mut F, s: SegmentNo, op: u8)
 }
 
 /// Takes a long and a distance, and pushes the long shifted.
-fn shift_long<F: FrameStore>(frames: &mut F, s: SegmentNo, op: u8)
+fn shift_long<F: SegmentFrames>(frames: &mut F, s: SegmentNo, op: u8)
     requires op { IsTrue (is_among long_shift_opcodes op) }
     requires finds { (x : ℤ) × (n : ℤ) × OnTopWithRoom (F.content frames.old) s (Long x ∷ Int n ∷ []) 1 }
     ensures { Calculated (F.content frames.old) (F.content frames.new) s op }
@@ -183,7 +185,7 @@ fn shift_long<F: FrameStore>(frames: &mut F, s: SegmentNo, op: u8)
 }
 
 /// Takes two longs, and pushes how they compare.
-fn compare_longs<F: FrameStore>(frames: &mut F, s: SegmentNo)
+fn compare_longs<F: SegmentFrames>(frames: &mut F, s: SegmentNo)
     requires { (x : ℤ) × (y : ℤ) × OnTopWithRoom (F.content frames.old) s (Long x ∷ Long y ∷ []) 1 }
     ensures { Calculated (F.content frames.old) (F.content frames.new) s LCMP }
 {
@@ -193,7 +195,7 @@ fn compare_longs<F: FrameStore>(frames: &mut F, s: SegmentNo)
 }
 
 /// Takes an int, and pushes what a conversion makes of it.
-fn convert_int<F: FrameStore>(frames: &mut F, s: SegmentNo, op: u8)
+fn convert_int<F: SegmentFrames>(frames: &mut F, s: SegmentNo, op: u8)
     requires op { IsTrue (is_among int_conversion_opcodes op) }
     requires finds { (x : ℤ) × OnTopWithRoom (F.content frames.old) s (Int x ∷ []) 1 }
     ensures { Calculated (F.content frames.old) (F.content frames.new) s op }
@@ -203,7 +205,7 @@ fn convert_int<F: FrameStore>(frames: &mut F, s: SegmentNo, op: u8)
 }
 
 /// Takes a long, and pushes what a conversion makes of it.
-fn convert_long<F: FrameStore>(frames: &mut F, s: SegmentNo, op: u8)
+fn convert_long<F: SegmentFrames>(frames: &mut F, s: SegmentNo, op: u8)
     requires op { IsTrue (is_among long_conversion_opcodes op) }
     requires finds { (x : ℤ) × OnTopWithRoom (F.content frames.old) s (Long x ∷ []) 1 }
     ensures { Calculated (F.content frames.old) (F.content frames.new) s op }
@@ -213,7 +215,7 @@ fn convert_long<F: FrameStore>(frames: &mut F, s: SegmentNo, op: u8)
 }
 
 /// Takes two ints and pushes their quotient or remainder; false where the divisor is 0, and then all is as before.
-fn divide_ints<F: FrameStore>(frames: &mut F, s: SegmentNo, op: u8) -> bool
+fn divide_ints<F: SegmentFrames>(frames: &mut F, s: SegmentNo, op: u8) -> bool
     requires op { IsTrue (is_among int_division_opcodes op) }
     requires finds { (x : ℤ) × (y : ℤ) × OnTopWithRoom (F.content frames.old) s (Int x ∷ Int y ∷ []) 1 }
     ensures { MatchBool result (Calculated (F.content frames.old) (F.content frames.new) s op)
@@ -229,7 +231,7 @@ fn divide_ints<F: FrameStore>(frames: &mut F, s: SegmentNo, op: u8) -> bool
 }
 
 /// Takes two longs and pushes their quotient or remainder; false where the divisor is 0, and then all is as before.
-fn divide_longs<F: FrameStore>(frames: &mut F, s: SegmentNo, op: u8) -> bool
+fn divide_longs<F: SegmentFrames>(frames: &mut F, s: SegmentNo, op: u8) -> bool
     requires op { IsTrue (is_among long_division_opcodes op) }
     requires finds { (x : ℤ) × (y : ℤ) × OnTopWithRoom (F.content frames.old) s (Long x ∷ Long y ∷ []) 1 }
     ensures { MatchBool result (Calculated (F.content frames.old) (F.content frames.new) s op)
@@ -245,7 +247,7 @@ fn divide_longs<F: FrameStore>(frames: &mut F, s: SegmentNo, op: u8) -> bool
 }
 
 /// Does an instruction of arithmetic; false where it would divide by 0, and then all is as before.
-pub(crate) fn calculate<F: FrameStore>(
+pub(crate) fn calculate<F: SegmentFrames>(
     frames: &mut F,
     s: SegmentNo,
     i: &Instr,

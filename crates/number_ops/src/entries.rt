@@ -1,16 +1,16 @@
-//! Entries of the operand stack of a segment's top frame: taken and pushed one by one, by their kinds.
+//! Entries of the operand stack of a segment's top frame: looked at, taken and pushed, by their kinds.
 
 ghost use Rattle.std.specs.Prelude.{◌≡◌, ℤ, ◌∷◌, []};
 ghost use Rattle.jk_model.specs.declared.values.Value.{Value as AValue};
 ghost use Rattle.jk_model.specs.declared.values.Value.TheVariants.{Int, Long};
 ghost use Rattle.number_ops.specs.TopChanges.{OnTop, OnTopWithRoom, Turns};
 
-use frame_store::FrameStore;
+use frame_store::SegmentFrames;
 use jk_model::{SegmentNo, Value};
 
 /// Pushes an entry.
 #[inline(always)]
-pub(crate) fn push<F: FrameStore>(frames: &mut F, s: SegmentNo, v: Value)
+pub(crate) fn push<F: SegmentFrames>(frames: &mut F, s: SegmentNo, v: Value)
     requires { OnTopWithRoom (F.content frames.old) s [] 1 }
     ensures { Turns (F.content frames.old) (F.content frames.new) s [] (v ∷ []) }
 {
@@ -19,7 +19,7 @@ pub(crate) fn push<F: FrameStore>(frames: &mut F, s: SegmentNo, v: Value)
 
 /// Takes the top entry.
 #[inline(always)]
-pub(crate) fn pop<F: FrameStore>(frames: &mut F, s: SegmentNo) -> Value
+pub(crate) fn pop<F: SegmentFrames>(frames: &mut F, s: SegmentNo) -> Value
     requires { (v : AValue) × OnTop (F.content frames.old) s (v ∷ []) }
     ensures { Turns (F.content frames.old) (F.content frames.new) s (result ∷ []) [] }
 {
@@ -28,7 +28,7 @@ pub(crate) fn pop<F: FrameStore>(frames: &mut F, s: SegmentNo) -> Value
 
 /// Takes an int from the top.
 #[inline(always)]
-pub(crate) fn pop_int<F: FrameStore>(frames: &mut F, s: SegmentNo) -> i32
+pub(crate) fn pop_int<F: SegmentFrames>(frames: &mut F, s: SegmentNo) -> i32
     requires { (n : ℤ) × OnTop (F.content frames.old) s (Int n ∷ []) }
     ensures { Turns (F.content frames.old) (F.content frames.new) s (Int result ∷ []) [] }
 {
@@ -39,7 +39,7 @@ pub(crate) fn pop_int<F: FrameStore>(frames: &mut F, s: SegmentNo) -> i32
 }
 
 /// Takes a long from the top.
-pub(crate) fn pop_long<F: FrameStore>(frames: &mut F, s: SegmentNo) -> i64
+pub(crate) fn pop_long<F: SegmentFrames>(frames: &mut F, s: SegmentNo) -> i64
     requires { (n : ℤ) × OnTop (F.content frames.old) s (Long n ∷ []) }
     ensures { Turns (F.content frames.old) (F.content frames.new) s (Long result ∷ []) [] }
 {
@@ -50,7 +50,8 @@ pub(crate) fn pop_long<F: FrameStore>(frames: &mut F, s: SegmentNo) -> i64
 }
 
 /// The int on top.
-pub(crate) fn top_int<F: FrameStore>(frames: &F, s: SegmentNo) -> i32
+#[inline(always)]
+pub(crate) fn top_int<F: SegmentFrames>(frames: &F, s: SegmentNo) -> i32
     requires { (n : ℤ) × OnTop (F.content frames.now) s (Int n ∷ []) }
     ensures { (n : ℤ) → OnTop (F.content frames.now) s (Int n ∷ []) → result ≡ n }
 {
@@ -60,8 +61,40 @@ pub(crate) fn top_int<F: FrameStore>(frames: &F, s: SegmentNo) -> i32
     }
 }
 
+/// The int below the top entry.
+#[inline(always)]
+pub(crate) fn lower_int<F: SegmentFrames>(frames: &F, s: SegmentNo) -> i32
+    requires { (n : ℤ) × (v : AValue) × OnTop (F.content frames.now) s (Int n ∷ v ∷ []) }
+    ensures { (n : ℤ) (v : AValue) → OnTop (F.content frames.now) s (Int n ∷ v ∷ []) → result ≡ n }
+{
+    match frames.peek(s, 1) {
+        Value::Int(n) => n,
+        _ => unreachable!(),
+    }
+}
+
+/// Takes the two entries on top.
+#[inline(always)]
+pub(crate) fn take_both<F: SegmentFrames>(frames: &mut F, s: SegmentNo)
+    requires { (v : AValue) × (w : AValue) × OnTop (F.content frames.old) s (v ∷ w ∷ []) }
+    ensures { (v : AValue) (w : AValue) → OnTop (F.content frames.old) s (v ∷ w ∷ [])
+        → Turns (F.content frames.old) (F.content frames.new) s (v ∷ w ∷ []) [] }
+{
+    frames.drop_entries(s, 2);
+}
+
+/// Puts an entry in the place of the two on top.
+#[inline(always)]
+pub(crate) fn replace_both<F: SegmentFrames>(frames: &mut F, s: SegmentNo, u: Value)
+    requires { (v : AValue) × (w : AValue) × OnTop (F.content frames.old) s (v ∷ w ∷ []) }
+    ensures { (v : AValue) (w : AValue) → OnTop (F.content frames.old) s (v ∷ w ∷ [])
+        → Turns (F.content frames.old) (F.content frames.new) s (v ∷ w ∷ []) (u ∷ []) }
+{
+    frames.exchange(s, 2, u);
+}
+
 /// The long on top.
-pub(crate) fn top_long<F: FrameStore>(frames: &F, s: SegmentNo) -> i64
+pub(crate) fn top_long<F: SegmentFrames>(frames: &F, s: SegmentNo) -> i64
     requires { (n : ℤ) × OnTop (F.content frames.now) s (Long n ∷ []) }
     ensures { (n : ℤ) → OnTop (F.content frames.now) s (Long n ∷ []) → result ≡ n }
 {

@@ -12,9 +12,9 @@ ghost use Rattle.number_laws.specs.NumberOpcodes.{is_among};
 ghost use Rattle.number_ops.specs.Parts.{jump_opcodes};
 ghost use Rattle.number_ops.specs.TopChanges.{OnTop, Turns};
 
-use crate::entries::{pop, pop_int};
+use crate::entries::{lower_int, pop, pop_int, take_both, top_int};
 use crate::parts::Jump;
-use frame_store::FrameStore;
+use frame_store::SegmentFrames;
 use jk_model::opcodes::{IF_ICMPEQ, IFEQ};
 use jk_model::{Instr, SegmentNo, Value};
 
@@ -27,6 +27,7 @@ pub(crate) fn place_of(target: i32) -> u32
 }
 
 /// Whether two ints compare as the comparison at a place of the list of six says.
+#[inline(always)]
 fn compares(place: u8, x: i32, y: i32) -> bool
     requires { place < 6 }
     ensures { (test : ℤ → ℤ → Bool) × HasRow comparisons place test × (result ≡ test x y) }
@@ -54,7 +55,8 @@ fn is_same_reference(v: Value, w: Value) -> bool
 }
 
 /// Takes an int, and compares it with 0.
-fn compare_with_zero<F: FrameStore>(frames: &mut F, s: SegmentNo, op: u8) -> bool
+#[inline(always)]
+fn compare_with_zero<F: SegmentFrames>(frames: &mut F, s: SegmentNo, op: u8) -> bool
     requires first { IFEQ ≤ op }
     requires last { op < IF_ICMPEQ }
     requires finds { (x : ℤ) × OnTop (F.content frames.old) s (Int x ∷ []) }
@@ -65,19 +67,21 @@ fn compare_with_zero<F: FrameStore>(frames: &mut F, s: SegmentNo, op: u8) -> boo
 }
 
 /// Takes two ints, and compares them.
-fn compare_ints<F: FrameStore>(frames: &mut F, s: SegmentNo, op: u8) -> bool
+#[inline(always)]
+fn compare_ints<F: SegmentFrames>(frames: &mut F, s: SegmentNo, op: u8) -> bool
     requires first { IF_ICMPEQ ≤ op }
     requires last { op < IF_ACMPEQ }
     requires finds { (x : ℤ) × (y : ℤ) × OnTop (F.content frames.old) s (Int x ∷ Int y ∷ []) }
     ensures { Decided (F.content frames.old) (F.content frames.new) s op result }
 {
-    let y = pop_int(frames, s);
-    let x = pop_int(frames, s);
+    let y = top_int(frames, s);
+    let x = lower_int(frames, s);
+    take_both(frames, s);
     compares(op - IF_ICMPEQ, x, y)
 }
 
 /// Takes two references, and says whether they are the same.
-fn take_same<F: FrameStore>(frames: &mut F, s: SegmentNo) -> bool
+fn take_same<F: SegmentFrames>(frames: &mut F, s: SegmentNo) -> bool
     requires { (v : AValue) × (w : AValue) × OnTop (F.content frames.old) s (v ∷ w ∷ []) }
     ensures { (v : AValue) × (w : AValue) × (result ≡ is_same_reference v w)
         × Turns (F.content frames.old) (F.content frames.new) s (v ∷ w ∷ []) [] }
@@ -88,7 +92,7 @@ fn take_same<F: FrameStore>(frames: &mut F, s: SegmentNo) -> bool
 }
 
 /// Takes a reference, and says whether it is null.
-fn take_null<F: FrameStore>(frames: &mut F, s: SegmentNo) -> bool
+fn take_null<F: SegmentFrames>(frames: &mut F, s: SegmentNo) -> bool
     requires { (v : AValue) × OnTop (F.content frames.old) s (v ∷ []) }
     ensures { (v : AValue) × (result ≡ is_same_reference v AValue.Null)
         × Turns (F.content frames.old) (F.content frames.new) s (v ∷ []) [] }
@@ -98,7 +102,8 @@ fn take_null<F: FrameStore>(frames: &mut F, s: SegmentNo) -> bool
 }
 
 /// Takes what a jump compares, and says whether it jumps.
-pub(crate) fn decides<F: FrameStore>(frames: &mut F, s: SegmentNo, i: &Instr, kind: Jump) -> bool
+#[inline(always)]
+pub(crate) fn decides<F: SegmentFrames>(frames: &mut F, s: SegmentNo, i: &Instr, kind: Jump) -> bool
     requires op { IsTrue (is_among (jump_opcodes kind) i.now.op) }
     requires there { HasTop (F.content frames.old) s }
     requires finds { Finds (F.content frames.old) s i.now (group_of i.now.op) }

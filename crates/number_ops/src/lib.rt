@@ -22,7 +22,7 @@ use crate::moves::move_entries;
 use crate::parts::{Part, part_of};
 use crate::switches::target;
 use domain_resolver::World;
-use frame_store::FrameStore;
+use frame_store::SegmentFrames;
 use jk_model::{After, ClassId, FrameHead, Instr, Raise, SegmentNo};
 
 /// java/lang/ArithmeticException, by its place in the system table.
@@ -33,7 +33,7 @@ const ARITHMETIC_EXCEPTION: ClassId = ClassId(19);
 /// its operands on the stack, and a return takes the value off. The frame stands where the head says that is handed in, which
 /// is the stored one but for the place: the caller may go on from place to place, and store the last one alone.
 #[inline(always)]
-pub fn step<F: FrameStore>(
+pub fn step<F: SegmentFrames>(
     frames: &mut F,
     w: &World,
     s: SegmentNo,

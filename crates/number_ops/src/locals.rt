@@ -9,7 +9,7 @@ ghost use Rattle.jk_model_domains.specs.NumberRows.{is_load, is_store_of_top, va
 ghost use Rattle.number_ops.specs.TopChanges.{HasAtMostLocals, HasInLocal, HasLocals, OnTop, OnTopWithRoom, Uses};
 
 use crate::entries::{pop, push};
-use frame_store::FrameStore;
+use frame_store::SegmentFrames;
 use jk_model::{Instr, SegmentNo, Value};
 
 /// The local that an instruction names, of so many.
@@ -22,7 +22,7 @@ fn local_of(i: &Instr, max_locals: u16) -> u16
 
 /// Pushes the value of a local.
 #[inline(always)]
-pub(crate) fn load<F: FrameStore>(frames: &mut F, s: SegmentNo, max_locals: u16, i: &Instr)
+pub(crate) fn load<F: SegmentFrames>(frames: &mut F, s: SegmentNo, max_locals: u16, i: &Instr)
     requires op { IsTrue (is_load i.now.op) }
     requires most { HasAtMostLocals (F.content frames.old) s max_locals }
     requires finds { (n : ℕ) × (v : AValue) × (i.now.a ≡ pos n) × HasInLocal (F.content frames.old) s n v × OnTopWithRoom (F.content frames.old) s [] 1 }
@@ -34,7 +34,7 @@ pub(crate) fn load<F: FrameStore>(frames: &mut F, s: SegmentNo, max_locals: u16,
 
 /// Takes the top entry, and puts it into a local; the local after a long is unset then.
 #[inline(always)]
-pub(crate) fn store<F: FrameStore>(frames: &mut F, s: SegmentNo, max_locals: u16, i: &Instr)
+pub(crate) fn store<F: SegmentFrames>(frames: &mut F, s: SegmentNo, max_locals: u16, i: &Instr)
     requires op { IsTrue (is_store_of_top i.now.op) }
     requires most { HasAtMostLocals (F.content frames.old) s max_locals }
     requires finds { (n : ℕ) × (v : AValue) × (i.now.a ≡ pos n) × OnTop (F.content frames.old) s (v ∷ [])
@@ -50,7 +50,8 @@ pub(crate) fn store<F: FrameStore>(frames: &mut F, s: SegmentNo, max_locals: u16
 }
 
 /// Adds a constant to a local.
-pub(crate) fn increment<F: FrameStore>(frames: &mut F, s: SegmentNo, max_locals: u16, i: &Instr)
+#[inline(always)]
+pub(crate) fn increment<F: SegmentFrames>(frames: &mut F, s: SegmentNo, max_locals: u16, i: &Instr)
     requires op { i.now.op ≡ IINC }
     requires most { HasAtMostLocals (F.content frames.old) s max_locals }
     requires finds { (n : ℕ) × (x : ℤ) × (i.now.a ≡ pos n) × HasInLocal (F.content frames.old) s n (Int x) }

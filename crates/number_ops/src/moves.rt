@@ -12,7 +12,7 @@ ghost use Rattle.number_laws.specs.NumberOpcodes.{is_among, moving_opcodes};
 ghost use Rattle.number_ops.specs.TopChanges.{OnTop, OnTopWithRoom, Turns};
 
 use crate::entries::{pop, push};
-use frame_store::FrameStore;
+use frame_store::SegmentFrames;
 use jk_model::opcodes::{DUP, DUP_X1, DUP_X2, DUP2, DUP2_X1, DUP2_X2, POP, POP2, SWAP};
 use jk_model::{Instr, SegmentNo, Value};
 
@@ -25,7 +25,7 @@ enum Entries {
 }
 
 /// Takes two slots: a long, or two entries.
-fn take_two<F: FrameStore>(frames: &mut F, s: SegmentNo) -> Entries
+fn take_two<F: SegmentFrames>(frames: &mut F, s: SegmentNo) -> Entries
     requires { (taken : AList AValue) × (values_slots taken ≡ 2) × OnTop (F.content frames.old) s taken }
     ensures slots { values_slots (entries_of result) ≡ 2 }
     ensures taken { Turns (F.content frames.old) (F.content frames.new) s (entries_of result) [] }
@@ -38,7 +38,7 @@ fn take_two<F: FrameStore>(frames: &mut F, s: SegmentNo) -> Entries
 }
 
 /// Takes so many slots, without cutting a long.
-fn take_slots<F: FrameStore>(frames: &mut F, s: SegmentNo, n: u8) -> Entries
+fn take_slots<F: SegmentFrames>(frames: &mut F, s: SegmentNo, n: u8) -> Entries
     requires few { n ≤ 2 }
     requires finds { (taken : AList AValue) × (values_slots taken ≡ n) × OnTop (F.content frames.old) s taken }
     ensures slots { values_slots (entries_of result) ≡ n }
@@ -52,7 +52,7 @@ fn take_slots<F: FrameStore>(frames: &mut F, s: SegmentNo, n: u8) -> Entries
 }
 
 /// Puts entries on top.
-fn put<F: FrameStore>(frames: &mut F, s: SegmentNo, entries: Entries)
+fn put<F: SegmentFrames>(frames: &mut F, s: SegmentNo, entries: Entries)
     requires { OnTopWithRoom (F.content frames.old) s [] (length (entries_of entries)) }
     ensures { Turns (F.content frames.old) (F.content frames.new) s [] (entries_of entries) }
 {
@@ -67,7 +67,7 @@ fn put<F: FrameStore>(frames: &mut F, s: SegmentNo, entries: Entries)
 }
 
 /// Puts a copy of the topmost slots, as many as `top` says, below those before them, as many as `below` says.
-fn copy<F: FrameStore>(frames: &mut F, s: SegmentNo, below: u8, top: u8)
+fn copy<F: SegmentFrames>(frames: &mut F, s: SegmentNo, below: u8, top: u8)
     requires few { below ≤ 2 }
     requires few_copied { top ≤ 2 }
     requires finds { FindsShape (F.content frames.old) s (Copies below top) }
@@ -82,7 +82,7 @@ fn copy<F: FrameStore>(frames: &mut F, s: SegmentNo, below: u8, top: u8)
 }
 
 /// Exchanges the two topmost entries.
-fn swap<F: FrameStore>(frames: &mut F, s: SegmentNo)
+fn swap<F: SegmentFrames>(frames: &mut F, s: SegmentNo)
     requires { (v : AValue) × (w : AValue) × (value_slots v ≡ 1) × (value_slots w ≡ 1) × OnTopWithRoom (F.content frames.old) s (v ∷ w ∷ []) 2 }
     ensures { Moved (F.content frames.old) (F.content frames.new) s SWAP }
 {
@@ -93,7 +93,7 @@ fn swap<F: FrameStore>(frames: &mut F, s: SegmentNo)
 }
 
 /// Does pop, pop2, swap or a form of dup.
-pub(crate) fn move_entries<F: FrameStore>(frames: &mut F, s: SegmentNo, i: &Instr)
+pub(crate) fn move_entries<F: SegmentFrames>(frames: &mut F, s: SegmentNo, i: &Instr)
     requires op { IsTrue (is_among moving_opcodes i.now.op) }
     requires finds { Finds (F.content frames.old) s i.now (group_of i.now.op) }
     ensures { Moved (F.content frames.old) (F.content frames.new) s i.now.op }

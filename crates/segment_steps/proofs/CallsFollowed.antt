@@ -15,7 +15,7 @@ use Rattle.jk_model_running.specs.Ways.{Crosses as WentAcross, GoesOn}
 use Rattle.jk_model_sharing.specs.SharedStates.{SharedState}
 use Rattle.call_ops.specs.CallSteps.{CallDone, CallFollows, calls, calls_system, crosses, raises}
 use Rattle.class_init.specs.KeptStates.{KeptState}
-use Rattle.frame_store.specs.FrameContents.{FrameContent, HasTop, IsSame}
+use Rattle.frame_store.specs.FrameContents.{FrameContent, IsSame}
 use Rattle.heap_laws.specs.FittingOutcomes.{FitsOutcome}
 use Rattle.heap_laws.specs.KeptInsides.{IsKept}
 use Rattle.heap_laws.specs.RaisableObjects.{MayBeRaised}
@@ -36,7 +36,6 @@ use Rattle.segment_steps.specs.declared.went.Went.TheVariants as Goes
 use Rattle.segment_steps.proofs.InstructionsLeave.{may_raise, raisable, raised_at}
 use Rattle.segment_steps.proofs.ContentsStay.{one_store}
 use Rattle.segment_steps.proofs.StandingHere.{becomes_still, here, may_do, stepped}
-use Rattle.segment_steps.proofs.StandsAfterwards.{some_end, some_top}
 
 module _ (heaps : HeapContent) (frames new : FrameContent) (own : KeptState) (world : WorldRecord) (shared : SharedState) (r : Runs)
     (at : PlaceInCode) (st : StandsReady frames world.classes own.state r at) where
@@ -89,12 +88,6 @@ module _ (heaps : HeapContent) (frames new : FrameContent) (own : KeptState) (wo
         let left = kept (working doing) (Raises raise) row in
         raised_at old world shared r at st may mid x is (working doing) left.0 (becomes_still old world shared r at st may new keeps) may.domain.rooms
         left.1.0 after raise went (by_call row) done
-
-    -- the called frame is on top
-    pub top_called : (n : ℕ) → CallFollows x doing mid (Next.Goto n) → HasTop new r.segment
-    top_called n (calls w called row becomes) =
-        some_top new r.segment r.domain (st.top.lower ++ w.frame ∷ called ∷ []) becomes.frames.changes.becomes
-        (some_end st.top.lower w.frame (called ∷ []))
 
     -- where none was called, the frames are as before
     pub none_called : (after : After) → CallFollows x doing mid after → ((n : ℕ) → after ≡ Next.Goto n → ⊥) → new ≡ frames

@@ -1,385 +1,470 @@
--- Steps that stay in their frame, one after another: the store of frames has the frame with the head that it had at first, until the last
--- place is stored.
-use Rattle.std.proofs.Common.{inl, inr, ◌≡◌, ℕ, ◌+◌, ◌<◌, suc, ℤ, pos, List, [], ◌∷◌, ◌++◌, length, Option, Some, None, refl, sym, ap, subst, ◌∙◌, add-one, arith}
+-- Steps that stay in their frame, one after another: the store of frames has the top frame where it stood some steps ago, until the place where it
+-- stands is stored. Besides is looked at the store in which that is so at once.
+use Rattle.std.proofs.Common.{◌≡◌, ℕ, ◌+◌, ◌≤◌, List, [], ◌∷◌, ◌++◌, Contains, Option, Some, None, slice_get, refl, sym, ap, subst, ◌∙◌, arith}
 use Rattle.std.proofs.lemmas.List.Sums.{sum_by_push}
-use Rattle.std.proofs.lemmas.Option.{none-some, slice_get_within}
-use Rattle.list_lemmas.proofs.ItemsOfLists.{Contains-at}
-use Rattle.list_lemmas.proofs.LastItems.{last_of, one_last}
+use Rattle.list_lemmas.proofs.LastItems.{last_of}
 use Rattle.jk_model.specs.declared.frames.FrameHead.{FrameHead}
 use Rattle.jk_model.specs.declared.identifiers.ClassId.{ClassId}
 use Rattle.jk_model.specs.declared.identifiers.ThreadNo.{ThreadNo}
 use Rattle.jk_model.specs.declared.instructions.Instr.{Instr}
 use Rattle.jk_model.specs.declared.steps.After.TheVariants as Next
 use Rattle.jk_model_classes.specs.declared.records.ClassRecord.{ClassRecord}
-use Rattle.jk_model_typing.specs.Rows.{Row}
-use Rattle.jk_model_typing.specs.Scopes.{CodeScope, IsScopeOf}
-use Rattle.jk_model_typing.specs.Typing.{GoesOnAt}
+use Rattle.jk_model_classes.specs.Worlds.{WorldRecord}
 use Rattle.jk_model_frames.specs.Frames.{FrameState, frames_chunks, head_chunks}
-use Rattle.jk_model_domains.specs.NumberRows.{IsOfNumbers, NumberRow}
+use Rattle.jk_model_domains.specs.NumberRows.{NumberRow}
+use Rattle.jk_model_domains.specs.ValueTypes.{FrameHolds}
 use Rattle.jk_model_heaps.specs.CalledFrames.{at_place}
-use Rattle.jk_model_heaps.specs.RunningCode.{RunsCode}
-use Rattle.jk_model_heaps.specs.Workings.{GoesOn as GoesOnAtPlace, Run, Setting, Working}
-use Rattle.jk_model_running.specs.Executions.{numbers}
-use Rattle.jk_model_running.specs.Initialising.{FrameNeeds}
-use Rattle.jk_model_running.specs.LocalSteps.{LocalStep, does, goes_on, with_top}
-use Rattle.jk_model_running.specs.Ways.{GoesOn}
+use Rattle.jk_model_heaps.specs.RunningCode.{InstrNeeds}
+use Rattle.jk_model_heaps.specs.Workings.{GoesOn, Inside, Run, Setting, Working}
+use Rattle.jk_model_running.specs.Executions.{Executes, heap as by_heap}
 use Rattle.jk_model_sealing.specs.AnsweringFrames.{FramesAnswer}
-use Rattle.jk_model_sealing.specs.FittingFrames.{FitsHere}
-use Rattle.jk_model_sealing.specs.SealedRuns.{IsKnownClass, KnowsClassOf}
-use Rattle.frame_store.specs.FrameContents.{Changes, FrameContent, HasTop, SetsTop, TopFrame}
+use Rattle.jk_model_sharing.specs.SharedStates.{SharedState}
+use Rattle.frame_store.specs.FrameContents.{Changes, FrameContent, HasTop, SetsTop, TopFrame, free_chunks}
+use Rattle.heap_laws.specs.FittingOutcomes.{FitsOutcome}
 use Rattle.heap_laws.specs.KeptInsides.{IsKept}
-use Rattle.heap_laws.specs.RunningFrames.{RunsWell}
+use Rattle.heap_ops.specs.HeapSteps.{HeapDone}
+use Rattle.object_store.specs.HeapContents.{HeapContent}
 use Rattle.number_laws.specs.FrameLaws.{with_head}
-use Rattle.number_ops.specs.NumberSteps.{DoesNumbers, IsReady}
-use Rattle.number_ops.proofs.TopFrames.{same_top, top_after}
-use Rattle.row_laws.specs.StandingFrames.{StandsTyped}
-use Rattle.row_laws.proofs.NumberRowsKept.{number_kept}
-use Rattle.row_laws.proofs.StandsHere.{goes, least, room, stands_typed, typed}
-use Rattle.step_contents.specs.Conditions.{MayDo, around}
-use Rattle.step_contents.specs.Contents.{Becomes, Contents, Here, InsideBecomes, contents_of}
+use Rattle.number_ops.specs.NumberSteps.{DoesNumbers}
+use Rattle.number_ops.proofs.TopFrames.{same_top}
+use Rattle.row_laws.specs.HeapRowLaws.{HeapRowsKeep}
+use Rattle.row_laws.proofs.InstructionsKept.{instruction_kept}
+use Rattle.step_contents.specs.Conditions.{MayDo, around, working}
+use Rattle.step_contents.specs.Contents.{Becomes, Contents, Here, contents_of, here_at, with_frame}
 use Rattle.step_contents.specs.InstructionKinds.{HasRow}
 use Rattle.step_contents.specs.PlacesInCode.{IsPlaceIn, PlaceInCode}
 use Rattle.step_contents.specs.Settings.{IsSetting}
-use Rattle.step_contents.proofs.InstructionsBegin.{runs_well}
+use Rattle.step_contents.specs.StandingTops.{StandsThere}
+use Rattle.step_contents.proofs.InstructionsBegin.{runs_code, runs_well}
 use Rattle.exception_unwind.proofs.FramesChanged.{segment_of, sets_it, then_changes, top_there}
-use Rattle.exception_unwind.proofs.InsidesChanged.{nothing_changed, with_frames}
 use Rattle.segment_steps.specs.ActingSegments.{MayAct}
-use Rattle.segment_steps.specs.InFrameSteps.{NeedsNoClass, StaysInFrame, StepsInFrame, none, one_more}
-use Rattle.segment_steps.specs.InFrameTurns.{GoesOnInFrame, IsReadyAt, StaysAsItIs}
-use Rattle.segment_steps.specs.StandingTops.{StandsThere}
-use Rattle.segment_steps.proofs.NeedsOfFrames.{code_at, needs_there}
-use Rattle.segment_steps.proofs.NumbersInFrame.{needs_no_class, scope_at}
+use Rattle.segment_steps.specs.InFrameTurns.{Accesses, GoesOnInFrame, IsReadyAt, StaysAsItIs, StoresPlace}
+use Rattle.segment_steps.specs.StepsAlone.{StandsReady}
+use Rattle.segment_steps.specs.StepsInTurn.{HaveRooms, StepsInTurn, none}
+use Rattle.segment_steps.specs.declared.meeting.Runs.{Runs}
+use Rattle.segment_steps.proofs.ChangesInTurn.{becomes_then, free_after, inside_kept}
+use Rattle.segment_steps.proofs.ContentsStay.{frames_stay}
+use Rattle.segment_steps.proofs.GoingOnActing.{acts_again, step, waits_for_none}
+use Rattle.segment_steps.proofs.KnownAfterwards.{setting_after}
+use Rattle.segment_steps.proofs.NumbersBegin.{has_row as row_begins, numbers_ready}
+use Rattle.segment_steps.proofs.NumbersDone.{becomes as numbers_become, executes as numbers_execute, head_stays}
+use Rattle.segment_steps.proofs.NumbersInFrame.{needs_no_class}
+use Rattle.segment_steps.proofs.AccessesInFrame.{access_needs_no_class}
+use Rattle.segment_steps.proofs.ReframedStores.{between, reframed, reframes, stays_same}
+use Rattle.segment_steps.proofs.HeapsFollowed.{next_there}
+use Rattle.segment_steps.proofs.StandingHere.{becomes_same, same_frames}
+use Rattle.segment_steps.proofs.StepsJoined.{one_step, set_same, steps_then}
 
--- ---- One step more.
+-- the frame at another place
+abbrev pub moved_to : ℕ → FrameState → FrameState
+moved_to place f = record f { head = record f.head { at = place } }
 
-pub then_one : (x : Setting) (t : ThreadNo) (n : ℕ) (old mid new : Run) → StepsInFrame x t n old mid → NeedsNoClass x.classes mid
-    → LocalStep x t mid new GoesOn → new.inside ≡ mid.inside → StaysInFrame mid new → StepsInFrame x t (suc n) old new
-then_one x t n old mid new (none run) needs step inside stays = one_more 0 mid new new needs step inside stays (none new)
-then_one x t n old mid new (one_more m run next last first a b c rest) needs step inside stays =
-    one_more (suc m) run next new first a b c (then_one x t m next mid new rest needs step inside stays)
-
--- ---- So many steps were done, and the top frame stands there.
-
-pub record Midway {old : Contents} {here : Here} (may : MayAct old here) (x : Setting) (t : ThreadNo) (now : FrameContent) (at : PlaceInCode)
-    (done : ℕ) : Type 0 where
-  pub callers : List FrameState
-  -- the top frame as it was at first, and as it is
-  pub first : FrameState
-  pub frame : FrameState
-  pub are_frames : may.run.frames ≡ callers ++ first ∷ []
-  pub head : at.head ≡ frame.head
-  pub moved : frame.head ≡ (let h : FrameHead = record first.head { at = frame.head.at } in h)
-  pub runs : RunsWell (around may.domain) x (record { inside = may.run.inside; frame = frame })
-  pub steps : StepsInFrame x t done may.run (with_top callers frame may.run.inside)
-  pub stored : Changes old.frames now here.segment here.domain (Some (segment_of here.domain (callers ++ with_head frame first.head ∷ [])))
-      (old.frames.used here.domain)
-
--- ---- At first.
-
-top_of : (classes : List ClassRecord) (frames : List FrameState) → FramesAnswer classes frames
+pub top_of : (classes : List ClassRecord) (frames : List FrameState) → FramesAnswer classes frames
     → (callers : List FrameState) × (f : FrameState) × (frames ≡ callers ++ f ∷ [])
 top_of classes [] answers = absurd answers
 top_of classes (f ∷ frames) answers = last_of f frames
 
-module _ {old : Contents} {here : Here} (may : MayAct old here) where
-  on_top : (callers : List FrameState) (f : FrameState) → may.run.frames ≡ callers ++ f ∷ [] → TopFrame old.frames here.segment f
-  on_top callers f are =
-      record { segment = segment_of here.domain may.run.frames; is_there = may.holds.frames; lower = callers; frames = are }
+-- So many steps were done since this, and the top frame stands there.
+pub record Midway {old : Contents} {here : Here} (may : MayAct old here) (x : Setting) (t : ThreadNo) (heaps : HeapContent) (now : FrameContent)
+    (at : PlaceInCode) (done : ℕ) : Type 0 where
+  -- the store in which the place is stored
+  pub there : FrameContent
+  pub acts : MayAct (contents_of heaps there old.own) here
+  pub set : IsSetting (contents_of heaps there old.own) here x
+  pub callers : List FrameState
+  pub frame : FrameState
+  pub are_frames : acts.run.frames ≡ callers ++ frame ∷ []
+  pub head : at.head ≡ frame.head
+  pub no_need : at.head.need ≡ None
+  -- the place that is stored, and the store as it is
+  pub place : ℕ
+  pub behind : Changes there now here.segment here.domain (Some (segment_of here.domain (callers ++ moved_to place frame ∷ [])))
+      (there.used here.domain)
+  pub cost : frames_chunks acts.run.frames ≡ frames_chunks may.run.frames
+  pub steps : StepsInTurn t old.own.rooms done x may.run acts.run
+  pub becomes : Becomes old (contents_of heaps there old.own) here may.run acts.run
 
-  inside_stays : InsideBecomes old old here may.run.inside
-  inside_stays = subst (InsideBecomes old old here) (sym may.holds.inside) (nothing_changed old here may.domain)
+-- ---- At first.
 
-  module _ (x : Setting) (t : ThreadNo) (set : IsSetting old here x) where
-    pub begins : (at : PlaceInCode) → ((f : FrameState) → TopFrame old.frames here.segment f → at.head ≡ f.head) → at.head.need ≡ None
-        → IsPlaceIn here.world.classes at → Midway may x t old.frames at 0
-    begins at stands no_need place =
-        let top = top_of here.world.classes may.run.frames may.answers in
-        let f = top.1 in
-        let head : at.head ≡ f.head = stands f (on_top top.0 f top.2) in
-        let may_do : MayDo old here at = record {
-          domain = may.domain;
-          run = may.run;
-          holds = may.holds;
-          sealed = may.sealed;
-          callers = top.0;
-          frame = f;
-          are_frames = top.2;
-          head = head;
-          no_need = no_need;
-          place = place;
-        } in
-        record {
-          callers = top.0;
-          first = f;
-          frame = f;
-          are_frames = top.2;
-          head = head;
-          moved = refl;
-          runs = runs_well may_do x set;
-          steps = subst (λ (l : List FrameState). StepsInFrame x t 0 may.run (let r : Run = record { inside = may.run.inside; frames = l } in r)) top.2
-              (none may.run);
-          stored = record {
-            domains = record { pages = refl; took_all = refl; quota = λ d. refl; first_page = λ d. refl };
-            becomes = may.holds.frames ∙ ap (λ (l : List FrameState). Some (segment_of here.domain l)) top.2;
-            others = λ r differ. refl;
-            uses = refl;
-            other_domains = λ e differ. refl;
-          };
-        }
+module _ (old : Contents) (here : Here) (may : MayAct old here) (x : Setting) (t : ThreadNo) (set : IsSetting old here x) where
+  pub begins : (at : PlaceInCode) → StandsThere old.frames here.world.classes here.segment at → Midway may x t old.heaps old.frames at 0
+  begins at stands =
+      let top = top_of here.world.classes may.run.frames may.answers in
+      let on_top : TopFrame old.frames here.segment top.1 = record {
+        segment = segment_of here.domain may.run.frames;
+        is_there = may.holds.frames;
+        lower = top.0;
+        frames = top.2;
+      } in
+      let same : stands.frame ≡ top.1 = same_top old.frames here.segment stands.frame top.1 stands.top on_top in
+      let known = may.holds.frames ∙ ap (λ (l : List FrameState). Some (segment_of here.domain l)) top.2 in
+      record {
+        there = old.frames;
+        acts = may;
+        set = set;
+        callers = top.0;
+        frame = top.1;
+        are_frames = top.2;
+        head = stands.head ∙ ap (λ (f : FrameState). f.head) same;
+        no_need = stands.no_need;
+        place = top.1.head.at;
+        behind = stays_same old.frames here.segment here.domain (segment_of here.domain (top.0 ++ top.1 ∷ [])) known;
+        cost = refl;
+        steps = none x may.run;
+        becomes = stays_so;
+      }
+    where
+      stays_so : Becomes old (contents_of old.heaps old.frames old.own) here may.run may.run
+      stays_so = becomes_same old here may.run may.domain may.holds old.frames (same_frames old.frames)
 
-    -- ---- In between.
+-- ---- In between.
 
-    module _ (now : FrameContent) (at : PlaceInCode) (done : ℕ) (place : IsPlaceIn here.world.classes at) (m : Midway may x t now at done) where
-      abbrev classes : List ClassRecord
-      classes = here.world.classes
+module _ {old : Contents} {world : WorldRecord} {shared : SharedState} {r : Runs} (may : MayAct old (here_at world shared r.domain r.segment))
+    (x : Setting) (heaps : HeapContent) (now : FrameContent) (at : PlaceInCode) (done : ℕ) (place : IsPlaceIn world.classes at)
+    (m : Midway may x r.thread heaps now at done) where
+  abbrev h : Here
+  h = here_at world shared r.domain r.segment
 
-      abbrev stored_frame : FrameState
-      stored_frame = with_head m.frame m.first.head
+  abbrev c : Contents
+  c = contents_of heaps m.there old.own
 
-      stored_top : TopFrame now here.segment stored_frame
-      stored_top = top_there now here.segment here.domain m.callers stored_frame m.stored.becomes
+  -- ---- The top frame, in the store in which it stands there, and in the other.
 
-      pub still_top : HasTop now here.segment
-      still_top = (stored_frame, stored_top)
+  abbrev top : TopFrame m.there r.segment m.frame
+  top = record {
+    segment = segment_of r.domain m.acts.run.frames;
+    is_there = m.acts.holds.frames;
+    lower = m.callers;
+    frames = m.are_frames;
+  }
 
-      abbrev code : RunsCode classes m.frame
-      code = code_at classes m.frame at m.head place
+  abbrev pub ready_if : ((k : ClassId) → InstrNeeds at.scope at.instr k → ⊥) → StandsReady m.there world.classes old.own.state r at
+  ready_if never = record {
+    frame = m.frame;
+    top = top;
+    head = m.head;
+    no_need = m.no_need;
+    place = place;
+    ready = λ k needs. absurd (never k needs);
+  }
 
-      standing : StandsTyped classes may.run.inside.heap m.frame code
-      standing = stands_typed classes may.domain.codes m.frame code m.runs.fits.0 may.run.inside.heap m.runs.fits.1
+  abbrev doing : MayDo c h at
+  doing = record {
+    domain = m.acts.domain;
+    run = m.acts.run;
+    holds = m.acts.holds;
+    sealed = m.acts.sealed;
+    callers = m.callers;
+    frame = m.frame;
+    are_frames = m.are_frames;
+    head = m.head;
+    no_need = m.no_need;
+    place = place;
+  }
 
-      pub has_row : HasRow at
-      has_row = (
-        standing.before,
-        standing.after,
-        subst (λ (h : FrameHead). Row at.scope h.at at.instr standing.before standing.after) (sym m.head) standing.typed.row,
-      )
+  abbrev pub stands : StandsThere m.there world.classes r.segment at
+  stands = record { frame = m.frame; top = top; head = m.head; no_need = m.no_need; place = place }
 
-      -- ---- The instruction may be done.
+  stored_top : TopFrame now r.segment (moved_to m.place m.frame)
+  stored_top = top_there now r.segment r.domain m.callers (moved_to m.place m.frame) m.behind.becomes
 
-      within : (to : ℤ) → GoesOnAt m.frame.head.at at.instr to → (n : ℕ) × (to ≡ pos n) × (n < length at.scope.code.instrs)
-      within to leads =
-          let there = (goes classes may.domain.codes m.frame code m.runs.fits.0).goes_on to leads in
-          let frames = m.runs.fits.0.frames in
-          let low = slice_get_within frames there.0 (Some there.2.0) there.2.1 in
-          let least_one = least classes may.domain.codes m.frame code m.runs.fits.0 in
-          let many : length frames ≡ length least_one.typing.scope.code.instrs = least_one.typing.as_many in
-          let same = ap (λ (s : CodeScope). length s.code.instrs) (typed classes may.domain.codes m.frame code m.runs.fits.0) in
-          (there.0, there.1, omega (arith, low, many, same))
+  pub still_top : HasTop now r.segment
+  still_top = (moved_to m.place m.frame, stored_top)
 
-      ready_here : IsOfNumbers at.scope at.instr → IsReady now classes here.segment m.frame.head at.instr
-      ready_here of_numbers =
-          let decoded = may.domain.codes.decoded place.method at.scope place.is_scope in
-          record {
-            frame = stored_frame;
-            top = stored_top;
-            ahead = m.moved;
-            method = place.method;
-            method_is = code.is_method;
-            scope = at.scope;
-            scope_is = place.is_scope;
-            room = room classes may.domain.codes m.frame code m.runs.fits.0;
-            stands = code.stands;
-            of_numbers = of_numbers;
-            before = standing.before;
-            after = standing.after;
-            sized = standing.typed.sized;
-            row = standing.typed.row;
-            heap = may.run.inside.heap;
-            holds = record { locals = standing.typed.holds.locals; stack = standing.typed.holds.stack };
-            keys = decoded.keys at.instr (Contains-at at.scope.code.instrs m.frame.head.at at.instr code.stands);
-            goes_on = within;
-            short = decoded.short;
-          }
+  pub has_row : HasRow at
+  has_row = row_begins doing
 
-      pub ready : IsReadyAt now classes here.segment at
-      ready of_numbers = subst (λ (h : FrameHead). IsReady now classes here.segment h at.instr) (sym m.head) (ready_here of_numbers)
+  there_was : m.there.segment r.segment ≡ Some (segment_of r.domain (m.callers ++ m.frame ∷ []))
+  there_was = m.acts.holds.frames ∙ ap (λ (l : List FrameState). Some (segment_of r.domain l)) m.are_frames
 
-      -- ---- What a change of the top frame makes of the store since the first step.
+  -- ---- What an instruction on numbers asks.
 
-      changed : (new : FrameContent) (g : FrameState) → SetsTop now new here.segment g
-          → Changes old.frames new here.segment here.domain (Some (segment_of here.domain (m.callers ++ g ∷ []))) (old.frames.used here.domain)
-      changed new g sets =
-          let last = sets_it now here.segment here.domain m.callers stored_frame m.stored.becomes new g sets in
-          then_changes old.frames now new here.segment here.domain (Some (segment_of here.domain (m.callers ++ stored_frame ∷ [])))
-          (Some (segment_of here.domain (m.callers ++ g ∷ []))) (old.frames.used here.domain) (old.frames.used here.domain) m.stored
-          (subst (Changes now new here.segment here.domain (Some (segment_of here.domain (m.callers ++ g ∷ [])))) m.stored.uses last)
+  pub ready : IsReadyAt now world.classes r.segment at
+  ready of_numbers =
+      let a = numbers_ready doing of_numbers in
+      let same : a.frame ≡ m.frame = same_top m.there r.segment a.frame m.frame a.top top in
+      let holds : FrameHolds a.scope a.heap m.frame a.before = subst (λ (f : FrameState). FrameHolds a.scope a.heap f a.before) same a.holds in
+      record {
+        frame = moved_to m.place m.frame;
+        top = stored_top;
+        ahead = ap (λ (k : FrameHead). let j : FrameHead = record k { at = at.head.at } in j) m.head;
+        method = a.method;
+        method_is = a.method_is;
+        scope = a.scope;
+        scope_is = a.scope_is;
+        room = a.room;
+        stands = a.stands;
+        of_numbers = a.of_numbers;
+        before = a.before;
+        after = a.after;
+        sized = a.sized;
+        row = a.row;
+        heap = a.heap;
+        holds = record { locals = holds.locals; stack = holds.stack };
+        keys = a.keys;
+        goes_on = a.goes_on;
+        short = a.short;
+      }
 
-      -- ---- Nothing was done.
+  -- ---- Once its place is stored, the store is the one in which it stands there.
 
-      pub rests : (new : FrameContent) → StaysAsItIs now new here.segment → Midway may x t new at done
-      rests new stays = record {
+  settled_is : (let f : FrameState = moved_to m.place m.frame in
+      let g : FrameState = record f { head = record f.head { at = at.head.at; need = None } } in g) ≡ m.frame
+  settled_is =
+      ap (λ (k : FrameHead). let g : FrameState = record m.frame { head = record m.frame.head { at = k.at; need = None } } in g) m.head
+      ∙ ap (λ (o : Option ClassId). let g : FrameState = record m.frame { head = record m.frame.head { need = o } } in g)
+      (sym (ap (λ (k : FrameHead). k.need) (sym m.head) ∙ m.no_need))
+
+  pub is_there : (mid : FrameContent) → StoresPlace now mid r.segment at → mid ≡ m.there
+  is_there mid stores =
+      let sets : SetsTop now mid r.segment m.frame =
+      subst (SetsTop now mid r.segment) settled_is (stores (moved_to m.place m.frame) stored_top) in
+      let one = sets_it now r.segment r.domain m.callers (moved_to m.place m.frame) m.behind.becomes mid m.frame sets in
+      let changes : Changes m.there mid r.segment r.domain (Some (segment_of r.domain (m.callers ++ m.frame ∷ []))) (now.used r.domain) =
+      then_changes m.there now mid r.segment r.domain (Some (segment_of r.domain (m.callers ++ moved_to m.place m.frame ∷ [])))
+      (Some (segment_of r.domain (m.callers ++ m.frame ∷ []))) (m.there.used r.domain) (now.used r.domain) m.behind one in
+      frames_stay c (contents_of heaps mid old.own) h (m.callers ++ m.frame ∷ []) there_was
+      (record {
+        used = now.used r.domain;
+        chunks = ap (λ (n : ℕ). n + frames_chunks (m.callers ++ m.frame ∷ [])) m.behind.uses;
+        changes = changes;
+      })
+
+  pub acts_once_stored : (mid : FrameContent) → StoresPlace now mid r.segment at
+      → MayAct (contents_of heaps mid old.own) h × StandsThere mid world.classes r.segment at
+  acts_once_stored mid stores =
+      subst (λ (fs : FrameContent). MayAct (contents_of heaps fs old.own) h × StandsThere fs world.classes r.segment at)
+      (sym (is_there mid stores)) (m.acts, stands)
+
+  -- ---- Nothing was done.
+
+  pub rests : (new : FrameContent) → StaysAsItIs now new r.segment → Midway may x r.thread heaps new at done
+  rests new same =
+      let sets = sets_it now r.segment r.domain m.callers (moved_to m.place m.frame) m.behind.becomes new (moved_to m.place m.frame)
+      (same (moved_to m.place m.frame) stored_top) in
+      let changes = then_changes m.there now new r.segment r.domain (Some (segment_of r.domain (m.callers ++ moved_to m.place m.frame ∷ [])))
+      (Some (segment_of r.domain (m.callers ++ moved_to m.place m.frame ∷ []))) (m.there.used r.domain) (now.used r.domain) m.behind sets in
+      record {
+        there = m.there;
+        acts = m.acts;
+        set = m.set;
         callers = m.callers;
-        first = m.first;
         frame = m.frame;
         are_frames = m.are_frames;
         head = m.head;
-        moved = m.moved;
-        runs = m.runs;
+        no_need = m.no_need;
+        place = m.place;
+        behind = subst (Changes m.there new r.segment r.domain (Some (segment_of r.domain (m.callers ++ moved_to m.place m.frame ∷ []))))
+            m.behind.uses changes;
+        cost = m.cost;
         steps = m.steps;
-        stored = changed new stored_frame (stays stored_frame stored_top);
+        becomes = m.becomes;
       }
 
-      -- ---- The instruction was done, and the frame goes on.
+  -- nothing but that the place was stored
+  pub rests_stored : (new : FrameContent) → StoresPlace now new r.segment at → Midway may x r.thread heaps new at done
+  rests_stored new stores =
+      subst (λ (fs : FrameContent). Midway may x r.thread heaps fs at done) (sym (is_there new stores))
+      (record {
+        there = m.there;
+        acts = m.acts;
+        set = m.set;
+        callers = m.callers;
+        frame = m.frame;
+        are_frames = m.are_frames;
+        head = m.head;
+        no_need = m.no_need;
+        place = m.frame.head.at;
+        behind = stays_same m.there r.segment r.domain (segment_of r.domain (m.callers ++ m.frame ∷ [])) there_was;
+        cost = m.cost;
+        steps = m.steps;
+        becomes = m.becomes;
+      })
 
-      module _ (new : FrameContent) (n : ℕ) (instr : Instr) (did : GoesOnInFrame now new classes here.segment at n instr) where
-        -- what it left of the frame, at its place
-        record Left : Type 0 where
-          left : FrameState
-          row : NumberRow at.scope m.frame.head.at at.instr m.frame left (Next.Goto n)
-          sets : SetsTop now new here.segment (with_head left m.first.head)
+  -- ---- The instruction was done, and the frame goes on. It stands where it stood yet in the store that the instruction left.
 
-        done_here : Left
-        done_here = by did.does
-          where
-            by : DoesNumbers now new classes here.segment at.head at.instr (Next.Goto n) → Left
-            by (f, g, method, scope, top, ahead, has, is, row, sets) =
-                let one : f ≡ stored_frame = same_top now here.segment f stored_frame top stored_top in
-                let in_scope : scope ≡ at.scope = scope_at classes at place method scope has is in
-                let a : NumberRow at.scope at.head.at at.instr (with_head stored_frame at.head) g (Next.Goto n) =
-                subst (λ (s : CodeScope). NumberRow s at.head.at at.instr (with_head stored_frame at.head) g (Next.Goto n)) in_scope
-                (subst (λ (k : FrameState). NumberRow scope at.head.at at.instr (with_head k at.head) g (Next.Goto n)) one row) in
-                record {
-                  left = g;
-                  row = subst (λ (h : FrameHead). NumberRow at.scope h.at at.instr (with_head m.frame h) g (Next.Goto n)) m.head a;
-                  sets = subst (λ (k : FrameState). SetsTop now new here.segment (with_head g k.head)) one sets;
-                }
+  module _ (rows : HeapRowsKeep) (never : (k : ClassId) → InstrNeeds at.scope at.instr k → ⊥) (after : HeapContent) (mid : FrameContent) (w : Working)
+      (n : ℕ) (executes : Executes x at.scope at.instr (working doing) w (GoesOn n))
+      (becomes : Becomes c (contents_of after mid old.own) h m.acts.run (with_frame m.callers w.frame w.inside)) where
+    kept : IsKept (around m.acts.domain) x (working doing) w × FitsOutcome (around m.acts.domain) x at.scope w (GoesOn n)
+    kept = instruction_kept rows (around m.acts.domain) x (working doing) w (GoesOn n) (runs_well doing x m.set) (runs_code doing) executes
 
-        abbrev working : Working
-        working = record { inside = may.run.inside; frame = m.frame }
+    abbrev next : FrameContent
+    next = reframed mid r.segment r.domain (m.callers ++ at_place w.frame n ∷ [])
 
-        abbrev g : FrameState
-        g = done_here.left
+    abbrev left : Run
+    left = with_frame m.callers (at_place w.frame n) w.inside
 
-        abbrev mid : Run
-        mid = with_top m.callers m.frame may.run.inside
+    -- ---- The store in which it stands there.
 
-        abbrev next : Run
-        next = with_top m.callers (at_place g n) may.run.inside
+    next_changes : Changes mid next r.segment r.domain (Some (segment_of r.domain (m.callers ++ at_place w.frame n ∷ []))) (mid.used r.domain)
+    next_changes = reframes mid r.segment r.domain (m.callers ++ at_place w.frame n ∷ [])
 
-        kept : IsKept (around may.domain) x working (record { inside = may.run.inside; frame = g }) × FitsHere classes may.run.inside.heap (at_place g n)
-        kept = number_kept (around may.domain) x working m.runs code g (Next.Goto n) (GoesOnAtPlace n) done_here.row refl
+    became : Becomes c (contents_of after next old.own) h m.acts.run left
+    became = record {
+      inside = inside_kept c after mid next old.own h w.inside refl becomes.inside;
+      frames = record {
+        used = mid.used r.domain;
+        chunks = ap (λ (u : ℕ). u + frames_chunks m.acts.run.frames) becomes.frames.changes.uses ∙ becomes.frames.chunks ∙ ap
+            (λ (k : ℕ). c.frames.used r.domain + k) one_cost;
+        changes = then_changes c.frames mid next r.segment r.domain (Some (segment_of r.domain (m.callers ++ w.frame ∷ [])))
+            (Some (segment_of r.domain (m.callers ++ at_place w.frame n ∷ []))) becomes.frames.used (mid.used r.domain) becomes.frames.changes
+            next_changes;
+      };
+    }
+      where
+        one_cost : frames_chunks (m.callers ++ w.frame ∷ []) ≡ frames_chunks (m.callers ++ at_place w.frame n ∷ [])
+        one_cost =
+            sum_by_push (λ (f : FrameState). head_chunks f.head) m.callers w.frame
+            ∙ sym (sum_by_push (λ (f : FrameState). head_chunks f.head) m.callers (at_place w.frame n))
 
-        -- ---- It is a step.
+    same_cost : frames_chunks left.frames ≡ frames_chunks m.acts.run.frames
+    same_cost =
+        let cost : FrameState → ℕ = λ (f : FrameState). head_chunks f.head in
+        let was : frames_chunks m.acts.run.frames ≡ frames_chunks (m.callers ++ m.frame ∷ []) = ap frames_chunks m.are_frames in
+        let one = sum_by_push cost m.callers m.frame in
+        let two = sum_by_push cost m.callers (at_place w.frame n) in
+        let same : head_chunks (at_place w.frame n).head ≡ head_chunks m.frame.head = ap head_chunks kept.0.head in
+        omega (arith, was, one, two, same)
 
-        runs_code : RunsCode x.classes m.frame
-        runs_code = record {
-          method = place.method;
-          is_method = code.is_method;
-          scope = at.scope;
-          is_scope = subst (λ (cs : List ClassRecord). IsScopeOf cs place.method at.scope) (sym set.classes) place.is_scope;
-          instr = at.instr;
-          stands = code.stands;
-        }
+    free_still : free_chunks next r.domain ≡ free_chunks m.there r.domain
+    free_still = free_after c (contents_of after next old.own) h m.acts.run.frames left.frames became.frames same_cost
 
-        no_class : NeedsNoClass classes mid
-        no_class top c needs =
-            let same : top.frame ≡ m.frame = (one_last top.callers m.callers top.frame m.frame (sym top.are_frames)).1 in
-            by (subst (λ (f : FrameState). FrameNeeds classes f c) same needs)
-          where
-            by : FrameNeeds classes m.frame c → ⊥
-            by (inl some) = none-some c (sym m.runs.no_need ∙ some)
-            by (inr (no_need, (other, needs))) =
-                needs_no_class at.scope at.instr did.numbers c (needs_there classes m.frame at m.head place other c needs)
+    -- ---- All that is known after it.
 
-        step : LocalStep x t mid next GoesOn
-        unfolding runs_code
-        step =
-            does (record {
-              top = record { callers = m.callers; frame = m.frame; are_frames = refl };
-              no_need = m.runs.no_need;
-              code = runs_code;
-              ready = λ c needs. absurd (needs_no_class at.scope at.instr did.numbers c needs);
-              working = record { inside = may.run.inside; frame = g };
-              outcome = GoesOnAtPlace n;
-              executes = numbers (Next.Goto n) done_here.row refl refl;
-            }) GoesOn (goes_on n)
+    module _ (new : FrameContent) (p : ℕ)
+        (behind : Changes mid new r.segment r.domain (Some (segment_of r.domain (m.callers ++ moved_to p w.frame ∷ []))) (mid.used r.domain))
+        (instr : Instr) (stands_there : slice_get at.scope.code.instrs n ≡ Some instr) where
+      pub moves : Midway may x r.thread after new (record { head = record at.head { at = n }; scope = at.scope; instr = instr }) (done + 1)
+      moves = record {
+        there = next;
+        acts = acts_again c world shared r at (ready_if never) m.acts x m.set w n (contents_of after next old.own) kept.0 kept.1 became
+            m.acts.domain.rooms;
+        set = setting_after c (contents_of after next old.own) h w.inside became.inside free_still x m.set;
+        callers = m.callers;
+        frame = at_place w.frame n;
+        are_frames = refl;
+        head = ap (λ (k : FrameHead). let j : FrameHead = record k { at = n } in j) (m.head ∙ sym kept.0.head);
+        no_need = m.no_need;
+        place = p;
+        behind = between mid next new r.segment r.domain (Some (segment_of r.domain (m.callers ++ at_place w.frame n ∷ [])))
+            (Some (segment_of r.domain (m.callers ++ moved_to p w.frame ∷ []))) (mid.used r.domain) (mid.used r.domain) next_changes behind;
+        cost = same_cost ∙ m.cost;
+        steps = steps_then r.thread old.own.rooms done 1 x may.run m.acts.run left m.steps
+            (subst (λ (y : Setting). StepsInTurn r.thread old.own.rooms 1 y m.acts.run left) (sym (set_same x may.run m.acts.run m.cost))
+            (one_step r.thread old.own.rooms x m.acts.run left (waits_for_none c world shared r at (ready_if never) m.acts x m.set never)
+            (step c world shared r at (ready_if never) m.acts x m.set w n executes) rooms_there
+            (let fits : frames_chunks left.frames ≤ frames_chunks m.acts.run.frames + x.chunks = omega (arith, same_cost) in fits)));
+        becomes = becomes_then old c (contents_of after next old.own) h may.run m.acts.run left m.becomes became;
+      }
+        where
+          rooms_there : HaveRooms old.own.rooms left
+          rooms_there l has =
+              m.acts.domain.rooms.literals l (subst (λ (i : Inside). Contains i.own.literals l) became.inside.is_inside has)
 
-        moved_on : (at_place g n).head ≡ (let h : FrameHead = record m.frame.head { at = n } in h)
-        moved_on = ap (λ (h : FrameHead). let k : FrameHead = record h { at = n } in k) kept.0.head
+  -- ---- An instruction on numbers was done.
 
-        stays_here : StaysInFrame mid next
-        stays_here = (record { callers = m.callers; frame = m.frame; are_frames = refl }, at_place g n, refl, moved_on)
+  module _ (rows : HeapRowsKeep) (new : FrameContent) (n : ℕ) (did : GoesOnInFrame now new world.classes r.segment at n) where
+    abbrev g : FrameState
+    g = did.does.1
 
-        -- ---- So one more is done.
+    abbrev mid : FrameContent
+    mid = reframed m.there r.segment r.domain (m.callers ++ with_head did.does.1 m.frame.head ∷ [])
 
-        pub moves : Midway may x t new (record { head = record at.head { at = n }; scope = at.scope; instr = instr }) (done + 1)
-        moves = record {
-          callers = m.callers;
-          first = m.first;
-          frame = at_place g n;
-          are_frames = m.are_frames;
-          head = ap (λ (h : FrameHead). let k : FrameHead = record h { at = n } in k) (m.head ∙ sym kept.0.head);
-          moved = moved_on ∙ ap (λ (h : FrameHead). let k : FrameHead = record h { at = n } in k) m.moved;
-          runs = record {
-            setting = m.runs.setting;
-            inside = m.runs.inside;
-            no_need = ap (λ (h : FrameHead). h.need) kept.0.head ∙ m.runs.no_need;
-            fits = kept.1;
-            at_home = subst (λ (h : FrameHead). KnowsClassOf may.domain.names.table h.method × IsKnownClass may.domain.names.table h.need
-                × IsKnownClass may.domain.names.table h.initialises) (sym kept.0.head) m.runs.at_home;
-            known = kept.0.known;
-          };
-          steps = subst (λ (k : ℕ). StepsInFrame x t k may.run next) (sym (add-one done))
-              (then_one x t done may.run mid next m.steps (subst (λ (cs : List ClassRecord). NeedsNoClass cs mid) (sym set.classes) no_class) step refl
-              stays_here);
-          stored = changed new (with_head g m.first.head) done_here.sets;
-        }
+    never : (k : ClassId) → InstrNeeds at.scope at.instr k → ⊥
+    never = needs_no_class at.scope at.instr did.numbers
 
-        pub next_place : IsPlaceIn classes (record { head = record at.head { at = n }; scope = at.scope; instr = instr })
-        next_place = record { method = place.method; is_method = place.is_method; is_scope = place.is_scope; stands = did.there }
+    is_stored : did.does.0 ≡ moved_to m.place m.frame
+    is_stored = same_top now r.segment did.does.0 (moved_to m.place m.frame) did.does.4 stored_top
 
-      -- ---- The last place is stored.
+    row : NumberRow did.does.3 at.head.at at.instr (with_head m.frame at.head) did.does.1 (Next.Goto n)
+    row =
+        subst (λ (k : FrameState). NumberRow did.does.3 at.head.at at.instr (with_head k at.head) did.does.1 (Next.Goto n)) is_stored did.does.8
 
-      abbrev pub settled : FrameState → FrameState
-      settled f = record f { head = record f.head { at = at.head.at; need = None } }
+    -- as it would be done in the store in which it stands there
+    abbrev does_there : DoesNumbers m.there mid world.classes r.segment at.head at.instr (Next.Goto n)
+    does_there = (
+      m.frame,
+      did.does.1,
+      did.does.2,
+      did.does.3,
+      top,
+      m.head ∙ ap (λ (k : FrameHead). let j : FrameHead = record m.frame.head { at = k.at } in j) (sym m.head),
+      did.does.6,
+      did.does.7,
+      row,
+      (m.frame, top, reframes m.there r.segment r.domain (m.callers ++ with_head did.does.1 m.frame.head ∷ [])),
+    )
 
-      no_need_first : m.first.head.need ≡ None
-      no_need_first = sym (ap (λ (h : FrameHead). h.need) m.moved) ∙ m.runs.no_need
+    head_still : did.does.1.head ≡ m.frame.head
+    head_still = head_stays c world shared r at (ready_if never) mid (Next.Goto n) does_there
 
-      head_stored : (settled stored_frame).head ≡ m.frame.head
-      head_stored =
-          ap (λ (h : FrameHead). let k : FrameHead = record m.first.head { at = h.at; need = None } in k) m.head
-          ∙ ap (λ (o : Option ClassId). let k : FrameHead = record m.first.head { at = m.frame.head.at; need = o } in k) (sym no_need_first)
-          ∙ sym m.moved
+    behind_numbers : Changes mid new r.segment r.domain (Some (segment_of r.domain (m.callers ++ moved_to m.place did.does.1 ∷ []))) (mid.used r.domain)
+    behind_numbers =
+        let was : List FrameState = m.callers ++ moved_to m.place m.frame ∷ [] in
+        let is : List FrameState = m.callers ++ with_head did.does.1 (moved_to m.place m.frame).head ∷ [] in
+        let sets : SetsTop now new r.segment (with_head did.does.1 (moved_to m.place m.frame).head) =
+        subst (λ (k : FrameState). SetsTop now new r.segment (with_head did.does.1 k.head)) is_stored did.does.9 in
+        let last = sets_it now r.segment r.domain m.callers (moved_to m.place m.frame) m.behind.becomes new
+        (with_head did.does.1 (moved_to m.place m.frame).head) sets in
+        let all : Changes m.there new r.segment r.domain (Some (segment_of r.domain is)) (m.there.used r.domain) =
+        subst (Changes m.there new r.segment r.domain (Some (segment_of r.domain is))) m.behind.uses
+        (then_changes m.there now new r.segment r.domain (Some (segment_of r.domain was)) (Some (segment_of r.domain is)) (m.there.used r.domain)
+        (now.used r.domain) m.behind last) in
+        subst
+        (λ (k : FrameHead). Changes mid new r.segment r.domain
+        (Some (segment_of r.domain (m.callers ++ (let f : FrameState = record did.does.1 { head = record k { at = m.place } } in f) ∷ [])))
+        (mid.used r.domain))
+        (sym head_still)
+        (between m.there mid new r.segment r.domain (Some (segment_of r.domain (m.callers ++ with_head did.does.1 m.frame.head ∷ [])))
+        (Some (segment_of r.domain is)) (m.there.used r.domain) (m.there.used r.domain)
+        (reframes m.there r.segment r.domain (m.callers ++ with_head did.does.1 m.frame.head ∷ [])) all)
 
-      as_stored : settled stored_frame ≡ m.frame
-      as_stored = ap (with_head m.frame) head_stored
+    pub computed : (instr : Instr) → slice_get at.scope.code.instrs n ≡ Some instr
+        → Midway may x r.thread heaps new (record { head = record at.head { at = n }; scope = at.scope; instr = instr }) (done + 1)
+    computed =
+        moves rows never heaps mid (record { inside = m.acts.run.inside; frame = did.does.1 }) n
+        (numbers_execute c world shared r at (ready_if never) mid (Next.Goto n) does_there m.acts x m.set (GoesOn n) refl)
+        (numbers_become c world shared r at (ready_if never) mid (Next.Goto n) does_there m.acts) new m.place behind_numbers
 
-      module _ (new : FrameContent) (stores : (f : FrameState) → TopFrame now here.segment f → SetsTop now new here.segment (settled f)) where
-        last_change : Changes old.frames new here.segment here.domain (Some (segment_of here.domain (m.callers ++ m.frame ∷ [])))
-            (old.frames.used here.domain)
-        last_change = changed new m.frame (subst (SetsTop now new here.segment) as_stored (stores stored_frame stored_top))
+  -- ---- An access was done.
 
-        same_chunks : frames_chunks may.run.frames ≡ frames_chunks (m.callers ++ m.frame ∷ [])
-        same_chunks =
-            let whole = ap frames_chunks m.are_frames in
-            let was = sum_by_push (λ (f : FrameState). head_chunks f.head) m.callers m.first in
-            let is = sum_by_push (λ (f : FrameState). head_chunks f.head) m.callers m.frame in
-            let one : head_chunks m.frame.head ≡ head_chunks m.first.head = ap head_chunks m.moved in
-            omega (arith, whole, was, is, one)
+  module _ (rows : HeapRowsKeep) (after : HeapContent) (new : FrameContent) (n : ℕ)
+      (did : Accesses heaps after now new world r.domain r.segment at n) where
+    does_here : HeapDone c (contents_of after new old.own) h at (Next.Goto n)
+    does_here =
+        subst (λ (fs : FrameContent). HeapDone (contents_of heaps fs old.own) (contents_of after new old.own) h at (Next.Goto n))
+        (is_there did.mid did.stores) (did.does old.own shared)
 
-        pub ends : (run : Run) × StepsInFrame x t done may.run run × Becomes old (contents_of old.heaps new old.own) here may.run run
-        ends = (
-          with_top m.callers m.frame may.run.inside,
-          m.steps,
-          record {
-            inside = with_frames old (contents_of old.heaps new old.own) here may.run.inside (last_change.domains.first_page here.domain)
-                inside_stays;
-            frames = record {
-              used = old.frames.used here.domain;
-              chunks = ap (λ (k : ℕ). old.frames.used here.domain + k) same_chunks;
-              changes = last_change;
-            };
-          },
-        )
+    pub accessed : (instr : Instr) → slice_get at.scope.code.instrs n ≡ Some instr
+        → Midway may x r.thread after new (record { head = record at.head { at = n }; scope = at.scope; instr = instr }) (done + 1)
+    accessed =
+        let d = does_here x doing m.set in
+        moves rows (access_needs_no_class at.scope at.instr did.access) after new d.0 n
+        (subst (Executes x at.scope at.instr (working doing) d.0) d.3 (by_heap d.2)) d.4 new d.0.frame.head.at
+        (stays_same new r.segment r.domain (segment_of r.domain (m.callers ++ d.0.frame ∷ [])) d.4.frames.changes.becomes)
 
-        -- and there it stands then
-        pub stands_last : StandsThere new classes here.segment at
-        stands_last = record {
-          frame = m.frame;
-          top = subst (TopFrame new here.segment) as_stored (top_after now new here.segment (settled stored_frame) (stores stored_frame stored_top));
-          head = m.head;
-          no_need = ap (λ (h : FrameHead). h.need) m.head ∙ m.runs.no_need;
-          place = place;
-        }
+  -- where it goes on there is an instruction
+  pub next_of_access : HeapRowsKeep → (after : HeapContent) (new : FrameContent) (n : ℕ)
+      → Accesses heaps after now new world r.domain r.segment at n → slice_get at.scope.code.instrs n ≡ None → ⊥
+  next_of_access rows after new n did =
+      next_there c world shared r at (ready_if (access_needs_no_class at.scope at.instr did.access)) after new old.own rows m.acts x m.set n
+      (does_here rows after new n did)
+
+  pub next_place : (n : ℕ) (instr : Instr) → slice_get at.scope.code.instrs n ≡ Some instr
+      → IsPlaceIn world.classes (record { head = record at.head { at = n }; scope = at.scope; instr = instr })
+  next_place n instr there = record { method = place.method; is_method = place.is_method; is_scope = place.is_scope; stands = there }
+
+  -- ---- The last place is stored.
+
+  module _ (new : FrameContent) (stores : StoresPlace now new r.segment at) where
+    pub ends : (run : Run) × StepsInTurn r.thread old.own.rooms done x may.run run × Becomes old (contents_of heaps new old.own) h may.run run
+    ends = (
+      m.acts.run,
+      m.steps,
+      subst (λ (fs : FrameContent). Becomes old (contents_of heaps fs old.own) h may.run m.acts.run) (sym (is_there new stores)) m.becomes,
+    )
+
+    -- and there it stands then
+    pub stands_last : StandsThere new world.classes r.segment at
+    stands_last = subst (λ (fs : FrameContent). StandsThere fs world.classes r.segment at) (sym (is_there new stores)) stands

@@ -31,7 +31,7 @@ use Rattle.step_contents.specs.Settings.{IsSetting}
 use Rattle.step_contents.proofs.InstructionsBegin.{is_some_setting, runs_code, runs_well, some_setting}
 use Rattle.segment_steps.specs.ActingSegments.{MayAct}
 use Rattle.segment_steps.specs.RaisingHere.{RaisedHere}
-use Rattle.segment_steps.specs.StandingTops.{StandsThere}
+use Rattle.step_contents.specs.StandingTops.{StandsThere}
 use Rattle.segment_steps.specs.StepsAlone.{StandsReady, Stepped}
 use Rattle.segment_steps.specs.declared.meeting.Runs.{Runs}
 use Rattle.segment_steps.specs.declared.went.Went.{Went}
@@ -172,3 +172,12 @@ else_nothing old new world shared r at st rows stays may (Next.Raise raise) done
     raised_nothing old world shared r at st new.heaps new.frames new.own rows may (some_setting to_do) (is_some_setting to_do) raise done stays
 else_nothing old new world shared r at st rows stays may after done goes =
     absurd (nothing_else old new world shared r at st may after done goes (λ raise is. cc))
+
+-- where something is raised, the top frame stands where it stood
+pub still_there : (old new : Contents) (world : WorldRecord) (shared : SharedState) (r : Runs) (at : PlaceInCode)
+    (st : StandsReady old.frames world.classes old.own.state r at) → HeapRowsKeep → RaisesStay → MayAct old (here old world shared r at st)
+    → (raise : Raise) → HeapDone old new (here old world shared r at st) at (Next.Raise raise) → StandsThere new.frames world.classes r.segment at
+still_there old new world shared r at st rows stays may raise done =
+    let same = else_nothing old new world shared r at st rows stays may (Next.Raise raise) done (λ n is. cc) in
+    subst (λ (frames : FrameContent). StandsThere frames world.classes r.segment at) (sym same.frames)
+    (record { frame = st.frame; top = st.top; head = st.head; no_need = st.no_need; place = st.place })

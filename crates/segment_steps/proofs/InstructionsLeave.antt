@@ -32,7 +32,7 @@ use Rattle.step_contents.specs.Settings.{IsSetting}
 use Rattle.step_contents.proofs.InstructionsBegin.{same_quota}
 use Rattle.segment_steps.specs.ActingSegments.{MayAct}
 use Rattle.segment_steps.specs.RaisingHere.{RaisedHere, went_of}
-use Rattle.segment_steps.specs.StandingTops.{StandsThere}
+use Rattle.step_contents.specs.StandingTops.{StandsThere}
 use Rattle.segment_steps.specs.StepsAlone.{IsWent, StandsReady, Stepped}
 use Rattle.segment_steps.specs.declared.meeting.Runs.{Runs}
 use Rattle.segment_steps.specs.declared.went.Went.{Went}

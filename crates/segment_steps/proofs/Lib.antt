@@ -1,10 +1,13 @@
 -- Lemmas on the steps of a segment.
+pub mod AccessesInFrame
+pub mod AccessesMade
 pub mod ActingAlone
 pub mod AnswersFromOutside
 pub mod AnswersRaise
 pub mod CallersBelow
 pub mod CallsFollowed
 pub mod CallsMoved
+pub mod CaughtByTop
 pub mod ChangesInTurn
 pub mod ConstantsFollowed
 pub mod ContentsStay
@@ -13,6 +16,7 @@ pub mod FramesMoved
 pub mod FramesReplaced
 pub mod FramesReturn
 pub mod GivingBack
+pub mod GoingOnActing
 pub mod HeapsFollowed
 pub mod InitialiserHeads
 pub mod InstructionsLeave
@@ -26,12 +30,15 @@ pub mod NumbersDone
 pub mod NumbersFollowed
 pub mod NumbersInFrame
 pub mod OnlyReturns
+pub mod PaidFrames
 pub mod RaisedInSegments
 pub mod ReadyClasses
+pub mod ReframedStores
 pub mod SegmentsRaise
 pub mod StandingHere
 pub mod StandsAfterwards
 pub mod StatesStay
+pub mod StepsJoined
 pub mod SystemCalled
 pub mod SystemFollowed
 pub mod TurnsInFrame

@@ -1,28 +1,21 @@
 -- What a thread met at its top frame tells whether the class is ready that the frame needs, of which there is one at most.
 use Rattle.std.proofs.Common.{inl, inr, ◌≡◌, ◌≢◌, ◌⊎◌, List, [], ◌∷◌, ◌++◌, true, false, Option, Some, None, is_some, option_map, slice_get, refl, sym, ap, subst, ◌∙◌}
 use Rattle.std.specs.Prelude.{MatchOption}
-use Rattle.std.proofs.lemmas.Option.{none-some, same_Some}
+use Rattle.std.proofs.lemmas.Option.{same_Some}
 use Rattle.jk_model.specs.declared.frames.FrameHead.{FrameHead}
 use Rattle.jk_model.specs.declared.identifiers.ClassId.{ClassId}
-use Rattle.jk_model.specs.declared.identifiers.MemberId.{MemberId}
 use Rattle.jk_model.specs.declared.identifiers.ThreadNo.{ThreadNo}
-use Rattle.jk_model.specs.declared.instructions.Instr.{Instr}
-use Rattle.jk_model_classes.specs.declared.records.BaseRef.TheVariants as Base
 use Rattle.jk_model_classes.specs.declared.records.ClassRecord.{ClassRecord}
-use Rattle.jk_model_classes.specs.declared.records.Link.TheVariants as To
-use Rattle.jk_model_classes.specs.declared.records.TypeRef.{TypeRef}
 use Rattle.jk_model_domains.specs.declared.states.ClassState.{ClassState}
 use Rattle.jk_model_domains.specs.declared.states.ClassState.TheVariants as State
 use Rattle.jk_model_domains.specs.declared.states.Look.{Look}
 use Rattle.jk_model_domains.specs.declared.states.Look.TheVariants as Sees
 use Rattle.jk_model_domains.specs.OwnStates.{IsLook, OwnState, state_of}
 use Rattle.jk_model_frames.specs.Frames.{FrameState}
-use Rattle.jk_model_heaps.specs.RunningCode.{InstrNeeds, RunsCode}
+use Rattle.jk_model_heaps.specs.RunningCode.{RunsCode}
 use Rattle.jk_model_running.specs.Initialising.{FrameNeeds, IsReady}
-use Rattle.jk_model_typing.specs.FrameTypes.{array_type}
-use Rattle.jk_model_typing.specs.Scopes.{CodeScope}
-use Rattle.typing_lemmas.proofs.OneScope.{one_link}
-use Rattle.row_laws.proofs.StandsHere.{code_here, code_is_one}
+use Rattle.jk_model_running.proofs.NeededClasses.{one_need}
+use Rattle.row_laws.proofs.StandsHere.{code_here}
 use Rattle.step_contents.proofs.InstructionsBegin.{fit_top}
 use Rattle.jk_model_domains.specs.Objects.{NamedObject}
 use Rattle.jk_model_sealing.specs.FittingFrames.{FitsAsTop, FramesFit}
@@ -34,52 +27,6 @@ use Rattle.segment_steps.specs.Meetings.{Meets, NeedsOf}
 use Rattle.segment_steps.specs.StepsAlone.{StandsReady}
 use Rattle.segment_steps.specs.declared.meeting.Meeting.{Meeting}
 use Rattle.segment_steps.specs.declared.meeting.Runs.{Runs}
-
--- ---- An instruction needs one class at most.
-
-class_of : (c d : ClassId) → array_type 0 (Base.Class c) ≡ array_type 0 (Base.Class d) → c ≡ d
-class_of c d e = let two : Base.Class c ≡ Base.Class d = ap (λ (t : TypeRef). t.base) e in cc
-
-module _ (s : CodeScope) (i : Instr) (c d : ClassId) where
-  same_field : (a b : ClassId) (m n : MemberId) → To.Field a m ≡ To.Field b n → c ≡ m.class → d ≡ n.class → c ≡ d
-  same_field a b m n e p q = let one : m ≡ n = cc in p ∙ ap (λ (k : MemberId). k.class) one ∙ sym q
-
-  same_method : (a b : ClassId) (m n : MemberId) → To.Method a m ≡ To.Method b n → c ≡ m.class → d ≡ n.class → c ≡ d
-  same_method a b m n e p q = let one : m ≡ n = cc in p ∙ ap (λ (k : MemberId). k.class) one ∙ sym q
-
-  same_type : To.Class (array_type 0 (Base.Class c)) ≡ To.Class (array_type 0 (Base.Class d)) → c ≡ d
-  same_type e = class_of c d cc
-
-  pub needs_one : InstrNeeds s i c → InstrNeeds s i d → c ≡ d
-  needs_one (inl (op, (a, m, leads, is))) (inl (op2, (b, n, too, is2))) =
-      same_field a b m n (one_link s i (To.Field a m) (To.Field b n) leads too) is is2
-  needs_one (inl (op, (a, m, leads, is))) (inr (inl (op2, (b, n, too, is2)))) =
-      let e = one_link s i (To.Field a m) (To.Method b n) leads too in absurd cc
-  needs_one (inl (op, (a, m, leads, is))) (inr (inr (op2, too))) =
-      let e = one_link s i (To.Field a m) (To.Class (array_type 0 (Base.Class d))) leads too in absurd cc
-  needs_one (inr (inl (op, (a, m, leads, is)))) (inl (op2, (b, n, too, is2))) =
-      let e = one_link s i (To.Method a m) (To.Field b n) leads too in absurd cc
-  needs_one (inr (inl (op, (a, m, leads, is)))) (inr (inl (op2, (b, n, too, is2)))) =
-      same_method a b m n (one_link s i (To.Method a m) (To.Method b n) leads too) is is2
-  needs_one (inr (inl (op, (a, m, leads, is)))) (inr (inr (op2, too))) =
-      let e = one_link s i (To.Method a m) (To.Class (array_type 0 (Base.Class d))) leads too in absurd cc
-  needs_one (inr (inr (op, leads))) (inl (op2, (b, n, too, is2))) =
-      let e = one_link s i (To.Class (array_type 0 (Base.Class c))) (To.Field b n) leads too in absurd cc
-  needs_one (inr (inr (op, leads))) (inr (inl (op2, (b, n, too, is2)))) =
-      let e = one_link s i (To.Class (array_type 0 (Base.Class c))) (To.Method b n) leads too in absurd cc
-  needs_one (inr (inr (op, leads))) (inr (inr (op2, too))) =
-      same_type (one_link s i (To.Class (array_type 0 (Base.Class c))) (To.Class (array_type 0 (Base.Class d))) leads too)
-
--- ---- So does a frame.
-
-frame_needs_one : (classes : List ClassRecord) (f : FrameState) (c d : ClassId) → FrameNeeds classes f c → FrameNeeds classes f d → c ≡ d
-frame_needs_one classes f c d (inl p) (inl q) = same_Some c d (sym p ∙ q)
-frame_needs_one classes f c d (inl p) (inr (none, by_code)) = absurd (none-some c (sym none ∙ p))
-frame_needs_one classes f c d (inr (none, by_code)) (inl q) = absurd (none-some d (sym none ∙ q))
-frame_needs_one classes f c d (inr (none, (code, needs))) (inr (none2, (other, too))) =
-    let one = code_is_one classes f other code in
-    needs_one code.scope code.instr c d needs
-    (subst (λ (i : Instr). InstrNeeds code.scope i d) one.1 (subst (λ (s : CodeScope). InstrNeeds s other.instr d) one.0 too))
 
 -- ---- What was met.
 
@@ -113,7 +60,7 @@ module _ (classes : List ClassRecord) (own : OwnState) (r : Runs) (f : FrameStat
       → FrameNeeds classes f c → IsReady own r.thread c
   ready_by None look none seen e c needs = absurd (none c needs)
   ready_by (Some d) look needed seen e c needs =
-      subst (IsReady own r.thread) (frame_needs_one classes f d c needed needs) (ready_state r.thread (state_of own d) look seen e)
+      subst (IsReady own r.thread) (one_need classes f d c needed needs) (ready_state r.thread (state_of own d) look seen e)
 
   met_by : (o : Option ClassId) (look : Look) → NeedsOf classes f o → Seen own r.thread o look → look ≢ Sees.Ready
       → (c : ClassId) × (o ≡ Some c) × FrameNeeds classes f c × IsLook r.thread (state_of own c) look

@@ -1,5 +1,5 @@
 -- What follows an instruction on numbers: its frame goes on, returns, or divided by 0.
-use Rattle.std.proofs.Common.{◌≡◌, ◌≢◌, ℕ, [], Option, None, refl, sym, subst, ◌∙◌}
+use Rattle.std.proofs.Common.{◌≡◌, ◌≢◌, ℕ, [], ◌∷◌, ◌++◌, Option, None, refl, sym, subst, ◌∙◌}
 use Rattle.jk_model.specs.declared.steps.After.TheVariants as Next
 use Rattle.jk_model.specs.declared.steps.Raise.{Raise}
 use Rattle.jk_model.specs.declared.values.Value.{Value}
@@ -18,7 +18,7 @@ use Rattle.step_contents.specs.PlacesInCode.{PlaceInCode}
 use Rattle.step_contents.specs.Settings.{IsSetting}
 use Rattle.segment_steps.specs.ActingSegments.{MayAct}
 use Rattle.segment_steps.specs.RaisingHere.{RaisedHere}
-use Rattle.segment_steps.specs.Returning.{HasReturned, MayReturn}
+use Rattle.segment_steps.specs.Returning.{HasReturned, MayReturn, PaysFrames}
 use Rattle.segment_steps.specs.StepsAlone.{StandsReady, Stepped}
 use Rattle.segment_steps.specs.declared.meeting.Runs.{Runs}
 use Rattle.segment_steps.specs.declared.went.Went.{Went}
@@ -27,6 +27,7 @@ use Rattle.segment_steps.proofs.FramesReturn.{may_return, returned}
 use Rattle.segment_steps.proofs.InstructionsLeave.{goes_at, may_raise, raisable, raised_at}
 use Rattle.segment_steps.proofs.NumbersDone.{becomes, executes, head_stays, kept, left, left_working}
 use Rattle.segment_steps.proofs.OnlyReturns.{went_on_below}
+use Rattle.segment_steps.proofs.PaidFrames.{paid_after}
 use Rattle.segment_steps.proofs.StandingHere.{here}
 
 module _ (heaps : HeapContent) (frames mid : FrameContent) (own : KeptState) (world : WorldRecord) (shared : SharedState) (r : Runs)
@@ -87,6 +88,10 @@ module _ (heaps : HeapContent) (frames mid : FrameContent) (own : KeptState) (wo
           may_return old then world shared r at st may (left old world shared r at st mid (Next.Return v) did)
           (head_stays old world shared r at st mid (Next.Return v) did) (becomes old world shared r at st mid (Next.Return v) did may) v
           (kept old world shared r at st mid (Next.Return v) did may x is (Returns v) refl).1
+
+      pub paid : PaysFrames frames r.segment → PaysFrames mid r.segment
+      paid = paid_after old then h may.run.frames (st.top.lower ++ w.frame ∷ []) may.holds.frames
+          (becomes old world shared r at st mid (Next.Return v) did may).frames
 
       pub given_back : (new : Contents) (went : Went) → HasReturned x then new h st.top.lower w v went → Stepped x r.thread may new went
       given_back new went back =

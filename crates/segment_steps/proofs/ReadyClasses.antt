@@ -15,18 +15,20 @@ use Rattle.jk_model_heaps.specs.RunningCode.{InstrNeeds}
 use Rattle.jk_model_running.specs.Initialising.{FrameNeeds, IsReady}
 use Rattle.frame_store.specs.FrameContents.{FrameContent}
 use Rattle.number_ops.proofs.TopFrames.{same_top}
+use Rattle.jk_model_running.proofs.NeededClasses.{one_instr_need}
 use Rattle.step_contents.specs.PlacesInCode.{PlaceInCode}
-use Rattle.segment_steps.specs.StandingTops.{StandsThere, WaitsForNone}
+use Rattle.step_contents.specs.StandingTops.{StandsThere}
+use Rattle.segment_steps.specs.StandingTops.{WaitsForNone}
 use Rattle.segment_steps.specs.StepsAlone.{StandsReady}
 use Rattle.segment_steps.specs.declared.meeting.Runs.{Runs}
-use Rattle.segment_steps.proofs.MeetingsKnown.{needs_one, ready_state}
+use Rattle.segment_steps.proofs.MeetingsKnown.{ready_state}
 use Rattle.segment_steps.proofs.NeedsOfFrames.{needs_there}
 
 -- an instruction needs one class at most, and that one was seen to be ready
 pub ready_by_look : (at : PlaceInCode) (own : OwnState) (t : ThreadNo) (c : ClassId) → InstrNeeds at.scope at.instr c → (look : Look)
     → IsLook t (state_of own c) look → look ≡ Sees.Ready → (k : ClassId) → InstrNeeds at.scope at.instr k → IsReady own t k
 ready_by_look at own t c needs look sees is k too =
-    subst (IsReady own t) (needs_one at.scope at.instr c k needs too) (ready_state t (state_of own c) look sees is)
+    subst (IsReady own t) (one_instr_need at.scope at.instr c k needs too) (ready_state t (state_of own c) look sees is)
 
 not_elsewhere : (s : ClassState) (t other : ThreadNo) → (s ≡ State.Done) ⊎ (s ≡ State.InProgress t) → s ≡ State.InProgress other → other ≢ t → ⊥
 not_elsewhere s t other (inl done) by differs = absurd cc

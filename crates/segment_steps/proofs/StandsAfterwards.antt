@@ -11,7 +11,7 @@ use Rattle.frame_store.specs.FrameContents.{FrameContent, HasTop, TopFrame}
 use Rattle.exception_unwind.proofs.FramesChanged.{segment_of, top_there}
 use Rattle.step_contents.specs.StandingFrames.{IsPlaceOf, place_of}
 use Rattle.step_contents.specs.declared.places.StandsAt.{StandsAt}
-use Rattle.segment_steps.specs.StandingTops.{StandsThere}
+use Rattle.step_contents.specs.StandingTops.{StandsThere}
 
 pub some_end : (lower : List FrameState) (f : FrameState) (more : List FrameState) → lower ++ f ∷ more ≢ []
 some_end [] f more e = cc

@@ -2,7 +2,6 @@
 pub mod ActingSegments
 pub mod CallsOnSystem
 pub mod FollowedCalls
-pub mod InFrameSteps
 pub mod InFrameTurns
 pub mod Initialisers
 pub mod Meetings
@@ -10,3 +9,4 @@ pub mod RaisingHere
 pub mod Returning
 pub mod StandingTops
 pub mod StepsAlone
+pub mod StepsInTurn

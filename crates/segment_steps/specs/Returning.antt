@@ -4,13 +4,13 @@ use Rattle.jk_model.specs.declared.identifiers.ClassId.{ClassId}
 use Rattle.jk_model.specs.declared.identifiers.SegmentNo.{SegmentNo}
 use Rattle.jk_model.specs.declared.values.Value.{Value}
 use Rattle.jk_model_domains.specs.OwnStates.{HasState}
-use Rattle.jk_model_frames.specs.Frames.{FrameState}
-use Rattle.jk_model_heaps.specs.CalledFrames.{as_entries, resumed}
+use Rattle.jk_model_frames.specs.Frames.{FrameState, frames_chunks}
+use Rattle.jk_model_heaps.specs.CalledFrames.{as_entries}
 use Rattle.jk_model_heaps.specs.Heaps.{heap_words}
 use Rattle.jk_model_heaps.specs.Workings.{Returns, Run, Setting, Working}
 use Rattle.jk_model_running.specs.LocalSteps.{Continues}
 use Rattle.jk_model_running.specs.Ways.{Went as Way}
-use Rattle.frame_store.specs.FrameContents.{FrameContent, SetsTop, TopFrame}
+use Rattle.frame_store.specs.FrameContents.{FrameContent, StoredSegment}
 use Rattle.step_contents.specs.Contents.{Becomes, Contents, Here, Holds, with_frame}
 use Rattle.segment_steps.specs.StepsAlone.{IsWent}
 use Rattle.segment_steps.specs.declared.went.Went.{Went}
@@ -21,12 +21,9 @@ pub record MayResume (f : FrameState) (v : Option Value) : Type 0 where
   pub place : f.head.at + 1 < 2 ^ 32
   pub room : length f.stack + length (as_entries v) ≤ f.head.max_stack
 
-abbrev pub TopMayResume : FrameContent → SegmentNo → Option Value → Type 0
-TopMayResume c s v = (f : FrameState) × TopFrame c s f × MayResume f v
-
--- the top frame went on after its call
-abbrev pub TopResumes : FrameContent → FrameContent → SegmentNo → Option Value → Type 0
-TopResumes old new s v = (f : FrameState) → TopFrame old s f → f.head.need ≡ None → SetsTop old new s (resumed v f)
+-- the domain of the segment uses the chunks of its frames, and maybe others
+abbrev pub PaysFrames : FrameContent → SegmentNo → Type 0
+PaysFrames c s = (g : StoredSegment) → c.segment s ≡ Some g → frames_chunks g.frames ≤ c.used g.domain
 
 -- The top frame returned this, and its entry has left its stack: it stands there still, over these callers.
 pub record MayReturn (c : Contents) (here : Here) (callers : List FrameState) (w : Working) (v : Option Value) : Type 0 where

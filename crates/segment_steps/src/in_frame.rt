@@ -1,25 +1,25 @@
-//! Steps that stay in their frame, as most do: they compute or jump, and need no class.
+//! Steps that stay in their frame, as most do: they compute or jump, or access an element or a field, and need no class.
 
-ghost use Rattle.std.specs.Prelude.{◌≡◌, ◌≤◌, ℕ, None, true, IfNone, IfSome};
-ghost use Rattle.jk_model.specs.declared.identifiers.DomainId.{DomainId as ADomain};
+ghost use Rattle.std.specs.Prelude.{◌≡◌, ◌≤◌, ℕ, None, true, IfNone, IfSome, slice_get, Some};
 ghost use Rattle.jk_model_sharing.specs.SharedStates.{SharedState};
 ghost use Rattle.class_init.specs.KeptStates.{KeptState};
 ghost use Rattle.frame_store.specs.FrameContents.{HasTop};
-ghost use Rattle.object_store.specs.HeapContents.{HeapContent};
 ghost use Rattle.step_contents.specs.Contents.{contents_of, here_at};
-ghost use Rattle.step_contents.specs.InstructionKinds.{HasRow};
+ghost use Rattle.step_contents.specs.InstructionKinds.{HasRow, IsAccess};
 ghost use Rattle.step_contents.specs.PlacesInCode.{IsPlaceIn};
 ghost use Rattle.step_contents.specs.StandingFrames.{place_of};
+ghost use Rattle.step_contents.specs.StandingTops.{StandsThere};
 ghost use Rattle.segment_steps.specs.ActingSegments.{MayAct};
-ghost use Rattle.segment_steps.specs.InFrameSteps.{RunsInFrame};
-ghost use Rattle.segment_steps.specs.InFrameTurns.{GoesOnInFrame, IsInFrame, IsReadyAt, StaysAsItIs};
-ghost use Rattle.segment_steps.specs.StandingTops.{StandsThere};
+ghost use Rattle.segment_steps.specs.InFrameTurns.{Accesses, GoesOnInFrame, IsInFrame, IsReadyAt, MayActOnceStored, RunsInFrame, StaysAsItIs, StoresPlace, TakesNoTurn, TakesTurn};
 
 use domain_resolver::World;
-use frame_store::FrameStore;
+use frame_store::SegmentFrames;
 use jk_model::opcodes::{ALOAD, ASTORE, IFNONNULL, IFNULL, ISTORE, LDC_W, LOOKUPSWITCH, NOP, POP};
-use jk_model::{After, Instr, SegmentNo};
-use step_contents::{StandsAt, stands_at, text_of};
+use jk_model::{After, DomainId, Instr, SegmentNo};
+use jk_model_heap_rows::laws::what_follows_is_determined;
+use object_store::ObjectStore;
+use row_laws::heap_rows::heap_rows_keep;
+use step_contents::{StandsAt, is_access, stands_at, text_of};
 
 /// Where a frame goes on: at this instruction of its code.
 #[derive(Clone, Copy)]
@@ -30,7 +30,7 @@ struct NextInstr<'a> {
 
 /// Where the top frame of a segment stands; none where it has a need, or no code.
 #[inline(always)]
-pub fn stand<'a, F: FrameStore>(w: &'a World, frames: &F, s: SegmentNo) -> Option<StandsAt<'a>>
+pub fn stand<'a, F: SegmentFrames>(w: &'a World, frames: &F, s: SegmentNo) -> Option<StandsAt<'a>>
     requires { HasTop (F.content frames.now) s }
     ensures { IfSome result (λ at. StandsThere (F.content frames.now) w.now.classes s (place_of at)) }
 {
@@ -41,28 +41,32 @@ pub fn stand<'a, F: FrameStore>(w: &'a World, frames: &F, s: SegmentNo) -> Optio
     stands_at(w.classes(), &head)
 }
 
-/// Takes at most so many steps of a segment's top frame, which stands there, as long as each computes or jumps within the frame, and answers
-/// how many it took. It stops before an instruction of another kind, and before a division by 0, and says where. It takes no memory, and
-/// neither heap nor own state: the frame and its code aren't looked up again, so that such a step costs less than another.
+/// Takes at most so many steps of the top frame of a segment of domain d, which stands there, as long as each computes, jumps or makes an
+/// access, and stays in the frame; and answers how many it took. It stops before an instruction of another kind, and before one that raises
+/// something, and says where. It takes no memory, and no own state: the frame and its code aren't looked up again, so that such a step costs
+/// less than another.
 #[inline(always)]
-pub fn run_in_frame<'a, F: FrameStore>(
+pub fn run_in_frame<'a, H: ObjectStore, F: SegmentFrames>(
     w: &'a World,
+    heap: &mut H,
     frames: &mut F,
+    d: DomainId,
     s: SegmentNo,
     at: &mut StandsAt<'a>,
     steps: u32,
 ) -> u32
-    requires may { (heaps : HeapContent) × (own : KeptState) × (shared : SharedState) × (d : ADomain)
-        × MayAct (contents_of heaps (F.content frames.old) own) (here_at w.now shared d s) }
+    requires may { (own : KeptState) × (shared : SharedState)
+        × MayAct (contents_of (H.content heap.old) (F.content frames.old) own) (here_at w.now shared d s) }
     requires stands { StandsThere (F.content frames.old) w.now.classes s (place_of at.old) }
     ensures few { result ≤ steps }
-    ensures runs { (heaps : HeapContent) (own : KeptState) (shared : SharedState) (d : ADomain)
-        → RunsInFrame (contents_of heaps (F.content frames.old) own) (contents_of heaps (F.content frames.new) own)
+    ensures runs { (own : KeptState) (shared : SharedState)
+        → RunsInFrame (contents_of (H.content heap.old) (F.content frames.old) own) (contents_of (H.content heap.new) (F.content frames.new) own)
         (here_at w.now shared d s) result }
     ensures stands { StandsThere (F.content frames.new) w.now.classes s (place_of at.new) }
 {
+    heap_rows_keep();
     for done in 0..steps {
-        match next_in_frame(w, frames, s, at) {
+        match next_in_frame(w, heap, frames, d, s, at) {
             Some(next) => {
                 at.head.at = next.at;
                 at.instr = next.instr;
@@ -77,31 +81,112 @@ pub fn run_in_frame<'a, F: FrameStore>(
     steps
 }
 
-/// Does the instruction at which the top frame stands, where it computes or jumps within the frame, and answers where the frame goes on.
-/// None, and nothing changed, where it is another one or raises something.
+/// Does the instruction at which the top frame stands, where it computes, jumps or makes an access, and answers where the frame goes on.
+/// None, and nothing changed but the place that is stored, where it is another one or raises something.
 #[inline(always)]
-fn next_in_frame<'a, F: FrameStore>(
+fn next_in_frame<'a, H: ObjectStore, F: SegmentFrames>(
     w: &World,
+    heap: &mut H,
     frames: &mut F,
+    d: DomainId,
     s: SegmentNo,
     here: &StandsAt<'a>,
 ) -> Option<NextInstr<'a>>
     requires place { IsPlaceIn w.now.classes (place_of here.now) }
     requires row { HasRow (place_of here.now) }
     requires ready { IsReadyAt (F.content frames.old) w.now.classes s (place_of here.now) }
+    requires top { HasTop (F.content frames.old) s }
+    requires may { MayActOnceStored (H.content heap.old) (F.content frames.old) w.now d s (place_of here.now) }
+    ensures none { IfNone result (TakesNoTurn (H.content heap.old) (H.content heap.new) (F.content frames.old) (F.content frames.new) s
+        (place_of here.now)) }
+    ensures some { IfSome result (λ next. TakesTurn (H.content heap.old) (H.content heap.new) (F.content frames.old) (F.content frames.new) w.now d s
+        (place_of here.now) next.at) }
+    ensures there { IfSome result (λ next. slice_get (place_of here.now).scope.code.instrs next.at ≡ Some next.instr.now) }
+{
+    heap_rows_keep();
+    let Some(n) = take_turn(w, heap, frames, d, s, here) else {
+        return None;
+    };
+    match here.code.code.instrs.get(n as usize) {
+        Some(instr) => Some(NextInstr { at: n, instr }),
+        None => unreachable!(),
+    }
+}
+
+/// As `next_in_frame`: the answer is the place where the frame goes on.
+#[inline(always)]
+fn take_turn<H: ObjectStore, F: SegmentFrames>(
+    w: &World,
+    heap: &mut H,
+    frames: &mut F,
+    d: DomainId,
+    s: SegmentNo,
+    here: &StandsAt<'_>,
+) -> Option<u32>
+    requires row { HasRow (place_of here.now) }
+    requires ready { IsReadyAt (F.content frames.old) w.now.classes s (place_of here.now) }
+    requires top { HasTop (F.content frames.old) s }
+    requires may { MayActOnceStored (H.content heap.old) (F.content frames.old) w.now d s (place_of here.now) }
+    ensures none { IfNone result (TakesNoTurn (H.content heap.old) (H.content heap.new) (F.content frames.old) (F.content frames.new) s
+        (place_of here.now)) }
+    ensures some { IfSome result (λ n. TakesTurn (H.content heap.old) (H.content heap.new) (F.content frames.old) (F.content frames.new) w.now d s
+        (place_of here.now) n) }
+{
+    if is_access(here.instr.op) {
+        access_in_frame(w, heap, frames, d, s, here)
+    } else {
+        compute_in_frame(w, frames, s, here)
+    }
+}
+
+/// Does the instruction at which the top frame stands, where it computes or jumps within the frame, and answers where the frame goes on.
+/// None, and nothing changed, where it is another one or raises something.
+#[inline(always)]
+fn compute_in_frame<F: SegmentFrames>(
+    w: &World,
+    frames: &mut F,
+    s: SegmentNo,
+    here: &StandsAt<'_>,
+) -> Option<u32>
+    requires row { HasRow (place_of here.now) }
+    requires ready { IsReadyAt (F.content frames.old) w.now.classes s (place_of here.now) }
     ensures none { IfNone result (StaysAsItIs (F.content frames.old) (F.content frames.new) s) }
-    ensures some { IfSome result (λ next. GoesOnInFrame (F.content frames.old) (F.content frames.new) w.now.classes s (place_of here.now)
-        next.at next.instr.now) }
+    ensures some { IfSome result (λ n. GoesOnInFrame (F.content frames.old) (F.content frames.new) w.now.classes s (place_of here.now) n) }
 {
     if !stays_in_frame(here) {
         return None;
     }
     match number_ops::step(frames, w, s, &here.head, here.instr) {
-        After::Goto(n) => match here.code.code.instrs.get(n as usize) {
-            Some(instr) => Some(NextInstr { at: n, instr }),
-            None => unreachable!(),
-        },
+        After::Goto(n) => Some(n),
         _ => None,
+    }
+}
+
+/// Makes the access at which the top frame stands, and answers where the frame goes on. The place where it stands is stored first. None, and
+/// nothing else changed, where something is raised.
+#[inline(always)]
+fn access_in_frame<H: ObjectStore, F: SegmentFrames>(
+    w: &World,
+    heap: &mut H,
+    frames: &mut F,
+    d: DomainId,
+    s: SegmentNo,
+    here: &StandsAt<'_>,
+) -> Option<u32>
+    requires access { IsAccess here.now.instr.now.op }
+    requires top { HasTop (F.content frames.old) s }
+    requires may { MayActOnceStored (H.content heap.old) (F.content frames.old) w.now d s (place_of here.now) }
+    ensures none { IfNone result (StoresPlace (F.content frames.old) (F.content frames.new) s (place_of here.now)) }
+    ensures same { IfNone result (H.content heap.new ≡ H.content heap.old) }
+    ensures some { IfSome result (λ n. Accesses (H.content heap.old) (H.content heap.new) (F.content frames.old) (F.content frames.new) w.now d s
+        (place_of here.now) n) }
+{
+    heap_rows_keep();
+    what_follows_is_determined();
+    frames.go(s, here.head.at, None);
+    match heap_ops::access(heap, frames, w, d, s, here) {
+        Ok(()) => Some(here.head.at + 1),
+        Err(_) => None,
     }
 }
 

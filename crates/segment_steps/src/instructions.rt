@@ -138,7 +138,8 @@ fn do_call<H: ObjectStore, F: FrameStore>(
     ensures { (shared : SharedState) → ComesTo (contents_of (H.content heap.old) (F.content frames.old) own.old)
         (contents_of (H.content heap.new) (F.content frames.new) own.new) (here_at w.now shared r.domain r.segment) (place_of at.now) r.thread result }
 {
-    match call_ops::step(heap, frames, w, r.domain, r.segment, at) {
+    let mut there = *at;
+    match call_ops::step(heap, frames, w, r.domain, r.segment, &mut there) {
         After::Goto(_) => Called::Went(Went::GoesOn),
         After::Raise(raise) => Called::Went(raise_here(w, heap, frames, own, r, raise)),
         After::Crossing(k, m) => Called::Went(Went::Crosses(k, m)),

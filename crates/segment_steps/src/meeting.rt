@@ -11,7 +11,7 @@ ghost use Rattle.segment_steps.specs.Meetings.{Meets, NeedsOf};
 
 use class_init::{Own, look};
 use domain_resolver::World;
-use frame_store::FrameStore;
+use frame_store::SegmentFrames;
 use jk_model::{ClassId, DomainId, FrameHead, SegmentNo, ThreadNo};
 use jk_model_domains::Look;
 use step_contents::{StandsAt, needed_by, stands_at};
@@ -38,7 +38,7 @@ pub struct Meeting<'a> {
 
 /// Where the top frame of a segment stands, and what its thread meets there. Nothing changes, and it takes constant time but for the
 /// search of the class among those of the domain.
-pub fn meet<'a, F: FrameStore>(w: &'a World, own: &Own, frames: &F, r: Runs) -> Meeting<'a>
+pub fn meet<'a, F: SegmentFrames>(w: &'a World, own: &Own, frames: &F, r: Runs) -> Meeting<'a>
     requires { HasTop (F.content frames.now) r.segment }
     ensures { (f : AFrame) → TopFrame (F.content frames.now) r.segment f → Meets w.now.classes own.now.state r f result }
 {

@@ -9,14 +9,19 @@ ghost use Rattle.jk_model_heap_rows.specs.HeapRows.{IsOfHeaps};
 ghost use Rattle.jk_model_heaps.specs.RunningCode.{InstrNeeds};
 ghost use Rattle.jk_model_running.specs.Initialising.{IsReady};
 ghost use Rattle.jk_model_sharing.specs.SharedStates.{SharedState};
+ghost use Rattle.heap_laws.specs.RaisableObjects.{MayBeRaised};
 ghost use Rattle.type_rows.specs.CodeViews.{scope_of};
 ghost use Rattle.class_init.specs.KeptStates.{KeptState};
 ghost use Rattle.frame_store.specs.FrameContents.{HasTop};
 ghost use Rattle.object_store.specs.HeapContents.{HeapContent};
+ghost use Rattle.step_contents.specs.Conditions.{MayRaise};
 ghost use Rattle.step_contents.specs.Contents.{contents_of, here_at};
 ghost use Rattle.step_contents.specs.StandingFrames.{place_of};
+ghost use Rattle.step_contents.specs.StandingTops.{StandsThere};
 ghost use Rattle.segment_steps.specs.ActingSegments.{MayAct};
-ghost use Rattle.segment_steps.specs.StandingTops.{StandsThere, WaitsForNone};
+ghost use Rattle.segment_steps.specs.RaisingHere.{RaisedHere};
+ghost use Rattle.segment_steps.specs.Returning.{PaysFrames};
+ghost use Rattle.segment_steps.specs.StandingTops.{WaitsForNone};
 ghost use Rattle.segment_steps.specs.StepsAlone.{StandsReady, Steps};
 ghost use Rattle.segment_steps.specs.declared.went.Went.TheVariants as Goes;
 ghost use Rattle.segment_steps.specs.declared.working.Worked.TheVariants as Work;
@@ -26,9 +31,10 @@ use crate::meeting::Runs;
 use crate::returning::give_back;
 use class_init::{Own, look};
 use domain_resolver::World;
-use frame_store::FrameStore;
-use jk_model::opcodes::{ATHROW, IRETURN, RETURN};
-use jk_model::{After, SegmentNo, ThreadNo};
+use exception_unwind::catch_here;
+use frame_store::SegmentFrames;
+use jk_model::opcodes::{IRETURN, RETURN};
+use jk_model::{After, Raise, SegmentNo, ThreadNo};
 use jk_model_domains::Look;
 use jk_model_heap_rows::laws::what_follows_is_determined;
 use object_store::ObjectStore;
@@ -48,10 +54,10 @@ pub enum Worked {
 }
 
 /// Does the instruction at which the top frame of a segment stands, where the class that it needs is ready, and it works on objects, calls a
-/// method with code, or returns to a frame below, and raises nothing; and says where the top frame stands then. It leaves all other
-/// instructions undone. It takes no memory, and time as the functions of the step crates say.
+/// method with code, returns to a frame below, or throws what its own frame catches, and raises nothing else; and says where the top frame
+/// stands then. It leaves all other instructions undone. It takes no memory, and time as the functions of the step crates say.
 #[inline(always)]
-pub fn work<'a, H: ObjectStore, F: FrameStore>(
+pub fn work<'a, H: ObjectStore, F: SegmentFrames>(
     w: &'a World,
     heap: &mut H,
     frames: &mut F,
@@ -62,6 +68,7 @@ pub fn work<'a, H: ObjectStore, F: FrameStore>(
 ) -> Worked
     requires may { MayAct (contents_of (H.content heap.old) (F.content frames.old) own.old) (here_at w.now shared.now r.domain r.segment) }
     requires stands { StandsThere (F.content frames.old) w.now.classes r.segment (place_of at.old) }
+    requires paid { PaysFrames (F.content frames.old) r.segment }
     ensures undone { result ≡ Work.Undone → (H.content heap.new ≡ H.content heap.old) × (F.content frames.new ≡ F.content frames.old)
         × (own.new ≡ own.old) }
     ensures free { result ≢ Work.Undone → WaitsForNone (F.content frames.old) w.now.classes r.segment own.old.state r.thread }
@@ -90,9 +97,9 @@ fn is_ready(own: &Own, t: ThreadNo, at: &StandsAt<'_>) -> bool
     }
 }
 
-/// An instruction on objects. What raises something is undone.
+/// An instruction on objects. What raises something is undone, but for what is thrown and caught by its own frame.
 #[inline(always)]
-fn work_on_heap<'a, H: ObjectStore, F: FrameStore>(
+fn work_on_heap<'a, H: ObjectStore, F: SegmentFrames>(
     w: &'a World,
     heap: &mut H,
     frames: &mut F,
@@ -110,12 +117,11 @@ fn work_on_heap<'a, H: ObjectStore, F: FrameStore>(
         (contents_of (H.content heap.new) (F.content frames.new) own.new) (here_at w.now shared.now r.domain r.segment) r.thread Goes.GoesOn }
     ensures stands { result ≡ Work.AtInstruction → StandsThere (F.content frames.new) w.now.classes r.segment (place_of at.new) }
 {
-    if at.instr.op == ATHROW {
-        return Worked::Undone;
-    }
     heap_rows_keep();
     what_follows_is_determined();
-    match heap_ops::step(heap, frames, own, shared, w, r.domain, r.segment, at) {
+    let after = heap_ops::step(heap, frames, own, shared, w, r.domain, r.segment, at);
+    own.holds();
+    match after {
         After::Goto(n) => {
             frames.go(r.segment, n, None);
             match at.code.code.instrs.get(n as usize) {
@@ -127,12 +133,49 @@ fn work_on_heap<'a, H: ObjectStore, F: FrameStore>(
                 None => unreachable!(),
             }
         }
+        After::Raise(raise) => catch_raised(w, heap, frames, r, at, raise),
         _ => Worked::Undone,
     }
 }
 
+/// Something is raised in the top frame: where it is an object that the frame catches, the frame goes on at its handler. All else is undone:
+/// nothing is made, and other frames aren't looked at.
+fn catch_raised<'a, H: ObjectStore, F: SegmentFrames>(
+    w: &'a World,
+    heap: &H,
+    frames: &mut F,
+    r: Runs,
+    at: &mut StandsAt<'a>,
+    raise: Raise,
+) -> Worked
+    requires may { (own : KeptState) × (shared : SharedState)
+        × MayRaise (contents_of (H.content heap.now) (F.content frames.old) own) (here_at w.now shared r.domain r.segment) }
+    requires raise { MayBeRaised w.now.classes ((H.content heap.now).heap r.domain) raise }
+    requires stands { StandsThere (F.content frames.old) w.now.classes r.segment (place_of at.old) }
+    ensures undone { result ≡ Work.Undone → F.content frames.new ≡ F.content frames.old }
+    ensures caught { result ≢ Work.Undone → (own : KeptState) (shared : SharedState)
+        → RaisedHere (contents_of (H.content heap.now) (F.content frames.old) own) (contents_of (H.content heap.now) (F.content frames.new) own)
+        (here_at w.now shared r.domain r.segment) raise Goes.GoesOn }
+    ensures stands { result ≡ Work.AtInstruction → StandsThere (F.content frames.new) w.now.classes r.segment (place_of at.new) }
+{
+    let Raise::Object(thrown) = raise else {
+        return Worked::Undone;
+    };
+    let Some(n) = catch_here(heap, frames, w, r.domain, r.segment, &at.head, thrown) else {
+        return Worked::Undone;
+    };
+    match at.code.code.instrs.get(n as usize) {
+        Some(instr) => {
+            at.head.at = n;
+            at.instr = instr;
+            Worked::AtInstruction
+        }
+        None => unreachable!(),
+    }
+}
+
 /// An instruction of call. What raises something, calls a method of the system, or calls through a capability is undone.
-fn call<'a, H: ObjectStore, F: FrameStore>(
+fn call<'a, H: ObjectStore, F: SegmentFrames>(
     w: &'a World,
     heap: &H,
     frames: &mut F,
@@ -151,13 +194,13 @@ fn call<'a, H: ObjectStore, F: FrameStore>(
     ensures stands { result ≡ Work.AtInstruction → StandsThere (F.content frames.new) w.now.classes r.segment (place_of at.new) }
 {
     match call_ops::step(heap, frames, w, r.domain, r.segment, at) {
-        After::Goto(_) => stand_anew(w, frames, r.segment, at),
+        After::Goto(_) => Worked::AtInstruction,
         _ => Worked::Undone,
     }
 }
 
 /// A return to a frame below. All else is undone.
-fn return_below<'a, F: FrameStore>(
+fn return_below<'a, F: SegmentFrames>(
     w: &'a World,
     frames: &mut F,
     own: &mut Own,
@@ -168,6 +211,7 @@ fn return_below<'a, F: FrameStore>(
         × MayAct (contents_of heaps (F.content frames.old) own.old) (here_at w.now shared r.domain r.segment) }
     requires stands { StandsReady (F.content frames.old) w.now.classes own.old.state r (place_of at.old) }
     requires kind { IsOfNumbers (scope_of at.old.code) at.old.instr.now }
+    requires paid { PaysFrames (F.content frames.old) r.segment }
     ensures undone { result ≡ Work.Undone → (F.content frames.new ≡ F.content frames.old) × (own.new ≡ own.old) }
     ensures steps { result ≢ Work.Undone → (heaps : HeapContent) (shared : SharedState)
         → Steps (contents_of heaps (F.content frames.old) own.old) (contents_of heaps (F.content frames.new) own.new)
@@ -191,7 +235,7 @@ fn return_below<'a, F: FrameStore>(
 
 /// Looks up where the top frame stands.
 #[inline(always)]
-fn stand_anew<'a, F: FrameStore>(
+fn stand_anew<'a, F: SegmentFrames>(
     w: &'a World,
     frames: &F,
     s: SegmentNo,

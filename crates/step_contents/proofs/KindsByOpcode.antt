@@ -1,10 +1,11 @@
 -- An opcode for which typing has a row is that of ldc, of a call, or is listed among those on objects or those on numbers.
-use Rattle.std.proofs.Common.{◌≡◌, ℕ, suc, ◌<◌, ◌≤◌, ◌⊎◌, Bool, true, false, not, ◌==◌, ◌&&◌, ◌||◌, nat_le, List, [], ◌∷◌, map, refl, subst, inl, inr, IsTrue}
-use Rattle.std.specs.List.{range_with_len}
+use Rattle.std.proofs.Common.{◌≡◌, ℕ, suc, ◌<◌, ◌≤◌, ◌⊎◌, Bool, true, false, not, ◌==◌, ◌&&◌, ◌||◌, nat_le, List, [], ◌∷◌, map, refl, subst, inl, inr, IsTrue, Some, slice_get, lit≤}
+use Rattle.std.specs.List.{AllByRecursion, range_with_len}
 use Rattle.std.proofs.lemmas.Bool.{eqb-true}
 use Rattle.std.proofs.lemmas.Grind.{common_steps}
 use Rattle.std.proofs.Common.{arith}
 use Rattle.list_lemmas.proofs.ItemsByPlace.{agree_within}
+use Rattle.jk_model.proofs.EachItem.{all_at}
 use Rattle.jk_model.specs.declared.instructions.Instr.{Instr}
 use Rattle.jk_model_classes.specs.declared.records.Link.TheVariants as To
 use Rattle.jk_model_classes.specs.Items.{HasItem}
@@ -14,7 +15,7 @@ use Rattle.jk_model_typing.specs.Scopes.{CodeScope, LeadsToLink}
 use Rattle.jk_model_domains.specs.NumberRows.{IsOfNumbers, number_opcodes}
 use Rattle.jk_model_heap_rows.specs.HeapRows.{IsOfHeaps, heap_opcodes}
 use Rattle.step_contents.specs.PlacesInCode.{PlaceInCode}
-use Rattle.step_contents.specs.InstructionKinds.{HasRow}
+use Rattle.step_contents.specs.InstructionKinds.{HasRow, IsAccess, access_opcodes}
 use Rattle.step_contents.specs.OpcodeTests.{is_listed}
 
 -- ---- Opcodes of a table.
@@ -105,3 +106,30 @@ number_opcode at row lt no_ldc no_call no_heap = elim (one_of_kinds at.instr.op 
   | inr (inr (inl heap)) ↦ absurd cc
   | inr (inr (inr number)) ↦ inl (listed_item number_opcodes at.instr.op number)
 ]
+
+-- ---- An access is one of those on objects.
+
+-- a row of the table of opcodes on objects has all opcodes of a row
+abbrev IsCovered : ℕ × ℕ → Type 0
+IsCovered r = (place : ℕ) × (wide : ℕ × ℕ) × (slice_get heap_opcodes place ≡ Some wide) × (wide.0 ≤ r.0) × (r.1 ≤ wide.1)
+
+accesses_are_covered : AllByRecursion IsCovered access_opcodes
+accesses_are_covered = (
+  (0, (0x2e, 0x2f), refl, lit≤ tt, lit≤ tt),
+  (
+    (1, (0x32, 0x35), refl, lit≤ tt, lit≤ tt),
+    (
+      (2, (0x4f, 0x50), refl, lit≤ tt, lit≤ tt),
+      (
+        (3, (0x53, 0x56), refl, lit≤ tt, lit≤ tt),
+        ((4, (0xb2, 0xb5), refl, lit≤ tt, lit≤ tt), ((5, (0xbb, 0xc1), refl, lit≤ tt, lit≤ tt), tt)),
+      ),
+    ),
+  ),
+)
+
+pub access_of_heaps : (at : PlaceInCode) → IsAccess at.instr.op → IsOfHeaps at.scope at.instr
+access_of_heaps at access =
+    let (k, r, there, within) = listed_item access_opcodes at.instr.op access in
+    let (place, wide, is, low, high) = all_at IsCovered access_opcodes k r accesses_are_covered there in
+    inl (place, wide, is, (omega (arith, low, within.0), omega (arith, within.1, high)))

@@ -7,3 +7,4 @@ pub mod Operands
 pub mod PlacesInCode
 pub mod Settings
 pub mod StandingFrames
+pub mod StandingTops

@@ -2,15 +2,16 @@
 
 ghost use Rattle.std.specs.Prelude.{◌≡◌};
 ghost use Rattle.jk_model_heap_rows.specs.HeapRows.{heap_opcodes};
-ghost use Rattle.step_contents.specs.InstructionKinds.{HasRow, IsOfKind};
+ghost use Rattle.step_contents.specs.InstructionKinds.{HasRow, IsOfKind, access_opcodes};
 ghost use Rattle.step_contents.specs.OpcodeTests.{is_listed};
 ghost use Rattle.step_contents.specs.StandingFrames.{place_of};
 
 use crate::operands::text_of;
 use crate::places::StandsAt;
 use jk_model::opcodes::{
-    AALOAD, AASTORE, GETSTATIC, IALOAD, IASTORE, INSTANCEOF, INVOKEINTERFACE, INVOKEVIRTUAL,
-    LALOAD, LASTORE, LDC_W, MULTIANEWARRAY, NEW, PUTFIELD, SALOAD, SASTORE,
+    AALOAD, AASTORE, ARRAYLENGTH, BASTORE, GETFIELD, GETSTATIC, IALOAD, IASTORE, INSTANCEOF,
+    INVOKEINTERFACE, INVOKEVIRTUAL, LALOAD, LASTORE, LDC_W, MULTIANEWARRAY, NEW, PUTFIELD, SALOAD,
+    SASTORE,
 };
 
 /// What an instruction works on.
@@ -44,6 +45,23 @@ pub fn kind_of(at: &StandsAt<'_>) -> Kind
             }
         }
     }
+}
+
+/// Whether an opcode is that of an access: it loads an element of an array or stores a number into one, takes an array's length, or
+/// gets or puts a field of an object.
+#[inline(always)]
+pub fn is_access(op: u8) -> bool
+    ensures { result ≡ is_listed access_opcodes op }
+{
+    matches!(
+        op,
+        IALOAD..=LALOAD
+            | AALOAD..=SALOAD
+            | IASTORE..=LASTORE
+            | BASTORE..=SASTORE
+            | GETFIELD..=PUTFIELD
+            | ARRAYLENGTH
+    )
 }
 
 /// Whether an opcode other than that of ldc works on objects or static fields.

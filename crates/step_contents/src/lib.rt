@@ -7,6 +7,6 @@ mod kinds;
 mod operands;
 mod places;
 
-pub use kinds::{Kind, kind_of};
+pub use kinds::{Kind, is_access, kind_of};
 pub use operands::{field_of, link_of, method_of, needed_by, text_of, type_named};
 pub use places::{StandsAt, stands_at};

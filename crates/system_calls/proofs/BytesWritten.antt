@@ -1,29 +1,21 @@
 -- Bytes are written over the units of a text one after the other: those so far stand, and the next one is put beside them.
-use Rattle.std.proofs.Common.{◌≡◌, ℕ, ◌+◌, ◌<◌, ◌≤◌, ◌^◌, pos, List, [], ◌++◌, replicate, length, take, drop, get_or, slice_set, sym, ap, ◌∙◌, subst, zero-add, arith}
-use Rattle.std.proofs.Math.ListN.{drop_of_length-le}
+use Rattle.std.proofs.Common.{◌≡◌, ℕ, ◌+◌, ◌<◌, ◌≤◌, pos, List, ◌++◌, replicate, length, take, drop, get_or, slice_set, sym, ap, ◌∙◌, subst, zero-add, arith}
 use Rattle.std.proofs.Math.Seq.{paste, take-length}
-use Rattle.std.proofs.lemmas.List.{append-nil, length-replicate}
+use Rattle.std.proofs.lemmas.List.{length-replicate}
 use Rattle.std.proofs.lemmas.List.Edits.{length-paste, paste_more, paste_none}
 use Rattle.jk_model.specs.declared.identifiers.DomainId.{DomainId}
 use Rattle.jk_model.specs.declared.values.Value.{Value}
 use Rattle.jk_model.specs.declared.values.Value.TheVariants as Held
 use Rattle.jk_model_classes.specs.declared.records.ClassRecord.{ClassRecord}
-use Rattle.jk_model_domains.specs.Objects.{Object, Text, object_words}
-use Rattle.object_store.specs.HeapContents.{HeapContent, IsHeapContent, IsLive, IsWritten, MakesObject, TakesItem, WritesObject}
-use Rattle.object_store.proofs.ObjectsWritten.{is_short, live_after, live_made, made_with, then_written, written_as_it_is}
+use Rattle.jk_model_domains.specs.Objects.{Object, Text}
+use Rattle.object_store.specs.HeapContents.{HeapContent, IsHeapContent, IsLive, IsWritten, TakesItem, WritesObject}
+use Rattle.object_store.proofs.ObjectsWritten.{live_after, then_written, written_as_it_is}
 use Rattle.heap_loops.specs.TextChanges.{HasUnits, WritesUnits, with_units}
-use Rattle.system_calls.proofs.UnitsRead.{one_text}
+use Rattle.heap_loops.proofs.UnitsSoFar.{same_text, zeros}
 
 -- the text of a name has so many of these units
 abbrev pub WrittenSoFar : HeapContent → HeapContent → DomainId → ℕ → List ℕ → ℕ → Type 0
 WrittenSoFar old now d a units i = (text : List ℕ) → IsLive old d a (Text text) → WritesObject old now d a (Text (paste text 0 units i))
-
--- places in a text fit 32 bits
-pub ends_early : (c : HeapContent) (d : DomainId) (a n : ℕ) → IsHeapContent c → HasUnits c d a n → n < 2 ^ 24
-ends_early c d a n holds has =
-    let short = is_short c d a (Text has.text) holds has.live in
-    let many = has.many in
-    omega arith
 
 pub none_written : (c : HeapContent) (d : DomainId) (a : ℕ) (units : List ℕ) → IsHeapContent c → WrittenSoFar c c d a units 0
 none_written c d a units holds = λ text live.
@@ -44,7 +36,7 @@ module _ (old now : HeapContent) (d : DomainId) (a : ℕ) (units : List ℕ) (i 
     (so_far : WrittenSoFar old now d a units i) where
   written : (text : List ℕ) → IsLive old d a (Text text) → IsWritten (Text (paste text 0 units i)) i v (Text (paste text 0 units (i + 1)))
   written text live =
-      let same : has.text ≡ text = one_text old d a has.text text has.live live in
+      let same : has.text ≡ text = same_text old d a has.text text has.live live in
       let many : length units ≤ length text = subst (λ (t : List ℕ). length units ≤ length t) same has.many in
       subst (λ (x : Value). IsWritten (Text (paste text 0 units i)) i x (Text (paste text 0 units (i + 1)))) (sym is)
       (next_unit text units i (omega arith) within small)
@@ -77,23 +69,5 @@ all_written old now d a units i end so_far = λ text live.
 
 -- ---- A text that is made.
 
-abbrev pub zeros : ℕ → Object
-zeros n = Text (replicate n 0)
-
 pub has_zeros : (c : HeapContent) (d : DomainId) (a n : ℕ) → IsLive c d a (zeros n) → HasUnits c d a n
 has_zeros c d a n live = record { text = replicate n 0; live = live; many = omega (arith, length-replicate {A = ℕ} n 0) }
-
-over_zeros : (units : List ℕ) → with_units (replicate (length units) 0) 0 units ≡ units
-over_zeros units =
-    let nothing : drop (0 + length units) (replicate (length units) 0) ≡ [] =
-    drop_of_length-le (replicate (length units) 0) (omega (arith, length-replicate {A = ℕ} (length units) 0)) in
-    ap (λ (l : List ℕ). units ++ l) nothing ∙ append-nil units
-
-pub text_made : (old mid new : HeapContent) (classes : List ClassRecord) (d : DomainId) (a : ℕ) (units : List ℕ)
-    → MakesObject old mid classes d a (zeros (length units)) → WritesUnits mid new d a 0 units → MakesObject old new classes d a (Text units)
-text_made old mid new classes d a units made writes =
-    let live = live_made old mid classes d a (zeros (length units)) made in
-    let whole : WritesObject mid new d a (Text units) =
-    subst (λ (l : List ℕ). WritesObject mid new d a (Text l)) (over_zeros units) (writes (replicate (length units) 0) live) in
-    let cost : object_words classes (Text units) ≡ object_words classes (zeros (length units)) = omega (arith, length-replicate {A = ℕ} (length units) 0) in
-    made_with old mid new classes d a (zeros (length units)) (Text units) cost made whole

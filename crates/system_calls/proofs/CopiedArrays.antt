@@ -15,6 +15,7 @@ use Rattle.jk_model_heaps.specs.Heaps.{IsAlike, heap_words, shape_of, with_objec
 use Rattle.jk_model_heaps.specs.References.{IsHeapArray}
 use Rattle.jk_model_heaps.specs.SystemClasses.{ARRAY_INDEX_EXCEPTION, ARRAY_STORE_EXCEPTION, NULL_POINTER_EXCEPTION}
 use Rattle.jk_model_heaps.specs.Workings.{Inside, Setting, with_heap}
+use Rattle.jk_model_heaps.proofs.ArraysInHeaps.{same_name}
 use Rattle.jk_model_system_rows.specs.Answers.{Answer, Answered, Answers, fails_by, gives_nothing, with_answer}
 use Rattle.jk_model_system_rows.specs.ArrayCopies.{ArrayCopy, ArrayPair, CopiesArray, CopyRange, HasNoNull, HasNull, IsFittingFront, IsFront, at_null, copied, copies, copy_answer, number_kind, of_other_kinds, out_of_range}
 use Rattle.heap_laws.proofs.ObjectsAfterChanges.{written_words}
@@ -40,13 +41,10 @@ shown_array (Task s) t n is = absurd cc
 same_array : (t u : TypeRef) (items others : List Value) → Some (Array t items) ≡ Some (Array u others) → (t ≡ u) × (items ≡ others)
 same_array t u items others is = (cc, cc)
 
-same_obj : (a b : ℕ) → Held.Obj a ≡ Held.Obj b → a ≡ b
-same_obj a b is = cc
-
 pub no_array_by : (heap : List NamedObject) (v : Value) (a : ℕ) (o : Object) → v ≡ Held.Obj a → object_named heap a ≡ Some o
     → ((t : TypeRef) (n : ℕ) → shape_of o ≡ Of.Array t n → ⊥) → IsHeapArray heap v → ⊥
 no_array_by heap v a o is live other h =
-    let same : a ≡ h.name = same_obj a h.name (sym is ∙ h.refers) in
+    let same : a ≡ h.name = same_name a h.name (sym is ∙ h.refers) in
     let both : Some o ≡ Some (Array h.element h.items) = sym live ∙ ap (object_named heap) same ∙ h.object in
     let object : o ≡ Array h.element h.items = cc in
     other h.element (length h.items) (ap shape_of object)
@@ -85,8 +83,8 @@ module _ (c : HeapContent) (classes : List ClassRecord) (d : DomainId) (x : Sett
 pub no_pair : (c : HeapContent) (d : DomainId) (a : ArrayCopy) (f h : FoundArray) → a.source ≡ Held.Obj f.name → a.target ≡ Held.Obj h.name
     → IsAsFound c d f → IsAsFound c d h → (number_kind f.element ≡ number_kind h.element → ⊥) → ArrayPair (c.heap d) a → ⊥
 no_pair c d a f h is_source is_target (items, live, many) (others, there, size) differ p =
-    let first : f.name ≡ p.source.name = same_obj f.name p.source.name (sym is_source ∙ p.source.refers) in
-    let second : h.name ≡ p.target.name = same_obj h.name p.target.name (sym is_target ∙ p.target.refers) in
+    let first : f.name ≡ p.source.name = same_name f.name p.source.name (sym is_source ∙ p.source.refers) in
+    let second : h.name ≡ p.target.name = same_name h.name p.target.name (sym is_target ∙ p.target.refers) in
     let one = same_array f.element p.source.element items p.source.items
     (sym live ∙ ap (object_named (c.heap d)) first ∙ p.source.object) in
     let two = same_array h.element p.target.element others p.target.items

@@ -1,24 +1,14 @@
 -- What is given is taken off one by one, and an answer is put in its place.
-use Rattle.std.proofs.Common.{◌≡◌, ℕ, ◌+◌, ◌<◌, List, [], ◌∷◌, ◌++◌, length, Option, Some, None, refl, sym, ap, subst, ◌∙◌, append_assoc, arith}
+use Rattle.std.proofs.Common.{◌≡◌, ℕ, ◌<◌, List, [], ◌∷◌, ◌++◌, length, Option, Some, None, refl, sym, ap, subst, ◌∙◌, arith}
 use Rattle.std.proofs.lemmas.List.{append-nil, length-append}
-use Rattle.list_lemmas.proofs.EndsOfLists.{one_split}
 use Rattle.jk_model.specs.declared.identifiers.SegmentNo.{SegmentNo}
 use Rattle.jk_model.specs.declared.values.Value.{Value}
 use Rattle.jk_model_frames.specs.Frames.{FrameState}
-use Rattle.frame_store.specs.FrameContents.{FrameContent, HasEntry, HasFreeEntry, SetsTop, TakesEntry, TopFrame}
+use Rattle.frame_store.specs.FrameContents.{FrameContent, HasEntry, HasFreeEntry, SetsTop, TopFrame}
 use Rattle.number_laws.proofs.FrameParts.{with_stack}
 use Rattle.number_ops.proofs.TopFrames.{same_top, stays, then_sets, top_after}
+use Rattle.number_ops.proofs.EntriesTaken.{TakenSoFar}
 use Rattle.system_calls.specs.GivenOnTop.{HasGiven, HasRoomAfter, PutsFor, TakesOff}
-
--- So many are off, and others may be taken off.
-pub record TakenSoFar (old now : FrameContent) (s : SegmentNo) (done : ℕ) : Type 0 where
-  pub frame : FrameState
-  pub top : TopFrame old s frame
-  pub below : List Value
-  pub gone : List Value
-  pub stack : frame.stack ≡ below ++ gone
-  pub as_many : length gone ≡ done
-  pub sets : SetsTop old now s (with_stack frame below)
 
 pub none_taken : (c : FrameContent) (s : SegmentNo) (count : ℕ) → HasGiven c s count → TakenSoFar c c s 0
 none_taken c s count (given, h, many) = record {
@@ -41,27 +31,6 @@ more_there old now s count done (given, h, many) so_far low =
       top_after old now s (with_stack so_far.frame so_far.below) so_far.sets,
       omega (arith, ap length whole, length-append h.on_top.0 given, length-append so_far.below so_far.gone, many, so_far.as_many),
     )
-
-pub one_more_taken : (old now new : FrameContent) (s : SegmentNo) (done : ℕ) (v : Value) → (so_far : TakenSoFar old now s done)
-    → TakesEntry now new s (with_stack so_far.frame so_far.below) v → TakenSoFar old new s (done + 1)
-one_more_taken old now new s done v so_far takes = record {
-  frame = so_far.frame;
-  top = so_far.top;
-  below = takes.0;
-  gone = v ∷ so_far.gone;
-  stack = so_far.stack ∙ ap (λ (xs : List Value). xs ++ so_far.gone) takes.1 ∙ append_assoc takes.0 (v ∷ []) so_far.gone;
-  as_many = omega (arith, so_far.as_many);
-  sets = then_sets old now new s (with_stack so_far.frame so_far.below) (with_stack so_far.frame takes.0) so_far.sets takes.2;
-}
-
-pub all_taken : (old new : FrameContent) (s : SegmentNo) (count done : ℕ) → TakenSoFar old new s done → done ≡ count → TakesOff old new s count
-all_taken old new s count done so_far end = λ f below taken top stack many.
-    let same : f ≡ so_far.frame = same_top old s f so_far.frame top so_far.top in
-    let whole : below ++ taken ≡ so_far.below ++ so_far.gone = sym stack ∙ ap (λ (x : FrameState). x.stack) same ∙ so_far.stack in
-    let both = one_split below so_far.below taken so_far.gone whole (many ∙ sym end ∙ sym so_far.as_many) in
-    let as_frame : SetsTop old new s (with_stack f so_far.below) = subst (λ (x : FrameState). SetsTop old new s (with_stack x so_far.below)) (sym same)
-    so_far.sets in
-    subst (λ (xs : List Value). SetsTop old new s (with_stack f xs)) (sym both.0) as_frame
 
 -- ---- The answer.
 

@@ -10,6 +10,7 @@ use Rattle.jk_model_domains.specs.Objects.{NamedObject, Object, Plain, Text, obj
 use Rattle.jk_model_heaps.specs.Heaps.{IsAlike, heap_words, named, with_object}
 use Rattle.jk_model_heaps.specs.Workings.{Inside, Setting, with_heap}
 use Rattle.jk_model_heaps.proofs.NamesInHeaps.{behind, in_front}
+use Rattle.jk_model_heaps.proofs.ArraysInHeaps.{same_name}
 use Rattle.jk_model_system_rows.specs.Answers.{Answer, with_answer}
 use Rattle.jk_model_system_rows.specs.HiddenTexts.{HidesUnits, SetsNewText, TextHolder, with_text}
 use Rattle.heap_laws.proofs.ObjectsAfterChanges.{written_words}
@@ -45,9 +46,6 @@ kinds_agree v w (inr (b, n)) (inr (c, m)) =
     subst (λ (x : Value). AreOfKind x w) (sym n) (subst (λ (y : Value). AreOfKind (Held.Obj b) y) (sym m) (tt, tt))
 
 -- ---- Where it stands.
-
-same_name : (a b : ℕ) → Held.Obj a ≡ Held.Obj b → a ≡ b
-same_name a b is = cc
 
 abbrev pub moved : (heap new : List NamedObject) (v : Value) → ((b : ℕ) (o : Object) → object_named heap b ≡ Some o → object_named new b ≡ Some o)
     → TextHolder heap v → TextHolder new v

@@ -1,9 +1,7 @@
 -- The stack of a frame that calls a method of the system has room for the answer in the place of what was given.
-use Rattle.std.proofs.Common.{◌≡◌, inl, inr, ℕ, zero, suc, ◌+◌, ◌≤◌, List, [], ◌∷◌, ◌++◌, length, Option, Some, None, Ok, refl, sym, ap, subst, ◌∙◌, arith}
-use Rattle.std.specs.List.{AllByRecursion}
+use Rattle.std.proofs.Common.{◌≡◌, inl, inr, ℕ, zero, suc, ◌+◌, ◌≤◌, List, ◌++◌, length, Option, Some, None, Ok, refl, sym, ap, subst, ◌∙◌, arith}
 use Rattle.std.proofs.lemmas.List.{length-append}
 use Rattle.list_lemmas.proofs.EndsOfLists.{one_split}
-use Rattle.jk_model.specs.declared.identifiers.SegmentNo.{SegmentNo}
 use Rattle.jk_model.specs.declared.steps.Raise.{Raise}
 use Rattle.jk_model.specs.declared.values.Value.{Value}
 use Rattle.jk_model_classes.specs.declared.records.ClassRecord.{ClassRecord}
@@ -12,6 +10,7 @@ use Rattle.jk_model_domains.specs.NumberRows.{IsOnTop}
 use Rattle.jk_model_domains.specs.Objects.{NamedObject}
 use Rattle.jk_model_heaps.specs.CalledFrames.{as_entries, at_place}
 use Rattle.jk_model_heaps.specs.Workings.{GoesOn, Inside, Request, Setting, Working, with_heap}
+use Rattle.number_ops.proofs.EntriesTaken.{stack_fits}
 use Rattle.jk_model_call_rows.specs.CallRows.{CallsSystem}
 use Rattle.jk_model_sealing.specs.FittingFrames.{FitsHere}
 use Rattle.jk_model_sharing.specs.SharedStates.{SharedState}
@@ -22,7 +21,7 @@ use Rattle.jk_model_system_rows.specs.Meanings.{meaning_of}
 use Rattle.jk_model_system_rows.specs.SystemCalls.{DoesSystem}
 use Rattle.jk_model_system_rows.specs.SystemRows.{SystemRow}
 use Rattle.class_init.specs.KeptStates.{KeptState}
-use Rattle.frame_store.specs.FrameContents.{FrameContent, IsContent, IsSized, TopFrame}
+use Rattle.frame_store.specs.FrameContents.{FrameContent, IsContent}
 use Rattle.number_laws.proofs.FrameParts.{with_stack}
 use Rattle.number_laws.proofs.ValuesFit.{fits-length, long_slots}
 use Rattle.number_ops.proofs.TopFrames.{same_top}
@@ -41,17 +40,7 @@ use Rattle.system_calls.specs.MethodsDone.{Doing, IsByRow, MethodDone, among, an
 use Rattle.system_calls.proofs.CallsFound.{runs, top}
 use Rattle.system_calls.proofs.MethodsMayBeDone.{is_around}
 
-each-last : {X : Type 0} (P : X → Type 0) (xs : List X) (x : X) → AllByRecursion P (xs ++ x ∷ []) → P x
-each-last P [] x h = h.0
-each-last P (y ∷ xs) x h = each-last P xs x h.1
-
--- no frame of a store has more entries than its head says
-stack_fits : (c : FrameContent) (s : SegmentNo) (f : FrameState) → IsContent c → TopFrame c s f → length f.stack ≤ f.head.max_stack
-stack_fits c s f is top_one =
-    let all = subst (AllByRecursion IsSized) top_one.frames (is.sized s top_one.segment top_one.is_there) in
-    (each-last IsSized top_one.lower f all).stack
-
--- nor has one that fits where it stands
+-- a frame that fits where it stands has no more entries than its head says
 typed_fits : (classes : List ClassRecord) (heap : List NamedObject) (f : FrameState) → AreSoundCodes classes → FitsHere classes heap f
     → length f.stack ≤ f.head.max_stack
 typed_fits classes heap f sound fits =

@@ -1,10 +1,8 @@
 -- Where the store of objects has another heap of the domain, and the store of frames another top frame of the segment, they hold the run
 -- with these.
 use Rattle.std.proofs.Common.{◌≡◌, ℕ, ◌+◌, List, [], ◌∷◌, ◌++◌, Option, Some, sym, ap, subst, ◌∙◌}
-use Rattle.std.proofs.lemmas.List.Sums.{sum_by_push}
 use Rattle.std.proofs.lemmas.Option.{same_Some}
 use Rattle.list_lemmas.proofs.LastItems.{one_last}
-use Rattle.jk_model.specs.declared.frames.FrameHead.{FrameHead}
 use Rattle.jk_model_frames.specs.Frames.{FrameState, frames_chunks, head_chunks}
 use Rattle.jk_model_domains.specs.Objects.{NamedObject}
 use Rattle.jk_model_heaps.specs.Heaps.{heap_words}
@@ -12,15 +10,10 @@ use Rattle.jk_model_heaps.specs.Workings.{Inside, Run, with_heap}
 use Rattle.class_init.specs.KeptStates.{KeptState}
 use Rattle.frame_store.specs.FrameContents.{Changes, SetsTop, StoredSegment}
 use Rattle.object_store.specs.HeapContents.{HeapBecomes}
+use Rattle.row_laws.proofs.FramesInARow.{chunks_same}
 use Rattle.step_contents.specs.Conditions.{MayDo}
 use Rattle.step_contents.specs.Contents.{Becomes, Contents, FramesBecome, Here, InsideBecomes, inside_in, with_frame}
 use Rattle.step_contents.specs.PlacesInCode.{PlaceInCode}
-
-same_chunks : (callers : List FrameState) (f g : FrameState) → g.head ≡ f.head → frames_chunks (callers ++ f ∷ []) ≡ frames_chunks (callers ++ g ∷ [])
-same_chunks callers f g same =
-    sum_by_push (λ (x : FrameState). head_chunks x.head) callers f
-    ∙ ap (λ (h : FrameHead). frames_chunks callers + head_chunks h) (sym same)
-    ∙ sym (sum_by_push (λ (x : FrameState). head_chunks x.head) callers g)
 
 module _ (c new : Contents) (here : Here) (at : PlaceInCode) (may : MayDo c here at) (own : new.own ≡ c.own) where
   abbrev pub heap_after : List NamedObject
@@ -68,7 +61,7 @@ module _ (c new : Contents) (here : Here) (at : PlaceInCode) (may : MayDo c here
         record {
           used = c.frames.used here.domain;
           chunks = ap (λ (n : ℕ). c.frames.used here.domain + n)
-              (ap frames_chunks may.are_frames ∙ same_chunks may.callers may.frame g same);
+              (ap frames_chunks may.are_frames ∙ chunks_same may.callers g may.frame (ap head_chunks (sym same)));
           changes = subst (λ (l : List FrameState). Changes c.frames new.frames here.segment here.domain
               (Some (let x : StoredSegment = record { domain = here.domain; frames = l ++ g ∷ [] } in x)) (c.frames.used here.domain)) lower there;
         }

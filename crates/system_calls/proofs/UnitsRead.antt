@@ -13,10 +13,7 @@ use Rattle.jk_model_classes.specs.declared.records.ClassRecord.{ClassRecord}
 use Rattle.jk_model_domains.specs.Objects.{Object, Text}
 use Rattle.object_store.specs.HeapContents.{HasItem, HeapContent, IsHeapContent, IsLive, item_of}
 use Rattle.heap_loops.specs.TextChanges.{HasUnits}
-
--- a name has one text
-pub one_text : (c : HeapContent) (d : DomainId) (a : ℕ) (t u : List ℕ) → IsLive c d a (Text t) → IsLive c d a (Text u) → t ≡ u
-one_text c d a t u first second = let same : Some (Text t) ≡ Some (Text u) = sym first ∙ second in cc
+use Rattle.heap_loops.proofs.UnitsSoFar.{same_text}
 
 module _ (c : HeapContent) (d : DomainId) (a i : ℕ) (has : HasUnits c d a (i + 1)) where
   abbrev here : ℕ
@@ -44,7 +41,7 @@ module _ (c : HeapContent) (d : DomainId) (a i : ℕ) (has : HasUnits c d a (i +
 
   pub unit_of : (units : List ℕ) → IsLive c d a (Text units) → slice_get units i ≡ Some (get_or has.text i 0)
   unit_of units live =
-      let same : has.text ≡ units = one_text c d a has.text units has.live live in
+      let same : has.text ≡ units = same_text c d a has.text units has.live live in
       let many = has.many in
       subst (λ (us : List ℕ). slice_get us i ≡ Some here) same (slice_get-get_or has.text i 0 (omega arith))
 

@@ -160,7 +160,7 @@ overflow_add-result g c =
 
 pub returns : goal.returns
 returns g c =
-    let Done = λ (x : g.row.F.Denot). DoesNumbers (g.F.FrameStore.content c.args.frames.now) (g.F.FrameStore.content x) c.args.w.now.classes
+    let Done = λ (x : g.row.F.Denot). DoesNumbers (g.F.SegmentFrames.content c.args.frames.now) (g.F.SegmentFrames.content x) c.args.w.now.classes
     c.args.s c.args.head.now c.args.i.now (Next.Goto (c.args.head.now.at + 1)) in
     elim c.match-part_of.branch [
       | in-Nothing w ↦ subst Done (sym w.frames-is) (did_nothing _ _ _ c.args.head.now c.args.i.now c.requires _ (is_only 0x00 c.args.i.now.op

@@ -3,8 +3,11 @@ use Rattle.std.proofs.Common.{List, length, ap, ◌∙◌, refl, subst, sym, ari
 use Rattle.jk_model_classes.specs.declared.records.ClassRecord.{ClassRecord}
 use Rattle.jk_model_classes.specs.Classes.{HasClass}
 use Rattle.jk_model_call_rows.specs.Targets.{Fails, Runs, Through}
+use Rattle.step_contents.specs.StandingFrames.{place_of}
+use Rattle.step_contents.specs.StandingTops.{StandsThere}
 use Rattle.call_ops.proofs.CallFound.{few_params, has_method, has_own_class, leads_to_method}
 use Rattle.call_ops.proofs.CallsDone.{fails_at, has_entry, may_run_at, ran_at, refers, static_may_run, static_ran, through_at}
+use Rattle.call_ops.proofs.FramesBegin.{has_first}
 use Rattle.call_ops.proofs.steps.step.Goals as goal
 
 -- ---- What it asks for.
@@ -28,11 +31,14 @@ overflow_cast-arguments g c =
           c.in-Some.method.now c.in-Some.ensures.some,
     )
 
-pub run-requires : goal.run-requires
-run-requires g c =
+pub run-requires-clause-may : goal.run-requires-clause-may
+run-requires-clause-may g c =
     static_may_run c.requires.may.2 c.requires.kind c.classes-t.result.now c.classes-t.ensures c.method_of-named.result c.method_of-named.ensures
     c.in-Some.method.now c.in-Some.ensures.some c.len-arguments.result (c.len-arguments.ensures ∙ ap length c.get.ensures)
     c.if-at.true
+
+pub run-requires-clause-first : goal.run-requires-clause-first
+run-requires-clause-first g c = has_first c.requires.may.2 c.classes-t.result.now c.classes-t.ensures c.method_of-named.result
 
 pub peek-receiver-requires : goal.peek-receiver-requires
 peek-receiver-requires g c =
@@ -60,36 +66,49 @@ overflow_add-arguments g c =
           c.in-Some.method.now c.in-Some.ensures.some,
     )
 
-pub run-requires-in-Runs : goal.run-requires-in-Runs
-run-requires-in-Runs g c =
+pub run-requires-in-Runs-clause-may : goal.run-requires-in-Runs-clause-may
+run-requires-in-Runs-clause-may g c =
     may_run_at c.requires.may.2 c.requires.kind c.classes-t.result.now c.classes-t.ensures c.method_of-named.result c.method_of-named.ensures
     c.in-Some.method.now c.in-Some.ensures.some c.len-arguments.result (c.len-arguments.ensures ∙ ap length c.get.ensures)
     c.if-at.false c.peek-receiver.result c.peek-receiver.ensures (Runs c.in-Runs.m) c.in-Runs.ensures c.in-Runs.m refl
 
+pub run-requires-in-Runs-clause-first : goal.run-requires-in-Runs-clause-first
+run-requires-in-Runs-clause-first g c = has_first c.requires.may.2 c.classes-t.result.now c.classes-t.ensures c.in-Runs.m
+
 -- ---- What it does.
 
-pub returns-then-at : goal.returns-then-at
-returns-then-at g c = λ own shared x may is.
+pub returns-then-at-clause-call : goal.returns-then-at-clause-call
+returns-then-at-clause-call g c = λ own shared x may is.
     static_ran may c.requires.kind c.classes-t.result.now c.classes-t.ensures c.method_of-named.result c.method_of-named.ensures
     c.in-Some.method.now c.in-Some.ensures.some c.len-arguments.result (c.len-arguments.ensures ∙ ap length c.get.ensures)
-    c.if-at.true x is (g.F.FrameStore.content c.run.new.frames) c.run.result c.run.ensures
+    c.if-at.true x is (g.F.SegmentFrames.content c.run.new.frames) c.run.result c.run.ensures.ran
 
-pub returns-in-Runs : goal.returns-in-Runs
-returns-in-Runs g c = λ own shared x may is.
+pub returns-then-at-clause-stands : goal.returns-then-at-clause-stands
+returns-then-at-clause-stands g c = λ n is.
+    subst (λ (l : List ClassRecord). StandsThere (g.F.SegmentFrames.content c.run.new.frames) l c.args.s (place_of c.run.new.at)) c.classes-t.ensures
+    (c.run.ensures.stands n is)
+
+pub returns-in-Runs-clause-call : goal.returns-in-Runs-clause-call
+returns-in-Runs-clause-call g c = λ own shared x may is.
     ran_at may c.requires.kind c.classes-t.result.now c.classes-t.ensures c.method_of-named.result c.method_of-named.ensures
     c.in-Some.method.now c.in-Some.ensures.some c.len-arguments.result (c.len-arguments.ensures ∙ ap length c.get.ensures)
     c.if-at.false c.peek-receiver.result c.peek-receiver.ensures (Runs c.in-Runs.m) c.in-Runs.ensures c.in-Runs.m refl
-    x is (g.F.FrameStore.content c.run-in-Runs.new.frames) c.run-in-Runs.result c.run-in-Runs.ensures
+    x is (g.F.SegmentFrames.content c.run-in-Runs.new.frames) c.run-in-Runs.result c.run-in-Runs.ensures.ran
 
-pub returns-in-Fails : goal.returns-in-Fails
-returns-in-Fails g c = λ own shared x may is.
+pub returns-in-Runs-clause-stands : goal.returns-in-Runs-clause-stands
+returns-in-Runs-clause-stands g c = λ n is.
+    subst (λ (l : List ClassRecord). StandsThere (g.F.SegmentFrames.content c.run-in-Runs.new.frames) l c.args.s (place_of c.run-in-Runs.new.at))
+    c.classes-t.ensures (c.run-in-Runs.ensures.stands n is)
+
+pub returns-in-Fails-clause-call : goal.returns-in-Fails-clause-call
+returns-in-Fails-clause-call g c = λ own shared x may is.
     fails_at may c.requires.kind c.classes-t.result.now c.classes-t.ensures c.method_of-named.result c.method_of-named.ensures
     c.in-Some.method.now c.in-Some.ensures.some c.len-arguments.result (c.len-arguments.ensures ∙ ap length c.get.ensures)
     c.if-at.false c.peek-receiver.result c.peek-receiver.ensures (Fails c.in-Fails.c) c.in-Fails.ensures c.in-Fails.c refl
     x is
 
-pub returns-in-Crosses : goal.returns-in-Crosses
-returns-in-Crosses g c = λ own shared x may is.
+pub returns-in-Crosses-clause-call : goal.returns-in-Crosses-clause-call
+returns-in-Crosses-clause-call g c = λ own shared x may is.
     through_at may c.requires.kind c.classes-t.result.now c.classes-t.ensures c.method_of-named.result c.method_of-named.ensures
     c.in-Some.method.now c.in-Some.ensures.some c.len-arguments.result (c.len-arguments.ensures ∙ ap length c.get.ensures)
     c.if-at.false c.peek-receiver.result c.peek-receiver.ensures (Through c.in-Crosses.k c.method_of-named.result) c.in-Crosses.ensures

@@ -5,5 +5,5 @@ use Rattle.exception_unwind.proofs.unwinding.unwind.Given as goal
 
 abbrev pub invariant-loop : goal.invariant-loop
 invariant-loop g l =
-    SoFar (contents_of (g.H.ObjectStore.content l.initial.heap) (g.F.FrameStore.content l.initial.frames) l.initial.own)
-    (contents_of (g.H.ObjectStore.content l.heap) (g.F.FrameStore.content l.frames) l.own) l.w l.d l.s l.fn.throwable l.counter l.thrown l.tried
+    SoFar (contents_of (g.H.ObjectStore.content l.initial.heap) (g.F.SegmentFrames.content l.initial.frames) l.initial.own)
+    (contents_of (g.H.ObjectStore.content l.heap) (g.F.SegmentFrames.content l.frames) l.own) l.w l.d l.s l.fn.throwable l.counter l.thrown l.tried

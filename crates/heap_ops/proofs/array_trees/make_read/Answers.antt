@@ -9,7 +9,7 @@ use Rattle.heap_ops.proofs.array_trees.make_read.Goals as goal
 pub read_counts-requires-clause-ints : goal.read_counts-requires-clause-ints
 read_counts-requires-clause-ints g c =
     let heaps = g.H.ObjectStore.content c.args.heap.now in
-    let frames = g.F.FrameStore.content c.args.frames.now in
+    let frames = g.F.SegmentFrames.content c.args.frames.now in
     let k = doing heaps frames c.args.here.now c.requires.may in
     let ints = ints_as_many heaps frames c.args.here.now k c.requires.op (length c.args.counts.now) c.requires.many in
     (ints.0, ints.1, ints.3)
@@ -17,7 +17,7 @@ read_counts-requires-clause-ints g c =
 pub make_counted-requires-clause-counts : goal.make_counted-requires-clause-counts
 make_counted-requires-clause-counts g c =
     let heaps = g.H.ObjectStore.content c.args.heap.now in
-    let frames = g.F.FrameStore.content c.args.frames.now in
+    let frames = g.F.SegmentFrames.content c.args.frames.now in
     let k = doing heaps frames c.args.here.now c.requires.may in
     let ints = ints_as_many heaps frames c.args.here.now k c.requires.op (length c.args.counts.now) c.requires.many in
     (ints.0, ints.1, ints.2, c.in-Ok.ensures.ok ints.0 ints.1 ints.3)
@@ -25,7 +25,7 @@ make_counted-requires-clause-counts g c =
 pub returns-in-Err : goal.returns-in-Err
 returns-in-Err g c = λ own shared x may setting.
     let heaps = g.H.ObjectStore.content c.args.heap.now in
-    let frames = g.F.FrameStore.content c.args.frames.now in
+    let frames = g.F.SegmentFrames.content c.args.frames.now in
     let k : Doing heaps frames c.args.here.now =
     record { own = own; shared = shared; may = may; kind = c.requires.may.kind; setting = x; is_setting = setting } in
     let ints = ints_as_many heaps frames c.args.here.now k c.requires.op (length c.args.counts.now) c.requires.many in

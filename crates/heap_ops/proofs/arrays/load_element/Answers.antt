@@ -13,13 +13,13 @@ use Rattle.heap_ops.proofs.arrays.load_element.Goals as goal
 pub object_at-requires : goal.object_at-requires
 object_at-requires g c =
     let heaps = g.H.ObjectStore.content c.args.heap.now in
-    let frames = g.F.FrameStore.content c.args.frames.now in
+    let frames = g.F.SegmentFrames.content c.args.frames.now in
     array_below heaps frames c.args.here.now (doing heaps frames c.args.here.now c.requires.may) c.requires.op
 
 pub returns-in_err-a : goal.returns-in_err-a
 returns-in_err-a g c = λ own shared x may setting.
     let heaps = g.H.ObjectStore.content c.args.heap.now in
-    let frames = g.F.FrameStore.content c.args.frames.now in
+    let frames = g.F.SegmentFrames.content c.args.frames.now in
     let k : Doing heaps frames c.args.here.now =
     record { own = own; shared = shared; may = may; kind = c.requires.may.kind; setting = x; is_setting = setting } in
     let p = err_from_is_err_and c.from_residual.result c.from_residual.ensures.1 in
@@ -30,19 +30,19 @@ returns-in_err-a g c = λ own shared x may setting.
 pub array_at-len-requires : goal.array_at-len-requires
 array_at-len-requires g c =
     let heaps = g.H.ObjectStore.content c.args.heap.now in
-    let frames = g.F.FrameStore.content c.args.frames.now in
+    let frames = g.F.SegmentFrames.content c.args.frames.now in
     is_array_at heaps frames c.args.here.now (doing heaps frames c.args.here.now c.requires.may) c.requires.op c.in_ok-a.a c.in_ok-a.ensures
 
 pub int_at-index-requires : goal.int_at-index-requires
 int_at-index-requires g c =
     let heaps = g.H.ObjectStore.content c.args.heap.now in
-    let frames = g.F.FrameStore.content c.args.frames.now in
+    let frames = g.F.SegmentFrames.content c.args.frames.now in
     index_below heaps frames c.args.here.now (doing heaps frames c.args.here.now c.requires.may) c.requires.op
 
 pub returns-in_err-place : goal.returns-in_err-place
 returns-in_err-place g c = λ own shared x may setting.
     let heaps = g.H.ObjectStore.content c.args.heap.now in
-    let frames = g.F.FrameStore.content c.args.frames.now in
+    let frames = g.F.SegmentFrames.content c.args.frames.now in
     let k : Doing heaps frames c.args.here.now =
     record { own = own; shared = shared; may = may; kind = c.requires.may.kind; setting = x; is_setting = setting } in
     let p = err_from_is_err_and c.from_residual-in_err-place.result c.from_residual-in_err-place.ensures.1 in
@@ -61,16 +61,16 @@ read-v-requires g c =
 pub replace-requires-clause-many : goal.replace-requires-clause-many
 replace-requires-clause-many g c =
     let heaps = g.H.ObjectStore.content c.args.heap.now in
-    let frames = g.F.FrameStore.content c.args.frames.now in
+    let frames = g.F.SegmentFrames.content c.args.frames.now in
     two_there heaps frames c.args.here.now (doing heaps frames c.args.here.now c.requires.may) c.requires.op
 
 pub returns : goal.returns
 returns g c = λ own shared x may setting.
     let heaps = g.H.ObjectStore.content c.args.heap.now in
-    let frames = g.F.FrameStore.content c.args.frames.now in
+    let frames = g.F.SegmentFrames.content c.args.frames.now in
     let k : Doing heaps frames c.args.here.now =
     record { own = own; shared = shared; may = may; kind = c.requires.may.kind; setting = x; is_setting = setting } in
     let is = to_z-of_z w32 c.int_at-index.result (record { sfits = c.int_at-index.type_inv }) in
     element_pushed heaps frames c.args.here.now k c.requires.op c.in_ok-a.a c.array_at-len.result.0 c.array_at-len.result.1 c.in_ok-a.ensures
-    c.array_at-len.ensures.is c.int_at-index.result c.int_at-index.ensures (g.F.FrameStore.content c.replace.new.frames) c.in_ok-place.place
+    c.array_at-len.ensures.is c.int_at-index.result c.int_at-index.ensures (g.F.SegmentFrames.content c.replace.new.frames) c.in_ok-place.place
     c.read-v.result (sym is ∙ c.in_ok-place.ensures.0) c.in_ok-place.ensures.1 c.read-v.ensures c.replace.ensures

@@ -13,14 +13,14 @@ use Rattle.heap_ops.proofs.arrays.store_element.Goals as goal
 pub object_at-requires : goal.object_at-requires
 object_at-requires g c =
     let heaps = g.H.ObjectStore.content c.args.heap.now in
-    let frames = g.F.FrameStore.content c.args.frames.now in
+    let frames = g.F.SegmentFrames.content c.args.frames.now in
     let k = doing heaps frames c.args.here.now c.requires.may in
     array_below heaps frames c.args.here.now k c.requires.op
 
 pub returns-in_err-a : goal.returns-in_err-a
 returns-in_err-a g c = λ own shared x may setting.
     let heaps = g.H.ObjectStore.content c.args.heap.now in
-    let frames = g.F.FrameStore.content c.args.frames.now in
+    let frames = g.F.SegmentFrames.content c.args.frames.now in
     let k : Doing heaps frames c.args.here.now =
     record { own = own; shared = shared; may = may; kind = c.requires.may.kind; setting = x; is_setting = setting } in
     let p = err_from_is_err_and c.from_residual.result c.from_residual.ensures.1 in
@@ -31,21 +31,21 @@ returns-in_err-a g c = λ own shared x may setting.
 pub array_at-len-requires : goal.array_at-len-requires
 array_at-len-requires g c =
     let heaps = g.H.ObjectStore.content c.args.heap.now in
-    let frames = g.F.FrameStore.content c.args.frames.now in
+    let frames = g.F.SegmentFrames.content c.args.frames.now in
     let k = doing heaps frames c.args.here.now c.requires.may in
     is_array_at heaps frames c.args.here.now k c.requires.op c.in_ok-a.a c.in_ok-a.ensures
 
 pub int_at-index-requires : goal.int_at-index-requires
 int_at-index-requires g c =
     let heaps = g.H.ObjectStore.content c.args.heap.now in
-    let frames = g.F.FrameStore.content c.args.frames.now in
+    let frames = g.F.SegmentFrames.content c.args.frames.now in
     let k = doing heaps frames c.args.here.now c.requires.may in
     index_below heaps frames c.args.here.now k c.requires.op
 
 pub returns-in_err-place : goal.returns-in_err-place
 returns-in_err-place g c = λ own shared x may setting.
     let heaps = g.H.ObjectStore.content c.args.heap.now in
-    let frames = g.F.FrameStore.content c.args.frames.now in
+    let frames = g.F.SegmentFrames.content c.args.frames.now in
     let k : Doing heaps frames c.args.here.now =
     record { own = own; shared = shared; may = may; kind = c.requires.may.kind; setting = x; is_setting = setting } in
     let p = err_from_is_err_and c.from_residual-in_err-place.result c.from_residual-in_err-place.ensures.1 in
@@ -58,14 +58,14 @@ returns-in_err-place g c = λ own shared x may setting.
 pub value_at-top-requires : goal.value_at-top-requires
 value_at-top-requires g c =
     let heaps = g.H.ObjectStore.content c.args.heap.now in
-    let frames = g.F.FrameStore.content c.args.frames.now in
+    let frames = g.F.SegmentFrames.content c.args.frames.now in
     let k = doing heaps frames c.args.here.now c.requires.may in
     value_below heaps frames c.args.here.now k c.requires.op
 
 pub write-requires : goal.write-requires
 write-requires g c =
     let heaps = g.H.ObjectStore.content c.args.heap.now in
-    let frames = g.F.FrameStore.content c.args.frames.now in
+    let frames = g.F.SegmentFrames.content c.args.frames.now in
     let k = doing heaps frames c.args.here.now c.requires.may in
     let is = to_z-of_z w32 c.int_at-index.result (record { sfits = c.int_at-index.type_inv }) in
     takes heaps frames c.args.here.now k c.requires.op c.in_ok-a.a c.array_at-len.result.0 c.array_at-len.result.1 c.in_ok-a.ensures
@@ -77,14 +77,14 @@ write-requires g c =
 pub drop_entries-requires : goal.drop_entries-requires
 drop_entries-requires g c =
     let heaps = g.H.ObjectStore.content c.args.heap.now in
-    let frames = g.F.FrameStore.content c.args.frames.now in
+    let frames = g.F.SegmentFrames.content c.args.frames.now in
     let k = doing heaps frames c.args.here.now c.requires.may in
     three_there heaps frames c.args.here.now k c.requires.op
 
 pub returns : goal.returns
 returns g c = λ own shared x may setting.
     let heaps = g.H.ObjectStore.content c.args.heap.now in
-    let frames = g.F.FrameStore.content c.args.frames.now in
+    let frames = g.F.SegmentFrames.content c.args.frames.now in
     let k : Doing heaps frames c.args.here.now =
     record { own = own; shared = shared; may = may; kind = c.requires.may.kind; setting = x; is_setting = setting } in
     let is = to_z-of_z w32 c.int_at-index.result (record { sfits = c.int_at-index.type_inv }) in
@@ -93,4 +93,4 @@ returns g c = λ own shared x may setting.
     c.in_ok-place.place (sym is ∙ c.in_ok-place.ensures.0) c.in_ok-place.ensures.1 c.heap_rows_keep.ensures
     (g.met.H.ObjectStore.holds c.args.heap.now) (λ op. absurd (c.requires.numbers op)) c.value_at-top.result c.stored-v.result c.value_at-top.ensures
     c.stored-v.ensures
-    (g.H.ObjectStore.content c.write.new.self) (g.F.FrameStore.content c.drop_entries.new.frames) c.write.ensures c.drop_entries.ensures
+    (g.H.ObjectStore.content c.write.new.self) (g.F.SegmentFrames.content c.drop_entries.new.frames) c.write.ensures c.drop_entries.ensures

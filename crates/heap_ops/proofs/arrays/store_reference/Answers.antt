@@ -15,7 +15,7 @@ use Rattle.heap_ops.proofs.arrays.store_reference.Goals as goal
 pub object_at-requires : goal.object_at-requires
 object_at-requires g c =
     let heaps = g.H.ObjectStore.content c.args.heap.now in
-    let frames = g.F.FrameStore.content c.args.frames.now in
+    let frames = g.F.SegmentFrames.content c.args.frames.now in
     let caps = g.C.CapabilityTests.known c.args.caps.now in
     let k = doing_among heaps frames caps c.args.here.now c.requires.may in
     array_below heaps frames c.args.here.now k (is_store heaps frames c.args.here.now k c.requires.op)
@@ -23,7 +23,7 @@ object_at-requires g c =
 pub returns-in_err-a : goal.returns-in_err-a
 returns-in_err-a g c = λ own shared known x may setting.
     let heaps = g.H.ObjectStore.content c.args.heap.now in
-    let frames = g.F.FrameStore.content c.args.frames.now in
+    let frames = g.F.SegmentFrames.content c.args.frames.now in
     let caps = g.C.CapabilityTests.known c.args.caps.now in
     let k : Doing heaps frames c.args.here.now =
     record { own = own; shared = shared; may = may; kind = c.requires.may.kind; setting = x; is_setting = setting } in
@@ -35,7 +35,7 @@ returns-in_err-a g c = λ own shared known x may setting.
 pub array_at-len-requires : goal.array_at-len-requires
 array_at-len-requires g c =
     let heaps = g.H.ObjectStore.content c.args.heap.now in
-    let frames = g.F.FrameStore.content c.args.frames.now in
+    let frames = g.F.SegmentFrames.content c.args.frames.now in
     let caps = g.C.CapabilityTests.known c.args.caps.now in
     let k = doing_among heaps frames caps c.args.here.now c.requires.may in
     is_array_at heaps frames c.args.here.now k (is_store heaps frames c.args.here.now k c.requires.op) c.in_ok-a.a c.in_ok-a.ensures
@@ -43,7 +43,7 @@ array_at-len-requires g c =
 pub int_at-index-requires : goal.int_at-index-requires
 int_at-index-requires g c =
     let heaps = g.H.ObjectStore.content c.args.heap.now in
-    let frames = g.F.FrameStore.content c.args.frames.now in
+    let frames = g.F.SegmentFrames.content c.args.frames.now in
     let caps = g.C.CapabilityTests.known c.args.caps.now in
     let k = doing_among heaps frames caps c.args.here.now c.requires.may in
     index_below heaps frames c.args.here.now k (is_store heaps frames c.args.here.now k c.requires.op)
@@ -51,7 +51,7 @@ int_at-index-requires g c =
 pub returns-in_err-place : goal.returns-in_err-place
 returns-in_err-place g c = λ own shared known x may setting.
     let heaps = g.H.ObjectStore.content c.args.heap.now in
-    let frames = g.F.FrameStore.content c.args.frames.now in
+    let frames = g.F.SegmentFrames.content c.args.frames.now in
     let caps = g.C.CapabilityTests.known c.args.caps.now in
     let k : Doing heaps frames c.args.here.now =
     record { own = own; shared = shared; may = may; kind = c.requires.may.kind; setting = x; is_setting = setting } in
@@ -66,7 +66,7 @@ returns-in_err-place g c = λ own shared known x may setting.
 pub value_at-top-requires : goal.value_at-top-requires
 value_at-top-requires g c =
     let heaps = g.H.ObjectStore.content c.args.heap.now in
-    let frames = g.F.FrameStore.content c.args.frames.now in
+    let frames = g.F.SegmentFrames.content c.args.frames.now in
     let caps = g.C.CapabilityTests.known c.args.caps.now in
     let k = doing_among heaps frames caps c.args.here.now c.requires.may in
     value_below heaps frames c.args.here.now k (is_store heaps frames c.args.here.now k c.requires.op)
@@ -74,7 +74,7 @@ value_at-top-requires g c =
 pub may_be_cast-requires-clause-reference : goal.may_be_cast-requires-clause-reference
 may_be_cast-requires-clause-reference g c =
     let heaps = g.H.ObjectStore.content c.args.heap.now in
-    let frames = g.F.FrameStore.content c.args.frames.now in
+    let frames = g.F.SegmentFrames.content c.args.frames.now in
     let caps = g.C.CapabilityTests.known c.args.caps.now in
     let k = doing_among heaps frames caps c.args.here.now c.requires.may in
     reference heaps frames c.args.here.now k c.requires.op caps c.requires.may.known c.value_at-top.result c.value_at-top.ensures
@@ -82,7 +82,7 @@ may_be_cast-requires-clause-reference g c =
 pub may_be_cast-requires-clause-known : goal.may_be_cast-requires-clause-known
 may_be_cast-requires-clause-known g c =
     let heaps = g.H.ObjectStore.content c.args.heap.now in
-    let frames = g.F.FrameStore.content c.args.frames.now in
+    let frames = g.F.SegmentFrames.content c.args.frames.now in
     let caps = g.C.CapabilityTests.known c.args.caps.now in
     let k = doing_among heaps frames caps c.args.here.now c.requires.may in
     is_known heaps frames c.args.here.now k c.requires.op caps c.requires.may.known c.value_at-top.result c.value_at-top.ensures
@@ -90,7 +90,7 @@ may_be_cast-requires-clause-known g c =
 pub returns-then-not-may_be_cast : goal.returns-then-not-may_be_cast
 returns-then-not-may_be_cast g c = λ own shared known x may setting.
     let heaps = g.H.ObjectStore.content c.args.heap.now in
-    let frames = g.F.FrameStore.content c.args.frames.now in
+    let frames = g.F.SegmentFrames.content c.args.frames.now in
     let caps = g.C.CapabilityTests.known c.args.caps.now in
     let k : Doing heaps frames c.args.here.now =
     record { own = own; shared = shared; may = may; kind = c.requires.may.kind; setting = x; is_setting = setting } in
@@ -109,7 +109,7 @@ returns-then-not-may_be_cast g c = λ own shared known x may setting.
 pub write-requires : goal.write-requires
 write-requires g c =
     let heaps = g.H.ObjectStore.content c.args.heap.now in
-    let frames = g.F.FrameStore.content c.args.frames.now in
+    let frames = g.F.SegmentFrames.content c.args.frames.now in
     let caps = g.C.CapabilityTests.known c.args.caps.now in
     let k = doing_among heaps frames caps c.args.here.now c.requires.may in
     let is = to_z-of_z w32 c.int_at-index.result (record { sfits = c.int_at-index.type_inv }) in
@@ -130,7 +130,7 @@ write-requires g c =
 pub drop_entries-requires : goal.drop_entries-requires
 drop_entries-requires g c =
     let heaps = g.H.ObjectStore.content c.args.heap.now in
-    let frames = g.F.FrameStore.content c.args.frames.now in
+    let frames = g.F.SegmentFrames.content c.args.frames.now in
     let caps = g.C.CapabilityTests.known c.args.caps.now in
     let k = doing_among heaps frames caps c.args.here.now c.requires.may in
     three_there heaps frames c.args.here.now k (is_store heaps frames c.args.here.now k c.requires.op)
@@ -138,7 +138,7 @@ drop_entries-requires g c =
 pub returns : goal.returns
 returns g c = λ own shared known x may setting.
     let heaps = g.H.ObjectStore.content c.args.heap.now in
-    let frames = g.F.FrameStore.content c.args.frames.now in
+    let frames = g.F.SegmentFrames.content c.args.frames.now in
     let caps = g.C.CapabilityTests.known c.args.caps.now in
     let k : Doing heaps frames c.args.here.now =
     record { own = own; shared = shared; may = may; kind = c.requires.may.kind; setting = x; is_setting = setting } in
@@ -154,4 +154,4 @@ returns g c = λ own shared known x may setting.
     c.array_at-len.ensures.is c.int_at-index.result c.int_at-index.ensures
     c.in_ok-place.place (sym is ∙ c.in_ok-place.ensures.0) c.in_ok-place.ensures.1 c.heap_rows_keep.ensures
     (g.met.H.ObjectStore.holds c.args.heap.now) (λ op. suits) c.value_at-top.result c.stored-v.result c.value_at-top.ensures c.stored-v.ensures
-    (g.H.ObjectStore.content c.write.new.self) (g.F.FrameStore.content c.drop_entries.new.frames) c.write.ensures c.drop_entries.ensures
+    (g.H.ObjectStore.content c.write.new.self) (g.F.SegmentFrames.content c.drop_entries.new.frames) c.write.ensures c.drop_entries.ensures

@@ -7,7 +7,7 @@ use Rattle.heap_ops.proofs.casts.cast.Goals as goal
 pub value_at-v-requires : goal.value_at-v-requires
 value_at-v-requires g c =
     let heaps = g.H.ObjectStore.content c.args.heap.now in
-    let frames = g.F.FrameStore.content c.args.frames.now in
+    let frames = g.F.SegmentFrames.content c.args.frames.now in
     let caps = g.C.CapabilityTests.known c.args.caps.now in
     let k = doing_among heaps frames caps c.args.here.now c.requires.may in
     value_below heaps frames c.args.here.now k caps c.requires.may.known (cast_found heaps frames c.args.here.now k caps c.requires.may.known c.requires.op)
@@ -15,7 +15,7 @@ value_at-v-requires g c =
 pub type_named-requires : goal.type_named-requires
 type_named-requires g c =
     let heaps = g.H.ObjectStore.content c.args.heap.now in
-    let frames = g.F.FrameStore.content c.args.frames.now in
+    let frames = g.F.SegmentFrames.content c.args.frames.now in
     let caps = g.C.CapabilityTests.known c.args.caps.now in
     let k = doing_among heaps frames caps c.args.here.now c.requires.may in
     names_type heaps frames c.args.here.now k caps c.requires.may.known (cast_found heaps frames c.args.here.now k caps c.requires.may.known c.requires.op)
@@ -23,7 +23,7 @@ type_named-requires g c =
 pub may_be_cast-requires-clause-reference : goal.may_be_cast-requires-clause-reference
 may_be_cast-requires-clause-reference g c =
     let heaps = g.H.ObjectStore.content c.args.heap.now in
-    let frames = g.F.FrameStore.content c.args.frames.now in
+    let frames = g.F.SegmentFrames.content c.args.frames.now in
     let caps = g.C.CapabilityTests.known c.args.caps.now in
     let k = doing_among heaps frames caps c.args.here.now c.requires.may in
     reference heaps frames c.args.here.now k caps c.requires.may.known (cast_found heaps frames c.args.here.now k caps c.requires.may.known c.requires.op)
@@ -32,7 +32,7 @@ may_be_cast-requires-clause-reference g c =
 pub may_be_cast-requires-clause-known : goal.may_be_cast-requires-clause-known
 may_be_cast-requires-clause-known g c =
     let heaps = g.H.ObjectStore.content c.args.heap.now in
-    let frames = g.F.FrameStore.content c.args.frames.now in
+    let frames = g.F.SegmentFrames.content c.args.frames.now in
     let caps = g.C.CapabilityTests.known c.args.caps.now in
     let k = doing_among heaps frames caps c.args.here.now c.requires.may in
     is_known heaps frames c.args.here.now k caps c.requires.may.known (cast_found heaps frames c.args.here.now k caps c.requires.may.known c.requires.op)
@@ -41,7 +41,7 @@ may_be_cast-requires-clause-known g c =
 pub returns-then-may_be_cast : goal.returns-then-may_be_cast
 returns-then-may_be_cast g c = λ own shared known x may setting.
     let heaps = g.H.ObjectStore.content c.args.heap.now in
-    let frames = g.F.FrameStore.content c.args.frames.now in
+    let frames = g.F.SegmentFrames.content c.args.frames.now in
     let caps = g.C.CapabilityTests.known c.args.caps.now in
     let k : Doing heaps frames c.args.here.now =
     record { own = own; shared = shared; may = may; kind = c.requires.may.kind; setting = x; is_setting = setting } in
@@ -51,7 +51,7 @@ returns-then-may_be_cast g c = λ own shared known x may setting.
 pub returns-else-may_be_cast : goal.returns-else-may_be_cast
 returns-else-may_be_cast g c = λ own shared known x may setting.
     let heaps = g.H.ObjectStore.content c.args.heap.now in
-    let frames = g.F.FrameStore.content c.args.frames.now in
+    let frames = g.F.SegmentFrames.content c.args.frames.now in
     let caps = g.C.CapabilityTests.known c.args.caps.now in
     let k : Doing heaps frames c.args.here.now =
     record { own = own; shared = shared; may = may; kind = c.requires.may.kind; setting = x; is_setting = setting } in

@@ -7,7 +7,7 @@ use Rattle.heap_ops.proofs.casts.test_instance.Goals as goal
 pub value_at-v-requires : goal.value_at-v-requires
 value_at-v-requires g c =
     let heaps = g.H.ObjectStore.content c.args.heap.now in
-    let frames = g.F.FrameStore.content c.args.frames.now in
+    let frames = g.F.SegmentFrames.content c.args.frames.now in
     let caps = g.C.CapabilityTests.known c.args.caps.now in
     let k = doing_among heaps frames caps c.args.here.now c.requires.may in
     value_below heaps frames c.args.here.now k caps c.requires.may.known (test_found heaps frames c.args.here.now k caps c.requires.may.known c.requires.op)
@@ -15,7 +15,7 @@ value_at-v-requires g c =
 pub type_named-requires : goal.type_named-requires
 type_named-requires g c =
     let heaps = g.H.ObjectStore.content c.args.heap.now in
-    let frames = g.F.FrameStore.content c.args.frames.now in
+    let frames = g.F.SegmentFrames.content c.args.frames.now in
     let caps = g.C.CapabilityTests.known c.args.caps.now in
     let k = doing_among heaps frames caps c.args.here.now c.requires.may in
     names_type heaps frames c.args.here.now k caps c.requires.may.known (test_found heaps frames c.args.here.now k caps c.requires.may.known c.requires.op)
@@ -23,7 +23,7 @@ type_named-requires g c =
 pub is_instance_of-requires-clause-reference : goal.is_instance_of-requires-clause-reference
 is_instance_of-requires-clause-reference g c =
     let heaps = g.H.ObjectStore.content c.args.heap.now in
-    let frames = g.F.FrameStore.content c.args.frames.now in
+    let frames = g.F.SegmentFrames.content c.args.frames.now in
     let caps = g.C.CapabilityTests.known c.args.caps.now in
     let k = doing_among heaps frames caps c.args.here.now c.requires.may in
     reference heaps frames c.args.here.now k caps c.requires.may.known (test_found heaps frames c.args.here.now k caps c.requires.may.known c.requires.op)
@@ -32,7 +32,7 @@ is_instance_of-requires-clause-reference g c =
 pub is_instance_of-requires-clause-known : goal.is_instance_of-requires-clause-known
 is_instance_of-requires-clause-known g c =
     let heaps = g.H.ObjectStore.content c.args.heap.now in
-    let frames = g.F.FrameStore.content c.args.frames.now in
+    let frames = g.F.SegmentFrames.content c.args.frames.now in
     let caps = g.C.CapabilityTests.known c.args.caps.now in
     let k = doing_among heaps frames caps c.args.here.now c.requires.may in
     is_known heaps frames c.args.here.now k caps c.requires.may.known (test_found heaps frames c.args.here.now k caps c.requires.may.known c.requires.op)
@@ -41,7 +41,7 @@ is_instance_of-requires-clause-known g c =
 pub replace-requires-clause-many : goal.replace-requires-clause-many
 replace-requires-clause-many g c =
     let heaps = g.H.ObjectStore.content c.args.heap.now in
-    let frames = g.F.FrameStore.content c.args.frames.now in
+    let frames = g.F.SegmentFrames.content c.args.frames.now in
     let caps = g.C.CapabilityTests.known c.args.caps.now in
     let k = doing_among heaps frames caps c.args.here.now c.requires.may in
     one_there heaps frames c.args.here.now k caps c.requires.may.known (test_found heaps frames c.args.here.now k caps c.requires.may.known c.requires.op)
@@ -49,7 +49,7 @@ replace-requires-clause-many g c =
 pub replace-requires-else-is_instance_of-clause-many : goal.replace-requires-else-is_instance_of-clause-many
 replace-requires-else-is_instance_of-clause-many g c =
     let heaps = g.H.ObjectStore.content c.args.heap.now in
-    let frames = g.F.FrameStore.content c.args.frames.now in
+    let frames = g.F.SegmentFrames.content c.args.frames.now in
     let caps = g.C.CapabilityTests.known c.args.caps.now in
     let k = doing_among heaps frames caps c.args.here.now c.requires.may in
     one_there heaps frames c.args.here.now k caps c.requires.may.known (test_found heaps frames c.args.here.now k caps c.requires.may.known c.requires.op)
@@ -57,20 +57,20 @@ replace-requires-else-is_instance_of-clause-many g c =
 pub returns-then-is_instance_of : goal.returns-then-is_instance_of
 returns-then-is_instance_of g c = λ own shared known x may setting.
     let heaps = g.H.ObjectStore.content c.args.heap.now in
-    let frames = g.F.FrameStore.content c.args.frames.now in
+    let frames = g.F.SegmentFrames.content c.args.frames.now in
     let caps = g.C.CapabilityTests.known c.args.caps.now in
     let k : Doing heaps frames c.args.here.now =
     record { own = own; shared = shared; may = may; kind = c.requires.may.kind; setting = x; is_setting = setting } in
     test_holds heaps frames c.args.here.now k caps known c.requires.op c.value_at-v.result c.value_at-v.ensures c.type_named.result.now c.type_named.ensures
-    (g.F.FrameStore.content c.replace.new.frames) (c.is_instance_of.ensures.0 c.if-is_instance_of.true) c.replace.ensures
+    (g.F.SegmentFrames.content c.replace.new.frames) (c.is_instance_of.ensures.0 c.if-is_instance_of.true) c.replace.ensures
 
 pub returns-else-is_instance_of : goal.returns-else-is_instance_of
 returns-else-is_instance_of g c = λ own shared known x may setting.
     let heaps = g.H.ObjectStore.content c.args.heap.now in
-    let frames = g.F.FrameStore.content c.args.frames.now in
+    let frames = g.F.SegmentFrames.content c.args.frames.now in
     let caps = g.C.CapabilityTests.known c.args.caps.now in
     let k : Doing heaps frames c.args.here.now =
     record { own = own; shared = shared; may = may; kind = c.requires.may.kind; setting = x; is_setting = setting } in
     test_fails heaps frames c.args.here.now k caps known c.requires.op c.value_at-v.result c.value_at-v.ensures c.type_named.result.now c.type_named.ensures
-    (g.F.FrameStore.content c.replace-else-is_instance_of.new.frames)
+    (g.F.SegmentFrames.content c.replace-else-is_instance_of.new.frames)
     (λ is. never_true c.is_instance_of.result c.if-is_instance_of.false (c.is_instance_of.ensures.1 is)) c.replace-else-is_instance_of.ensures

@@ -1,28 +1,9 @@
--- Each turn takes one more off.
-use Rattle.std.proofs.Common.{◌≡◌, arith}
-use Rattle.number_laws.proofs.FrameParts.{with_stack}
-use Rattle.number_ops.proofs.TopFrames.{top_after}
-use Rattle.heap_ops.proofs.EntriesTakenOff.{all_taken, more_there, none_taken, one_more_taken}
+-- The store takes off what is there.
+use Rattle.heap_ops.proofs.EntriesTakenOff.{has_as_many}
 use Rattle.heap_ops.proofs.entries.drop_entries.Goals as goal
 
-pub loop-i-init : goal.loop-i-init
-loop-i-init g c = none_taken (g.F.FrameStore.content c.args.frames.now) c.args.s c.args.count c.requires
-
-pub pop_value-entry-requires : goal.pop_value-entry-requires
-pop_value-entry-requires g c =
-    more_there (g.F.FrameStore.content c.args.frames.now) (g.F.FrameStore.content c.loop-i.frames) c.args.s c.args.count c.loop-i._i c.requires
-    c.loop-i.invariant c.loop-i-test.true
-
-pub loop-i-preserved : goal.loop-i-preserved
-loop-i-preserved g c =
-    let so_far = c.loop-i.invariant in
-    one_more_taken (g.F.FrameStore.content c.args.frames.now) (g.F.FrameStore.content c.loop-i.frames) (g.F.FrameStore.content c.pop_value-entry.new.self)
-    c.args.s c.loop-i._i c.pop_value-entry.result so_far
-    (c.pop_value-entry.ensures (with_stack so_far.frame so_far.below)
-    (top_after (g.F.FrameStore.content c.args.frames.now) (g.F.FrameStore.content c.loop-i.frames) c.args.s (with_stack so_far.frame so_far.below)
-    so_far.sets))
+pub drop_entries-requires : goal.drop_entries-requires
+drop_entries-requires g c = has_as_many (g.F.SegmentFrames.content c.args.frames.now) c.args.s c.args.count c.requires
 
 pub returns : goal.returns
-returns g c =
-    let end : c.loop-i._i ≡ c.args.count = omega (arith, c.loop-i-test.false, c.loop-i.auto._i-end) in
-    all_taken (g.F.FrameStore.content c.args.frames.now) (g.F.FrameStore.content c.loop-i.frames) c.args.s c.args.count c.loop-i._i c.loop-i.invariant end
+returns g c = λ f below taken top stack many. c.drop_entries.ensures f top below taken stack many

@@ -14,13 +14,13 @@ use Rattle.heap_ops.proofs.fields.put_field.Goals as goal
 pub object_at-requires : goal.object_at-requires
 object_at-requires g c =
     let heaps = g.H.ObjectStore.content c.args.heap.now in
-    let frames = g.F.FrameStore.content c.args.frames.now in
+    let frames = g.F.SegmentFrames.content c.args.frames.now in
     object_below heaps frames c.args.here.now (doing heaps frames c.args.here.now c.requires.may) c.requires.op
 
 pub returns-in_err-a : goal.returns-in_err-a
 returns-in_err-a g c = λ own shared x may setting.
     let heaps = g.H.ObjectStore.content c.args.heap.now in
-    let frames = g.F.FrameStore.content c.args.frames.now in
+    let frames = g.F.SegmentFrames.content c.args.frames.now in
     let k : Doing heaps frames c.args.here.now =
     record { own = own; shared = shared; may = may; kind = c.requires.may.kind; setting = x; is_setting = setting } in
     let p = err_from_is_err_and c.from_residual.result c.from_residual.ensures.1 in
@@ -31,13 +31,13 @@ returns-in_err-a g c = λ own shared x may setting.
 pub field_of-field-requires : goal.field_of-field-requires
 field_of-field-requires g c =
     let heaps = g.H.ObjectStore.content c.args.heap.now in
-    let frames = g.F.FrameStore.content c.args.frames.now in
+    let frames = g.F.SegmentFrames.content c.args.frames.now in
     names_one heaps frames c.args.here.now (doing heaps frames c.args.here.now c.requires.may) c.requires.op
 
 pub place_of-place-requires-clause-field : goal.place_of-place-requires-clause-field
 place_of-place-requires-clause-field g c =
     let heaps = g.H.ObjectStore.content c.args.heap.now in
-    let frames = g.F.FrameStore.content c.args.frames.now in
+    let frames = g.F.SegmentFrames.content c.args.frames.now in
     let k = doing heaps frames c.args.here.now c.requires.may in
     let there = field_there heaps frames c.args.here.now k c.requires.op c.field_of-field.result c.field_of-field.ensures in
     let f = here_found heaps frames c.args.here.now k c.requires.op in
@@ -46,7 +46,7 @@ place_of-place-requires-clause-field g c =
 pub place_of-place-requires-clause-small : goal.place_of-place-requires-clause-small
 place_of-place-requires-clause-small g c = λ place tells.
     let heaps = g.H.ObjectStore.content c.args.heap.now in
-    let frames = g.F.FrameStore.content c.args.frames.now in
+    let frames = g.F.SegmentFrames.content c.args.frames.now in
     small heaps frames c.args.here.now (doing heaps frames c.args.here.now c.requires.may) c.requires.op c.field_of-field.result
     c.field_of-field.ensures c.in_ok-a.a c.in_ok-a.ensures (g.met.H.ObjectStore.holds c.args.heap.now) place
     (subst (λ (classes : List ClassRecord). IsOwnPlace classes c.field_of-field.result place) c.classes-t.ensures tells)
@@ -54,13 +54,13 @@ place_of-place-requires-clause-small g c = λ place tells.
 pub value_at-top-requires : goal.value_at-top-requires
 value_at-top-requires g c =
     let heaps = g.H.ObjectStore.content c.args.heap.now in
-    let frames = g.F.FrameStore.content c.args.frames.now in
+    let frames = g.F.SegmentFrames.content c.args.frames.now in
     value_below heaps frames c.args.here.now (doing heaps frames c.args.here.now c.requires.may) c.requires.op
 
 pub field_kind-requires : goal.field_kind-requires
 field_kind-requires g c =
     let heaps = g.H.ObjectStore.content c.args.heap.now in
-    let frames = g.F.FrameStore.content c.args.frames.now in
+    let frames = g.F.SegmentFrames.content c.args.frames.now in
     let k = doing heaps frames c.args.here.now c.requires.may in
     let there = field_there heaps frames c.args.here.now k c.requires.op c.field_of-field.result c.field_of-field.ensures in
     let f = here_found heaps frames c.args.here.now k c.requires.op in
@@ -69,7 +69,7 @@ field_kind-requires g c =
 pub write-requires : goal.write-requires
 write-requires g c =
     let heaps = g.H.ObjectStore.content c.args.heap.now in
-    let frames = g.F.FrameStore.content c.args.frames.now in
+    let frames = g.F.SegmentFrames.content c.args.frames.now in
     let k = doing heaps frames c.args.here.now c.requires.may in
     let there = field_there heaps frames c.args.here.now k c.requires.op c.field_of-field.result c.field_of-field.ensures in
     let f = here_found heaps frames c.args.here.now k c.requires.op in
@@ -85,13 +85,13 @@ write-requires g c =
 pub drop_entries-requires : goal.drop_entries-requires
 drop_entries-requires g c =
     let heaps = g.H.ObjectStore.content c.args.heap.now in
-    let frames = g.F.FrameStore.content c.args.frames.now in
+    let frames = g.F.SegmentFrames.content c.args.frames.now in
     two_there heaps frames c.args.here.now (doing heaps frames c.args.here.now c.requires.may) c.requires.op
 
 pub returns : goal.returns
 returns g c = λ own shared x may setting.
     let heaps = g.H.ObjectStore.content c.args.heap.now in
-    let frames = g.F.FrameStore.content c.args.frames.now in
+    let frames = g.F.SegmentFrames.content c.args.frames.now in
     let k : Doing heaps frames c.args.here.now =
     record { own = own; shared = shared; may = may; kind = c.requires.may.kind; setting = x; is_setting = setting } in
     let there = field_there heaps frames c.args.here.now k c.requires.op c.field_of-field.result c.field_of-field.ensures in
@@ -102,4 +102,4 @@ returns g c = λ own shared x may setting.
     c.heap_rows_keep.ensures (g.met.H.ObjectStore.holds c.args.heap.now) c.place_of-place.result
     (subst (λ (classes : List ClassRecord). IsOwnPlace classes c.field_of-field.result c.place_of-place.result) c.classes-t.ensures
     c.place_of-place.ensures) c.field_kind.result.now c.value_at-top.result c.stored-v.result kind c.value_at-top.ensures c.stored-v.ensures
-    (g.H.ObjectStore.content c.write.new.self) (g.F.FrameStore.content c.drop_entries.new.frames) c.write.ensures c.drop_entries.ensures
+    (g.H.ObjectStore.content c.write.new.self) (g.F.SegmentFrames.content c.drop_entries.new.frames) c.write.ensures c.drop_entries.ensures

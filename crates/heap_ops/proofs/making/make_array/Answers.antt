@@ -6,5 +6,5 @@ use Rattle.heap_ops.proofs.making.make_array.Goals as goal
 pub number_base-base-requires : goal.number_base-base-requires
 number_base-base-requires g c =
     let heaps = g.H.ObjectStore.content c.args.heap.now in
-    let frames = g.F.FrameStore.content c.args.frames.now in
+    let frames = g.F.SegmentFrames.content c.args.frames.now in
     has_code heaps frames c.args.here.now (doing heaps frames c.args.here.now c.requires.may) c.requires.op

@@ -12,13 +12,13 @@ use Rattle.heap_ops.proofs.statics.get_static.Goals.{then-is_system_out, else-is
 pub field_of-field-requires : goal.field_of-field-requires
 field_of-field-requires g c =
     let heaps = c.requires.may.0 in
-    let frames = g.F.FrameStore.content c.args.frames.now in
+    let frames = g.F.SegmentFrames.content c.args.frames.now in
     got_leads heaps frames c.args.here.now (doing_with heaps frames c.args.own.now c.args.here.now c.requires.may.1) c.requires.op
 
 pub static_value-v-requires : goal.static_value-v-requires
 static_value-v-requires g c =
     let heaps = c.requires.may.0 in
-    let frames = g.F.FrameStore.content c.args.frames.now in
+    let frames = g.F.SegmentFrames.content c.args.frames.now in
     static_there heaps frames c.args.here.now (doing_with heaps frames c.args.own.now c.args.here.now c.requires.may.1) c.requires.op
     c.field_of-field.result c.field_of-field.ensures
     (λ out. never_true c.is_system_out.result c.if-is_system_out.false (c.is_system_out.ensures.1
@@ -27,12 +27,12 @@ static_value-v-requires g c =
 pub push_value-requires : goal.push_value-requires
 push_value-requires g c =
     let heaps = c.requires.may.0 in
-    let frames = g.F.FrameStore.content c.args.frames.now in
+    let frames = g.F.SegmentFrames.content c.args.frames.now in
     room_for_static heaps frames c.args.here.now (doing_with heaps frames c.args.own.now c.args.here.now c.requires.may.1) c.requires.op
 
 pub returns : goal.returns
 returns g c = λ heaps shared x may setting.
-    let frames = g.F.FrameStore.content c.args.frames.now in
+    let frames = g.F.SegmentFrames.content c.args.frames.now in
     let k : Doing heaps frames c.args.here.now =
     record { own = c.args.own.now; shared = shared; may = may; kind = c.requires.may.1.kind; setting = x; is_setting = setting } in
     let is : (got heaps frames c.args.here.now k c.requires.op).value ≡ c.if-is_system_out.v = elim c.if-is_system_out.branch [
@@ -47,4 +47,4 @@ returns g c = λ heaps shared x may setting.
           w.static_value-v.ensures ∙ sym w.v-is
     ] in
     value_got heaps frames c.args.here.now k c.requires.op c.field_of-field.result c.field_of-field.ensures
-    (g.F.FrameStore.content c.push_value.new.self) c.if-is_system_out.v is c.push_value.ensures
+    (g.F.SegmentFrames.content c.push_value.new.self) c.if-is_system_out.v is c.push_value.ensures

@@ -6,5 +6,5 @@ use Rattle.number_check.proofs.running.go_on.Goals as goal
 
 pub loop-preserved : goal.loop-preserved
 loop-preserved g c =
-    goes_on_running (g.F.FrameStore.content c.do_next.new.frames) (g.F.FrameStore.content c.go.new.self) c.args.world.now.classes SEGMENT
+    goes_on_running (g.F.SegmentFrames.content c.do_next.new.frames) (g.F.SegmentFrames.content c.go.new.self) c.args.world.now.classes SEGMENT
     (scope_of c.args.view.now) c.in-Goto.place c.in-Goto.ensures c.go.ensures

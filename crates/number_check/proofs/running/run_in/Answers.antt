@@ -12,7 +12,7 @@ pub go_on-after-requires : goal.go_on-after-requires
 go_on-after-requires g c =
     let classes = c.args.world.now.classes in
     let scope = scope_of c.view_of-view.result in
-    begins_to_run (g.F.FrameStore.content c.put_locals.new.frames) SEGMENT classes _ c.args.method scope c.in_ok-typing.typing.frames
+    begins_to_run (g.F.SegmentFrames.content c.put_locals.new.frames) SEGMENT classes _ c.args.method scope c.in_ok-typing.typing.frames
     c.as_slice.result.now c.put_locals.ensures refl refl
     (subst (λ (l : List ClassRecord). IsScopeOf l c.args.method scope) c.classes.ensures c.view_of-view.ensures.scope) refl refl
     (subst (λ (l : List ClassRecord). IsLeastTyping l c.args.method c.in_ok-typing.typing.frames) c.classes-2.ensures c.in_ok-typing.ensures)

@@ -6,4 +6,4 @@ use Rattle.number_check.specs.declared.stores.TheConstants.{SEGMENT}
 use Rattle.number_check.proofs.stores.locals_of.Given as goal
 
 abbrev pub invariant-loop-i : goal.invariant-loop-i
-invariant-loop-i g l = (f : FrameState) → TopFrame (g.F.FrameStore.content l.frames) SEGMENT f → l.values ≡ take l.i f.locals
+invariant-loop-i g l = (f : FrameState) → TopFrame (g.F.SegmentFrames.content l.frames) SEGMENT f → l.values ≡ take l.i f.locals

@@ -4,4 +4,4 @@ use Rattle.number_check.specs.RunFrames.{IsBegun}
 use Rattle.number_check.proofs.stores.put_locals.Given as goal
 
 abbrev pub invariant-loop-i : goal.invariant-loop-i
-invariant-loop-i g l = IsBegun (g.F.FrameStore.content l.frames) SEGMENT l.fn.head
+invariant-loop-i g l = IsBegun (g.F.SegmentFrames.content l.frames) SEGMENT l.fn.head

@@ -9,8 +9,8 @@ use Rattle.segment_steps.proofs.acting.act.Goals as goal
 
 pub returns-in-Some-clause-ok : goal.returns-in-Some-clause-ok
 returns-in-Some-clause-ok g c =
-    let old : Contents = contents_of (g.H.ObjectStore.content c.args.heap.now) (g.F.FrameStore.content c.args.frames.now) c.args.own.now in
-    let new : Contents = contents_of (g.H.ObjectStore.content c.touch.new.heap) (g.F.FrameStore.content c.touch.new.frames) c.touch.new.own in
+    let old : Contents = contents_of (g.H.ObjectStore.content c.args.heap.now) (g.F.SegmentFrames.content c.args.frames.now) c.args.own.now in
+    let new : Contents = contents_of (g.H.ObjectStore.content c.touch.new.heap) (g.F.SegmentFrames.content c.touch.new.frames) c.touch.new.own in
     let here : Here = here_at c.args.w.now c.args.shared.now c.args.r.domain c.args.r.segment in
     let result : Result (Unit {0}) SinkFailed = Ok tt in
     let Out : List Line → Type 0 = gone_out result (g.S.Sink.bytes c.args.out.now) (g.S.Sink.bytes c.args.out.now) (g.S.Sink.pieces c.args.out.now)
@@ -21,8 +21,8 @@ returns-in-Some-clause-ok g c =
 
 pub returns-in-Broken-clause-ok : goal.returns-in-Broken-clause-ok
 returns-in-Broken-clause-ok g c =
-    let old : Contents = contents_of (g.H.ObjectStore.content c.args.heap.now) (g.F.FrameStore.content c.args.frames.now) c.args.own.now in
-    let new : Contents = contents_of (g.H.ObjectStore.content c.meet_broken.new.heap) (g.F.FrameStore.content c.meet_broken.new.frames) c.meet_broken.new.own in
+    let old : Contents = contents_of (g.H.ObjectStore.content c.args.heap.now) (g.F.SegmentFrames.content c.args.frames.now) c.args.own.now in
+    let new : Contents = contents_of (g.H.ObjectStore.content c.meet_broken.new.heap) (g.F.SegmentFrames.content c.meet_broken.new.frames) c.meet_broken.new.own in
     let here : Here = here_at c.args.w.now c.args.shared.now c.args.r.domain c.args.r.segment in
     let result : Result (Unit {0}) SinkFailed = Ok tt in
     let Out : List Line → Type 0 = gone_out result (g.S.Sink.bytes c.args.out.now) (g.S.Sink.bytes c.args.out.now) (g.S.Sink.pieces c.args.out.now)
@@ -33,23 +33,23 @@ returns-in-Broken-clause-ok g c =
 
 pub returns-in-Ready-clause-ok : goal.returns-in-Ready-clause-ok
 returns-in-Ready-clause-ok g c =
-    let old : Contents = contents_of (g.H.ObjectStore.content c.args.heap.now) (g.F.FrameStore.content c.args.frames.now) c.args.own.now in
+    let old : Contents = contents_of (g.H.ObjectStore.content c.args.heap.now) (g.F.SegmentFrames.content c.args.frames.now) c.args.own.now in
     let here : Here = here_at c.args.w.now c.args.shared.now c.args.r.domain c.args.r.segment in
     let left : LeftBehind = left_behind
-    (contents_of (g.H.ObjectStore.content c.go_on.new.heap) (g.F.FrameStore.content c.go_on.new.frames) c.go_on.new.own) c.go_on.new.shared in
+    (contents_of (g.H.ObjectStore.content c.go_on.new.heap) (g.F.SegmentFrames.content c.go_on.new.frames) c.go_on.new.own) c.go_on.new.shared in
     went_well old here c.args.r.thread left c.go_on.result _ c.go_on.ensures
 
 pub returns-in-Ready-clause-err : goal.returns-in-Ready-clause-err
 returns-in-Ready-clause-err g c =
-    let old : Contents = contents_of (g.H.ObjectStore.content c.args.heap.now) (g.F.FrameStore.content c.args.frames.now) c.args.own.now in
+    let old : Contents = contents_of (g.H.ObjectStore.content c.args.heap.now) (g.F.SegmentFrames.content c.args.frames.now) c.args.own.now in
     let here : Here = here_at c.args.w.now c.args.shared.now c.args.r.domain c.args.r.segment in
     let left : LeftBehind = left_behind
-    (contents_of (g.H.ObjectStore.content c.go_on.new.heap) (g.F.FrameStore.content c.go_on.new.frames) c.go_on.new.own) c.go_on.new.shared in
+    (contents_of (g.H.ObjectStore.content c.go_on.new.heap) (g.F.SegmentFrames.content c.go_on.new.frames) c.go_on.new.own) c.go_on.new.shared in
     went_badly old here c.args.r.thread left c.go_on.result _ c.go_on.ensures
 
 pub returns-in-Ready-clause-cause : goal.returns-in-Ready-clause-cause
 returns-in-Ready-clause-cause g c =
-    let old : Contents = contents_of (g.H.ObjectStore.content c.args.heap.now) (g.F.FrameStore.content c.args.frames.now) c.args.own.now in
+    let old : Contents = contents_of (g.H.ObjectStore.content c.args.heap.now) (g.F.SegmentFrames.content c.args.frames.now) c.args.own.now in
     let here : Here = here_at c.args.w.now c.args.shared.now c.args.r.domain c.args.r.segment in
     let is = some_setting old here c.requires.may.domain in
     let lines = (c.go_on.ensures is.0 c.requires.may is.1).2 in
@@ -57,7 +57,7 @@ returns-in-Ready-clause-cause g c =
 
 pub returns-in-Ready-clause-calm : goal.returns-in-Ready-clause-calm
 returns-in-Ready-clause-calm g c =
-    let old : Contents = contents_of (g.H.ObjectStore.content c.args.heap.now) (g.F.FrameStore.content c.args.frames.now) c.args.own.now in
+    let old : Contents = contents_of (g.H.ObjectStore.content c.args.heap.now) (g.F.SegmentFrames.content c.args.frames.now) c.args.own.now in
     let here : Here = here_at c.args.w.now c.args.shared.now c.args.r.domain c.args.r.segment in
     let is = some_setting old here c.requires.may.domain in
     let lines = (c.go_on.ensures is.0 c.requires.may is.1).2 in
@@ -65,7 +65,7 @@ returns-in-Ready-clause-calm g c =
 
 pub returns-in-Ready-clause-faults : goal.returns-in-Ready-clause-faults
 returns-in-Ready-clause-faults g c =
-    let old : Contents = contents_of (g.H.ObjectStore.content c.args.heap.now) (g.F.FrameStore.content c.args.frames.now) c.args.own.now in
+    let old : Contents = contents_of (g.H.ObjectStore.content c.args.heap.now) (g.F.SegmentFrames.content c.args.frames.now) c.args.own.now in
     let here : Here = here_at c.args.w.now c.args.shared.now c.args.r.domain c.args.r.segment in
     let is = some_setting old here c.requires.may.domain in
     let lines = (c.go_on.ensures is.0 c.requires.may is.1).2 in

@@ -16,8 +16,8 @@ fall-requires-clause-ready g c =
 
 pub returns-then-is_some : goal.returns-then-is_some
 returns-then-is_some g c =
-    let old : Contents = contents_of (g.H.ObjectStore.content c.args.heap.now) (g.F.FrameStore.content c.args.frames.now) c.args.own.now in
-    let new : Contents = contents_of (g.H.ObjectStore.content c.fall.new.heap) (g.F.FrameStore.content c.fall.new.frames) c.fall.new.own in
+    let old : Contents = contents_of (g.H.ObjectStore.content c.args.heap.now) (g.F.SegmentFrames.content c.args.frames.now) c.args.own.now in
+    let new : Contents = contents_of (g.H.ObjectStore.content c.fall.new.heap) (g.F.SegmentFrames.content c.fall.new.frames) c.fall.new.own in
     let here : Here = here_at c.args.w.now c.args.shared.now c.args.r.domain c.args.r.segment in
     let result : Result (Unit {0}) SinkFailed = Ok tt in
     let Out : List Line → Type 0 = gone_out result (g.S.Sink.bytes c.args.out.now) (g.S.Sink.bytes c.args.out.now) (g.S.Sink.pieces c.args.out.now)
@@ -33,11 +33,11 @@ execute-requires-clause-stands g c =
     ∙ no_need c.args.w.now.classes c.args.own.now.state c.args.r c.requires.met.0 c.args.met.now c.requires.met.2 c.args.met.now.head.need
     (sym c.if-is_some.ensures) in
     stands_ready c.args.w.now.classes c.args.own.now.state c.args.r c.requires.met.0 c.args.met.now c.requires.met.2
-    c.requires.ready (g.F.FrameStore.content c.args.frames.now) c.requires.met.1 (place_of c.in-Some.at) place.0 place.1 none
+    c.requires.ready (g.F.SegmentFrames.content c.args.frames.now) c.requires.met.1 (place_of c.in-Some.at) place.0 place.1 none
 
 pub unreachable-requires : goal.unreachable-requires
 unreachable-requires g c =
-    let old : Contents = contents_of (g.H.ObjectStore.content c.args.heap.now) (g.F.FrameStore.content c.args.frames.now) c.args.own.now in
+    let old : Contents = contents_of (g.H.ObjectStore.content c.args.heap.now) (g.F.SegmentFrames.content c.args.frames.now) c.args.own.now in
     let here : Here = here_at c.args.w.now c.args.shared.now c.args.r.domain c.args.r.segment in
     let none = ap (λ (h : FrameHead). h.need) (sym c.requires.met.2.head)
     ∙ no_need c.args.w.now.classes c.args.own.now.state c.args.r c.requires.met.0 c.args.met.now c.requires.met.2 c.args.met.now.head.need

@@ -12,7 +12,7 @@ none_there (Some c) e = absurd cc
 
 pub returns : goal.returns
 returns g c =
-    let frames = g.F.FrameStore.content c.args.frames.now in
+    let frames = g.F.SegmentFrames.content c.args.frames.now in
     stood frames c.args.w.now.classes c.args.s c.requires.0 c.requires.1 c.head-head.result (c.head-head.ensures c.requires.0 c.requires.1)
     (none_there c.head-head.result.need (sym c.if-is_some.ensures))
     c.stands_at.result

@@ -7,47 +7,52 @@ use Rattle.number_laws.specs.FrameLaws.{with_head}
 use Rattle.segment_steps.proofs.NumbersBegin.{numbers_ready}
 use Rattle.segment_steps.proofs.NumbersDone.{nothing_else}
 use Rattle.segment_steps.proofs.NumbersFollowed.{given_back, head_is, may_be_raised, raised, raising, returning, w, went_on}
+use Rattle.segment_steps.proofs.PaidFrames.{paid_in_store}
 use Rattle.segment_steps.proofs.StandingHere.{may_do}
 use Rattle.segment_steps.proofs.instructions.do_numbers.Goals as goal
 
 pub step-requires : goal.step-requires
 step-requires g c =
-    let old : Contents = contents_of (g.H.ObjectStore.content c.args.heap.now) (g.F.FrameStore.content c.args.frames.now) c.args.own.now in
+    let old : Contents = contents_of (g.H.ObjectStore.content c.args.heap.now) (g.F.SegmentFrames.content c.args.frames.now) c.args.own.now in
     numbers_ready (may_do old c.args.w.now c.requires.may.0 c.args.r (place_of c.args.at.now) c.requires.stands c.requires.may.1) c.requires.kind
 
 pub raise_here-requires-clause-may : goal.raise_here-requires-clause-may
 raise_here-requires-clause-may g c =
-    let old : Contents = contents_of (g.H.ObjectStore.content c.args.heap.now) (g.F.FrameStore.content c.args.frames.now) c.args.own.now in
+    let old : Contents = contents_of (g.H.ObjectStore.content c.args.heap.now) (g.F.SegmentFrames.content c.args.frames.now) c.args.own.now in
     let doing = may_do old c.args.w.now c.requires.may.0 c.args.r (place_of c.args.at.now) c.requires.stands c.requires.may.1 in (
       c.requires.may.0,
-      raising (g.H.ObjectStore.content c.args.heap.now) (g.F.FrameStore.content c.args.frames.now) (g.F.FrameStore.content c.step.new.frames)
+      raising (g.H.ObjectStore.content c.args.heap.now) (g.F.SegmentFrames.content c.args.frames.now) (g.F.SegmentFrames.content c.step.new.frames)
           c.args.own.now c.args.w.now c.requires.may.0 c.args.r (place_of c.args.at.now) c.requires.stands c.requires.may.1 (some_setting doing)
           (is_some_setting doing) c.in-Raise.raise c.in-Raise.ensures,
     )
 
 pub raise_here-requires-clause-raise : goal.raise_here-requires-clause-raise
 raise_here-requires-clause-raise g c =
-    let old : Contents = contents_of (g.H.ObjectStore.content c.args.heap.now) (g.F.FrameStore.content c.args.frames.now) c.args.own.now in
+    let old : Contents = contents_of (g.H.ObjectStore.content c.args.heap.now) (g.F.SegmentFrames.content c.args.frames.now) c.args.own.now in
     let doing = may_do old c.args.w.now c.requires.may.0 c.args.r (place_of c.args.at.now) c.requires.stands c.requires.may.1 in
-    may_be_raised (g.H.ObjectStore.content c.args.heap.now) (g.F.FrameStore.content c.args.frames.now) (g.F.FrameStore.content c.step.new.frames)
+    may_be_raised (g.H.ObjectStore.content c.args.heap.now) (g.F.SegmentFrames.content c.args.frames.now) (g.F.SegmentFrames.content c.step.new.frames)
     c.args.own.now c.args.w.now c.requires.may.0 c.args.r (place_of c.args.at.now) c.requires.stands c.requires.may.1 (some_setting doing)
     (is_some_setting doing) c.in-Raise.raise c.in-Raise.ensures
 
-pub give_back-requires : goal.give_back-requires
-give_back-requires g c =
-    let old : Contents = contents_of (g.H.ObjectStore.content c.args.heap.now) (g.F.FrameStore.content c.args.frames.now) c.args.own.now in
+pub give_back-requires-clause-paid : goal.give_back-requires-clause-paid
+give_back-requires-clause-paid g c =
+    paid_in_store (g.F.SegmentFrames.content c.step.new.frames) (g.met.F.FrameStore.holds c.step.new.frames) c.args.r.segment
+
+pub give_back-requires-clause-may : goal.give_back-requires-clause-may
+give_back-requires-clause-may g c =
+    let old : Contents = contents_of (g.H.ObjectStore.content c.args.heap.now) (g.F.SegmentFrames.content c.args.frames.now) c.args.own.now in
     let doing = may_do old c.args.w.now c.requires.may.0 c.args.r (place_of c.args.at.now) c.requires.stands c.requires.may.1 in (
       g.H.ObjectStore.content c.args.heap.now,
       here_at c.args.w.now c.requires.may.0 c.args.r.domain c.args.r.segment,
       c.requires.stands.top.lower,
-      w (g.H.ObjectStore.content c.args.heap.now) (g.F.FrameStore.content c.args.frames.now) (g.F.FrameStore.content c.step.new.frames)
+      w (g.H.ObjectStore.content c.args.heap.now) (g.F.SegmentFrames.content c.args.frames.now) (g.F.SegmentFrames.content c.step.new.frames)
           c.args.own.now c.args.w.now c.requires.may.0 c.args.r (place_of c.args.at.now) c.requires.stands c.requires.may.1 (some_setting doing)
           (is_some_setting doing) c.in-Return.v c.in-Return.ensures,
       refl,
-      head_is (g.H.ObjectStore.content c.args.heap.now) (g.F.FrameStore.content c.args.frames.now) (g.F.FrameStore.content c.step.new.frames)
+      head_is (g.H.ObjectStore.content c.args.heap.now) (g.F.SegmentFrames.content c.args.frames.now) (g.F.SegmentFrames.content c.step.new.frames)
           c.args.own.now c.args.w.now c.requires.may.0 c.args.r (place_of c.args.at.now) c.requires.stands c.requires.may.1 (some_setting doing)
           (is_some_setting doing) c.in-Return.v c.in-Return.ensures,
-      returning (g.H.ObjectStore.content c.args.heap.now) (g.F.FrameStore.content c.args.frames.now) (g.F.FrameStore.content c.step.new.frames)
+      returning (g.H.ObjectStore.content c.args.heap.now) (g.F.SegmentFrames.content c.args.frames.now) (g.F.SegmentFrames.content c.step.new.frames)
           c.args.own.now c.args.w.now c.requires.may.0 c.args.r (place_of c.args.at.now) c.requires.stands c.requires.may.1 (some_setting doing)
           (is_some_setting doing) c.in-Return.v c.in-Return.ensures,
     )
@@ -59,26 +64,26 @@ unreachable-requires g c =
 
 pub returns-in-Goto : goal.returns-in-Goto
 returns-in-Goto g c = λ shared x may is.
-    went_on (g.H.ObjectStore.content c.args.heap.now) (g.F.FrameStore.content c.args.frames.now) (g.F.FrameStore.content c.step.new.frames)
+    went_on (g.H.ObjectStore.content c.args.heap.now) (g.F.SegmentFrames.content c.args.frames.now) (g.F.SegmentFrames.content c.step.new.frames)
     c.args.own.now c.args.w.now shared c.args.r (place_of c.args.at.now) c.requires.stands may x is c.in-Goto.n c.in-Goto.ensures
-    (g.F.FrameStore.content c.go.new.self) c.go.ensures
+    (g.F.SegmentFrames.content c.go.new.self) c.go.ensures
 
 pub returns-in-Raise : goal.returns-in-Raise
 returns-in-Raise g c = λ shared x may is.
-    raised (g.H.ObjectStore.content c.args.heap.now) (g.F.FrameStore.content c.args.frames.now) (g.F.FrameStore.content c.step.new.frames)
+    raised (g.H.ObjectStore.content c.args.heap.now) (g.F.SegmentFrames.content c.args.frames.now) (g.F.SegmentFrames.content c.step.new.frames)
     c.args.own.now c.args.w.now shared c.args.r (place_of c.args.at.now) c.requires.stands may x is c.in-Raise.raise c.in-Raise.ensures _
     c.raise_here.result (c.raise_here.ensures shared)
 
 pub returns-in-Return : goal.returns-in-Return
 returns-in-Return g c = λ shared x may is.
-    given_back (g.H.ObjectStore.content c.args.heap.now) (g.F.FrameStore.content c.args.frames.now) (g.F.FrameStore.content c.step.new.frames)
+    given_back (g.H.ObjectStore.content c.args.heap.now) (g.F.SegmentFrames.content c.args.frames.now) (g.F.SegmentFrames.content c.step.new.frames)
     c.args.own.now c.args.w.now shared c.args.r (place_of c.args.at.now) c.requires.stands may x is c.in-Return.v c.in-Return.ensures _
     c.give_back.result
     (c.give_back.ensures x (g.H.ObjectStore.content c.args.heap.now) (here_at c.args.w.now shared c.args.r.domain c.args.r.segment)
     c.requires.stands.top.lower
-    (w (g.H.ObjectStore.content c.args.heap.now) (g.F.FrameStore.content c.args.frames.now) (g.F.FrameStore.content c.step.new.frames)
+    (w (g.H.ObjectStore.content c.args.heap.now) (g.F.SegmentFrames.content c.args.frames.now) (g.F.SegmentFrames.content c.step.new.frames)
     c.args.own.now c.args.w.now shared c.args.r (place_of c.args.at.now) c.requires.stands may x is c.in-Return.v c.in-Return.ensures) refl
-    (head_is (g.H.ObjectStore.content c.args.heap.now) (g.F.FrameStore.content c.args.frames.now) (g.F.FrameStore.content c.step.new.frames)
+    (head_is (g.H.ObjectStore.content c.args.heap.now) (g.F.SegmentFrames.content c.args.frames.now) (g.F.SegmentFrames.content c.step.new.frames)
     c.args.own.now c.args.w.now shared c.args.r (place_of c.args.at.now) c.requires.stands may x is c.in-Return.v c.in-Return.ensures)
-    (returning (g.H.ObjectStore.content c.args.heap.now) (g.F.FrameStore.content c.args.frames.now) (g.F.FrameStore.content c.step.new.frames)
+    (returning (g.H.ObjectStore.content c.args.heap.now) (g.F.SegmentFrames.content c.args.frames.now) (g.F.SegmentFrames.content c.step.new.frames)
     c.args.own.now c.args.w.now shared c.args.r (place_of c.args.at.now) c.requires.stands may x is c.in-Return.v c.in-Return.ensures))

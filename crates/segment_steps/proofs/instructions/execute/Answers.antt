@@ -12,37 +12,37 @@ use Rattle.segment_steps.proofs.instructions.execute.Goals as goal
 
 pub kind_of-requires : goal.kind_of-requires
 kind_of-requires g c =
-    let old : Contents = contents_of (g.H.ObjectStore.content c.args.heap.now) (g.F.FrameStore.content c.args.frames.now) c.args.own.now in
+    let old : Contents = contents_of (g.H.ObjectStore.content c.args.heap.now) (g.F.SegmentFrames.content c.args.frames.now) c.args.own.now in
     has_row (may_do old c.args.w.now c.args.shared.now c.args.r (place_of c.args.at.now) c.requires.stands c.requires.may)
 
 pub call_system-requires-clause-may : goal.call_system-requires-clause-may
 call_system-requires-clause-may g c =
-    let old : Contents = contents_of (g.H.ObjectStore.content c.args.heap.now) (g.F.FrameStore.content c.args.frames.now) c.args.own.now in
-    let new : Contents = contents_of (g.H.ObjectStore.content c.do_call.new.heap) (g.F.FrameStore.content c.do_call.new.frames) c.do_call.new.own in
+    let old : Contents = contents_of (g.H.ObjectStore.content c.args.heap.now) (g.F.SegmentFrames.content c.args.frames.now) c.args.own.now in
+    let new : Contents = contents_of (g.H.ObjectStore.content c.do_call.new.heap) (g.F.SegmentFrames.content c.do_call.new.frames) c.do_call.new.own in
     let here : Here = here_at c.args.w.now c.args.shared.now c.args.r.domain c.args.r.segment in
     let left = c.in-OfSystem.ensures c.args.shared.now in
     may_still_act old new here (place_of c.args.at.now) c.in-OfSystem.m left c.requires.may
 
 pub call_system-requires-clause-stands : goal.call_system-requires-clause-stands
 call_system-requires-clause-stands g c =
-    let old : Contents = contents_of (g.H.ObjectStore.content c.args.heap.now) (g.F.FrameStore.content c.args.frames.now) c.args.own.now in
-    let new : Contents = contents_of (g.H.ObjectStore.content c.do_call.new.heap) (g.F.FrameStore.content c.do_call.new.frames) c.do_call.new.own in
+    let old : Contents = contents_of (g.H.ObjectStore.content c.args.heap.now) (g.F.SegmentFrames.content c.args.frames.now) c.args.own.now in
+    let new : Contents = contents_of (g.H.ObjectStore.content c.do_call.new.heap) (g.F.SegmentFrames.content c.do_call.new.frames) c.do_call.new.own in
     let here : Here = here_at c.args.w.now c.args.shared.now c.args.r.domain c.args.r.segment in
     let left = c.in-OfSystem.ensures c.args.shared.now in
     stands_ready_still old new here (place_of c.args.at.now) c.in-OfSystem.m left c.args.r c.requires.stands
 
 pub call_system-requires-clause-calls : goal.call_system-requires-clause-calls
 call_system-requires-clause-calls g c =
-    let old : Contents = contents_of (g.H.ObjectStore.content c.args.heap.now) (g.F.FrameStore.content c.args.frames.now) c.args.own.now in
-    let new : Contents = contents_of (g.H.ObjectStore.content c.do_call.new.heap) (g.F.FrameStore.content c.do_call.new.frames) c.do_call.new.own in
+    let old : Contents = contents_of (g.H.ObjectStore.content c.args.heap.now) (g.F.SegmentFrames.content c.args.frames.now) c.args.own.now in
+    let new : Contents = contents_of (g.H.ObjectStore.content c.do_call.new.heap) (g.F.SegmentFrames.content c.do_call.new.frames) c.do_call.new.own in
     let here : Here = here_at c.args.w.now c.args.shared.now c.args.r.domain c.args.r.segment in
     let left = c.in-OfSystem.ensures c.args.shared.now in
     calls_it_still old new here (place_of c.args.at.now) c.in-OfSystem.m left
 
 pub returns-in-Numbers : goal.returns-in-Numbers
 returns-in-Numbers g c =
-    let old : Contents = contents_of (g.H.ObjectStore.content c.args.heap.now) (g.F.FrameStore.content c.args.frames.now) c.args.own.now in
-    let new : Contents = contents_of (g.H.ObjectStore.content c.do_numbers.new.heap) (g.F.FrameStore.content c.do_numbers.new.frames) c.do_numbers.new.own in
+    let old : Contents = contents_of (g.H.ObjectStore.content c.args.heap.now) (g.F.SegmentFrames.content c.args.frames.now) c.args.own.now in
+    let new : Contents = contents_of (g.H.ObjectStore.content c.do_numbers.new.heap) (g.F.SegmentFrames.content c.do_numbers.new.frames) c.do_numbers.new.own in
     let here : Here = here_at c.args.w.now c.args.shared.now c.args.r.domain c.args.r.segment in
     let result : Result (Unit {0}) SinkFailed = Ok tt in
     let Out : List Line → Type 0 = gone_out result (g.S.Sink.bytes c.args.out.now) (g.S.Sink.bytes c.args.out.now) (g.S.Sink.pieces c.args.out.now)
@@ -53,8 +53,8 @@ returns-in-Numbers g c =
 
 pub returns-in-Heap : goal.returns-in-Heap
 returns-in-Heap g c =
-    let old : Contents = contents_of (g.H.ObjectStore.content c.args.heap.now) (g.F.FrameStore.content c.args.frames.now) c.args.own.now in
-    let new : Contents = contents_of (g.H.ObjectStore.content c.do_heap.new.heap) (g.F.FrameStore.content c.do_heap.new.frames) c.do_heap.new.own in
+    let old : Contents = contents_of (g.H.ObjectStore.content c.args.heap.now) (g.F.SegmentFrames.content c.args.frames.now) c.args.own.now in
+    let new : Contents = contents_of (g.H.ObjectStore.content c.do_heap.new.heap) (g.F.SegmentFrames.content c.do_heap.new.frames) c.do_heap.new.own in
     let here : Here = here_at c.args.w.now c.args.shared.now c.args.r.domain c.args.r.segment in
     let result : Result (Unit {0}) SinkFailed = Ok tt in
     let Out : List Line → Type 0 = gone_out result (g.S.Sink.bytes c.args.out.now) (g.S.Sink.bytes c.args.out.now) (g.S.Sink.pieces c.args.out.now)
@@ -65,8 +65,8 @@ returns-in-Heap g c =
 
 pub returns-in-Went : goal.returns-in-Went
 returns-in-Went g c =
-    let old : Contents = contents_of (g.H.ObjectStore.content c.args.heap.now) (g.F.FrameStore.content c.args.frames.now) c.args.own.now in
-    let new : Contents = contents_of (g.H.ObjectStore.content c.do_call.new.heap) (g.F.FrameStore.content c.do_call.new.frames) c.do_call.new.own in
+    let old : Contents = contents_of (g.H.ObjectStore.content c.args.heap.now) (g.F.SegmentFrames.content c.args.frames.now) c.args.own.now in
+    let new : Contents = contents_of (g.H.ObjectStore.content c.do_call.new.heap) (g.F.SegmentFrames.content c.do_call.new.frames) c.do_call.new.own in
     let here : Here = here_at c.args.w.now c.args.shared.now c.args.r.domain c.args.r.segment in
     let result : Result (Unit {0}) SinkFailed = Ok tt in
     let Out : List Line → Type 0 = gone_out result (g.S.Sink.bytes c.args.out.now) (g.S.Sink.bytes c.args.out.now) (g.S.Sink.pieces c.args.out.now)
@@ -77,8 +77,8 @@ returns-in-Went g c =
 
 pub returns-in-OfSystem : goal.returns-in-OfSystem
 returns-in-OfSystem g c =
-    let old : Contents = contents_of (g.H.ObjectStore.content c.args.heap.now) (g.F.FrameStore.content c.args.frames.now) c.args.own.now in
-    let new : Contents = contents_of (g.H.ObjectStore.content c.do_call.new.heap) (g.F.FrameStore.content c.do_call.new.frames) c.do_call.new.own in
+    let old : Contents = contents_of (g.H.ObjectStore.content c.args.heap.now) (g.F.SegmentFrames.content c.args.frames.now) c.args.own.now in
+    let new : Contents = contents_of (g.H.ObjectStore.content c.do_call.new.heap) (g.F.SegmentFrames.content c.do_call.new.frames) c.do_call.new.own in
     let here : Here = here_at c.args.w.now c.args.shared.now c.args.r.domain c.args.r.segment in
     let left = c.in-OfSystem.ensures c.args.shared.now in
     acts_as_before old new here (place_of c.args.at.now) c.in-OfSystem.m left c.args.r.thread _ _ _ c.call_system.ensures

@@ -7,7 +7,7 @@ use Rattle.step_contents.specs.Contents.{Contents, contents_of, here_at}
 use Rattle.step_contents.specs.StandingFrames.{place_of}
 use Rattle.step_contents.proofs.InstructionsBegin.{is_some_setting, some_setting}
 use Rattle.segment_steps.proofs.NumbersBegin.{numbers_ready}
-use Rattle.segment_steps.proofs.NumbersFollowed.{gone_below, head_is, returning, w}
+use Rattle.segment_steps.proofs.NumbersFollowed.{gone_below, head_is, paid, returning, w}
 use Rattle.segment_steps.proofs.OnlyReturns.{has_callers, only_returns, top_below}
 use Rattle.segment_steps.proofs.StandingHere.{may_do}
 use Rattle.segment_steps.proofs.working.return_below.Goals as goal
@@ -17,7 +17,7 @@ depth-requires g c = ap (λ (o : Option StoredSegment). is_some o) c.requires.st
 
 pub step-requires : goal.step-requires
 step-requires g c =
-    let old : Contents = contents_of c.requires.may.0 (g.F.FrameStore.content c.args.frames.now) c.args.own.now in
+    let old : Contents = contents_of c.requires.may.0 (g.F.SegmentFrames.content c.args.frames.now) c.args.own.now in
     numbers_ready (may_do old c.args.w.now c.requires.may.1 c.args.r (place_of c.args.at.now) c.requires.stands c.requires.may.2) c.requires.kind
 
 pub unreachable-requires : goal.unreachable-requires
@@ -25,11 +25,22 @@ unreachable-requires g c =
     only_returns c.step.ensures.3 c.args.at.now.instr.now c.args.at.now.head.at (with_head c.step.ensures.0 c.args.at.now.head) c.step.ensures.1
     c.step.result c.step.ensures.8 (omega arith) (omega arith) c.in_default.not-Return
 
-pub give_back-went-requires : goal.give_back-went-requires
-give_back-went-requires g c =
+pub give_back-went-requires-clause-paid : goal.give_back-went-requires-clause-paid
+give_back-went-requires-clause-paid g c =
     let heaps = c.requires.may.0 in
-    let frames = g.F.FrameStore.content c.args.frames.now in
-    let mid = g.F.FrameStore.content c.step.new.frames in
+    let frames = g.F.SegmentFrames.content c.args.frames.now in
+    let mid = g.F.SegmentFrames.content c.step.new.frames in
+    let at = place_of c.args.at.now in
+    let old : Contents = contents_of heaps frames c.args.own.now in
+    let doing = may_do old c.args.w.now c.requires.may.1 c.args.r at c.requires.stands c.requires.may.2 in
+    paid heaps frames mid c.args.own.now c.args.w.now c.requires.may.1 c.args.r at c.requires.stands c.requires.may.2 (some_setting doing)
+    (is_some_setting doing) c.in-Return.v c.in-Return.ensures c.requires.paid
+
+pub give_back-went-requires-clause-may : goal.give_back-went-requires-clause-may
+give_back-went-requires-clause-may g c =
+    let heaps = c.requires.may.0 in
+    let frames = g.F.SegmentFrames.content c.args.frames.now in
+    let mid = g.F.SegmentFrames.content c.step.new.frames in
     let at = place_of c.args.at.now in
     let old : Contents = contents_of heaps frames c.args.own.now in
     let doing = may_do old c.args.w.now c.requires.may.1 c.args.r at c.requires.stands c.requires.may.2 in (
@@ -50,9 +61,9 @@ stand_anew-requires g c =
     let heaps = c.requires.may.0 in
     let shared = c.requires.may.1 in
     let may = c.requires.may.2 in
-    let frames = g.F.FrameStore.content c.args.frames.now in
-    let mid = g.F.FrameStore.content c.step.new.frames in
-    let new = g.F.FrameStore.content c.give_back-went.new.frames in
+    let frames = g.F.SegmentFrames.content c.args.frames.now in
+    let mid = g.F.SegmentFrames.content c.step.new.frames in
+    let new = g.F.SegmentFrames.content c.give_back-went.new.frames in
     let at = place_of c.args.at.now in
     let st = c.requires.stands in
     let old : Contents = contents_of heaps frames c.args.own.now in
@@ -69,9 +80,9 @@ stand_anew-requires g c =
 
 pub returns-clause-steps : goal.returns-clause-steps
 returns-clause-steps g c = λ done heaps shared x may is.
-    let frames = g.F.FrameStore.content c.args.frames.now in
-    let mid = g.F.FrameStore.content c.step.new.frames in
-    let new = g.F.FrameStore.content c.give_back-went.new.frames in
+    let frames = g.F.SegmentFrames.content c.args.frames.now in
+    let mid = g.F.SegmentFrames.content c.step.new.frames in
+    let new = g.F.SegmentFrames.content c.give_back-went.new.frames in
     let at = place_of c.args.at.now in
     let st = c.requires.stands in
     let here = here_at c.args.w.now shared c.args.r.domain c.args.r.segment in

@@ -4,4 +4,4 @@ use Rattle.system_calls.proofs.GivenRead.{ReadSoFar}
 use Rattle.system_calls.proofs.given.read_given.Given as goal
 
 abbrev pub invariant-loop-i : goal.invariant-loop-i
-invariant-loop-i g l = ReadSoFar (g.F.FrameStore.content l.frames) l.s l.count l.values l.i × (length l.values ≡ 5)
+invariant-loop-i g l = ReadSoFar (g.F.SegmentFrames.content l.frames) l.s l.count l.values l.i × (length l.values ≡ 5)

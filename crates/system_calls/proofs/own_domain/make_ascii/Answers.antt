@@ -1,7 +1,8 @@
 -- The new text has zeros, and all of them are written over.
 use Rattle.std.proofs.Common.{length}
 use Rattle.object_store.proofs.ObjectsWritten.{live_made}
-use Rattle.system_calls.proofs.BytesWritten.{has_zeros, text_made, zeros}
+use Rattle.heap_loops.proofs.UnitsSoFar.{text_made, zeros}
+use Rattle.system_calls.proofs.BytesWritten.{has_zeros}
 use Rattle.system_calls.proofs.own_domain.make_ascii.Goals as goal
 
 pub write_bytes-requires : goal.write_bytes-requires

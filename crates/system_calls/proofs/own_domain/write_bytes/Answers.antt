@@ -2,7 +2,8 @@
 use Rattle.std.proofs.Common.{◌≡◌, ℕ, ◌<◌, ℤ, pos, length, get_or, w32, to_z, of_z, ap, ◌∙◌, arith}
 use Rattle.std.proofs.lemmas.Int.{to_z_pos}
 use Rattle.jk_model.specs.declared.values.Value.TheVariants as Held
-use Rattle.system_calls.proofs.BytesWritten.{all_written, ends_early, next_written, none_written, takes_next}
+use Rattle.heap_loops.proofs.UnitsSoFar.{ends_early}
+use Rattle.system_calls.proofs.BytesWritten.{all_written, next_written, none_written, takes_next}
 use Rattle.system_calls.proofs.own_domain.write_bytes.Goals as goal
 
 pub loop-i-init : goal.loop-i-init

@@ -1,6 +1,6 @@
 -- The place of the number is that of the part.
 use Rattle.class_init.proofs.PartOfAClass.{place_of_class}
-use Rattle.class_init.proofs.class_parts.ClassParts.place_of.Goals as goal
+use Rattle.class_init.proofs.class_parts.ClassParts.place_by_number.Goals as goal
 
 pub returns : goal.returns
 returns c =
