@@ -39,7 +39,7 @@ use Rattle.list_lemmas.proofs.FoundItems.{maps_nothing}
 use Rattle.list_lemmas.proofs.TestsAndOrders.{mapped_option}
 use Rattle.graph_copy.specs.AskedOfCopies.{MayCopy}
 use Rattle.machine_laws.specs.CallsAndAnswers.{Awaits, IsAnswerOf}
-use Rattle.machine_laws.proofs.TopFramesReplaced.{chunks_same, fit_top}
+use Rattle.row_laws.proofs.FramesInARow.{chunks_same, fit_top}
 use Rattle.machine_parts.specs.MachineParts.{MachineParts, machine_of}
 use Rattle.domain_crossing.specs.declared.answers.Left.{Left}
 use Rattle.domain_crossing.specs.declared.taking.Below.{Below}

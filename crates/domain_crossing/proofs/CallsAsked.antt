@@ -3,6 +3,7 @@ use Rattle.std.proofs.Common.{◌≡◌, ◌≤◌, List, length, Option, Some, 
 use Rattle.jk_model.specs.declared.identifiers.CapId.{CapId}
 use Rattle.jk_model.specs.declared.identifiers.DomainId.{DomainId}
 use Rattle.jk_model.specs.declared.identifiers.MemberId.{MemberId}
+use Rattle.jk_model.specs.declared.identifiers.SegmentNo.{SegmentNo}
 use Rattle.jk_model.specs.declared.identifiers.ThreadNo.{ThreadNo}
 use Rattle.jk_model.specs.declared.steps.Raise.{Raise}
 use Rattle.jk_model_classes.specs.declared.sharing.Stub.{Stub}
@@ -24,7 +25,7 @@ use Rattle.domain_crossing.specs.declared.entering.Caller.{Caller}
 use Rattle.domain_crossing.specs.AskedOfCrossings.{MayEnter}
 use Rattle.domain_crossing.specs.CalleesFound.{FindsCallee}
 use Rattle.domain_crossing.specs.Crossings.{CrossesSo}
-use Rattle.domain_crossing.specs.EnteringCalls.{CopiesFitLocals, EntersSo, MayArriveAt}
+use Rattle.domain_crossing.specs.EnteringCalls.{CopiesFitLocals, EntersSo, MayArriveAt, enters, has_no_chunks, has_no_room, is_uncopied}
 use Rattle.domain_crossing.specs.MovedArguments.{StandsToCall}
 use Rattle.domain_crossing.specs.PassedValues.{Crossing}
 use Rattle.domain_crossing.proofs.CalleesMet.{MayRun, refused, runs_so, stub_made}
@@ -128,3 +129,12 @@ module _ (p : MachineParts) (t : ThreadNo) (k : CapId) (method : MemberId) (may 
         → (shared ≡ p.shared) × IsSame p.heap heap × AreSameFrames p.frames after
     unchanged r heap shared after done =
         as_before p t may.cross c may.stands called.run.is_open caller.segment called.at r heap shared after (of_call (Called.Refused r) heap shared after done)
+
+-- stubs stay as they are
+pub stubs_kept : {x : Crossing} {s : SharedState} {frames : FrameContent} {n : SegmentNo} (call : StandsToCall frames n) (t : ThreadNo) (callee : Callee)
+    (crossed : Crossed) (heap : HeapContent) (new : SharedState) (after : FrameContent) → EntersSo x s call t callee crossed heap new after
+    → new.stubs ≡ s.stubs
+stubs_kept call t callee crossed heap new after (is_uncopied a h answers same) = refl
+stubs_kept call t callee crossed heap new after (has_no_room words h answers same) = refl
+stubs_kept call t callee crossed heap new after (has_no_chunks h answers same too_few) = refl
+stubs_kept call t callee crossed heap new after (enters values h later answers copies chunks arrived) = refl

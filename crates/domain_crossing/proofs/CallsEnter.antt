@@ -37,7 +37,7 @@ use Rattle.machine_laws.proofs.CallsArrive.{arguments_fit, copies_of_types, targ
 use Rattle.machine_laws.proofs.CallsSealed.{given_known, typed}
 use Rattle.machine_laws.proofs.CopiesTaken.{HasInside, grows, values_known}
 use Rattle.machine_laws.proofs.RunningSegmentsFit.{home_there}
-use Rattle.machine_laws.proofs.TopFramesReplaced.{chunks_same}
+use Rattle.row_laws.proofs.FramesInARow.{chunks_same}
 use Rattle.machine_parts.proofs.DomainsOfParts.{live_domain_is_of_parts}
 use Rattle.machine_parts.specs.FittingParts.{AreFittingParts}
 use Rattle.machine_parts.specs.MachineParts.{MachineParts, frames_in, machine_of, segment_with_frames, thread_with_frames}

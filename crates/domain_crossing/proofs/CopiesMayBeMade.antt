@@ -1,6 +1,6 @@
 -- Where a crossing may be made, what a copy asks is so of any two live domains: the heap that is read is sound, and what both name, both name by one
 -- name.
-use Rattle.std.proofs.Common.{◌≡◌, ℕ, zero, suc, pos, Bool, true, false, List, [], ◌∷◌, length, find, slice_get, Contains, Option, Some, None, option_map, bytes_eq, IsSome, refl, sym, ap, subst, subst₂, ◌∙◌, arith}
+use Rattle.std.proofs.Common.{◌≡◌, ℕ, zero, suc, pos, Bool, true, false, List, [], ◌∷◌, find, slice_get, Contains, Option, Some, None, option_map, bytes_eq, IsSome, refl, sym, ap, subst, subst₂, ◌∙◌}
 use Rattle.std.specs.List.{AllByRecursion}
 use Rattle.std.proofs.lemmas.Option.{same_Some, slice_get_within}
 use Rattle.std.proofs.lemmas.Slice.Eq.{bytes_eq-Decides}
@@ -18,18 +18,19 @@ use Rattle.jk_model_domains.specs.Objects.{NamedObject, Object, Array, Plain, Ta
 use Rattle.jk_model_domains.specs.OwnStates.{zero_of}
 use Rattle.jk_model_domains.specs.ValueTypes.{HoldsDeclared}
 use Rattle.jk_model_heaps.specs.Capabilities.{CapRange}
-use Rattle.jk_model_heaps.specs.Heaps.{field_records, named, shape_of}
+use Rattle.jk_model_heaps.specs.Heaps.{named, shape_of}
 use Rattle.jk_model_heaps.specs.Workings.{Inside}
+use Rattle.jk_model_heaps.proofs.NamesInHeaps.{stands}
 use Rattle.jk_model_machine_state.specs.Machines.{DomainState, caps_of}
 use Rattle.jk_model_machine_state.specs.Places.{LiveDomain}
 use Rattle.jk_model_sealing.specs.SealedInsides.{IsKnownValue, IsNamedBase, IsSealedInside, IsSealedObject, Surroundings}
-use Rattle.object_store.specs.HeapContents.{AreOfFields, AreOfKind, HasBase, HasShapeClasses, IsLaidOut}
+use Rattle.object_store.specs.HeapContents.{AreOfKind, HasBase, HasShapeClasses}
 use Rattle.sound_folders.specs.NamesAndTypes.{HasOwnNames}
 use Rattle.list_lemmas.proofs.FoundItems.{Finds, finds}
 use Rattle.list_lemmas.proofs.ItemsOfLists.{Contains-at, place_of}
 use Rattle.heap_laws.proofs.MappedLists.{mapped}
-use Rattle.heap_laws.proofs.ReachIsListed.{stands}
 use Rattle.heap_laws.proofs.SealedGraphs.{led_is_known}
+use Rattle.heap_laws.proofs.LaidOut.{sealed_laid_out}
 use Rattle.graph_copy.specs.AskedOfCopies.{AgreeOnNames, HasDomain, IsSoundHeap, MayBeGiven, MayCopy}
 use Rattle.machine_laws.specs.SoundMachines.{tables_of}
 use Rattle.machine_parts.specs.MachineParts.{MachineParts, machine_of}
@@ -93,25 +94,6 @@ abbrev EachFits : List ClassRecord → List NamedObject → List FieldRecord →
 EachFits classes heap fields values =
     (i : ℕ) (v : Value) (f : FieldRecord) → slice_get values i ≡ Some v → slice_get fields i ≡ Some f → HoldsDeclared classes heap v f.kind
 
-fields_laid_out : (classes : List ClassRecord) (heap : List NamedObject) (fields : List FieldRecord) (values : List Value)
-    → length values ≡ length fields → EachFits classes heap fields values → AreOfFields fields values
-fields_laid_out classes heap [] [] as_many each = tt
-fields_laid_out classes heap [] (v ∷ values) as_many each = absurd (omega (arith, as_many))
-fields_laid_out classes heap (f ∷ fields) [] as_many each = absurd (omega (arith, as_many))
-fields_laid_out classes heap (f ∷ fields) (v ∷ values) as_many each = (
-  kind_is classes heap f.kind.dims f.kind.base v (each 0 v f refl refl),
-  fields_laid_out classes heap fields values (omega (arith, as_many)) (λ i w g at there. each (suc i) w g at there),
-)
-
-laid_out : (around : Surroundings) (heap : List NamedObject) (object : Object) → IsSealedObject around heap object
-    → IsLaidOut around.classes object
-laid_out around heap (Plain c values) sealed =
-    fields_laid_out around.classes heap (field_records around.classes c) values sealed.5.as_many
-    (λ i v f at there. (sealed.5.each i v f at there).0)
-laid_out around heap (Array t items) sealed = tt
-laid_out around heap (Text units) sealed = tt
-laid_out around heap (Task s) sealed = tt
-
 -- the classes that a table names are there
 abbrev AreThere : List ClassRecord → List NamedClass → Type 0
 AreThere classes table = (c : ClassId) → IsNamed table c → HasClass classes c
@@ -136,7 +118,7 @@ class_is_there around heap (Task s) there sealed = tt
 sound_heap : (around : Surroundings) (quota : ℕ) (inside : Inside) → AreThere around.classes around.table → IsSealedInside around quota inside
     → IsSoundHeap around.classes inside.heap
 sound_heap around quota inside there sealed = record {
-  laid_out = λ a object is. laid_out around inside.heap object (sealed.objects (named a object) (stands inside.heap a object is));
+  laid_out = λ a object is. sealed_laid_out around inside.heap object (sealed.objects (named a object) (stands inside.heap a object is));
   has_classes = λ a object is. class_is_there around inside.heap object there (sealed.objects (named a object) (stands inside.heap a object is));
   closed = λ a b leads.
       led_is_known around inside.heap leads.0 b (sealed.objects (named a leads.0) (stands inside.heap a leads.0 leads.1)) leads.2;

@@ -88,6 +88,7 @@ pub fn enter<H: ObjectStore, F: FrameStore>(
       heap = H.content heap.new;
       frames = F.content frames.new;
     }) }
+    ensures stubs { shared.new.stubs ≡ shared.old.stubs }
 {
     let callee = match find_callee(w, shared, k, method) {
         Ok(callee) => callee,

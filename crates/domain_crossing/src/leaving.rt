@@ -71,6 +71,7 @@ pub fn leave<H: ObjectStore, F: FrameStore>(
       heap = H.content heap.new;
       frames = F.content frames.new;
     }) }
+    ensures stubs { shared.new.stubs ≡ shared.old.stubs }
 {
     let taken = take_off(frames, shared, t);
     let Some(below) = taken.below else {

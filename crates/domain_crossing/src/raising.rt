@@ -73,6 +73,7 @@ pub fn raise_across<H: ObjectStore, F: FrameStore>(
       heap = H.content heap.new;
       frames = F.content frames.new;
     }) }
+    ensures stubs { shared.new.stubs ≡ shared.old.stubs }
 {
     let taken = take_off(frames, shared, t);
     let Shape::Plain(class) = heap.shape(taken.domain, throwable) else {

@@ -1,24 +1,9 @@
 -- Numbers of segments that are left after some steps, and how far they rose.
-use Rattle.std.proofs.Common.{◌≡◌, ℕ, ◌+◌, ◌≤◌, length, ◌∙◌, arith}
+use Rattle.std.proofs.Common.{◌≡◌, ℕ, ◌+◌, ◌≤◌, length, arith}
 use Rattle.jk_model_machine_state.specs.Machines.{Machine}
 use Rattle.kernel_events.specs.KernelCalls.{MayDraw}
 use Rattle.kernel_events.specs.RisingNumbers.{Rises}
 use Rattle.kernel_events.specs.StepsInTurn.{NumbersRise}
-
-pub rises_more : (m new : Machine) (a b : ℕ) → a ≤ b → Rises m a new → Rises m b new
-rises_more m new a b few h = record {
-  numbers = record { threads = h.numbers.threads; segments = omega (arith, h.numbers.segments, few) };
-  domains = h.domains;
-}
-
-pub rises_both : (m mid new : Machine) (a b : ℕ) → Rises m a mid → Rises mid b new → Rises m (a + b) new
-rises_both m mid new a b h k = record {
-  numbers = record {
-    threads = k.numbers.threads ∙ h.numbers.threads;
-    segments = omega (arith, h.numbers.segments, k.numbers.segments);
-  };
-  domains = k.domains ∙ h.domains;
-}
 
 pub counts_of : (m new : Machine) (n : ℕ) → Rises m n new → NumbersRise m n new × (length new.domains ≡ length m.domains)
 counts_of m new n h = (h.numbers, h.domains)

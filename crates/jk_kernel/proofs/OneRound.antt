@@ -16,11 +16,14 @@ use Rattle.kernel_events.specs.KernelCalls.{IsNextLive, MayDraw}
 use Rattle.kernel_events.specs.PrintedLines.{Prints, SinkState}
 use Rattle.kernel_events.specs.RisingNumbers.{NumbersRiseInEvents, Rises}
 use Rattle.kernel_events.specs.StepsInTurn.{GoesBefore, Rests, StopsAt, TurnsBefore}
-use Rattle.machine_laws.specs.MachinesOfRuns.{IsOfRunWithoutJk, StepsStayOfRuns, ThreadsGoOn}
+use Rattle.machine_laws.specs.KnownMachines.{IsKnownMachine}
+use Rattle.machine_laws.specs.MachinesOfRuns.{ThreadsGoOn}
+use Rattle.machine_laws.specs.SealedSteps.{StepsStayKnown}
+use Rattle.kernel_events.proofs.NumbersOfEvents.{rises_both, rises_more}
 use Rattle.jk_kernel.specs.SoundMachines.{IsSoundMachine}
 use Rattle.jk_kernel.proofs.LinesJoined.{Fits, printed_both, printed_none}
 use Rattle.jk_kernel.proofs.MachinesStaySound.{whole_machine}
-use Rattle.jk_kernel.proofs.NumbersLeft.{may_draw, rises_both, rises_more}
+use Rattle.jk_kernel.proofs.NumbersLeft.{may_draw}
 use Rattle.jk_kernel.proofs.TurnsSoFar.{Turned}
 use Rattle.jk_kernel.proofs.WaysJoined.{AllApartOf, ApartOf, StepOf, TurnsOf, apart_repeat, turns_repeat, ways_as, ways_keep, ways_rest}
 
@@ -202,14 +205,14 @@ regrouped : (first before said more rest : List Line)
     → first ++ (((before ++ said) ++ more) ++ rest) ≡ ((first ++ before) ++ said) ++ (more ++ rest)
 regrouped first before said more rest = simp append_assoc
 
-pub round_failed : StepsStayOfRuns → ThreadsGoOn IsOfRunWithoutJk → (steps above t : ℕ) (first now next : Machine) (a b c : SinkState)
+pub round_failed : StepsStayKnown → ThreadsGoOn IsKnownMachine → (steps above t : ℕ) (first now next : Machine) (a b c : SinkState)
     → RoundSoFar steps above first now a b → IsNextLive now above t
     → StopsAt (numbered t) (TurnsBefore steps (numbered t)) (Turns steps (numbered t)) now b c next → RoundStopped steps first next a c
 round_failed keep law steps above t first now next a b c round is stops =
     let before = whole_machine now round.sound in
     let lines : List Line = (stops.before ++ stops.said) ++ stops.more in
-    let run = ways_keep (StepOf (numbered t)) (TurnsOf (numbered t)) (turns_repeat (numbered t)) IsOfRunWithoutJk
-    (λ x last said kept one. keep x last (numbered t) said kept one) steps now stops.last lines round.sound.run stops.all in
+    let run = ways_keep (StepOf (numbered t)) (TurnsOf (numbered t)) (turns_repeat (numbered t)) IsKnownMachine
+    (λ x last said kept one. keep x last (numbered t) said kept one) steps now stops.last lines round.sound.known stops.all in
     let rest = law steps (suc t) stops.last run in
     let whole = goes_next steps (Goes steps) (whole_round steps) above t now stops.last rest.1 lines rest.0 before stops.whole is
     stops.all rest.2 in
@@ -230,7 +233,7 @@ round_failed keep law steps above t first now next a b c round is stops =
         more = stops.more ++ rest.0;
         last = rest.1;
         all = subst (λ (ls : List Line). Goes steps 1 first ls rest.1) joined (round.goes (lines ++ rest.0) rest.1 whole);
-        whole = rest.3.0.0.0;
+        whole = rest.3.0;
       },
     )
 

@@ -10,7 +10,9 @@ use Rattle.kernel_events.specs.KernelCalls.{MayDraw, steps_of}
 use Rattle.kernel_events.specs.PrintedLines.{Prints, SinkState}
 use Rattle.kernel_events.specs.RisingNumbers.{NumbersRiseInEvents, Rises}
 use Rattle.kernel_events.specs.StepsInTurn.{RoundsBefore, StopsAt}
-use Rattle.machine_laws.specs.MachinesOfRuns.{IsOfRunWithoutJk, RoundsGoOn, StepsStayOfRuns}
+use Rattle.machine_laws.specs.KnownMachines.{IsKnownMachine}
+use Rattle.machine_laws.specs.MachinesOfRuns.{RoundsGoOn}
+use Rattle.machine_laws.specs.SealedSteps.{StepsStayKnown}
 use Rattle.jk_kernel.specs.SoundMachines.{IsSoundMachine}
 use Rattle.jk_kernel.proofs.LinesJoined.{Fits, printed_both, printed_none}
 use Rattle.jk_kernel.proofs.MachinesStaySound.{whole_machine}
@@ -19,12 +21,12 @@ use Rattle.jk_kernel.proofs.OneRound.{RoundStopped, Rounded, numbered}
 use Rattle.jk_kernel.proofs.WaysJoined.{RoundOf, RoundsOf, StepOf, TurnsOf, rounds_repeat, turns_repeat, ways_join, ways_keep, ways_more, ways_then_rest}
 
 -- what a run keeps from step to step, it keeps all along a round
-goes_keep : StepsStayOfRuns → (steps thread : ℕ) (m new : Machine) (lines : List Line) → IsOfRunWithoutJk m → Goes steps thread m lines new
-    → IsOfRunWithoutJk new
+goes_keep : StepsStayKnown → (steps thread : ℕ) (m new : Machine) (lines : List Line) → IsKnownMachine m → Goes steps thread m lines new
+    → IsKnownMachine new
 goes_keep keep steps thread m new lines run (Goes.over k w past) = run
 goes_keep keep steps thread m new lines run (Goes.on k w mid end before after below turns whole rest) =
     goes_keep keep steps (suc k) mid end after
-    (ways_keep (StepOf (numbered k)) (TurnsOf (numbered k)) (turns_repeat (numbered k)) IsOfRunWithoutJk
+    (ways_keep (StepOf (numbered k)) (TurnsOf (numbered k)) (turns_repeat (numbered k)) IsKnownMachine
     (λ x last said kept one. keep x last (numbered k) said kept one) steps w mid before run turns) rest
 
 -- rounds, and then a part of a round
@@ -113,12 +115,12 @@ regrouped : (first before said more rest : List Line)
     → (first ++ ((before ++ said) ++ more)) ++ rest ≡ ((first ++ before) ++ said) ++ (more ++ rest)
 regrouped first before said more rest = simp append_assoc
 
-pub gone_failed : StepsStayOfRuns → RoundsGoOn IsOfRunWithoutJk → (steps done count : ℕ) (first now next : Machine) (a b c : SinkState)
+pub gone_failed : StepsStayKnown → RoundsGoOn IsKnownMachine → (steps done count : ℕ) (first now next : Machine) (a b c : SinkState)
     → done < count → Gone steps done first now a b → RoundStopped steps now next b c → RoundsStopped count steps first next a c
 gone_failed keep law steps done count first now next a b c less gone (t, stops) =
     let left = count - done - 1 in
     let lines : List Line = (stops.before ++ stops.said) ++ stops.more in
-    let run = goes_keep keep steps 1 now stops.last lines gone.sound.run stops.all in
+    let run = goes_keep keep steps 1 now stops.last lines gone.sound.known stops.all in
     let rest = law left steps stops.last run in
     let some = ways_more (RoundOf steps) (RoundsOf steps) (rounds_repeat steps) done first now stops.last gone.lines lines gone.rounds stops.all
     stops.whole in
@@ -144,6 +146,6 @@ gone_failed keep law steps done count first now next a b c less gone (t, stops) 
         all = subst
             (λ (n : ℕ). Rounds n steps first (((gone.lines ++ stops.before) ++ stops.said) ++ (stops.more ++ rest.0)) rest.1) number
             (subst (λ (ls : List Line). Rounds ((done + 1) + left) steps first ls rest.1) joined all);
-        whole = rest.3.0.0.0;
+        whole = rest.3.0;
       },
     )

@@ -10,11 +10,12 @@ use Rattle.jk_outside.specs.declared.sinks.SinkFailed.{SinkFailed}
 use Rattle.kernel_events.specs.PrintedLines.{Prints, SinkState}
 use Rattle.kernel_events.specs.RisingNumbers.{NumbersRiseInEvents, Rises}
 use Rattle.kernel_events.specs.StepsInTurn.{Rests, StopsAt, TurnsApart, TurnsBefore}
-use Rattle.machine_laws.specs.MachinesOfRuns.{IsOfRunWithoutJk, TurnsGoOn}
+use Rattle.machine_laws.specs.KnownMachines.{IsKnownMachine}
+use Rattle.machine_laws.specs.MachinesOfRuns.{TurnsGoOn}
+use Rattle.kernel_events.proofs.NumbersOfEvents.{rises_more}
 use Rattle.jk_kernel.specs.SoundMachines.{IsSoundMachine, StepsAreApart, StepsKeepSound}
 use Rattle.jk_kernel.proofs.LinesJoined.{Fits, printed_both, printed_none}
 use Rattle.jk_kernel.proofs.MachinesStaySound.{whole_machine}
-use Rattle.jk_kernel.proofs.NumbersLeft.{rises_more}
 use Rattle.jk_kernel.proofs.WaysJoined.{AllApartOf, ApartOf, StepOf, TurnsOf, apart_repeat, turns_repeat, ways_as, ways_join, ways_keep, ways_more, ways_rest, ways_then_rest}
 
 -- each of so many steps is confined
@@ -99,11 +100,11 @@ rests_on t m sound step = record {
 abbrev pub Stopped : ThreadNo → ℕ → Machine → Machine → SinkState → SinkState → Type 0
 Stopped t steps first now a b = StopsAt t (TurnsBefore steps t) (Turns steps t) first a b now
 
-pub went_failed : StepsKeepSound → StepsAreApart → TurnsGoOn IsOfRunWithoutJk → (t : ThreadNo) (done steps : ℕ) (first now next : Machine)
+pub went_failed : StepsKeepSound → StepsAreApart → TurnsGoOn IsKnownMachine → (t : ThreadNo) (done steps : ℕ) (first now next : Machine)
     (a b c : SinkState) (lines : List Line) (e : SinkFailed) → done < steps → Went t done first now a b → Prints b c (Err e) lines
     → Steps now t lines next → IsSoundMachine next → Stopped t steps first next a c
 went_failed keep apart law t done steps first now next a b c lines e less went out step sound =
-    let more = law (steps - done - 1) t next sound.run in
+    let more = law (steps - done - 1) t next sound.known in
     let some = ways_more (StepOf t) (TurnsOf t) (turns_repeat t) done first now next went.lines lines went.turns step (whole_machine next sound) in
     let all = ways_join (StepOf t) (TurnsOf t) (turns_repeat t) (done + 1) (steps - done - 1) first next more.1 (went.lines ++ lines) more.0 some
     more.2 in
@@ -121,7 +122,7 @@ went_failed keep apart law t done steps first now next a b c lines e less went o
       more = more.0;
       last = more.1;
       all = subst (λ (n : ℕ). Turns n t first ((went.lines ++ lines) ++ more.0) more.1) count all;
-      whole = more.3.0.0.0;
+      whole = more.3.0;
     }
 
 pub failed_rises : NumbersRiseInEvents → (t : ThreadNo) (done steps : ℕ) (first now next : Machine) (a b : SinkState) (lines : List Line)

@@ -1,9 +1,10 @@
 //! The kernel: classes, domains with heaps of their own, and threads, and the calls that make the events of a script happen. Its contracts
 //! say that each call does what the definition of its event says, and that the machine is whole at every moment: it is sealed, so that what
-//! a domain holds names nothing of another's heap, and its calls are answered. So far no folder is accepted that refers to package jk.
+//! a domain holds names nothing of another's heap, and its calls are answered.
 #![tactic(auto)]
 
 mod kernel;
+mod killing;
 mod laws;
 mod next_threads;
 mod opening;

@@ -16,9 +16,8 @@ ghost use Rattle.jk_model_machine_state.specs.Machines.{world_of};
 ghost use Rattle.jk_outside.specs.Counts.{HasTaken};
 ghost use Rattle.folder_reader.specs.AskedOnce.{AsksOnce};
 ghost use Rattle.folder_reader.specs.FolderAnswers.{AskedFor, AsksWithin};
-ghost use Rattle.machine_laws.specs.MachinesOfRuns.{FolderRefersToNoPackageJk};
-ghost use Rattle.kernel_openings.specs.AddedDomains.{Opening, line_of};
-ghost use Rattle.kernel_openings.specs.AddedWithoutJk.{IsCauseNow, OpensNow};
+ghost use Rattle.kernel_openings.specs.AddedDomains.{AddsDomain, IsCauseOf, IsLacking, Opening, line_of};
+ghost use Rattle.kernel_openings.specs.declared.answers.AddAnswer.{AddAnswer as AAnswer};
 
 use crate::kernel::Kernel;
 use crate::laws::machines_stay_sound;
@@ -30,8 +29,7 @@ use object_store::ObjectStore;
 
 impl<H: ObjectStore + Drop, F: FrameStore + Drop> Kernel<H, F> {
     /// Opens the domain of the folder of this name below a root, with these quotas, and answers its number. Or it answers the first rule
-    /// that refuses it, or that the files failed, or want of memory: the machine is as before then. A folder of which a class refers to
-    /// package jk is refused behind all written rules (X1).
+    /// that refuses it, or that the files failed, or want of memory: the machine is as before then.
     pub fn add_domain<R: Files>(
         &mut self,
         files: &mut R,
@@ -45,19 +43,21 @@ impl<H: ObjectStore + Drop, F: FrameStore + Drop> Kernel<H, F> {
         requires counts { (quotas.threads ≤ 4096) × (quotas.names ≤ 4096) }
         ensures number { IfOk result (λ d. d.0 ≡ length self.old.domains) }
         ensures ok { let o : Opening = record { tree = R.tree files.old; root = root.now; name = name.now; quotas = quotas } in
-            OnOk result (OpensNow o self.old (Says.Loaded name.now ∷ []) self.new) }
-        // No class of the folder refers to package jk.
-        ensures apart { OnOk result (FolderRefersToNoPackageJk self.new.classes (record { 0 = length self.old.classes })) }
+            OnOk result (AddsDomain o self.old (Says.Loaded name.now ∷ []) self.new) }
         // Each error has its cause, and none but the last two leaves the folder unjudged.
         ensures cause { let o : Opening = record { tree = R.tree files.old; root = root.now; name = name.now; quotas = quotas } in
-            IfErr result (IsCauseNow o self.old) }
-        // A folder of a told tree that breaks a written rule is refused by exactly this rule, there, unless the files fail or memory runs out.
+            IfErr result (IsCauseOf o self.old) }
+        // A folder of a told tree that breaks a rule is refused by exactly this rule, there, unless the files fail or memory runs out.
         ensures only_refused { (t : Tree) (rule : ARule) (place : APlace) → R.tree files.old ≡ Some t
             → IsFolderFault t root.now (world_of self.old) name.now rule place
             → MatchResult result (λ _. ⊥) (λ e. (e ≡ AddAnswer.Refused rule place) ⊎ (e ≡ AddAnswer.ReadFault) ⊎ (e ≡ AddAnswer.OutOfMemory)) }
+        // Of a folder of a told tree that breaks no rule the first thing that is lacking is answered, unless the files fail or memory runs out.
+        ensures only_lacking { let o : Opening = record { tree = R.tree files.old; root = root.now; name = name.now; quotas = quotas } in
+            (t : Tree) (e : AAnswer) → R.tree files.old ≡ Some t → IsLacking e → IsCauseOf o self.old e
+            → MatchResult result (λ _. ⊥) (λ a. (a ≡ e) ⊎ (a ≡ AddAnswer.ReadFault) ⊎ (a ≡ AddAnswer.OutOfMemory)) }
         // What the event prints at an answer leads to the machine as it was.
         ensures refused { let o : Opening = record { tree = R.tree files.old; root = root.now; name = name.now; quotas = quotas } in
-            IfErr result (λ e. (line : ALine) → line_of name.now e ≡ Some line → OpensNow o self.old (line ∷ []) self.old) }
+            IfErr result (λ e. (line : ALine) → line_of name.now e ≡ Some line → AddsDomain o self.old (line ∷ []) self.old) }
         // L2 comes where the folder was asked for and isn't there: where no tree is told, a fault was counted.
         ensures no_folder { result ≡ Err (AddAnswer.Refused RuleIs.L2 PlaceIs.Whole)
             → FolderIsAbsent (R.tree files.old) (root.now /- name.now) (R.faults files.old) (R.faults files.new) }

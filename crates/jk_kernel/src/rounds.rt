@@ -10,10 +10,10 @@ ghost use Rattle.kernel_events.specs.PrintedLines.{as_done, sink};
 ghost use Rattle.kernel_events.specs.StepsInTurn.{GoesBefore, NumbersRise, RoundsBefore, StopsAt};
 
 use crate::kernel::Kernel;
+use crate::laws::machines_go_on;
 use frame_store::FrameStore;
 use jk_outside::{Sink, SinkFailed};
 use kernel_events::laws::numbers_rise;
-use machine_laws::machines::runs_go_on_without_jk;
 use object_store::ObjectStore;
 
 impl<H: ObjectStore + Drop, F: FrameStore + Drop> Kernel<H, F> {
@@ -33,7 +33,7 @@ impl<H: ObjectStore + Drop, F: FrameStore + Drop> Kernel<H, F> {
         ensures counts { NumbersRise self.old (steps_of count steps self.old) self.new × (length self.new.domains ≡ length self.old.domains) }
     {
         numbers_rise();
-        runs_go_on_without_jk();
+        machines_go_on();
         self.is_sound();
         for _ in 0..count {
             let changed = self.one_round(steps, out)?;
@@ -59,7 +59,7 @@ impl<H: ObjectStore + Drop, F: FrameStore + Drop> Kernel<H, F> {
         ensures rests { result ≡ Ok false → (self.new ≡ self.old) × Goes steps 1 self.old [] self.old }
     {
         numbers_rise();
-        runs_go_on_without_jk();
+        machines_go_on();
         self.is_sound();
         let mut changed = false;
         let mut above = 0;

@@ -11,13 +11,12 @@ ghost use Rattle.kernel_events.specs.StepsInTurn.{NumbersRise, Rests, StepsApart
 ghost use Rattle.jk_kernel.specs.SoundMachines.{IsSoundMachine};
 
 use crate::kernel::Kernel;
-use crate::laws::{machines_stay_sound, steps_are_apart};
+use crate::laws::{machines_go_on, machines_stay_sound, steps_are_apart};
 use frame_store::FrameStore;
 use jk_model::ThreadNo;
 use jk_outside::{Sink, SinkFailed};
 use kernel_events::laws::numbers_rise;
 use kernel_turns::steps_alone;
-use machine_laws::machines::runs_go_on_without_jk;
 use object_store::ObjectStore;
 
 impl<H: ObjectStore + Drop, F: FrameStore + Drop> Kernel<H, F> {
@@ -59,7 +58,7 @@ impl<H: ObjectStore + Drop, F: FrameStore + Drop> Kernel<H, F> {
         ensures counts { NumbersRise self.old steps self.new × (length self.new.domains ≡ length self.old.domains) }
     {
         numbers_rise();
-        runs_go_on_without_jk();
+        machines_go_on();
         steps_are_apart();
         machines_stay_sound();
         self.is_sound();

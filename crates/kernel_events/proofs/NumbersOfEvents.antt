@@ -26,13 +26,13 @@ rises_same m new same = record {
   domains = ap (λ (x : Machine). length x.domains) same;
 }
 
-rises_more : (m new : Machine) (a b : ℕ) → a ≤ b → Rises m a new → Rises m b new
+pub rises_more : (m new : Machine) (a b : ℕ) → a ≤ b → Rises m a new → Rises m b new
 rises_more m new a b few h = record {
   numbers = record { threads = h.numbers.threads; segments = omega (arith, h.numbers.segments, few) };
   domains = h.domains;
 }
 
-rises_both : (m mid new : Machine) (a b : ℕ) → Rises m a mid → Rises mid b new → Rises m (a + b) new
+pub rises_both : (m mid new : Machine) (a b : ℕ) → Rises m a mid → Rises mid b new → Rises m (a + b) new
 rises_both m mid new a b h k = record {
   numbers = record {
     threads = k.numbers.threads ∙ h.numbers.threads;

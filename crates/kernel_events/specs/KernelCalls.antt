@@ -48,12 +48,11 @@
 --   ensures some         { IfSome result (λ t. IsNextLive self.now above t) }
 --   ensures none         { IfNone result ((u : ThreadNo) → above < u.0 → IsLiveThread self.now u → ⊥) }
 --
--- There is no call yet that kills a domain. It is to have these clauses, of which `counts` and `pages` are laws of what a kill is:
---
 -- kill<S: Sink>(&mut self, name: &[u8], out: &mut S) -> Result<(), SinkFailed>
 --   requires named       { is_name name.now ≡ true }
 --   // Also where the sink failed, the kill has happened.
 --   ensures event        { (lines : List Line) × Prints out.old out.new result lines × Kills self.old name.now lines self.new }
+--   // The pages of the domain, and no others, are free then.
 --   ensures pages        { FreesPages self.old name.now self.new }
 --   ensures counts       { NumbersRise self.old 0 self.new × (length self.new.domains ≡ length self.old.domains) }
 use Rattle.std.specs.Prelude.{ℕ, ◌+◌, ◌*◌, ◌^◌, ◌<◌}

@@ -1,5 +1,5 @@
 -- What `add_domain` makes of a kernel, and why it doesn't, by what it made of the parts.
-use Rattle.std.proofs.Common.{◌≡◌, ◌≤◌, ℕ, List, [], ◌∷◌, length, take, Option, inr, sym, ap, subst, ◌∙◌, arith}
+use Rattle.std.proofs.Common.{◌≡◌, ◌≤◌, ℕ, List, [], ◌∷◌, length, take, Option, sym, ap, subst, ◌∙◌, arith}
 use Rattle.jk_model.specs.declared.output.Line.TheVariants as Says
 use Rattle.jk_model.specs.declared.script.Quotas.{Quotas}
 use Rattle.jk_model.specs.Outside.{Tree, ◌/-◌}
@@ -23,13 +23,12 @@ use Rattle.frame_store.specs.FrameContents.{IsSame as IsSameStack}
 use Rattle.thread_segments.specs.SoundStates.{AreSound}
 use Rattle.folder_loader.specs.declared.answers.Loaded.{Loaded}
 use Rattle.folder_loader.specs.LinkedFolders.{AreTypedFrom}
-use Rattle.machine_laws.specs.MachinesOfRuns.{FolderRefersToNoPackageJk, OpensFrom}
+use Rattle.machine_laws.specs.MachinesOfRuns.{OpensFrom}
 use Rattle.machine_laws.specs.SoundFolders.{AcceptedFoldersStaySound, AcceptsFiles}
 use Rattle.kernel_parts.specs.SoundKernels.{AreKernelParts, KernelContent, kernel_machine}
 use Rattle.kernel_openings.specs.declared.answers.AddAnswer.{AddAnswer}
 use Rattle.kernel_openings.specs.declared.answers.AddAnswer.TheVariants as Adding
-use Rattle.kernel_openings.specs.AddedDomains.{Opening}
-use Rattle.kernel_openings.specs.AddedWithoutJk.{HasAcceptedWith, IsCauseNow, OpensApart, OpensNow}
+use Rattle.kernel_openings.specs.AddedDomains.{AddsDomain, HasAccepted, IsCauseOf, Opening, OpensAccepted}
 use Rattle.kernel_openings.specs.OpenedParts.{IsWhyNot, KeepsParts, LacksPlaces, MayOpen, OpenParts, OpensParts}
 use Rattle.kernel_openings.proofs.FoldersOpen.{cut, loaded_parts, may_open}
 use Rattle.kernel_openings.proofs.LoadingKernels.{as_many, may_load, world_is}
@@ -131,8 +130,8 @@ module _ (k : KernelContent) (h : AreKernelParts k) (law : AcceptedFoldersStaySo
     abbrev o : Opening
     o = record { tree = tree; root = root; name = name; quotas = q }
 
-    abbrev accepted_with : (Holds : List ClassRecord → _ → Type 0) → Holds w.classes l.first → HasAcceptedWith Holds o m
-    accepted_with Holds holds = record { files = f; are_files = files; are_told = told; accepted = accepted_so; holds = holds }
+    abbrev accepted_here : HasAccepted o m
+    accepted_here = record { files = f; are_files = files; are_told = told; accepted = accepted_so }
 
     pages : LacksPlaces (parts_with k w) q ≡ LacksPages m q
     pages = pages_lack k h heaps frames shared q
@@ -149,13 +148,12 @@ module _ (k : KernelContent) (h : AreKernelParts k) (law : AcceptedFoldersStaySo
     many_so : 65535 ≤ length k.world.domains → HasManyDomains m
     many_so many = omega (arith, many, as_many k h)
 
-    pub cause_so : (e : AddAnswer) → IsWhyNot (parts_with k w) l q e → IsCauseNow o m e
-    cause_so (Adding.Refused rule place) (rule_is, place_is, names_jk) = inr (rule_is, place_is, accepted_with _ names_jk)
-    cause_so Adding.NoRoom (apart, lacks) = (accepted_with _ apart, lacks_pages lacks)
-    cause_so Adding.CapNumbers (apart, places, lacks) =
-        (accepted_with _ apart, has_places places, subst (λ (A : Type 0). A) (sym numbers_so) lacks)
-    cause_so Adding.TooManyDomains (apart, places, numbers, many) = (
-      accepted_with _ apart,
+    pub cause_so : (e : AddAnswer) → IsWhyNot (parts_with k w) q e → IsCauseOf o m e
+    cause_so (Adding.Refused rule place) why = absurd why
+    cause_so Adding.NoRoom lacks = (accepted_here, lacks_pages lacks)
+    cause_so Adding.CapNumbers (places, lacks) = (accepted_here, has_places places, subst (λ (A : Type 0). A) (sym numbers_so) lacks)
+    cause_so Adding.TooManyDomains (places, numbers, many) = (
+      accepted_here,
       has_places places,
       λ lacks. numbers (subst (λ (A : Type 0). A) numbers_so lacks),
       many_so (subst (λ (x : WorldRecord). 65535 ≤ length x.domains) w_is many),
@@ -194,7 +192,7 @@ module _ (k : KernelContent) (h : AreKernelParts k) (law : AcceptedFoldersStaySo
           machine_is k h law f files name l w.classes loads_so typed ordered heaps frames shared q new new_heaps opened_so
           ∙ ap (λ (cs : List ClassRecord). with_new_domain m (record { classes = cs; domains = [] }) (admission accepted_so q) inside_now) grown_so
 
-      pub opens_so : OpensNow o m (Says.Loaded name ∷ []) (kernel_machine kernel_of)
+      pub opens_so : AddsDomain o m (Says.Loaded name ∷ []) (kernel_machine kernel_of)
       opens_so =
           let by_files : OpensWith f m name q (Says.Loaded name ∷ []) (with_new_domain m w (admission accepted_so q) inside_now) =
           opens accepted_so inside_now
@@ -204,14 +202,9 @@ module _ (k : KernelContent) (h : AreKernelParts k) (law : AcceptedFoldersStaySo
           (subst (λ (cs : List ClassRecord). IsOpening cs l.table q.heap inside_now) grown_so
           (opening k h law f files name l w.classes loads_so typed ordered heaps frames shared q new new_heaps opened_so))
           (placed k h law f files name l w.classes loads_so typed ordered heaps frames shared q new new_heaps opened_so) in
-          subst (OpensNow o m (Says.Loaded name ∷ [])) (sym machine_so)
-          (OpensNow.opens (accepted_with FolderRefersToNoPackageJk opened.apart) (Says.Loaded name ∷ [])
+          subst (AddsDomain o m (Says.Loaded name ∷ [])) (sym machine_so)
+          (AddsDomain.opens accepted_here (Says.Loaded name ∷ [])
           (with_new_domain m w (admission accepted_so q) inside_now) by_files)
-
-      pub apart_so : FolderRefersToNoPackageJk new.world.classes (record { 0 = length k.world.classes })
-      apart_so =
-          subst (λ (cs : List ClassRecord). FolderRefersToNoPackageJk cs (record { 0 = length k.world.classes })) (sym grown_so)
-          (λ c d r low is on of. opened.apart c d r (omega (arith, low, loads.first_is)) is on of)
 
       abbrev opens_from : OpensFrom f m name q (kernel_machine kernel_of)
       opens_from = record {
@@ -228,5 +221,5 @@ module _ (k : KernelContent) (h : AreKernelParts k) (law : AcceptedFoldersStaySo
         leads = machine_so;
       }
 
-      pub opened_apart : OpensApart m name q (kernel_machine kernel_of)
-      opened_apart = (f, files, opens_from, opened.apart)
+      pub opened_accepted : OpensAccepted m name q (kernel_machine kernel_of)
+      opened_accepted = (f, files, opens_from)

@@ -6,7 +6,8 @@ mod FirstSegments
 mod FoldersOpen
 mod LoadingKernels
 mod MainOfAClass
-mod NamesApart
+pub mod NamedDomains
+mod OneAnswer
 mod OpenedInsides
 mod OpenedKernels
 mod OpenedOrNot
@@ -19,6 +20,5 @@ mod StartedMachines
 mod StartedParts
 mod StartsOfParts
 mod StartsRefused
-mod StartsStaySealed
 mod ThreadsThatBegin
 mod WordsSoFar

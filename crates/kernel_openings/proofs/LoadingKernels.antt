@@ -1,6 +1,6 @@
 -- In a kernel of sound parts a folder may be loaded: there are few domains, as none stands in for another, and the world of the parts is that
 -- of the machine. Another domain may be opened in it.
-use Rattle.std.proofs.Common.{◌≡◌, ℕ, suc, ◌<◌, ◌≤◌, ◌==◌, Bool, true, false, not, List, [], ◌∷◌, length, map, filter, find, Contains, Option, Some, None, slice_get, refl, sym, ap, subst, ◌∙◌, inl, inr, arith, true≢false}
+use Rattle.std.proofs.Common.{◌≡◌, ℕ, suc, ◌<◌, ◌≤◌, ◌==◌, Bool, true, false, not, List, [], ◌∷◌, length, map, find, Contains, Option, Some, None, slice_get, refl, sym, ap, subst, ◌∙◌, inl, inr, arith, true≢false}
 use Rattle.std.specs.Prelude.{is_some}
 use Rattle.std.specs.List.{AllByRecursion, IsDistinct, list_any}
 use Rattle.std.proofs.lemmas.Bool.{cases_Bool, cases_lt, eqb-true}
@@ -8,7 +8,7 @@ use Rattle.std.proofs.lemmas.List.{length-map}
 use Rattle.std.proofs.lemmas.Map.Steps.{length-le_from_distinct_below}
 use Rattle.std.proofs.lemmas.Option.{slice_get_within}
 use Rattle.list_lemmas.proofs.FoundItems.{Finds, finds}
-use Rattle.list_lemmas.proofs.ItemsOfLists.{Contains-at, Contains-here, Contains-there, place_of}
+use Rattle.list_lemmas.proofs.ItemsOfLists.{Contains-at, place_of}
 use Rattle.jk_model.specs.SystemTable.{system_classes}
 use Rattle.jk_model.specs.declared.identifiers.ClassId.{ClassId}
 use Rattle.jk_model.specs.declared.identifiers.DomainId.{DomainId}
@@ -26,6 +26,7 @@ use Rattle.object_store.specs.HeapContents.{HeapContent}
 use Rattle.object_store.specs.HeapContents.{HasFewDomains as HasFewHeaps}
 use Rattle.frame_store.specs.FrameContents.{FrameContent}
 use Rattle.frame_store.specs.FrameContents.{HasFewDomains as HasFewStacks}
+use Rattle.machine_laws.proofs.FilteredItems.{all_pass}
 use Rattle.kernel_parts.specs.SoundKernels.{AreKernelParts, KernelContent, kernel_machine, parts_of}
 use Rattle.machine_parts.specs.FittingParts.{AreFittingParts, HaveOneList}
 use Rattle.machine_parts.specs.MachineParts.{MachineParts, domain_state, domain_states, machine_of}
@@ -69,11 +70,6 @@ as_many_states p one =
     sym (length-map (machine_of p).domains names_in) ∙ ap (λ (w : WorldRecord). length w.domains) (same_world p one)
 
 -- ---- Few domains.
-
-all_pass : {X : Type 0} (test : X → Bool) (xs : List X) → ((x : X) → Contains xs x → test x ≡ true) → length (filter test xs) ≡ length xs
-all_pass test [] pass = refl
-all_pass test (x ∷ xs) pass =
-    rw (pass x (Contains-here x xs)) (ap suc (all_pass test xs (λ y on. pass y (Contains-there y x xs on))))
 
 abbrev number : DomainId → ℕ
 number d = d.0

@@ -1,9 +1,8 @@
 -- A class has one `main` at most: that which is found by its name and type, where it is public, static and has code. Its frame has room
 -- for the one argument.
-use Rattle.std.proofs.Common.{◌≡◌, ◌≤◌, ◌&&◌, IsTrue, List, [], ◌∷◌, ◌++◌, length, flat_map, Contains, Some, None, codes, refl, sym, ap, subst, ◌∙◌, arith}
+use Rattle.std.proofs.Common.{◌≡◌, ◌≤◌, ◌&&◌, IsTrue, List, [], ◌∷◌, ◌++◌, length, flat_map, Some, None, codes, refl, sym, ap, subst, ◌∙◌, arith}
 use Rattle.std.proofs.lemmas.List.{length-append, length-map}
-use Rattle.list_lemmas.proofs.ItemsByPlace.{comes_from}
-use Rattle.list_lemmas.proofs.ItemsOfLists.{Contains-at, place_of}
+use Rattle.list_lemmas.proofs.ItemsOfLists.{Contains-at}
 use Rattle.jk_model.specs.declared.descriptors.MethodType.{MethodType}
 use Rattle.jk_model.specs.declared.identifiers.ClassId.{ClassId}
 use Rattle.jk_model.specs.declared.identifiers.MemberId.{MemberId}
@@ -13,22 +12,21 @@ use Rattle.jk_model_classes.specs.declared.records.LinkedCode.{LinkedCode}
 use Rattle.jk_model_classes.specs.declared.records.MethodRecord.{MethodRecord}
 use Rattle.jk_model_classes.specs.Classes.{method_walk}
 use Rattle.jk_model_classes.specs.Lookups.{FindsMethod, IsFirstOn, IsMethodOf, MethodIs}
-use Rattle.jk_model_classes.specs.Worlds.{NamedClass}
 use Rattle.jk_model_typing.specs.declared.frames.FrameType.{FrameType}
 use Rattle.jk_model_typing.specs.declared.frames.VType.{VType}
 use Rattle.jk_model_typing.specs.declared.frames.VType.TheVariants.{Long}
 use Rattle.jk_model_typing.specs.FrameTypes.{value_of}
 use Rattle.jk_model_typing.specs.Scopes.{CodeScope, IsScopeOf, own_receiver, parameter_values}
 use Rattle.jk_model_typing.specs.Typing.{IsStart, as_locals}
-use Rattle.jk_model_machine_state.specs.Machines.{DomainState, Machine}
+use Rattle.jk_model_machine_state.specs.Machines.{Machine}
 use Rattle.jk_model_runs.specs.Starts.{IsMain}
 use Rattle.descriptors.proofs.NoTextBeginsAnother.{one_method}
 use Rattle.class_lemmas.proofs.OneRecord.{one_method as one-method}
 use Rattle.class_lemmas.proofs.OneMember.{one_on}
 use Rattle.typing_lemmas.proofs.OneScope.{one-scope}
-use Rattle.heap_laws.specs.SoundTables.{IsSoundTable}
 use Rattle.machine_laws.specs.SoundMachines.{HasSoundClasses, tables_of}
 use Rattle.machine_laws.proofs.LinkedAgain.{older}
+use Rattle.machine_laws.proofs.MachinesOfRuns.{each_table}
 use Rattle.kernel_openings.specs.FirstFrames.{HasNoMain}
 use Rattle.kernel_openings.proofs.DescriptorOfMain.{main-text, type_of_main}
 
@@ -108,13 +106,6 @@ some-locals : (ts : List VType) → length ts ≡ 1 → 1 ≤ length (flat_map a
 some-locals [] one = absurd (omega (arith, one))
 some-locals (t ∷ ts) one = omega (arith, one-local t, length-append (as_locals t) (flat_map as_locals ts))
 
--- the names of each domain are sound
-each-table : (m : Machine) → HasSoundClasses m → (table : List NamedClass) → Contains (tables_of m) table → IsSoundTable m.classes table
-each-table m sound table on =
-    let at = place_of (tables_of m) table on in
-    let from = comes_from (λ (d : DomainState). d.table) m.domains at.0 table at.1 in
-    subst (IsSoundTable m.classes) from.gives (sound.tables from.from (Contains-at m.domains at.0 from.from from.there))
-
 module _ (m : Machine) (sound : HasSoundClasses m) (class : ClassId) (main : MemberId) (code : LinkedCode) (is : IsMain m class main code) where
   abbrev here : CodeScope
   here = main-code m class main code is
@@ -125,7 +116,7 @@ module _ (m : Machine) (sound : HasSoundClasses m) (class : ClassId) (main : Mem
       let one : suits.0 ≡ is.method = one-method m.classes main suits.0 is.method suits.1 is.is_method in
       let kind : is.method.kind ≡ is.type = ap (λ (x : MethodRecord). x.kind) (sym one) ∙ suits.3 in
       let typed : is.type ≡ type_of_main = one_method (codes "([Ljava/lang/String;)V") is.type type_of_main is.text main-text in
-      let described = (older m.classes (tables_of m) (record { codes = sound.codes; each = each-table m sound })
+      let described = (older m.classes (tables_of m) (record { codes = sound.codes; each = each_table m sound })
       sound.linked).described main is.method is.is_method in
       described.1.as_many ∙ ap (λ (k : MethodType). length k.params) (kind ∙ typed)
 

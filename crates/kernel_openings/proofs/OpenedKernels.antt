@@ -4,8 +4,6 @@ use Rattle.std.proofs.lemmas.Bool.{eqb-true}
 use Rattle.std.proofs.lemmas.List.{length-map, map-append}
 use Rattle.std.proofs.lemmas.Option.{same_Some, slice_get_within}
 use Rattle.list_lemmas.proofs.FoundItems.{Finds, finds}
-use Rattle.list_lemmas.proofs.ItemsByPlace.{mapped_at}
-use Rattle.list_lemmas.proofs.ItemsOfLists.{Contains-at, place_of}
 use Rattle.jk_model.specs.SystemTable.{system_classes}
 use Rattle.jk_model.specs.declared.identifiers.ClassId.{ClassId}
 use Rattle.jk_model.specs.declared.identifiers.DomainId.{DomainId}
@@ -14,7 +12,6 @@ use Rattle.jk_model_classes.specs.declared.records.ClassRecord.{ClassRecord}
 use Rattle.jk_model_classes.specs.declared.sharing.Stub.{Stub}
 use Rattle.jk_model_classes.specs.Classes.{AreOrdered, HasClass}
 use Rattle.jk_model_classes.specs.Worlds.{DomainRecord, IsNamed, IsWorld, NamedClass, WorldRecord}
-use Rattle.jk_model_domains.specs.OwnStates.{OwnState}
 use Rattle.jk_model_folders.specs.declared.files.FolderFiles.{FolderFiles}
 use Rattle.jk_model_folders.specs.FolderTrees.{AreFiles}
 use Rattle.jk_model_folders.specs.Loads.{AreStubs, Loads}
@@ -23,6 +20,7 @@ use Rattle.jk_model_heaps.specs.Capabilities.{CapRange}
 use Rattle.jk_model_heaps.specs.Heaps.{heap_words}
 use Rattle.jk_model_domains.specs.Objects.{NamedObject}
 use Rattle.jk_model_heaps.specs.Workings.{Inside}
+use Rattle.folder_reader.proofs.ItemsOfLists.{in_map}
 use Rattle.jk_model_sharing.specs.CapabilityCalls.{LacksNumbers}
 use Rattle.jk_model_sharing.specs.SharedStates.{SharedDomain}
 use Rattle.jk_model_sharing.specs.SharedStates.{caps_of as caps_in}
@@ -33,10 +31,11 @@ use Rattle.jk_model_openings.specs.PoolsOfMachines.{heap_pages_of, heap_pool, st
 use Rattle.jk_model_runs.specs.Sealed.{IsSealed}
 use Rattle.class_growth.proofs.OwnStatesKept.{literal-before}
 use Rattle.class_init.specs.KeptStates.{HasRooms, KeptState}
-use Rattle.object_store.specs.HeapContents.{HeapContent, IsHeapContent, KeepsOthers, pages_for}
+use Rattle.object_store.specs.HeapContents.{IsHeapContent, KeepsOthers, pages_for}
 use Rattle.object_store.specs.HeapContents.{pool_of as pool_of_heaps}
-use Rattle.frame_store.specs.FrameContents.{FrameContent, IsContent}
+use Rattle.frame_store.specs.FrameContents.{IsContent}
 use Rattle.frame_store.specs.FrameContents.{pool_of as pool_of_frames}
+use Rattle.machine_parts.proofs.DomainsOfParts.{same_ranges}
 use Rattle.thread_segments.specs.SoundStates.{AreSound}
 use Rattle.folder_loader.specs.declared.answers.Loaded.{Loaded}
 use Rattle.folder_loader.specs.LinkedFolders.{AreTypedFrom}
@@ -44,7 +43,7 @@ use Rattle.heap_laws.specs.SoundCodes.{AreSoundCodes}
 use Rattle.heap_laws.specs.SoundTables.{IsSoundTable}
 use Rattle.sound_folders.specs.LinkedWorlds.{AreLinked}
 use Rattle.machine_parts.specs.FittingParts.{AreFittingParts}
-use Rattle.machine_parts.specs.MachineParts.{domain_states, inside_of}
+use Rattle.machine_parts.specs.MachineParts.{inside_of}
 use Rattle.machine_parts.specs.OpenedParts.{OpensInParts}
 use Rattle.machine_parts.proofs.DomainOpened.{opens_change_machines}
 use Rattle.machine_parts.proofs.PoolsSame.{heap_pools, stack_pools}
@@ -65,18 +64,6 @@ use Rattle.kernel_openings.proofs.OpenedWorlds.{as_many_added, last_or_before, o
 use Rattle.kernel_openings.proofs.PartsAfterOpenings.{fits_after, stubs_there}
 use Rattle.kernel_openings.proofs.PartsByPlace.{from_shared_thread}
 
--- ---- Ranges of capabilities.
-
-same_ranges : (heap : HeapContent) (frames : FrameContent) (world : List DomainRecord) (shared : List SharedDomain) (owns : List (Option OwnState))
-    → length shared ≡ length world → length owns ≡ length world
-    → map (λ (d : DomainState). d.caps) (domain_states heap frames world shared owns) ≡ map (λ (s : SharedDomain). s.caps) shared
-same_ranges heap frames [] [] owns many also = refl
-same_ranges heap frames [] (s ∷ shared) owns many also = absurd (omega (arith, many))
-same_ranges heap frames (n ∷ world) [] owns many also = absurd (omega (arith, many))
-same_ranges heap frames (n ∷ world) (s ∷ shared) [] many also = absurd (omega (arith, also))
-same_ranges heap frames (n ∷ world) (s ∷ shared) (own ∷ owns) many also =
-    ap (λ (rs : List CapRange). s.caps ∷ rs) (same_ranges heap frames world shared owns (omega (arith, many)) (omega (arith, also)))
-
 -- ---- Rooms for the objects of literals.
 
 rooms_still : (classes more : List ClassRecord) (table : List NamedClass) (kept : KeptState) → ((c : ClassId) → IsNamed table c → HasClass classes c)
@@ -86,9 +73,6 @@ rooms_still classes more table kept there has = record {
   rooms_differ = has.rooms_differ;
   literals = has.literals;
 }
-
-in_map : {X Y : Type 0} (g : X → Y) (xs : List X) (x : X) → Contains xs x → Contains (map g xs) (g x)
-in_map g xs x on = let place = place_of xs x on in Contains-at (map g xs) place.0 (g x) (mapped_at g xs place.0 x place.1)
 
 -- ---- Another domain may be opened.
 

@@ -1,12 +1,12 @@
 -- What is answered of a folder that isn't opened is what a `domain` event does by it.
-use Rattle.std.proofs.Common.{◌≡◌, ◌≢◌, ℕ, List, [], ◌∷◌, Option, Some, None, inl, inr, refl, sym, subst, ◌∙◌}
+use Rattle.std.proofs.Common.{◌≡◌, ◌≢◌, ℕ, List, [], ◌∷◌, Option, Some, None, refl, sym, subst, ◌∙◌}
 use Rattle.std.proofs.lemmas.Option.{same_Some}
 use Rattle.jk_model.specs.declared.output.Line.{Line}
 use Rattle.jk_model.specs.declared.output.Line.TheVariants as Says
 use Rattle.jk_model.specs.declared.output.Place.{Place}
 use Rattle.jk_model.specs.declared.output.Place.TheVariants.{Whole}
 use Rattle.jk_model.specs.declared.output.Rule.{Rule}
-use Rattle.jk_model.specs.declared.output.Rule.TheVariants.{L3, L4, L8, X1}
+use Rattle.jk_model.specs.declared.output.Rule.TheVariants.{L3, L4, L8}
 use Rattle.jk_model.specs.Outside.{Tree}
 use Rattle.jk_model_classes.specs.Worlds.{WorldRecord}
 use Rattle.jk_model_folders.specs.FolderRules.{IsFolderFault}
@@ -17,28 +17,23 @@ use Rattle.folder_loader.specs.declared.answers.LoadAnswer.TheVariants as Loadin
 use Rattle.folder_loader.specs.LoadAnswers.{IsRefused}
 use Rattle.kernel_openings.specs.declared.answers.AddAnswer.{AddAnswer}
 use Rattle.kernel_openings.specs.declared.answers.AddAnswer.TheVariants as Adding
-use Rattle.kernel_openings.specs.AddedDomains.{Opening, line_of}
-use Rattle.kernel_openings.specs.AddedWithoutJk.{IsCauseNow, OpensNow, breaks, opens, refers}
+use Rattle.kernel_openings.specs.AddedDomains.{AddsDomain, IsCauseOf, Opening, breaks, line_of, opens}
 use Rattle.kernel_openings.specs.FolderEvents.{IsRefusedFolder}
 use Rattle.kernel_openings.specs.LoadedFolders.{IsLoadRefusal}
 
 -- what a cause prints leads to the machine as it was
-pub told_by_cause : (o : Opening) (m : Machine) (e : AddAnswer) (line : Line) → IsCauseNow o m e → line_of o.name e ≡ Some line
-    → OpensNow o m (line ∷ []) m
-told_by_cause o m (Adding.Refused rule place) line (inl refused) is =
-    subst (λ (x : Line). OpensNow o m (x ∷ []) m) (same_Some (Says.Refused o.name rule place) line is) (breaks rule place refused)
-told_by_cause o m (Adding.Refused rule place) line (inr (rule_is, place_is, names_jk)) is =
-    let same : Says.Refused o.name X1 Whole ≡ line =
-    (λ i. Says.Refused o.name (sym rule_is i) (sym place_is i)) ∙ same_Some (Says.Refused o.name rule place) line is in
-    subst (λ (x : Line). OpensNow o m (x ∷ []) m) same (refers names_jk)
+pub told_by_cause : (o : Opening) (m : Machine) (e : AddAnswer) (line : Line) → IsCauseOf o m e → line_of o.name e ≡ Some line
+    → AddsDomain o m (line ∷ []) m
+told_by_cause o m (Adding.Refused rule place) line refused is =
+    subst (λ (x : Line). AddsDomain o m (x ∷ []) m) (same_Some (Says.Refused o.name rule place) line is) (breaks rule place refused)
 told_by_cause o m Adding.NoRoom line (a, lacks) is =
-    subst (λ (x : Line). OpensNow o m (x ∷ []) m) (same_Some (Says.Refused o.name L3 Whole) line is)
+    subst (λ (x : Line). AddsDomain o m (x ∷ []) m) (same_Some (Says.Refused o.name L3 Whole) line is)
     (opens a (Says.Refused o.name L3 Whole ∷ []) m (no_room a.accepted lacks))
 told_by_cause o m Adding.CapNumbers line (a, room, lacks) is =
-    subst (λ (x : Line). OpensNow o m (x ∷ []) m) (same_Some (Says.Refused o.name L4 Whole) line is)
+    subst (λ (x : Line). AddsDomain o m (x ∷ []) m) (same_Some (Says.Refused o.name L4 Whole) line is)
     (opens a (Says.Refused o.name L4 Whole ∷ []) m (no_numbers a.accepted room lacks))
 told_by_cause o m Adding.TooManyDomains line (a, room, numbers, many) is =
-    subst (λ (x : Line). OpensNow o m (x ∷ []) m) (same_Some (Says.Refused o.name L8 Whole) line is)
+    subst (λ (x : Line). AddsDomain o m (x ∷ []) m) (same_Some (Says.Refused o.name L8 Whole) line is)
     (opens a (Says.Refused o.name L8 Whole ∷ []) m (too_many a.accepted room numbers many))
 told_by_cause o m Adding.ReadFault line cause is = (let no : None ≡ Some line = is in absurd cc)
 told_by_cause o m Adding.OutOfMemory line cause is = (let no : None ≡ Some line = is in absurd cc)
@@ -54,13 +49,13 @@ refused_folder (Some t) root w name rule place is fault = fault t refl
 pub cause_of_load : (o : Opening) (m : Machine) (w : WorldRecord) → world_of m ≡ w → (e : LoadAnswer) (answer : AddAnswer) → IsLoadRefusal e answer
     → ((rule : Rule) (place : Place) → e ≡ Loading.Refused rule place → IsRefused o.tree o.root w o.name rule place)
     → ((t : Tree) (rule : Rule) (place : Place) → o.tree ≡ Some t → e ≡ Loading.Refused rule place → IsFolderFault t o.root w o.name rule place)
-    → IsCauseNow o m answer
+    → IsCauseOf o m answer
 cause_of_load o m w same (Loading.Refused rule place) answer is refused fault =
-    subst (IsCauseNow o m) (sym is)
-    (inl (subst (λ (x : WorldRecord). IsRefusedFolder o.tree o.root x o.name rule place) (sym same)
-    (refused_folder o.tree o.root w o.name rule place (refused rule place refl) (λ t told. fault t rule place told refl))))
-cause_of_load o m w same Loading.ReadFault answer is refused fault = subst (IsCauseNow o m) (sym is) tt
-cause_of_load o m w same Loading.OutOfMemory answer is refused fault = subst (IsCauseNow o m) (sym is) tt
+    subst (IsCauseOf o m) (sym is)
+    (subst (λ (x : WorldRecord). IsRefusedFolder o.tree o.root x o.name rule place) (sym same)
+    (refused_folder o.tree o.root w o.name rule place (refused rule place refl) (λ t told. fault t rule place told refl)))
+cause_of_load o m w same Loading.ReadFault answer is refused fault = subst (IsCauseOf o m) (sym is) tt
+cause_of_load o m w same Loading.OutOfMemory answer is refused fault = subst (IsCauseOf o m) (sym is) tt
 
 -- a fault of the files alone is answered as one
 pub load_fault : (e : LoadAnswer) (a : AddAnswer) → IsLoadRefusal e a → a ≡ Adding.ReadFault → e ≡ Loading.ReadFault

@@ -1,5 +1,5 @@
 -- Domains and threads of a machine, by what stands in the parts.
-use Rattle.std.proofs.Common.{◌≡◌, ◌≢◌, ℕ, zero, suc, ◌+◌, ◌≤◌, ◌==◌, ◌⊎◌, inl, inr, Bool, true, false, cond, filter, List, [], ◌∷◌, length, map, slice_get, Contains, Option, Some, None, refl, sym, ap, ◌∙◌, arith}
+use Rattle.std.proofs.Common.{◌≡◌, ◌≢◌, ℕ, ◌+◌, ◌≤◌, ◌==◌, ◌⊎◌, inl, inr, Bool, true, false, cond, filter, List, [], ◌∷◌, length, map, slice_get, Contains, Option, Some, None, refl, sym, ap, ◌∙◌, arith}
 use Rattle.std.specs.Prelude.{sum_by}
 use Rattle.std.proofs.lemmas.Bool.{eqb-false, eqb-true}
 use Rattle.std.proofs.lemmas.List.Sums.{sum_by-cons}
@@ -15,12 +15,11 @@ use Rattle.jk_model_sharing.specs.Segments.{SharedSegment, SharedThread, count_s
 use Rattle.jk_model_sharing.specs.SharedStates.{SharedDomain}
 use Rattle.jk_model_machine_state.specs.Machines.{Segment, Thread, chunks_of}
 use Rattle.jk_model_machine_state.specs.Places.{LiveDomain}
-use Rattle.object_store.specs.HeapContents.{HeapContent}
 use Rattle.frame_store.specs.FrameContents.{FrameContent}
 use Rattle.machine_parts.specs.ChangedParts.{StandsInParts}
 use Rattle.machine_parts.specs.FittingParts.{HaveOneList}
-use Rattle.machine_parts.specs.MachineParts.{MachineParts, domain_state, domain_states, inside_of, machine_of, segment_with_frames, thread_with_frames}
-use Rattle.machine_parts.proofs.DomainsOfParts.{live_domain_is_of_parts}
+use Rattle.machine_parts.specs.MachineParts.{MachineParts, domain_state, inside_of, machine_of, segment_with_frames, thread_with_frames}
+use Rattle.machine_parts.proofs.DomainsOfParts.{live_domain_is_of_parts, state_at}
 
 -- ---- Numbers.
 
@@ -45,20 +44,6 @@ pub this_segment_or_other : (n r : SegmentNo) → (r ≡ n) ⊎ (r ≢ n)
 this_segment_or_other n r = segment_by_test n r (r.0 == n.0) refl
 
 -- ---- Domains.
-
-pub state_at : (heap : HeapContent) (frames : FrameContent) (world : List DomainRecord) (shared : List SharedDomain) (owns : List (Option OwnState))
-    (i : ℕ) (names : DomainRecord) (s : SharedDomain) (own : Option OwnState) → slice_get world i ≡ Some names → slice_get shared i ≡ Some s
-    → slice_get owns i ≡ Some own → slice_get (domain_states heap frames world shared owns) i ≡ Some (domain_state heap frames names s own)
-state_at heap frames [] shared owns i names s own in_world in_shared in_owns = absurd cc
-state_at heap frames (x ∷ world) [] owns i names s own in_world in_shared in_owns = absurd cc
-state_at heap frames (x ∷ world) (y ∷ shared) [] i names s own in_world in_shared in_owns = absurd cc
-state_at heap frames (x ∷ world) (y ∷ shared) (z ∷ owns) zero names s own in_world in_shared in_owns =
-    let a : x ≡ names = cc in
-    let b : y ≡ s = cc in
-    let c : z ≡ own = cc in
-    λ i. Some (domain_state heap frames (a i) (b i) (c i))
-state_at heap frames (x ∷ world) (y ∷ shared) (z ∷ owns) (suc i) names s own in_world in_shared in_owns =
-    state_at heap frames world shared owns i names s own in_world in_shared in_owns
 
 -- what stands in the parts with an own state lives in the machine
 abbrev pub live_from : (p : MachineParts) (d : DomainId) (own : OwnState) (names : DomainRecord) (s : SharedDomain) → StandsInParts p d own names s

@@ -20,11 +20,11 @@ use Rattle.jk_model_heaps.specs.Throwables.{fresh_throwable, standing_class}
 use Rattle.class_init.specs.KeptStates.{KeptState}
 use Rattle.object_store.specs.HeapContents.{HeapBecomes, HeapContent, IsAdmitted, IsHeapContent, MakesObject, words_left}
 use Rattle.object_store.proofs.ObjectsByName.{NamesDiffer}
-use Rattle.object_store.proofs.ObjectsWritten.{both_keep}
+use Rattle.heap_loops.proofs.NamesApart.{back_differs, front_lacks}
+use Rattle.heap_loops.proofs.HeapsBecome.{both_become, told}
 use Rattle.heap_laws.specs.SoundCodes.{AreSoundCodes}
 use Rattle.machine_laws.proofs.FirstObjects.{first_words, objects_from}
 use Rattle.kernel_openings.specs.StandingObjects.{MakesStanding, objects_named, opening_classes}
-use Rattle.kernel_openings.proofs.NamesApart.{back_differs, front_lacks}
 
 -- ---- The objects of names and classes.
 
@@ -138,22 +138,6 @@ pub record StandingSoFar (old now : HeapContent) (classes : List ClassRecord) (d
   pub known : kept ≡ record before { state = record before.state { out = out; standing = names ++ rest } }
   pub becomes : HeapBecomes old now d (old.heap d ++ objects_named classes (out ∷ names) (take (i + 1) opening_classes))
       (old.used d + heap_words classes (objects_named classes (out ∷ names) (take (i + 1) opening_classes)))
-
-told : (old new : HeapContent) (d : DomainId) (heap others : List NamedObject) (used words : ℕ) → heap ≡ others → used ≡ words
-    → HeapBecomes old new d heap used → HeapBecomes old new d others words
-told old new d heap others used words same as_many becomes =
-    subst (λ (n : ℕ). HeapBecomes old new d others n) as_many (subst (λ (h : List NamedObject). HeapBecomes old new d h used) same becomes)
-
-both_become : (a b c : HeapContent) (d : DomainId) (heap others : List NamedObject) (used words : ℕ) → HeapBecomes a b d heap used
-    → HeapBecomes b c d others words → HeapBecomes a c d others words
-both_become a b c d heap others used words first second = record {
-  domains = both_keep a b c first.domains second.domains;
-  becomes = second.becomes;
-  others = λ e differ. second.others e differ ∙ first.others e differ;
-  uses = second.uses;
-  other_uses = λ e differ. second.other_uses e differ ∙ first.other_uses e differ;
-  mark = λ e x. second.mark e x ∙ first.mark e x;
-}
 
 pub stream_made : (old now : HeapContent) (classes : List ClassRecord) (d : DomainId) (before : KeptState) (a : ℕ) → length before.state.standing ≡ 8
     → MakesObject old now classes d a (fresh_throwable classes PRINT_STREAM)

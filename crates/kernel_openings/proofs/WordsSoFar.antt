@@ -1,6 +1,6 @@
 -- The texts of words are made one after the other: each is put into the next item of the array, and all that are made so far stand behind the
 -- heap as it was.
-use Rattle.std.proofs.Common.{◌≡◌, ℕ, suc, ◌+◌, ◌-◌, ◌*◌, ◌<◌, ◌≤◌, List, [], ◌∷◌, ◌++◌, length, map, replicate, take, get_or, Option, Some, None, IsSome, slice_get, slice_set, refl, sym, ap, ◌∙◌, subst, arith}
+use Rattle.std.proofs.Common.{◌≡◌, ℕ, suc, ◌+◌, ◌-◌, ◌*◌, ◌<◌, ◌≤◌, List, [], ◌∷◌, ◌++◌, length, map, replicate, take, get_or, Option, Some, IsSome, slice_get, slice_set, refl, sym, ap, ◌∙◌, subst, arith}
 use Rattle.std.specs.Prelude.{sum_by}
 use Rattle.std.specs.List.{AllByRecursion}
 use Rattle.std.specs.Option.{option_map_or}
@@ -20,10 +20,10 @@ use Rattle.jk_model_heaps.specs.Heaps.{heap_words, named, with_object}
 use Rattle.jk_model_runs.specs.Starts.{start_words_cost}
 use Rattle.object_store.specs.HeapContents.{HeapBecomes, HeapContent, IsAdmitted, IsHeapContent, IsLive, IsWritten, MakesObject, TakesItem, WritesObject, words_left}
 use Rattle.object_store.proofs.ObjectsByName.{NamesDiffer}
-use Rattle.object_store.proofs.ObjectsWritten.{both_keep}
 use Rattle.heap_loops.specs.ObjectsMade.{MakesObjects}
+use Rattle.heap_loops.proofs.NamesApart.{back_differs, front_lacks, live_in_middle, put_in_middle}
+use Rattle.heap_loops.proofs.HeapsBecome.{both_become, one_word, room_by, told}
 use Rattle.kernel_openings.specs.FirstFrames.{MakesStartWords, object_in, value_of}
-use Rattle.kernel_openings.proofs.NamesApart.{back_differs, front_lacks, live_in_middle, put_in_middle}
 
 abbrev words_in : List ClassRecord → NamedObject → ℕ
 words_in classes e = object_words classes e.object
@@ -48,27 +48,6 @@ pub record WordsSoFar (old now : HeapContent) (classes : List ClassRecord) (d : 
   pub are_words : map object_in texts ≡ map Text (take i words)
   pub becomes : HeapBecomes old now d (old.heap d ++ objects_of (length words) a texts)
       (old.used d + heap_words classes (objects_of (length words) a texts))
-
--- ---- Two changes after one another, and one told otherwise.
-
-told : (old new : HeapContent) (d : DomainId) (heap others : List NamedObject) (used words : ℕ) → heap ≡ others → used ≡ words
-    → HeapBecomes old new d heap used → HeapBecomes old new d others words
-told old new d heap others used words same as_many becomes =
-    subst (λ (n : ℕ). HeapBecomes old new d others n) as_many (subst (λ (h : List NamedObject). HeapBecomes old new d h used) same becomes)
-
-both_become : (a b c : HeapContent) (d : DomainId) (heap others : List NamedObject) (used words : ℕ) → HeapBecomes a b d heap used
-    → HeapBecomes b c d others words → HeapBecomes a c d others words
-both_become a b c d heap others used words first second = record {
-  domains = both_keep a b c first.domains second.domains;
-  becomes = second.becomes;
-  others = λ e differ. second.others e differ ∙ first.others e differ;
-  uses = second.uses;
-  other_uses = λ e differ. second.other_uses e differ ∙ first.other_uses e differ;
-  mark = λ e x. second.mark e x ∙ first.mark e x;
-}
-
-one_word : (classes : List ClassRecord) (a : ℕ) (object : Object) → object_words classes object ≡ heap_words classes (named a object ∷ [])
-one_word classes a object = let sum = sum_by-cons (words_in classes) (named a object) [] in omega (arith, sum)
 
 -- ---- The array alone.
 
@@ -280,11 +259,6 @@ words_so_far old now classes d words a i within so_far =
     let cost : object_words classes (array_of (length words) texts) ≡ HEADER_WORDS + 1 * length words = ap (λ (k : ℕ). HEADER_WORDS + 1 * k) long in
     let first = sum_by-cons (words_in classes) (named a (array_of (length words) texts)) texts in
     omega (arith, first, texts_cost classes texts (take i words) so_far.are_words, cost)
-
-room_by : (q : Option ℕ) (used before whole part here : ℕ) → used ≡ before + here → here + part ≤ whole → 0 < whole
-    → whole ≤ option_map_or (λ (k : ℕ). k - before) q 0 → part ≤ option_map_or (λ (k : ℕ). k - used) q 0
-room_by None used before whole part here is fits some room = omega arith
-room_by (Some q) used before whole part here is fits some room = omega arith
 
 pub room_left : (old now : HeapContent) (classes : List ClassRecord) (d : DomainId) (words : List (List ℕ)) (a i : ℕ) → i < length words
     → WordsSoFar old now classes d words a i → start_words_cost words ≤ words_left old d → (word : List ℕ) → word ≡ get_or words i []

@@ -1,10 +1,8 @@
 pub mod AddedDomains
-pub mod AddedWithoutJk
 pub mod FirstFrames
 pub mod FolderEvents
 pub mod Joining
 pub mod LoadedFolders
 pub mod OpenedParts
-pub mod PackageJk
 pub mod StandingObjects
 pub mod StartedThreads

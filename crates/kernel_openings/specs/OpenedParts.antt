@@ -2,8 +2,6 @@
 use Rattle.std.specs.Prelude.{◌≡◌, ◌<◌, ◌≤◌, ◌⊎◌, ⊤, true, ℕ, List, [], ◌∷◌, ◌++◌, length, Option, Some, None}
 use Rattle.jk_model.specs.declared.identifiers.ClassId.{ClassId}
 use Rattle.jk_model.specs.declared.identifiers.DomainId.{DomainId}
-use Rattle.jk_model.specs.declared.output.Place.TheVariants.{Whole}
-use Rattle.jk_model.specs.declared.output.Rule.TheVariants.{X1}
 use Rattle.jk_model.specs.declared.script.Quotas.{Quotas}
 use Rattle.jk_model_classes.specs.Classes.{HasClass}
 use Rattle.jk_model_classes.specs.Worlds.{DomainRecord, IsLiveNamed, IsNamed, WorldRecord}
@@ -18,10 +16,8 @@ use Rattle.frame_store.specs.FrameContents.{FrameContent}
 use Rattle.frame_store.specs.FrameContents.{Admits as AdmitsStack, HasFewDomains as HasFewStacks, IsSame as IsSameStack, pool_of as stack_pool}
 use Rattle.folder_loader.specs.declared.answers.Loaded.{Loaded}
 use Rattle.heap_laws.specs.SoundCodes.{AreSoundCodes}
-use Rattle.machine_laws.specs.MachinesOfRuns.{FolderRefersToNoPackageJk}
 use Rattle.kernel_openings.specs.declared.answers.AddAnswer.{AddAnswer}
 use Rattle.kernel_openings.specs.declared.answers.AddAnswer.TheVariants as Adding
-use Rattle.kernel_openings.specs.PackageJk.{RefersToPackageJk}
 use Rattle.kernel_openings.specs.StandingObjects.{MakesStanding}
 
 -- the parts but for what never changes where a domain is opened
@@ -64,25 +60,22 @@ LacksPlaces p q = HasNoPlace (heap_pool p.heap) (pages_for q.heap) ⊎ HasNoPlac
 abbrev pub LacksNumbersIn : OpenParts → Quotas → Type 0
 LacksNumbersIn p q = LacksNumbers (caps_of p.shared) q.caps
 
--- each stands behind those before it
-abbrev pub IsWhyNot : OpenParts → Loaded → Quotas → AddAnswer → Type 0
-IsWhyNot p l q (Adding.Refused rule place) = (rule ≡ X1) × (place ≡ Whole) × RefersToPackageJk p.world.classes l.first
-IsWhyNot p l q Adding.NoRoom = FolderRefersToNoPackageJk p.world.classes l.first × LacksPlaces p q
-IsWhyNot p l q Adding.CapNumbers =
-    FolderRefersToNoPackageJk p.world.classes l.first × (LacksPlaces p q → ⊥) × LacksNumbersIn p q
-IsWhyNot p l q Adding.TooManyDomains =
-    FolderRefersToNoPackageJk p.world.classes l.first × (LacksPlaces p q → ⊥) × (LacksNumbersIn p q → ⊥) × (65535 ≤ length p.world.domains)
-IsWhyNot p l q Adding.ReadFault = ⊥
-IsWhyNot p l q Adding.OutOfMemory = ⊤
+-- each stands behind those before it; no rule on folders is asked any more
+abbrev pub IsWhyNot : OpenParts → Quotas → AddAnswer → Type 0
+IsWhyNot p q (Adding.Refused rule place) = ⊥
+IsWhyNot p q Adding.NoRoom = LacksPlaces p q
+IsWhyNot p q Adding.CapNumbers = (LacksPlaces p q → ⊥) × LacksNumbersIn p q
+IsWhyNot p q Adding.TooManyDomains = (LacksPlaces p q → ⊥) × (LacksNumbersIn p q → ⊥) × (65535 ≤ length p.world.domains)
+IsWhyNot p q Adding.ReadFault = ⊥
+IsWhyNot p q Adding.OutOfMemory = ⊤
 
 -- ---- What is made.
 
 abbrev pub opened_names : OpenParts → List ℕ → Loaded → DomainRecord
 opened_names p name l = record { id = next_number p; name = name; live = true; table = l.table; offers = l.offers }
 
--- The domain is opened: no class refers to package jk, there is room in all parts, and each has the domain behind the others.
+-- The domain is opened: there is room in all parts, and each has the domain behind the others.
 pub record OpensParts (p new : OpenParts) (l : Loaded) (name : List ℕ) (q : Quotas) : Type 0 where
-  pub apart : FolderRefersToNoPackageJk p.world.classes l.first
   pub places : LacksPlaces p q → ⊥
   pub numbers : LacksNumbersIn p q → ⊥
   pub few : length p.world.domains < 65535

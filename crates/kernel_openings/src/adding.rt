@@ -16,9 +16,8 @@ ghost use Rattle.folder_reader.specs.FolderAnswers.{AskedFor, AsksWithin};
 ghost use Rattle.jk_model_folders.specs.FolderRules.{IsFolderFault, IsLive};
 ghost use Rattle.jk_model_folders.specs.FolderTrees.{MOST_ENTRIES, MOST_LEVELS};
 ghost use Rattle.jk_model_machine_state.specs.Machines.{world_of};
-ghost use Rattle.machine_laws.specs.MachinesOfRuns.{FolderRefersToNoPackageJk};
-ghost use Rattle.kernel_openings.specs.AddedDomains.{Opening, line_of};
-ghost use Rattle.kernel_openings.specs.AddedWithoutJk.{IsCauseNow, OpensApart, OpensNow};
+ghost use Rattle.kernel_openings.specs.AddedDomains.{AddsDomain, IsCauseOf, IsLacking, Opening, OpensAccepted, line_of};
+ghost use Rattle.kernel_openings.specs.declared.answers.AddAnswer.{AddAnswer as AAnswer};
 ghost use Rattle.kernel_openings.specs.LoadedFolders.{IsLoadRefusal};
 
 use crate::answers::AddAnswer;
@@ -30,9 +29,9 @@ use jk_outside::Files;
 use kernel_parts::KernelParts;
 use machine_laws::folders::accepted_folders_stay_sound;
 use object_store::ObjectStore;
+use one_verdict::laws::folders_have_one_verdict;
 
-/// Adds the domain of the folder of this name below a root, and answers its number. After an error all is as before. A folder of which a
-/// class refers to package jk is refused behind all written rules (X1): that package isn't there yet.
+/// Adds the domain of the folder of this name below a root, and answers its number. After an error all is as before.
 pub fn add_domain<H: ObjectStore + Drop, F: FrameStore + Drop, R: Files>(
     k: &mut KernelParts<H, F>,
     files: &mut R,
@@ -46,20 +45,22 @@ pub fn add_domain<H: ObjectStore + Drop, F: FrameStore + Drop, R: Files>(
     requires counts { (quotas.threads ≤ 4096) × (quotas.names ≤ 4096) }
     ensures number { IfOk result (λ d. d.0 ≡ length k.old.domains) }
     ensures ok { let o : Opening = record { tree = R.tree files.old; root = root.now; name = name.now; quotas = quotas } in
-        OnOk result (OpensNow o k.old (Says.Loaded name.now ∷ []) k.new) }
-    ensures opened { OnOk result (OpensApart k.old name.now quotas k.new) }
-    // No class of the folder refers to package jk.
-    ensures apart { OnOk result (FolderRefersToNoPackageJk k.new.classes (record { 0 = length k.old.classes })) }
+        OnOk result (AddsDomain o k.old (Says.Loaded name.now ∷ []) k.new) }
+    ensures opened { OnOk result (OpensAccepted k.old name.now quotas k.new) }
     // Each error has its cause, and none but the last two leaves the folder unjudged.
     ensures cause { let o : Opening = record { tree = R.tree files.old; root = root.now; name = name.now; quotas = quotas } in
-        IfErr result (IsCauseNow o k.old) }
-    // A folder of a told tree that breaks a written rule is refused by exactly this rule, there, unless the files fail or memory runs out.
+        IfErr result (IsCauseOf o k.old) }
+    // A folder of a told tree that breaks a rule is refused by exactly this rule, there, unless the files fail or memory runs out.
     ensures only_refused { (t : Tree) (rule : ARule) (place : APlace) → R.tree files.old ≡ Some t
         → IsFolderFault t root.now (world_of k.old) name.now rule place
         → MatchResult result (λ _. ⊥) (λ e. (e ≡ AddAnswer.Refused rule place) ⊎ (e ≡ AddAnswer.ReadFault) ⊎ (e ≡ AddAnswer.OutOfMemory)) }
+    // Of a folder of a told tree that breaks no rule the first thing that is lacking is answered, unless the files fail or memory runs out.
+    ensures only_lacking { let o : Opening = record { tree = R.tree files.old; root = root.now; name = name.now; quotas = quotas } in
+        (t : Tree) (e : AAnswer) → R.tree files.old ≡ Some t → IsLacking e → IsCauseOf o k.old e
+        → MatchResult result (λ _. ⊥) (λ a. (a ≡ e) ⊎ (a ≡ AddAnswer.ReadFault) ⊎ (a ≡ AddAnswer.OutOfMemory)) }
     // What the event prints at an answer leads to the machine as it was.
     ensures refused { let o : Opening = record { tree = R.tree files.old; root = root.now; name = name.now; quotas = quotas } in
-        IfErr result (λ e. (line : ALine) → line_of name.now e ≡ Some line → OpensNow o k.old (line ∷ []) k.old) }
+        IfErr result (λ e. (line : ALine) → line_of name.now e ≡ Some line → AddsDomain o k.old (line ∷ []) k.old) }
     // L2 comes where the folder was asked for and isn't there: where no tree is told, a fault was counted.
     ensures no_folder { result ≡ Err (AddAnswer.Refused RuleIs.L2 PlaceIs.Whole)
         → FolderIsAbsent (R.tree files.old) (root.now /- name.now) (R.faults files.old) (R.faults files.new) }
@@ -86,6 +87,7 @@ pub fn add_domain<H: ObjectStore + Drop, F: FrameStore + Drop, R: Files>(
     ensures counts { (k.new.next_thread ≡ k.old.next_thread) × (k.new.next_segment ≡ k.old.next_segment) }
 {
     accepted_folders_stay_sound();
+    folders_have_one_verdict();
     k.shared.is_sound();
     let first = ClassId(k.world.classes().len() as u32);
     let number = DomainId(k.world.domain_count() as u32);

@@ -8,7 +8,6 @@ mod first_segments;
 mod joining;
 mod main_methods;
 mod opening;
-mod package_jk;
 mod standing_objects;
 mod start_words;
 mod starting;

@@ -5,14 +5,13 @@ ghost use Rattle.kernel_openings.specs.OpenedParts.{AreAsked, IsWhyNot, KeepsPar
 
 use crate::answers::AddAnswer;
 use crate::joining::{Newcomer, enter};
-use crate::package_jk::refers_to_package_jk;
 use crate::standing_objects::make_standing;
 use crate::store_rooms::admit_stores;
 use class_init::Own;
 use domain_resolver::World;
 use folder_loader::Loaded;
 use frame_store::FrameStore;
-use jk_model::{AdmitError, Bytes, DomainId, OutOfMemory, Place, Quotas, Rule};
+use jk_model::{AdmitError, Bytes, DomainId, OutOfMemory, Quotas};
 use object_store::ObjectStore;
 use std::alloc::Global;
 use thread_segments::Shared;
@@ -69,17 +68,14 @@ pub(crate) fn open<H: ObjectStore, F: FrameStore>(
       shared = shared.old;
       heap = H.content heap.old;
       frames = F.content frames.old;
-    } in IfErr result (IsWhyNot old loaded quotas.now) }
+    } in IfErr result (IsWhyNot old quotas.now) }
 {
     let Loaded {
-        first,
+        first: _,
         table,
         offers,
         stubs,
     } = loaded;
-    if refers_to_package_jk(world.classes(), first) {
-        return Err(AddAnswer::Refused(Rule::X1, Place::Whole));
-    }
     let mut own = Own::make(alloc, world.classes(), &table)?;
     let name = Bytes::from_slice(alloc, name.as_bytes())?;
     reserve_own(owns)?;

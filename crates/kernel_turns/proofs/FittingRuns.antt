@@ -2,6 +2,7 @@
 use Rattle.std.proofs.Common.{◌≡◌, ◌≢◌, ℕ, ◌+◌, ◌==◌, inl, inr, Bool, true, false, cond, List, [], ◌∷◌, ◌++◌, map, set, sum_by, slice_get, slice_set, Contains, Option, Some, is_some, refl, sym, ap, ◌∙◌, arith, eq-eqb, ne_eqb}
 use Rattle.std.specs.Option.{option_map_or}
 use Rattle.std.proofs.lemmas.Bool.{cases_eq}
+use Rattle.std.proofs.lemmas.List.{length-set}
 use Rattle.std.proofs.lemmas.List.Sums.{sum_by_push}
 use Rattle.std.proofs.lemmas.Option.{same_Some}
 use Rattle.jk_model.specs.declared.identifiers.DomainId.{DomainId}
@@ -24,9 +25,9 @@ use Rattle.machine_parts.specs.MachineParts.{frames_in, machine_of}
 use Rattle.step_contents.specs.Contents.{Becomes, Contents}
 use Rattle.kernel_parts.specs.SoundKernels.{KernelContent, kernel_machine, parts_of}
 use Rattle.kernel_turns.specs.RunningPlaces.{RunsAt, contents_at, here_in}
-use Rattle.kernel_turns.proofs.FitsAgain.{KeepsOwns, fits_again, same_shared}
+use Rattle.domain_crossing.proofs.FitsAgain.{KeepsOwns, fits_again, same_shared}
 use Rattle.kernel_turns.proofs.PlacedThreads.{own_at, place, stored, thread_found}
-use Rattle.kernel_turns.proofs.RanParts.{after, as_many_set, has_run}
+use Rattle.kernel_turns.proofs.RanParts.{after, has_run}
 
 -- ---- Chunks: where the running segment becomes another one, the domains use as many more or fewer as that costs.
 
@@ -182,7 +183,7 @@ module _ (k : KernelContent) (t : ThreadNo) (at : RunsAt k t) (fit : AreFittingP
 
   keeps_owns : KeepsOwns (parts_of k).owns (slice_set (parts_of k).owns d.0 (Some left.own.state))
   keeps_owns = record {
-    as_many = as_many_set (parts_of k).owns d.0 (Some left.own.state);
+    as_many = length-set (parts_of k).owns d.0 (Some left.own.state);
     each = λ i o there. elim (slice_get-set_cases (parts_of k).owns d.0 i (Some left.own.state) o there) [
       | inl (same, is) ↦
           (Some at.own.state, ap (slice_get (parts_of k).owns) (sym same) ∙ own_at k t at fit.domains, ap is_some (sym is))

@@ -18,8 +18,7 @@ use Rattle.machine_parts.proofs.RunningChanged.{flags_run}
 use Rattle.kernel_parts.specs.SoundKernels.{KernelContent, kernel_machine, parts_of}
 use Rattle.kernel_turns.specs.RunningPlaces.{RunsAt}
 use Rattle.kernel_turns.specs.SteppedParts.{flagged}
-use Rattle.kernel_turns.proofs.EndedThreads.{AreSingle}
-use Rattle.kernel_turns.proofs.FitsAgain.{fits_again, same_owns, same_shared}
+use Rattle.domain_crossing.proofs.FitsAgain.{fits_again, same_owns, same_shared}
 use Rattle.kernel_turns.proofs.FittingRuns.{chunks_after}
 use Rattle.kernel_turns.proofs.PlacedThreads.{place}
 use Rattle.kernel_turns.proofs.SegmentsApart.{apart_flagged, apart_in_machine, apart_in_shared}
@@ -69,12 +68,6 @@ module _ (stop revoked : SharedSegment → Bool) where
         by (Some e) top found =
             ap (option_and_then (λ (x : SharedThread). top_of x.segments)) found ∙ tops_change flag e.segments ∙ ap (option_map flag) top
             ∙ ap (λ (x : SharedSegment). Some x) (flag_here s same)
-
-    pub single_flagged : (threads : List SharedThread) → AreSingle threads → AreSingle (with_stacks (with_segment shared_form n with_those) threads)
-    single_flagged threads single e there =
-        let from = mapped_from (with_segments (map flag)) threads e there in
-        let one = single from.0 from.1 in
-        (flag one.0, ap (λ (x : SharedThread). x.segments) (sym from.2) ∙ ap (map flag) one.1)
 
   module _ (k : KernelContent) (t : ThreadNo) (at : RunsAt k t) (fit : AreFittingParts (parts_of k)) (apart : AreSegmentsApart (kernel_machine k)) where
     abbrev pub fallen : KernelContent

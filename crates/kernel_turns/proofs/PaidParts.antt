@@ -1,17 +1,16 @@
 -- Where a step is paid, all that is known of the parts and of their machine is known still.
-use Rattle.std.proofs.Common.{◌≡◌, ℕ, ◌-◌, ◌==◌, Bool, true, false, cond, [], slice_get, Some, option_map, refl, sym, ap, subst}
+use Rattle.std.proofs.Common.{◌≡◌, ℕ, ◌-◌, ◌==◌, Bool, true, false, cond, slice_get, Some, option_map, refl, sym, ap, subst}
 use Rattle.jk_model.specs.declared.identifiers.DomainId.{DomainId}
 use Rattle.jk_model_sharing.specs.SharedStates.{SharedDomain, SharedState, spent}
-use Rattle.jk_model_machine_state.specs.Machines.{DomainState, paid}
+use Rattle.jk_model_machine_state.specs.Machines.{paid}
 use Rattle.list_lemmas.proofs.ItemsByPlace.{comes_from}
-use Rattle.heap_laws.proofs.MappedLists.{mapped_from}
 use Rattle.machine_laws.proofs.ChangedItems.{as_many}
 use Rattle.machine_laws.proofs.PaidSteps.{known_paid}
-use Rattle.machine_laws.specs.KnownMachines.{IsKnownMachine, RunsNoPackageJk}
+use Rattle.machine_laws.specs.KnownMachines.{IsKnownMachine}
 use Rattle.machine_parts.proofs.DomainsChanged.{payments_change_machines}
 use Rattle.kernel_parts.specs.SoundKernels.{AreSoundParts, KernelContent, kernel_machine, parts_of}
 use Rattle.kernel_turns.specs.RunningPlaces.{paying}
-use Rattle.kernel_turns.proofs.FitsAgain.{KeepsShared, WasShared, fits_again, same_owns}
+use Rattle.domain_crossing.proofs.FitsAgain.{KeepsShared, WasShared, fits_again, same_owns}
 
 module _ (d : DomainId) (s : SharedState) where
   abbrev pays : SharedDomain → SharedDomain
@@ -64,23 +63,3 @@ module _ (k : KernelContent) (d : DomainId) (parts : AreSoundParts k) (known : I
     rooms = parts.rooms;
     main = parts.main;
   }
-
-  -- no class refers to package jk, and each thread has one segment
-  caps_by : (b : Bool) (e : DomainState) → e.caps.made ≡ []
-      → (cond b (record e { steps_left = option_map (λ (n : ℕ). n - 1) e.steps_left }) e).caps.made ≡ []
-  caps_by true e none = none
-  caps_by false e none = none
-
-  no_jk : RunsNoPackageJk (kernel_machine k) → RunsNoPackageJk (paid d (kernel_machine k))
-  no_jk jk = record {
-    fields = jk.fields;
-    methods = jk.methods;
-    no_capabilities = λ e there.
-        let from = mapped_from (λ (x : DomainState). cond (x.number.0 == d.0) (record x { steps_left = option_map (λ (n : ℕ). n - 1) x.steps_left }) x)
-        (kernel_machine k).domains e there in
-        subst (λ (x : DomainState). x.caps.made ≡ []) from.2 (caps_by (from.0.number.0 == d.0) from.0 (jk.no_capabilities from.0 from.1));
-    one_segment = jk.one_segment;
-  }
-
-  pub jk_paid : RunsNoPackageJk (kernel_machine k) → RunsNoPackageJk (kernel_machine (paying d k))
-  jk_paid jk = subst RunsNoPackageJk (sym is_paid) (no_jk jk)

@@ -3,13 +3,9 @@ use Rattle.std.proofs.Common.{◌≡◌, ◌==◌, ℕ, zero, suc, ◌-◌, ◌�
 use Rattle.std.proofs.lemmas.Option.{same_Some}
 use Rattle.jk_model.specs.declared.identifiers.DomainId.{DomainId}
 use Rattle.jk_model_sharing.specs.SharedStates.{SharedDomain, SharedState, caps_of, spent}
+use Rattle.thread_segments.specs.Answers.{spent_steps}
 use Rattle.thread_segments.specs.Asked.{MaySpend}
 use Rattle.kernel_turns.specs.PaidSteps.{HasSteps, spent_times}
-
--- one payment more, behind the others
-pub spent_last : (n : ℕ) (d : DomainId) (s : SharedState) → spent_times (suc n) d s ≡ spent d (spent_times n d s)
-spent_last zero d s = refl
-spent_last (suc n) d s = spent_last n d (spent d s)
 
 module _ (d : DomainId) where
   abbrev paid_one : SharedDomain → SharedDomain
@@ -66,3 +62,44 @@ one_paid n d s has = record {
   live = has.live;
   enough = one_fewer n has.entry.steps_left has.enough;
 }
+
+-- ---- Several at once are as many one after another.
+
+less_in_turn : (n : ℕ) (o : Option ℕ) → option_map (λ (k : ℕ). k - n) (option_map (λ (k : ℕ). k - 1) o) ≡ option_map (λ (k : ℕ). k - suc n) o
+less_in_turn n None = refl
+less_in_turn n (Some k) = ap Some (let both : (k - 1) - n ≡ k - suc n = omega arith in both)
+
+less_none : (o : Option ℕ) → option_map (λ (k : ℕ). k - 0) o ≡ o
+less_none None = refl
+less_none (Some k) = ap Some (let same : k - 0 ≡ k = omega arith in same)
+
+module _ (d : DomainId) where
+  abbrev less : ℕ → SharedDomain → SharedDomain
+  less n e = record e { steps_left = option_map (λ (k : ℕ). k - n) e.steps_left }
+
+  abbrev pays_many : ℕ → SharedDomain → SharedDomain
+  pays_many n e = cond (e.number.0 == d.0) (less n e) e
+
+  none_by : (b : Bool) (e : SharedDomain) → cond b (less 0 e) e ≡ e
+  none_by true e = ap (λ (o : Option ℕ). record e { steps_left = o }) (less_none e.steps_left)
+  none_by false e = refl
+
+  pays_none : (ds : List SharedDomain) → map (pays_many 0) ds ≡ ds
+  pays_none [] = refl
+  pays_none (e ∷ ds) = λ i. none_by (e.number.0 == d.0) e i ∷ pays_none ds i
+
+  more_by : (n : ℕ) (b : Bool) (e : SharedDomain) → e.number.0 == d.0 ≡ b
+      → cond ((cond b (less 1 e) e).number.0 == d.0) (less n (cond b (less 1 e) e)) (cond b (less 1 e) e) ≡ cond b (less (suc n) e) e
+  more_by n true e is =
+      ap (λ (c : Bool). cond c (less n (less 1 e)) (less 1 e)) is
+      ∙ ap (λ (o : Option ℕ). record e { steps_left = o }) (less_in_turn n e.steps_left)
+  more_by n false e is = ap (λ (c : Bool). cond c (less n e) e) is
+
+  pays_more : (n : ℕ) (ds : List SharedDomain) → map (pays_many n) (map (pays_many 1) ds) ≡ map (pays_many (suc n)) ds
+  pays_more n [] = refl
+  pays_more n (e ∷ ds) = λ i. more_by n (e.number.0 == d.0) e refl i ∷ pays_more n ds i
+
+  pub all_at_once : (n : ℕ) (s : SharedState) → spent_steps n d s ≡ spent_times n d s
+  all_at_once zero s = ap (λ (ds : List SharedDomain). record s { domains = ds }) (pays_none s.domains)
+  all_at_once (suc n) s =
+      ap (λ (ds : List SharedDomain). record s { domains = ds }) (sym (pays_more n s.domains)) ∙ all_at_once n (spent d s)

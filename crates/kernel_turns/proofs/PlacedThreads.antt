@@ -17,7 +17,7 @@ use Rattle.machine_parts.specs.RunningParts.{StandsOnTop}
 use Rattle.machine_parts.proofs.TopsOfThreads.{stands_on_top, top_runs}
 use Rattle.kernel_parts.specs.SoundKernels.{KernelContent, kernel_machine, parts_of}
 use Rattle.kernel_turns.specs.RunningPlaces.{RunsAt}
-use Rattle.kernel_turns.proofs.DomainsByPlace.{home_of}
+use Rattle.domain_crossing.proofs.DomainsByPlace.{home_of}
 
 pub top_is_there : (segments : List SharedSegment) (s : SharedSegment) → top_of segments ≡ Some s → Contains segments s
 top_is_there [] s is = absurd cc

@@ -1,5 +1,6 @@
 -- Where a thread's top segment has run over the contents of the stores, it has run in the machine, and the parts fit again.
 use Rattle.std.proofs.Common.{◌≡◌, ℕ, zero, suc, ◌==◌, Bool, true, false, cond, List, [], ◌∷◌, ◌++◌, length, map, slice_set, Some, option_map, refl, sym, ap, ◌∙◌}
+use Rattle.std.proofs.lemmas.List.{map-set}
 use Rattle.jk_model.specs.declared.identifiers.DomainId.{DomainId}
 use Rattle.jk_model.specs.declared.identifiers.ThreadNo.{ThreadNo}
 use Rattle.jk_model_heaps.specs.Heaps.{heap_words}
@@ -16,20 +17,8 @@ use Rattle.step_contents.specs.Contents.{Becomes, Contents}
 use Rattle.kernel_parts.specs.SoundKernels.{KernelContent, kernel_machine, parts_of}
 use Rattle.kernel_turns.specs.RunningPlaces.{RunsAt, contents_at, here_in}
 use Rattle.kernel_turns.specs.SteppedParts.{with_left}
-use Rattle.kernel_turns.proofs.DomainsByPlace.{home_of}
+use Rattle.domain_crossing.proofs.DomainsByPlace.{home_of}
 use Rattle.kernel_turns.proofs.PlacedThreads.{own_at, place}
-
--- ---- Lists.
-
-map_set : {X Y : Type 0} (f : X → Y) (xs : List X) (i : ℕ) (x : X) → map f (slice_set xs i x) ≡ slice_set (map f xs) i (f x)
-map_set f [] i x = refl
-map_set f (y ∷ xs) zero x = refl
-map_set f (y ∷ xs) (suc i) x = λ j. f y ∷ map_set f xs i x j
-
-pub as_many_set : {X : Type 0} (xs : List X) (i : ℕ) (x : X) → length (slice_set xs i x) ≡ length xs
-as_many_set [] i x = refl
-as_many_set (y ∷ xs) zero x = refl
-as_many_set (y ∷ xs) (suc i) x = ap suc (as_many_set xs i x)
 
 -- ---- A domain that is set twice.
 
@@ -122,4 +111,4 @@ module _ (k : KernelContent) (t : ThreadNo) (at : RunsAt k t) (fit : AreFittingP
 
   -- the parts that are left have these own states
   pub owns_after : (parts_of (with_left d (record { contents = left; shared = k.shared }) k)).owns ≡ slice_set (parts_of k).owns d.0 (Some left.own.state)
-  owns_after = map_set (option_map (λ (own : KeptState). own.state)) k.owns d.0 (Some left.own)
+  owns_after = map-set (option_map (λ (own : KeptState). own.state)) k.owns d.0 (Some left.own)

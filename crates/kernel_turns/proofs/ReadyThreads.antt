@@ -16,7 +16,7 @@ use Rattle.kernel_turns.specs.LiveThreads.{AreApart}
 use Rattle.kernel_turns.specs.RunningPlaces.{runs}
 use Rattle.kernel_turns.specs.StepsOfThreads.{IsReady}
 use Rattle.kernel_turns.specs.SteppedParts.{IsPending, is_revoked, stops}
-use Rattle.kernel_turns.proofs.DomainsByPlace.{shared_found, shared_is_live, shared_there}
+use Rattle.domain_crossing.proofs.DomainsByPlace.{shared_found, shared_is_live, shared_there}
 use Rattle.kernel_turns.proofs.PlacedThreads.{own_at}
 use Rattle.kernel_turns.proofs.RunningFound.{top_numbered}
 use Rattle.kernel_turns.proofs.SegmentsApart.{apart_in_shared, sealed_apart}

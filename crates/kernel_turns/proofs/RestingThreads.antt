@@ -1,5 +1,5 @@
 -- Threads that rest: one that isn't live, one whose top segment is suspended or waits for a class, and one whose domain has no step left.
-use Rattle.std.proofs.Common.{◌≡◌, ◌==◌, inl, inr, Bool, true, [], Option, Some, None, refl, sym, ap, subst, ◌∙◌}
+use Rattle.std.proofs.Common.{◌≡◌, ◌==◌, inl, inr, Bool, true, List, [], ◌∷◌, map, Option, Some, None, refl, sym, ap, subst, ◌∙◌}
 use Rattle.std.specs.Prelude.{option_and_then}
 use Rattle.std.proofs.lemmas.Option.{same_Some}
 use Rattle.jk_model.specs.declared.identifiers.ClassId.{ClassId}
@@ -7,21 +7,22 @@ use Rattle.jk_model.specs.declared.identifiers.ThreadNo.{ThreadNo}
 use Rattle.jk_model_frames.specs.Frames.{FrameState}
 use Rattle.jk_model_running.specs.Initialising.{FrameNeeds, IsInProgressElsewhere}
 use Rattle.jk_model_running.specs.LocalSteps.{TopFrame}
-use Rattle.jk_model_sharing.specs.Segments.{SharedThread, thread_numbered, top_of, top_segment}
+use Rattle.jk_model_sharing.specs.Segments.{SharedSegment, SharedThread, thread_numbered, top_of, top_segment}
 use Rattle.jk_model_sharing.specs.SharedStates.{SharedDomain, domain_numbered}
 use Rattle.jk_model_machine_state.specs.Places.{RunningSegment, run_of}
+use Rattle.jk_model_runs.specs.Sealed.{IsSealed, SegmentsFit}
 use Rattle.jk_model_runs.specs.Steps.{IsHeld, Rested, Steps, is_held, is_spent, not_live}
 use Rattle.list_lemmas.proofs.FoundItems.{Finds, finds}
 use Rattle.list_lemmas.proofs.ItemsOfLists.{Contains-at}
 use Rattle.frame_store.specs.FrameContents.{StoredSegment}
 use Rattle.frame_store.specs.FrameContents.{TopFrame as StoredTop}
+use Rattle.heap_laws.proofs.MappedLists.{mapped}
 use Rattle.machine_parts.specs.FittingParts.{AreFittingParts}
-use Rattle.machine_parts.specs.MachineParts.{frames_in}
+use Rattle.machine_parts.specs.MachineParts.{frames_in, segment_with_frames, thread_with_frames}
 use Rattle.machine_parts.proofs.TopsOfThreads.{lives_in_both}
 use Rattle.kernel_parts.specs.SoundKernels.{KernelContent, kernel_machine, parts_of}
 use Rattle.kernel_turns.specs.RunningPlaces.{RunsAt}
-use Rattle.kernel_turns.proofs.DomainsByPlace.{shared_found, shared_there}
-use Rattle.kernel_turns.proofs.EndedThreads.{AreSingle}
+use Rattle.domain_crossing.proofs.DomainsByPlace.{shared_found, shared_there}
 use Rattle.kernel_turns.proofs.PlacedThreads.{own_at, place, stored}
 
 -- ---- It isn't live.
@@ -30,21 +31,29 @@ module _ (k : KernelContent) (t : ThreadNo) where
   abbrev has_number : SharedThread → Bool
   has_number e = e.number.0 == t.0
 
-  top_by : AreSingle k.shared.threads → (o : Option SharedThread) (e : SharedThread) → Finds has_number k.shared.threads o → o ≡ Some e
-      → option_and_then (λ (x : SharedThread). top_of x.segments) o ≡ None → ⊥
-  top_by single None e h is top = absurd cc
-  top_by single (Some x) e h is top =
-      let one = single x (Contains-at k.shared.threads h.0 x h.1) in
-      let both : Some one.0 ≡ None = sym (ap top_of one.1) ∙ top in
-      absurd cc
+  none_on_top : (e : SharedThread) → SegmentsFit (kernel_machine k) (map (segment_with_frames k.frames) e.segments) → top_of e.segments ≡ None → ⊥
+  none_on_top e fits none = empty e.segments fits none
+    where
+      empty : (segments : List SharedSegment) → SegmentsFit (kernel_machine k) (map (segment_with_frames k.frames) segments) → top_of segments ≡ None → ⊥
+      empty [] fits none = fits
+      empty (s ∷ []) fits none = absurd cc
+      empty (s ∷ above ∷ more) fits none = empty (above ∷ more) fits.1 none
 
-  pub dead_rests : AreSingle k.shared.threads → top_segment k.shared.threads t ≡ None → Steps (kernel_machine k) t [] (kernel_machine k)
-  dead_rests single none = (
+  top_by : IsSealed (kernel_machine k) → (o : Option SharedThread) (e : SharedThread) → Finds has_number k.shared.threads o → o ≡ Some e
+      → option_and_then (λ (x : SharedThread). top_of x.segments) o ≡ None → ⊥
+  top_by sealed None e h is top = absurd cc
+  top_by sealed (Some x) e h is top =
+      none_on_top x
+      (sealed.threads.segments (thread_with_frames k.frames x)
+      (mapped (thread_with_frames k.frames) k.shared.threads x (Contains-at k.shared.threads h.0 x h.1))) top
+
+  pub dead_rests : IsSealed (kernel_machine k) → top_segment k.shared.threads t ≡ None → Steps (kernel_machine k) t [] (kernel_machine k)
+  dead_rests sealed none = (
     Rested,
     not_live
         (λ live.
         let found = lives_in_both (parts_of k) t live in
-        top_by single (thread_numbered k.shared.threads t) found.0 (finds has_number k.shared.threads) found.1 none),
+        top_by sealed (thread_numbered k.shared.threads t) found.0 (finds has_number k.shared.threads) found.1 none),
   )
 
 -- ---- It is held, or its domain has no step left.

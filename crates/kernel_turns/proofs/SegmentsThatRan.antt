@@ -1,26 +1,17 @@
--- Parts in which the top segment of a thread has run over the contents of the stores, and the same where its thread has ended by that.
-use Rattle.std.proofs.Common.{◌≡◌, ℕ, List, [], Some, refl, sym, ap, subst, ◌∙◌}
+-- Parts in which the top segment of a thread has run over the contents of the stores.
+use Rattle.std.proofs.Common.{◌≡◌, refl, sym, ap, subst, ◌∙◌}
 use Rattle.std.proofs.lemmas.Option.{same_Some}
 use Rattle.jk_model.specs.declared.identifiers.ThreadNo.{ThreadNo}
-use Rattle.jk_model.specs.declared.output.Line.{Line}
 use Rattle.jk_model_classes.specs.Worlds.{DomainRecord}
 use Rattle.jk_model_heaps.specs.Workings.{Run}
-use Rattle.jk_model_sharing.specs.Segments.{SharedSegment}
-use Rattle.jk_model_sharing.specs.SharedStates.{popped}
-use Rattle.jk_model_crossings.specs.Throwing.{Throws}
-use Rattle.jk_model_crossings.specs.Throwing as Thrown
-use Rattle.jk_model_machine_state.specs.Machines.{without_thread}
 use Rattle.jk_model_machine_state.specs.Places.{RunningSegment, run_of, with_run}
-use Rattle.frame_store.specs.FrameContents.{Ends, FrameContent}
 use Rattle.machine_parts.specs.ChangedParts.{AreSegmentsApart}
 use Rattle.machine_parts.specs.FittingParts.{AreFittingParts}
 use Rattle.machine_parts.specs.MachineParts.{machine_of}
 use Rattle.step_contents.specs.Contents.{Becomes, Contents}
 use Rattle.kernel_parts.specs.SoundKernels.{KernelContent, kernel_machine, parts_of}
-use Rattle.kernel_turns.specs.RunningPlaces.{RunsAt, contents_at, here_in, runs}
-use Rattle.kernel_turns.specs.SteppedParts.{EndsByThrow, IsEmptied, is_left, is_orphan}
-use Rattle.kernel_turns.proofs.DomainsByPlace.{names_there}
-use Rattle.kernel_turns.proofs.EndedThreads.{AreSingle, fits_after_end, has_ended, lowest}
+use Rattle.kernel_turns.specs.RunningPlaces.{RunsAt, contents_at, here_in}
+use Rattle.domain_crossing.proofs.DomainsByPlace.{names_there}
 use Rattle.kernel_turns.proofs.FittingRuns.{fits_after_run}
 use Rattle.kernel_turns.proofs.KeptParts.{becoming, own_there}
 use Rattle.kernel_turns.proofs.PlacedThreads.{own_at, place}
@@ -69,33 +60,3 @@ module _ (k : KernelContent) (t : ThreadNo) (at : RunsAt k t) (fit : AreFittingP
       let one = names_there (parts_of ran) fit_ran.domains at.segment.domain left.own.state (own_at ran t at_ran fit_ran.domains) in
       let other = names_there (parts_of k) fit.domains at.segment.domain at.own.state (own_at k t at fit.domains) in
       ap (λ (names : DomainRecord). names.name) (same_Some one.0 other.0 (sym one.1 ∙ other.1))
-
-  -- no frame of the segment is left
-  pub emptied_by : run.frames ≡ [] → IsEmptied ran (runs t at.segment)
-  emptied_by none = becomes.frames.changes.becomes ∙ (λ i. Some (record { domain = at.segment.domain; frames = none i }))
-
-  -- ---- Its thread ends.
-
-  module _ (single : AreSingle k.shared.threads) where
-    pub only : place_ran.lower ≡ []
-    only = lowest ran t at_ran fit_ran apart_ran single
-
-    module _ (frames : FrameContent) (emptied : IsEmptied ran (runs t at.segment)) (ends : Ends left.frames frames at.segment.number) where
-      abbrev pub left_off : KernelContent
-      left_off = becoming k t at left.own (popped t k.shared) left.heaps frames
-
-      pub gone : kernel_machine left_off ≡ without_thread t (kernel_machine ran)
-      gone = has_ended ran t at_ran fit_ran apart_ran single frames emptied ends
-
-      pub fit_left_off : AreFittingParts (parts_of left_off)
-      fit_left_off = fits_after_end ran t at_ran fit_ran apart_ran single frames emptied ends
-
-      -- a throwable has left its only segment
-      pub throws : (s : SharedSegment) (a : ℕ) (after : List Line) → s.orphan ≡ at.segment.orphan → EndsByThrow ran (runs t at.segment) s a after
-          → Throws t 1 (kernel_machine ran) a after (kernel_machine left_off)
-      throws s a after same (is_left c fields class calm object of_class) =
-          subst (Throws t 1 (kernel_machine ran) a after) (sym gone)
-          (Thrown.ends (kernel_machine ran) a place_ran
-          (record { class = c; fields = fields; is_object = object; of_class = class; is_class = of_class }) only (sym same ∙ calm))
-      throws s a after same (is_orphan orphan) =
-          subst (Throws t 1 (kernel_machine ran) a after) (sym gone) (Thrown.ends_orphan (kernel_machine ran) a place_ran only (sym same ∙ orphan))

@@ -13,7 +13,7 @@ use Rattle.machine_parts.specs.FittingParts.{AreFittingParts}
 use Rattle.step_contents.specs.Settings.{AreStandIns, IsSetting}
 use Rattle.kernel_parts.specs.SoundKernels.{KernelContent, kernel_machine, parts_of}
 use Rattle.kernel_turns.specs.RunningPlaces.{RunsAt, contents_at, here_in}
-use Rattle.kernel_turns.proofs.DomainsByPlace.{caps_are_shared, names_there, number_is, shared_there}
+use Rattle.domain_crossing.proofs.DomainsByPlace.{caps_are_shared, names_there, number_is, shared_there}
 use Rattle.kernel_turns.proofs.PlacedThreads.{home, own_at, place}
 
 module _ (k : KernelContent) (t : ThreadNo) (at : RunsAt k t) (fit : AreFittingParts (parts_of k))

@@ -1,324 +1,339 @@
--- Where a thread's top segment acted over the contents of the stores, and what follows of its thread is done, that is a step of the machine, and the
--- parts are sound after it.
-use Rattle.std.proofs.Common.{◌≡◌, ◌≢◌, ℕ, false, true, Bool, inl, inr, List, [], ◌∷◌, ◌++◌, Option, Some, refl, sym, ap, subst, ◌∙◌}
+-- Where a thread's top segment acted over the contents of the stores, and what follows of its thread and of its domain is done, that is a step of the
+-- machine, and the parts are sound after it.
+use Rattle.std.proofs.Common.{◌≡◌, ℕ, List, [], ◌∷◌, ◌++◌, Option, refl, sym, ap, subst, ◌∙◌, arith}
+use Rattle.jk_model.specs.declared.identifiers.CapId.{CapId}
 use Rattle.jk_model.specs.declared.identifiers.DomainId.{DomainId}
+use Rattle.jk_model.specs.declared.identifiers.MemberId.{MemberId}
 use Rattle.jk_model.specs.declared.identifiers.ThreadNo.{ThreadNo}
 use Rattle.jk_model.specs.declared.output.Line.{Line}
 use Rattle.jk_model.specs.declared.output.Line.TheVariants as Says
 use Rattle.jk_model.specs.declared.values.Value.{Value}
-use Rattle.jk_model_heaps.specs.Workings.{Run}
+use Rattle.jk_model_heaps.specs.Capabilities.{CapRange, IsGivenOut}
+use Rattle.jk_model_heaps.specs.Workings.{Inside, Run}
 use Rattle.jk_model_running.specs.LocalSteps.{LocalStep}
 use Rattle.jk_model_running.specs.Ways as Way
-use Rattle.jk_model_sharing.specs.SharedStates.{SharedState, popped}
+use Rattle.jk_model_sharing.specs.SharedStates.{SharedState}
 use Rattle.jk_model_crossings.specs.Answers.{Returns}
-use Rattle.jk_model_crossings.specs.Answers as Answer
+use Rattle.jk_model_crossings.specs.RemoteCalls.{RemoteCall}
 use Rattle.jk_model_crossings.specs.Throwing.{Throws}
-use Rattle.jk_model_machine_state.specs.Machines.{Machine, caps_of}
-use Rattle.jk_model_machine_state.specs.Places.{RunningSegment, run_of, setting_of}
-use Rattle.jk_model_runs.specs.Sealed.{surroundings}
-use Rattle.jk_model_runs.specs.Steps.{Acts, Deed, Ensues, IsHeld, LeftSegments, Steps, StepsBy, Worked}
+use Rattle.jk_model_machine_state.specs.Machines.{Machine, Segment, caps_of}
+use Rattle.jk_model_machine_state.specs.Places.{RunningSegment, run_of, setting_of, with_run}
+use Rattle.jk_model_runs.specs.Sealed.{IsSealed, surroundings}
+use Rattle.jk_model_runs.specs.Steps.{Deed, Ensues, EndedDomain, LeftSegments, Steps, Worked}
 use Rattle.jk_model_runs.specs.Steps as Ran
-use Rattle.frame_store.specs.FrameContents.{Ends, FrameContent}
+use Rattle.heap_laws.specs.FittingOutcomes.{StandsAtCrossing}
 use Rattle.heap_laws.specs.RaisableObjects.{IsThrowable}
-use Rattle.machine_laws.proofs.StepsWithinDomains.{StaysWithin}
-use Rattle.machine_laws.specs.KnownMachines.{IsKnownMachine, RunsNoPackageJk}
-use Rattle.machine_parts.specs.ChangedParts.{AreSegmentsApart}
-use Rattle.machine_parts.specs.FittingParts.{AreFittingParts}
-use Rattle.machine_parts.specs.MachineParts.{frames_in}
+use Rattle.kernel_events.specs.KernelCalls.{MayDraw}
+use Rattle.row_laws.proofs.CallsFound.{types_count}
+use Rattle.machine_laws.proofs.RunsAgain.{inside_there, running_then, runs_there}
+use Rattle.machine_laws.proofs.SealedAfterRuns.{goes_on as on_sealed, left_sealed, sealed_after}
+use Rattle.machine_laws.proofs.StepsKnown.{caps_same, sound as sound_after_run, taken}
+use Rattle.machine_laws.proofs.StepsThatCross.{crosses_at, stands_at}
+use Rattle.machine_laws.proofs.ThrowablesSealed.{HasThrown}
+use Rattle.machine_laws.specs.CallsAndAnswers.{IsTaken, StandsAtCall}
+use Rattle.machine_laws.specs.SoundMachines.{HasSoundClasses}
 use Rattle.row_laws.specs.KeptRuns.{KeepsRun}
-use Rattle.row_laws.specs.LocalStepLaws.{LocalStepsKeep}
 use Rattle.step_contents.specs.Contents.{Becomes, Contents, LeftBehind}
 use Rattle.segment_steps.specs.ActingSegments.{Acted, MayAct, crosses, ended, goes_on, is_denied, is_granted, leaves, says, terminates}
 use Rattle.segment_steps.specs.declared.went.Went.{Went}
 use Rattle.segment_steps.specs.declared.went.Went.TheVariants as Goes
-use Rattle.kernel_parts.specs.SoundKernels.{AreKernelParts, AreSoundParts, KernelContent, kernel_machine, parts_of}
+use Rattle.domain_crossing.specs.AskedOfCrossings.{MayEnter, MayLeave}
+use Rattle.domain_crossing.specs.AskedOfCrossings.{MayRaise as MayRaiseAcross}
+use Rattle.domain_ends.specs.TidyParts.{AreTidyParts}
+use Rattle.kernel_parts.specs.SoundKernels.{AreKernelParts, KernelContent, kernel_machine, parts_of}
 use Rattle.kernel_turns.specs.RunningPlaces.{HasNothingPending, RunsAt, contents_at, here_in, paying, runs}
-use Rattle.kernel_turns.specs.SteppedParts.{ActsAs, EndsByThrow, Follows, HasRoomsForLiterals, IsEmptied, IsThrownIn, MayFollow, MayStep, with_left}
-use Rattle.kernel_turns.proofs.DomainsByPlace.{names_there, shared_found, shared_there}
-use Rattle.kernel_turns.proofs.EndedThreads.{AreSingle}
-use Rattle.kernel_turns.proofs.KeptParts.{becoming, kept_parts, single_threads}
-use Rattle.kernel_turns.proofs.PaidParts.{is_paid, jk_paid, known_after, parts_paid}
-use Rattle.kernel_turns.proofs.PlacedThreads.{own_at, place, stored}
-use Rattle.kernel_turns.proofs.SegmentsApart.{sealed_apart}
+use Rattle.kernel_turns.specs.SteppedParts.{ActsAs, Follows, HasRoomsForLiterals, MayFollow, MayStep, with_left}
+use Rattle.kernel_turns.proofs.KeptParts.{kept_tidy}
+use Rattle.kernel_turns.proofs.RaisedOnce.{is_thrown}
+use Rattle.kernel_turns.proofs.RequestsAsked.{AsksSo, asks_so}
 use Rattle.kernel_turns.proofs.SegmentsMayAct.{acts as acts_well, may_act}
-use Rattle.kernel_turns.proofs.SegmentsThatRan.{emptied_by, fit_left_off, fit_ran, gone, is_ran, left_off, only, place_ran, ran, same_name, throws}
+use Rattle.kernel_turns.proofs.SegmentsThatRan.{fit_ran, is_ran, place_ran, ran, same_name}
 use Rattle.kernel_turns.proofs.SettingsOfPlaces.{is_setting}
-use Rattle.kernel_turns.proofs.StaysWithoutJk.{StaysWithoutJk}
-use Rattle.kernel_turns.proofs.ThrownObjects.{thrown_in}
-
-never_both : (b : Bool) → b ≡ false → b ≡ true → ⊥
-never_both b off on = (let both : false ≡ true = sym off ∙ on in absurd cc)
-
--- ---- From what is known before the step.
-
-module _ (k : KernelContent) (t : ThreadNo) (at : RunsAt k t) (ms : MayStep k at) where
-  abbrev pub d : DomainId
-  d = at.segment.domain
-
-  abbrev pub sound : AreSoundParts k
-  sound = ms.parts.sound
-
-  -- the same where the step is paid
-  abbrev pub at_paid : RunsAt (paying at.segment.domain k) t
-  at_paid = record { segment = at.segment; is_top = at.is_top; own = at.own; is_own = at.is_own }
-
-  abbrev pub sound_paid : AreSoundParts (paying at.segment.domain k)
-  sound_paid = parts_paid k at.segment.domain ms.parts.sound ms.known.0
-
-  abbrev pub fit_paid : AreFittingParts (parts_of (paying at.segment.domain k))
-  fit_paid = sound_paid.fitting
-
-  abbrev pub apart_paid : AreSegmentsApart (kernel_machine (paying at.segment.domain k))
-  apart_paid = sealed_apart (kernel_machine (paying at.segment.domain k)) sound_paid.sealed
-
-  abbrev pub known_paid : IsKnownMachine (kernel_machine (paying at.segment.domain k))
-  known_paid = known_after k at.segment.domain ms.parts.sound ms.known.0
-
-  abbrev pub without_jk : RunsNoPackageJk (kernel_machine (paying at.segment.domain k))
-  without_jk = jk_paid k at.segment.domain ms.parts.sound ms.known.0 ms.known.1
-
-  abbrev pub place_paid : RunningSegment (kernel_machine (paying at.segment.domain k)) t
-  place_paid = place (paying at.segment.domain k) t at_paid fit_paid.domains
-
-  pub single : AreSingle (paying at.segment.domain k).shared.threads
-  single = single_threads (paying at.segment.domain k) without_jk
-
-  -- ---- The thread isn't held, and its domain has a step left.
-
-  abbrev first : RunningSegment (kernel_machine k) t
-  first = place k t at ms.parts.sound.fitting.domains
-
-  not_held : IsHeld first → ⊥
-  not_held (inl suspended) = never_both at.segment.suspended ms.ahead.awake suspended
-  not_held (inr (top, class, needs, elsewhere)) =
-      ms.ahead.free top.frame class
-      (record {
-        segment = record { domain = at.segment.domain; frames = frames_in k.frames at.segment.number };
-        is_there = stored k t at ms.parts.sound.fitting.domains ms.parts.sound.fitting.segments;
-        lower = top.callers;
-        frames = top.are_frames;
-      })
-      needs elsewhere
-
-  has_steps : first.home.domain.steps_left ≢ Some 0
-  has_steps =
-      let one = ms.parts.sound.fitting.domains in
-      let s = shared_there (parts_of k) one at.segment.domain at.own.state (own_at k t at one) in
-      ms.ahead.budget s.0 (shared_found (parts_of k) one at.segment.domain s.0 s.1)
-
-  -- what it does where the step is paid is its step
-  pub steps_by : (deed : Deed) (lines : List Line) (new : Machine) → Acts (kernel_machine (paying at.segment.domain k)) t deed lines new
-      → Steps (kernel_machine k) t lines new
-  steps_by deed lines new acts = (
-    deed,
-    Ran.acts first deed lines new not_held has_steps
-        (subst (λ (m : Machine). Acts m t deed lines new) (is_paid k at.segment.domain ms.parts.sound ms.known.0) acts),
-  )
+use Rattle.kernel_turns.proofs.StepsPaid.{StepLaws, apart_paid, at_paid, fit_paid, known_paid, moved, place_paid, sound_then, steps_by, tidy_paid}
 
 -- ---- It acted, and its segment has run.
 
-module _ (k : KernelContent) (t : ThreadNo) (at : RunsAt k t) (ms : MayStep k at) (calm : HasNothingPending at.segment) (sw : StaysWithoutJk)
-    (keep : LocalStepsKeep) (left : Contents) (run : Run)
+-- a machine in which the thread has a call to make
+record CallsThere (m : Machine) (t : ThreadNo) (c : CapId) (method : MemberId) : Type 0 where
+  sealed : IsSealed m
+  sound : HasSoundClasses m
+  call : RemoteCall m t
+  capability : call.capability ≡ c
+  is_method : call.method ≡ method
+  stands : StandsAtCall call
+
+-- one in which no frame of its top segment is left
+record IsEmptied (m : Machine) (t : ThreadNo) : Type 0 where
+  sealed : IsSealed m
+  sound : HasSoundClasses m
+  left : (q : RunningSegment m t) → q.segment.frames ≡ []
+
+module _ (k : KernelContent) (t : ThreadNo) (at : RunsAt k t) (ms : MayStep k at) (calm : HasNothingPending at.segment) (laws : StepLaws)
+    (left : Contents) (run : Run)
     (becomes : Becomes (contents_at at) left (here_in (paying at.segment.domain k) at.segment) (run_of (place_paid k t at ms)) run) (went : Way.Went)
     (step : LocalStep (setting_of (place_paid k t at ms)) t (run_of (place_paid k t at ms)) run went) where
-  abbrev now : KernelContent
+  abbrev m : Machine
+  m = kernel_machine (paying at.segment.domain k)
+
+  abbrev p : RunningSegment (kernel_machine (paying at.segment.domain k)) t
+  p = place_paid k t at ms
+
+  abbrev pub now : KernelContent
   now = ran (paying at.segment.domain k) t (at_paid k t at ms) (fit_paid k t at ms) (apart_paid k t at ms) left run becomes
 
-  does_step : (deed : Deed) (lines : List Line) (new : Machine) → Ensues (kernel_machine now) t went deed lines new → Steps (kernel_machine k) t lines new
+  pub now_is : kernel_machine now ≡ with_run (place_paid k t at ms) run
+  now_is = is_ran (paying at.segment.domain k) t (at_paid k t at ms) (fit_paid k t at ms) (apart_paid k t at ms) left run becomes
+
+  pub does_step : (deed : Deed) (lines : List Line) (new : Machine) → Ensues (kernel_machine now) t went deed lines new
+      → Steps (kernel_machine k) t lines new
   does_step deed lines new ensues =
       steps_by k t at ms deed lines new
       (Ran.does (place_paid k t at ms) run went deed lines new calm.0 calm.1 step
-      (subst (λ (m : Machine). Ensues m t went deed lines new)
-      (is_ran (paying at.segment.domain k) t (at_paid k t at ms) (fit_paid k t at ms) (apart_paid k t at ms) left run becomes) ensues))
+      (subst (λ (x : Machine). Ensues x t went deed lines new) now_is ensues))
 
-  kept : KeepsRun (surroundings (kernel_machine (paying at.segment.domain k)) (place_paid k t at ms).home.domain) (setting_of (place_paid k t at ms)) t
+  pub kept : KeepsRun (surroundings (kernel_machine (paying at.segment.domain k)) (place_paid k t at ms).home.domain) (setting_of (place_paid k t at ms)) t
       (run_of (place_paid k t at ms)) run went
   kept =
-      keep (surroundings (kernel_machine (paying at.segment.domain k)) (place_paid k t at ms).home.domain) (setting_of (place_paid k t at ms)) t
+      laws.keep (surroundings (kernel_machine (paying at.segment.domain k)) (place_paid k t at ms).home.domain) (setting_of (place_paid k t at ms)) t
       (run_of (place_paid k t at ms)) run went
-      (acts_well (paying at.segment.domain k) t (at_paid k t at ms) (sound_paid k t at ms) (without_jk k t at ms) (known_paid k t at ms) calm.1) step
+      (acts_well (paying at.segment.domain k) t (at_paid k t at ms) (tidy_paid k t at ms) (known_paid k t at ms) calm.1) step
 
-  inside : StaysWithin went
-  inside =
-      sw.inside (kernel_machine (paying at.segment.domain k)) t (place_paid k t at ms) run went (known_paid k t at ms) (without_jk k t at ms) calm.1 step
+  abbrev q : RunningSegment (kernel_machine now) t
+  q = place_ran (paying at.segment.domain k) t (at_paid k t at ms) (fit_paid k t at ms) (apart_paid k t at ms) left run becomes
 
-  -- ---- What may follow.
+  abbrev stood : Segment
+  stood = record (place_paid k t at ms).segment { frames = run.frames }
 
-  none_left : (run.frames ≡ []) → IsEmptied now (runs t at.segment)
-  none_left none = emptied_by (paying at.segment.domain k) t (at_paid k t at ms) (fit_paid k t at ms) (apart_paid k t at ms) left run becomes none
+  sound_run : HasSoundClasses (with_run (place_paid k t at ms) run)
+  sound_run = sound_after_run m t (known_paid k t at ms) p run went kept
 
-  thrown : (a : ℕ) → IsThrowable k.world.classes run.inside.heap a → IsThrownIn now (runs t at.segment) a
-  thrown a throwable =
-      let one = (fit_paid k t at ms).domains in
-      let names = names_there (parts_of (paying at.segment.domain k)) one at.segment.domain at.own.state
-      (own_at (paying at.segment.domain k) t (at_paid k t at ms) one) in
-      thrown_in k now (runs t at.segment) names.0 (caps_of (kernel_machine (paying at.segment.domain k)))
-      (setting_of (place_paid k t at ms)).quota a run.inside ms.parts.sound names.1 refl becomes.inside.heaps.becomes kept.inside.sealed throwable
-
-  -- ---- The parts are sound after a step that leads to these.
+  emptied : run.frames ≡ [] → IsEmptied (kernel_machine now) t
+  emptied none =
+      subst (λ (x : Machine). IsEmptied x t) (sym now_is)
+      (record {
+        sealed = left_sealed m t p run went (known_paid k t at ms).0.0 kept none;
+        sound = sound_run;
+        left = λ s. ap (λ (x : Segment). x.frames) (runs_there m t p stood run.inside refl s).1 ∙ none;
+      })
 
   module _ (rooms : HasRoomsForLiterals left.own) where
-    sound_after : (shared : SharedState) (frames : FrameContent) (lines : List Line) → shared.stubs ≡ k.shared.stubs
-        → AreFittingParts (parts_of (becoming k t at left.own shared left.heaps frames))
-        → Steps (kernel_machine k) t lines (kernel_machine (becoming k t at left.own shared left.heaps frames))
-        → AreKernelParts (becoming k t at left.own shared left.heaps frames)
-    sound_after shared frames lines stubs fits steps =
-        kept_parts k t at left.own shared left.heaps frames ms.parts fits
-        (sw.steps (kernel_machine k) (kernel_machine (becoming k t at left.own shared left.heaps frames)) t lines ms.known.0 ms.known.1 steps).0
-        stubs becomes.inside.rooms rooms
+    pub tidy_now : AreTidyParts now
+    tidy_now =
+        kept_tidy (paying at.segment.domain k) t (at_paid k t at ms) left.own (paying at.segment.domain k).shared left.heaps left.frames
+        (tidy_paid k t at ms)
+        (fit_ran (paying at.segment.domain k) t (at_paid k t at ms) (fit_paid k t at ms) (apart_paid k t at ms) left run becomes) refl
+        becomes.inside.rooms rooms
 
-    -- the thread lives on
-    lives_on : (lines : List Line) → Ensues (kernel_machine now) t went Worked lines (kernel_machine now)
+    -- it lives on
+    pub lives_on : (lines : List Line) → Ensues (kernel_machine now) t went Worked lines (kernel_machine now)
         → Steps (kernel_machine k) t lines (kernel_machine now) × AreKernelParts now
-    lives_on lines ensues =
-        let steps = does_step Worked lines (kernel_machine now) ensues in (
-          steps,
-          sound_after (paying at.segment.domain k).shared left.frames lines refl
-              (fit_ran (paying at.segment.domain k) t (at_paid k t at ms) (fit_paid k t at ms) (apart_paid k t at ms) left run becomes) steps,
-        )
+    lives_on lines ensues = sound_then k t at ms laws.stay lines now tidy_now (does_step Worked lines (kernel_machine now) ensues)
 
-    -- it ends
-    module _ (frames : FrameContent) (emptied : IsEmptied now (runs t at.segment)) (ends : Ends left.frames frames at.segment.number) where
-      abbrev off : KernelContent
-      off =
-          left_off (paying at.segment.domain k) t (at_paid k t at ms) (fit_paid k t at ms) (apart_paid k t at ms) left run becomes (single k t at ms)
-          frames emptied ends
+    -- the lowest frame returned
+    pub may_leave : (v : Option Value) → run.frames ≡ [] → IsTaken (with_run (place_paid k t at ms) run) t v → MayLeave (parts_of now) t v
+    may_leave v none is_taken =
+        let e = emptied none in
+        record {
+          cross = record { fitting = tidy_now.fitting; sealed = e.sealed; sound = e.sound };
+          runs = q;
+          left = e.left q;
+          taken = subst (λ (x : Machine). IsTaken x t v) (sym now_is) is_taken;
+        }
 
-      ends_by : (lines : List Line) → Ensues (kernel_machine now) t went (LeftSegments 1) lines (kernel_machine off)
-          → Steps (kernel_machine k) t lines (kernel_machine off) × AreKernelParts off
-      ends_by lines ensues =
-          let steps = does_step (LeftSegments 1) lines (kernel_machine off) ensues in (
-            steps,
-            sound_after (popped t (paying at.segment.domain k).shared) frames lines refl
-                (fit_left_off (paying at.segment.domain k) t (at_paid k t at ms) (fit_paid k t at ms) (apart_paid k t at ms) left run becomes
-                (single k t at ms) frames emptied ends)
-                steps,
-          )
+    -- a throwable left it
+    pub may_raise : (a : ℕ) → run.frames ≡ [] → IsThrowable k.world.classes run.inside.heap a → MayRaiseAcross (parts_of now) t a
+    may_raise a none throwable =
+        let e = emptied none in
+        let thrown : (s : RunningSegment (kernel_machine now) t) → IsThrowable k.world.classes s.home.inside.heap a =
+        subst (λ (x : Machine). (s : RunningSegment x t) → IsThrowable k.world.classes s.home.inside.heap a) (sym now_is)
+        (λ s. subst (λ (i : Inside). IsThrowable k.world.classes i.heap a) (sym (inside_there m t p stood run.inside refl s)) throwable) in
+        record {
+          cross = record { fitting = tidy_now.fitting; sealed = e.sealed; sound = e.sound };
+          runs = q;
+          left = e.left q;
+          thrown = is_thrown (kernel_machine now) t q a e.sealed e.sound (thrown q);
+        }
 
-      returned : (v : Option Value) → Returns (kernel_machine now) t v 1 (Says.Ended t ∷ []) (kernel_machine off)
-      returned v =
-          subst (Returns (kernel_machine now) t v 1 (Says.Ended t ∷ []))
-          (sym (gone (paying at.segment.domain k) t (at_paid k t at ms) (fit_paid k t at ms) (apart_paid k t at ms) left run becomes (single k t at ms)
-          frames emptied ends))
-          (Answer.ends v (place_ran (paying at.segment.domain k) t (at_paid k t at ms) (fit_paid k t at ms) (apart_paid k t at ms) left run becomes)
-          (only (paying at.segment.domain k) t (at_paid k t at ms) (fit_paid k t at ms) (apart_paid k t at ms) left run becomes (single k t at ms)))
+-- it stands at a call through a capability
+module _ (k : KernelContent) (t : ThreadNo) (at : RunsAt k t) (ms : MayStep k at) (calm : HasNothingPending at.segment) (laws : StepLaws)
+    (left : Contents) (run : Run)
+    (becomes : Becomes (contents_at at) left (here_in (paying at.segment.domain k) at.segment) (run_of (place_paid k t at ms)) run) (c : CapId)
+    (method : MemberId)
+    (step : LocalStep (setting_of (place_paid k t at ms)) t (run_of (place_paid k t at ms)) run (Way.Crosses c method)) where
+  abbrev mc : Machine
+  mc = kernel_machine (paying at.segment.domain k)
 
-      thrown_out : (a : ℕ) (after : List Line) → EndsByThrow now (runs t at.segment) at.segment a after
-          → Throws t 1 (kernel_machine now) a after (kernel_machine off)
-      thrown_out a after by =
-          throws (paying at.segment.domain k) t (at_paid k t at ms) (fit_paid k t at ms) (apart_paid k t at ms) left run becomes (single k t at ms)
-          frames emptied ends at.segment a after refl by
+  abbrev pc : RunningSegment (kernel_machine (paying at.segment.domain k)) t
+  pc = place_paid k t at ms
+
+  keeps : KeepsRun (surroundings (kernel_machine (paying at.segment.domain k)) (place_paid k t at ms).home.domain) (setting_of (place_paid k t at ms)) t
+      (run_of (place_paid k t at ms)) run (Way.Crosses c method)
+  keeps = kept k t at ms calm laws left run becomes (Way.Crosses c method) step
+
+  abbrev stands : StandsAtCrossing (surroundings (kernel_machine (paying at.segment.domain k)) (place_paid k t at ms).home.domain) run.inside.heap
+      keeps.fits.1.0.frame c method
+  stands = keeps.fits.1.1
+
+  given_there : IsGivenOut (caps_of (with_run (place_paid k t at ms) run)) c
+  given_there =
+      subst (λ (caps : List CapRange). IsGivenOut caps c) (sym (caps_same mc t (known_paid k t at ms) pc run (Way.Crosses c method) keeps))
+      stands.given_out
+
+  abbrev call : RemoteCall (with_run (place_paid k t at ms) run) t
+  call = record {
+    place = running_then mc t pc (record pc.segment { frames = run.frames }) run.inside refl;
+    capability = c;
+    method = method;
+    named = stands.method;
+    is_named = stands.is_method;
+    callers = keeps.fits.1.0.callers;
+    frame = keeps.fits.1.0.frame;
+    are_frames = keeps.fits.1.0.are_frames;
+    below = stands.below;
+    given = stands.given;
+    as_many = types_count (surroundings mc pc.home.domain) run.inside.heap stands.method.params stands.given stands.arguments;
+    stack = stands.stack;
+    known = given_there.0;
+    is_known = given_there.1;
+  }
+
+  calls_run : CallsThere (with_run (place_paid k t at ms) run) t c method
+  calls_run = record {
+    sealed = sealed_after mc t (on_sealed mc t pc run (Way.Crosses c method) (known_paid k t at ms).0.0 keeps keeps.fits.0.0);
+    sound = sound_after_run mc t (known_paid k t at ms) pc run (Way.Crosses c method) keeps;
+    call = call;
+    capability = refl;
+    is_method = refl;
+    stands = stands_at mc t pc run call method refl
+        (crosses_at laws.rows (setting_of pc) pc.home.domain.table (caps_of mc) t (run_of pc) run (Way.Crosses c method)
+        (acts_well (paying at.segment.domain k) t (at_paid k t at ms) (tidy_paid k t at ms) (known_paid k t at ms) calm.1) step);
+  }
+
+  pub may_enter : HasRoomsForLiterals left.own → MayDraw (kernel_machine k) 1
+      → MayEnter (parts_of (now k t at ms calm laws left run becomes (Way.Crosses c method) step)) t c method
+  may_enter rooms draws =
+      let there = subst (λ (x : Machine). CallsThere x t c method) (sym (now_is k t at ms calm laws left run becomes (Way.Crosses c method) step)) calls_run
+      in
+      record {
+        cross = record {
+          fitting = (tidy_now k t at ms calm laws left run becomes (Way.Crosses c method) step rooms).fitting;
+          sealed = there.sealed;
+          sound = there.sound;
+        };
+        call = there.call;
+        capability = there.capability;
+        is_method = there.is_method;
+        stands = there.stands;
+        number = omega (arith, draws);
+      }
 
 -- ---- By what the step came to.
 
--- the same parts, and the same lines
-pub moved : (k new out : KernelContent) (t : ThreadNo) (lines after : List Line) → after ≡ lines → new ≡ out
-    → Steps (kernel_machine k) t lines (kernel_machine out) × AreKernelParts out
-    → Steps (kernel_machine k) t after (kernel_machine new) × AreKernelParts new
-moved k new out t lines after same is h =
-    subst (λ (ls : List Line). Steps (kernel_machine k) t ls (kernel_machine new) × AreKernelParts new) (sym same)
-    (subst (λ (x : KernelContent). Steps (kernel_machine k) t lines (kernel_machine x) × AreKernelParts x) (sym is) h)
-
-module _ (k : KernelContent) (t : ThreadNo) (at : RunsAt k t) (ms : MayStep k at) (calm : HasNothingPending at.segment) (sw : StaysWithoutJk)
-    (keep : LocalStepsKeep) (left : LeftBehind) where
+module _ (k : KernelContent) (t : ThreadNo) (at : RunsAt k t) (ms : MayStep k at) (calm : HasNothingPending at.segment) (laws : StepLaws)
+    (left : LeftBehind) where
   abbrev pub may_do : MayAct (contents_at at) (here_in (paying at.segment.domain k) at.segment)
-  may_do = may_act (paying at.segment.domain k) t (at_paid k t at ms) (sound_paid k t at ms) (without_jk k t at ms) (known_paid k t at ms) calm.1
+  may_do = may_act (paying at.segment.domain k) t (at_paid k t at ms) (tidy_paid k t at ms) (known_paid k t at ms) calm.1
 
-  stays_inside : (run : Run) (went : Way.Went) → LocalStep (setting_of (place_paid k t at ms)) t (run_of (place_paid k t at ms)) run went
-      → StaysWithin went
-  stays_inside run went step =
-      sw.inside (kernel_machine (paying at.segment.domain k)) t (place_paid k t at ms) run went (known_paid k t at ms) (without_jk k t at ms) calm.1 step
+  -- where what domains share is as it was but for the payment
+  abbrev At : Went → SharedState → Type 0
+  At went shared = MayFollow (with_left at.segment.domain (record { contents = left.contents; shared = shared }) k) (runs t at.segment) went
+
+  follow_at : (went : Went) → left.shared ≡ (paying at.segment.domain k).shared → At went (paying at.segment.domain k).shared
+      → MayFollow (with_left at.segment.domain left k) (runs t at.segment) went
+  follow_at went same h = subst (At went) (sym same) h
 
   pub may_follow : (went : Went) (lines : List Line) → Acted (setting_of (place_paid k t at ms)) t may_do left went lines
+      → HasRoomsForLiterals left.contents.own → MayDraw (kernel_machine k) 1
       → MayFollow (with_left at.segment.domain left k) (runs t at.segment) went
-  may_follow went lines (goes_on run step becomes same) = tt
-  may_follow went lines (says run text step becomes same) = tt
-  may_follow went lines (ended run v step becomes same) =
-      none_left k t at ms calm sw keep left.contents run becomes (Way.Ended v) step
-      (kept k t at ms calm sw keep left.contents run becomes (Way.Ended v) step).fits.0
-  may_follow went lines (leaves run a step becomes same) =
-      let fits = (kept k t at ms calm sw keep left.contents run becomes (Way.Left a) step).fits in (
-        none_left k t at ms calm sw keep left.contents run becomes (Way.Left a) step fits.0,
-        thrown k t at ms calm sw keep left.contents run becomes (Way.Left a) step a fits.1,
+  may_follow went lines (goes_on run step becomes same) rooms draws = tt
+  may_follow went lines (says run text step becomes same) rooms draws = tt
+  may_follow went lines (ended run v step becomes same) rooms draws =
+      let fits = (kept k t at ms calm laws left.contents run becomes (Way.Ended v) step).fits in
+      follow_at (Goes.Returned v) same (
+        tidy_now k t at ms calm laws left.contents run becomes (Way.Ended v) step rooms,
+        may_leave k t at ms calm laws left.contents run becomes (Way.Ended v) step rooms v fits.0
+            (taken (kernel_machine (paying at.segment.domain k)) t (known_paid k t at ms) (place_paid k t at ms) run (Way.Ended v)
+            (kept k t at ms calm laws left.contents run becomes (Way.Ended v) step) fits.0 v fits.1.0 fits.1.1 fits.1.2),
       )
-  may_follow went lines (crosses run c m step becomes same) = absurd (stays_inside run (Way.Crosses c m) step)
-  may_follow went lines (terminates run step becomes same) = absurd (stays_inside run Way.Terminates step)
-  may_follow went lines (is_granted run top request v step answers becomes) = absurd (stays_inside run (Way.Asks request) step)
-  may_follow went lines (is_denied run new request r unwound step answers raises becomes) = absurd (stays_inside run (Way.Asks request) step)
-
-  pub shared_stays : (went : Went) (lines : List Line) → Acted (setting_of (place_paid k t at ms)) t may_do left went lines
-      → left.shared ≡ (paying at.segment.domain k).shared
-  shared_stays went lines (goes_on run step becomes same) = same
-  shared_stays went lines (says run text step becomes same) = same
-  shared_stays went lines (ended run v step becomes same) = same
-  shared_stays went lines (leaves run a step becomes same) = same
-  shared_stays went lines (crosses run c m step becomes same) = same
-  shared_stays went lines (terminates run step becomes same) = same
-  shared_stays went lines (is_granted run top request v step answers becomes) = absurd (stays_inside run (Way.Asks request) step)
-  shared_stays went lines (is_denied run new request r unwound step answers raises becomes) = absurd (stays_inside run (Way.Asks request) step)
+  may_follow went lines (leaves run a step becomes same) rooms draws =
+      let fits = (kept k t at ms calm laws left.contents run becomes (Way.Left a) step).fits in
+      follow_at (Goes.Left a) same (
+        tidy_now k t at ms calm laws left.contents run becomes (Way.Left a) step rooms,
+        may_raise k t at ms calm laws left.contents run becomes (Way.Left a) step rooms a fits.0 fits.1,
+      )
+  may_follow went lines (crosses run c method step becomes same) rooms draws =
+      follow_at (Goes.Crosses c method) same (
+        tidy_now k t at ms calm laws left.contents run becomes (Way.Crosses c method) step rooms,
+        may_enter k t at ms calm laws left.contents run becomes c method step rooms draws,
+      )
+  may_follow went lines (terminates run step becomes same) rooms draws =
+      follow_at Goes.Terminates same (
+        tidy_now k t at ms calm laws left.contents run becomes Way.Terminates step rooms,
+        (
+          place_ran (paying at.segment.domain k) t (at_paid k t at ms) (fit_paid k t at ms) (apart_paid k t at ms) left.contents run becomes,
+          refl,
+        ),
+      )
+  may_follow went lines (is_granted run top request v step answers becomes) rooms draws = tt
+  may_follow went lines (is_denied run new request r unwound step answers raises becomes) rooms draws =
+      (asks_so k t at ms calm laws left).denied run new request r unwound step answers raises becomes rooms
 
   -- what follows is over what domains share where the step is paid
   at_shared : (went : Went) (after : List Line) (new : KernelContent) → left.shared ≡ (paying at.segment.domain k).shared
-      → Follows (with_left at.segment.domain left k) (runs t at.segment) at.segment went after new
-      → Follows (with_left at.segment.domain (record { contents = left.contents; shared = (paying at.segment.domain k).shared }) k)
-      (runs t at.segment) at.segment went after new
+      → Follows (with_left at.segment.domain left k) t went after new
+      → Follows (with_left at.segment.domain (record { contents = left.contents; shared = (paying at.segment.domain k).shared }) k) t went after new
   at_shared went after new same follows =
-      subst
-      (λ (s : SharedState). Follows (with_left at.segment.domain (record { contents = left.contents; shared = s }) k) (runs t at.segment)
-      at.segment went after new)
-      same follows
+      subst (λ (s : SharedState). Follows (with_left at.segment.domain (record { contents = left.contents; shared = s }) k) t went after new) same follows
 
   pub is_step : (went : Went) (lines after : List Line) (new : KernelContent)
       → Acted (setting_of (place_paid k t at ms)) t may_do left went lines → HasRoomsForLiterals left.contents.own
-      → Follows (with_left at.segment.domain left k) (runs t at.segment) at.segment went after new
+      → Follows (with_left at.segment.domain left k) t went after new
       → Steps (kernel_machine k) t (lines ++ after) (kernel_machine new) × AreKernelParts new
   is_step went lines after new (goes_on run step becomes same) rooms follows =
       let f = at_shared Goes.GoesOn after new same follows in
-      moved k new (now k t at ms calm sw keep left.contents run becomes Way.GoesOn step) t [] after f.0 f.1
-      (lives_on k t at ms calm sw keep left.contents run becomes Way.GoesOn step rooms [] Ran.goes_on)
+      moved k new (now k t at ms calm laws left.contents run becomes Way.GoesOn step) t [] after f.0 f.1
+      (lives_on k t at ms calm laws left.contents run becomes Way.GoesOn step rooms [] Ran.goes_on)
   is_step went lines after new (says run text step becomes same) rooms follows =
       let f = at_shared Goes.GoesOn after new same follows in
-      let m = kernel_machine (now k t at ms calm sw keep left.contents run becomes (Way.Says text) step) in
+      let m = kernel_machine (now k t at ms calm laws left.contents run becomes (Way.Says text) step) in
       let line = Says.Said (place_paid k t at ms).home.domain.name text in
-      moved k new (now k t at ms calm sw keep left.contents run becomes (Way.Says text) step) t (line ∷ []) (line ∷ after)
+      moved k new (now k t at ms calm laws left.contents run becomes (Way.Says text) step) t (line ∷ []) (line ∷ after)
       (ap (λ (ls : List Line). line ∷ ls) f.0) f.1
-      (lives_on k t at ms calm sw keep left.contents run becomes (Way.Says text) step rooms (line ∷ [])
+      (lives_on k t at ms calm laws left.contents run becomes (Way.Says text) step rooms (line ∷ [])
       (subst (λ (name : List ℕ). Ensues m t (Way.Says text) Worked (Says.Said name text ∷ []) m)
       (same_name (paying at.segment.domain k) t (at_paid k t at ms) (fit_paid k t at ms) (apart_paid k t at ms) left.contents run becomes)
       (Ran.says (place_ran (paying at.segment.domain k) t (at_paid k t at ms) (fit_paid k t at ms) (apart_paid k t at ms) left.contents run becomes)
       text)))
   is_step went lines after new (ended run v step becomes same) rooms follows =
       let f = at_shared (Goes.Returned v) after new same follows in
-      let none = none_left k t at ms calm sw keep left.contents run becomes (Way.Ended v) step
-      (kept k t at ms calm sw keep left.contents run becomes (Way.Ended v) step).fits.0 in
-      let out = off k t at ms calm sw keep left.contents run becomes (Way.Ended v) step rooms new.frames none f.1.frames in
-      moved k new out t (Says.Ended t ∷ []) after f.0 f.1.rest
-      (ends_by k t at ms calm sw keep left.contents run becomes (Way.Ended v) step rooms new.frames none f.1.frames (Says.Ended t ∷ [])
-      (Ran.ended v 1 (Says.Ended t ∷ []) (kernel_machine out)
-      (returned k t at ms calm sw keep left.contents run becomes (Way.Ended v) step rooms new.frames none f.1.frames v)))
+      sound_then k t at ms laws.stay after new f.2
+      (does_step k t at ms calm laws left.contents run becomes (Way.Ended v) step (LeftSegments f.0) after (kernel_machine new)
+      (Ran.ended v f.0 after (kernel_machine new) f.1))
   is_step went lines after new (leaves run a step becomes same) rooms follows =
       let f = at_shared (Goes.Left a) after new same follows in
-      let none = none_left k t at ms calm sw keep left.contents run becomes (Way.Left a) step
-      (kept k t at ms calm sw keep left.contents run becomes (Way.Left a) step).fits.0 in
-      let out = off k t at ms calm sw keep left.contents run becomes (Way.Left a) step rooms new.frames none f.1.frames in
-      moved k new out t after after refl f.1.rest
-      (ends_by k t at ms calm sw keep left.contents run becomes (Way.Left a) step rooms new.frames none f.1.frames after
-      (Ran.left a 1 after (kernel_machine out)
-      (thrown_out k t at ms calm sw keep left.contents run becomes (Way.Left a) step rooms new.frames none f.1.frames a after f.0)))
-  is_step went lines after new (crosses run c m step becomes same) rooms follows = absurd (stays_inside run (Way.Crosses c m) step)
-  is_step went lines after new (terminates run step becomes same) rooms follows = absurd (stays_inside run Way.Terminates step)
+      sound_then k t at ms laws.stay after new f.2
+      (does_step k t at ms calm laws left.contents run becomes (Way.Left a) step (LeftSegments f.0) after (kernel_machine new)
+      (Ran.left a f.0 after (kernel_machine new) f.1))
+  is_step went lines after new (crosses run c method step becomes same) rooms follows =
+      let f = at_shared (Goes.Crosses c method) after new same follows in
+      sound_then k t at ms laws.stay after new f.2
+      (does_step k t at ms calm laws left.contents run becomes (Way.Crosses c method) step f.0 after (kernel_machine new) f.1)
+  is_step went lines after new (terminates run step becomes same) rooms follows =
+      let f = at_shared Goes.Terminates after new same follows in
+      sound_then k t at ms laws.stay after new f.2
+      (does_step k t at ms calm laws left.contents run becomes Way.Terminates step (EndedDomain f.0.home.domain.number) after (kernel_machine new)
+      (Ran.terminates f.0 after (kernel_machine new) f.1))
   is_step went lines after new (is_granted run top request v step answers becomes) rooms follows =
-      absurd (stays_inside run (Way.Asks request) step)
+      (asks_so k t at ms calm laws left).granted run top request v step answers becomes rooms after new follows
   is_step went lines after new (is_denied run other request r unwound step answers raises becomes) rooms follows =
-      absurd (stays_inside run (Way.Asks request) step)
+      (asks_so k t at ms calm laws left).denied_step run other request r unwound step answers raises becomes rooms after new follows
 
-pub acts_as : LocalStepsKeep → StaysWithoutJk → (k : KernelContent) (t : ThreadNo) (at : RunsAt k t) (left : LeftBehind) (went : Went) → MayStep k at
+pub acts_as : StepLaws → (k : KernelContent) (t : ThreadNo) (at : RunsAt k t) (left : LeftBehind) (went : Went) → MayStep k at
     → HasNothingPending at.segment → ActsAs k at left went
-acts_as keep sw k t at left went ms calm = record {
+acts_as laws k t at left went ms calm = record {
   setting = setting_of (place_paid k t at ms);
-  may = may_do k t at ms calm sw keep left;
+  may = may_do k t at ms calm laws left;
   is_setting = is_setting (paying at.segment.domain k) t (at_paid k t at ms) (fit_paid k t at ms) ms.parts.stubs;
-  follows = may_follow k t at ms calm sw keep left went;
-  shared = shared_stays k t at ms calm sw keep left went;
-  steps = is_step k t at ms calm sw keep left went;
+  follows = may_follow k t at ms calm laws left went;
+  steps = is_step k t at ms calm laws left went;
 }

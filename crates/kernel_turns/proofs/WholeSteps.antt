@@ -1,10 +1,10 @@
 -- One whole step of a thread, from the parts that tell whether it rests.
-use Rattle.std.proofs.Common.{◌≡◌, ◌≢◌, ◌⊎◌, inl, inr, ◌==◌, true, false, find, List, [], ◌∷◌, ◌++◌, map, slice_get, Option, Some, None, refl, sym, ap, subst, ◌∙◌}
+use Rattle.std.proofs.Common.{◌≡◌, ◌≢◌, ◌⊎◌, inl, inr, ◌==◌, true, false, find, List, [], ◌∷◌, map, slice_get, Option, Some, None, refl, sym, ap, subst, ◌∙◌}
 use Rattle.std.specs.Prelude.{MatchOption, option_and_then}
 use Rattle.std.proofs.lemmas.Option.{same_Some}
 use Rattle.list_lemmas.proofs.FoundItems.{Finds, finds}
 use Rattle.list_lemmas.proofs.ItemsOfLists.{Contains-at}
-use Rattle.list_lemmas.proofs.LastItems.{last_of, one_last}
+use Rattle.list_lemmas.proofs.LastItems.{one_last}
 use Rattle.jk_model.specs.declared.identifiers.ClassId.{ClassId}
 use Rattle.jk_model.specs.declared.identifiers.ThreadNo.{ThreadNo}
 use Rattle.jk_model_classes.specs.declared.records.ClassRecord.{ClassRecord}
@@ -15,6 +15,7 @@ use Rattle.jk_model_domains.specs.declared.states.Look.TheVariants as Sees
 use Rattle.jk_model_domains.specs.OwnStates.{IsLook, OwnState, state_of}
 use Rattle.jk_model_frames.specs.Frames.{FrameState}
 use Rattle.jk_model_running.specs.Initialising.{FrameNeeds, IsInProgressElsewhere}
+use Rattle.jk_model_running.proofs.NeededClasses.{one_need}
 use Rattle.jk_model_sealing.specs.AnsweringFrames.{FramesAnswer}
 use Rattle.jk_model_sharing.specs.Segments.{SharedSegment, SharedThread, top_of, top_segment}
 use Rattle.jk_model_sharing.specs.SharedStates.{SharedDomain, domain_numbered}
@@ -23,21 +24,21 @@ use Rattle.jk_model_runs.specs.Steps.{IsHeld, Steps}
 use Rattle.frame_store.specs.FrameContents.{HasTop, StoredSegment}
 use Rattle.frame_store.specs.FrameContents.{TopFrame as StoredTop}
 use Rattle.heap_laws.proofs.MappedLists.{mapped}
+use Rattle.kernel_events.specs.KernelCalls.{MayDraw}
 use Rattle.kernel_parts.specs.SoundKernels.{AreKernelParts, KernelContent, kernel_machine}
-use Rattle.machine_laws.specs.KnownMachines.{IsKnownWithoutJk}
+use Rattle.machine_laws.specs.KnownMachines.{IsKnownMachine}
 use Rattle.machine_parts.specs.MachineParts.{frames_in, segment_with_frames, thread_with_frames}
 use Rattle.segment_steps.specs.declared.meeting.Meeting.{Meeting}
 use Rattle.segment_steps.specs.declared.meeting.Runs.{Runs}
 use Rattle.segment_steps.specs.Meetings.{Meets, NeedsOf}
 use Rattle.thread_segments.specs.Answers.{steps_left_of}
+use Rattle.segment_steps.proofs.FramesInTurn.{top_of as top_frame}
 use Rattle.kernel_turns.specs.declared.running.Running.{Running}
 use Rattle.kernel_turns.specs.LiveThreads.{IsRunning}
 use Rattle.kernel_turns.specs.RunningPlaces.{RunsAt, runs}
 use Rattle.kernel_turns.specs.SteppedParts.{MayStep}
 use Rattle.kernel_turns.specs.StepsOfThreads.{IsReady}
 use Rattle.kernel_turns.proofs.FramesOfThreads.{runs_at}
-use Rattle.kernel_turns.proofs.KeptParts.{single_threads}
-use Rattle.kernel_turns.proofs.NeededClasses.{one_need}
 use Rattle.kernel_turns.proofs.PlacedThreads.{place, stored}
 use Rattle.kernel_turns.proofs.RestingThreads.{dead_rests, spent_rests, suspended_rests, waiting_rests}
 
@@ -72,24 +73,17 @@ waits_not classes own t f (Some d) look free needs looks c need (by, is, other) 
     free (look_by t look by other
     (subst (λ (s : ClassState). IsLook t s look) is (subst (λ (e : ClassId). IsLook t (state_of own e) look) same looks)))
 
--- ---- Each segment has a frame.
-
-some_frame : (classes : List ClassRecord) (frames : List FrameState) → FramesAnswer classes frames
-    → (lower : List FrameState) × (last : FrameState) × (frames ≡ lower ++ last ∷ [])
-some_frame classes [] answers = absurd answers
-some_frame classes (f ∷ more) answers = last_of f more
-
-module _ (k : KernelContent) (t : ThreadNo) (parts : AreKernelParts k) (known : IsKnownWithoutJk (kernel_machine k)) where
+module _ (k : KernelContent) (t : ThreadNo) (parts : AreKernelParts k) (known : IsKnownMachine (kernel_machine k)) where
   -- a thread that isn't live does nothing
   pub none_steps : top_segment k.shared.threads t ≡ None → Steps (kernel_machine k) t [] (kernel_machine k)
-  none_steps none = dead_rests k t (single_threads k known.1) none
+  none_steps none = dead_rests k t known.0.0 none
 
-  only_answers : (s r : SharedSegment) (segments : List SharedSegment) → segments ≡ r ∷ [] → top_of segments ≡ Some s
+  top_by : (s : SharedSegment) (segments : List SharedSegment) → top_of segments ≡ Some s
       → SegmentsAnswer k.world.classes (map (segment_with_frames k.frames) segments) → FramesAnswer k.world.classes (frames_in k.frames s.number)
-  only_answers s r segments is top answers =
-      let one = subst (λ (xs : List SharedSegment). SegmentsAnswer k.world.classes (map (segment_with_frames k.frames) xs)) is answers in
-      let same : r ≡ s = same_Some r s (sym (ap top_of is) ∙ top) in
-      subst (λ (x : SharedSegment). FramesAnswer k.world.classes (frames_in k.frames x.number)) same one
+  top_by s [] top answers = absurd cc
+  top_by s (x ∷ []) top answers =
+      subst (λ (y : SharedSegment). FramesAnswer k.world.classes (frames_in k.frames y.number)) (same_Some x s top) answers
+  top_by s (x ∷ above ∷ more) top answers = top_by s (above ∷ more) top answers.2
 
   top_answers : (s : SharedSegment) → top_segment k.shared.threads t ≡ Some s → FramesAnswer k.world.classes (frames_in k.frames s.number)
   top_answers s is = by (find (λ (e : SharedThread). e.number.0 == t.0) k.shared.threads)
@@ -100,9 +94,8 @@ module _ (k : KernelContent) (t : ThreadNo) (parts : AreKernelParts k) (known : 
       by None h top = absurd cc
       by (Some e) h top =
           let there = Contains-at k.shared.threads h.0 e h.1 in
-          let one = single_threads k known.1 e there in
-          only_answers s one.0 e.segments one.1 top
-          (known.0.0.1.segments (thread_with_frames k.frames e) (mapped (thread_with_frames k.frames) k.shared.threads e there))
+          top_by s e.segments top
+          (known.0.1.segments (thread_with_frames k.frames e) (mapped (thread_with_frames k.frames) k.shared.threads e there))
 
   module _ (x : Running) (is : IsRunning k.shared.threads t x) where
     abbrev at : RunsAt k t
@@ -123,7 +116,7 @@ module _ (k : KernelContent) (t : ThreadNo) (parts : AreKernelParts k) (known : 
     unfolding runs_at
     top_there =
         let one = parts.sound.fitting.domains in
-        let some = some_frame k.world.classes (frames_in k.frames is.segment.number) (top_answers is.segment is.is_top) in
+        let some = top_frame k.world.classes (frames_in k.frames is.segment.number) (top_answers is.segment is.is_top) in
         there (λ r. HasTop k.frames r.segment) (
           some.1,
           record {
@@ -208,17 +201,17 @@ module _ (k : KernelContent) (t : ThreadNo) (parts : AreKernelParts k) (known : 
       }
 
 -- by the thread's number as code has it
-pub ready_so : (k : KernelContent) (x : Running) (parts : AreKernelParts k) (known : IsKnownWithoutJk (kernel_machine k))
+pub ready_so : (k : KernelContent) (x : Running) (parts : AreKernelParts k) (known : IsKnownMachine (kernel_machine k))
     (is : IsRunning k.shared.threads x.runs.thread x) (f : FrameState) (met : Meeting) (top : StoredTop k.frames x.runs.segment f)
     → Meets k.world.classes (runs_at k x.runs.thread parts known is.segment is.is_top).own.state x.runs f met → x.info.suspended ≡ false
-    → met.look ≢ Sees.Waits → steps_left_of k.shared x.runs.domain ≢ Some 0 → IsReady k x
+    → met.look ≢ Sees.Waits → steps_left_of k.shared x.runs.domain ≢ Some 0 → MayDraw (kernel_machine k) 1 → IsReady k x
 unfolding runs_at
-ready_so k x parts known is f met top meets awake ready budget = record {
+ready_so k x parts known is f met top meets awake ready budget numbers = record {
   at = runs_at k x.runs.thread parts known is.segment is.is_top;
   runs_there = is.runs_there;
   stop = is.stop;
   revoked = is.revoked;
-  orphan = is.orphan;
+  numbers = numbers;
   may = may_step k x.runs.thread parts known x is f met top meets awake ready budget;
 }
 

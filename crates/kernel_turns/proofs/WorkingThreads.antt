@@ -4,7 +4,7 @@ use Rattle.jk_model.specs.declared.identifiers.DomainId.{DomainId}
 use Rattle.jk_model.specs.declared.identifiers.ThreadNo.{ThreadNo}
 use Rattle.jk_model_sharing.specs.SharedStates.{SharedState}
 use Rattle.class_init.specs.KeptStates.{KeptState}
-use Rattle.machine_laws.specs.KnownMachines.{IsKnownWithoutJk}
+use Rattle.machine_laws.specs.KnownMachines.{IsKnownMachine}
 use Rattle.segment_steps.specs.declared.meeting.Runs.{Runs}
 use Rattle.kernel_parts.specs.SoundKernels.{AreKernelParts, KernelContent, kernel_machine}
 use Rattle.kernel_turns.specs.declared.running.Running.{Running}
@@ -14,7 +14,7 @@ use Rattle.kernel_turns.specs.RunningPlaces.{RunsAt, runs}
 use Rattle.kernel_turns.specs.WorkingSegments.{MayWork}
 use Rattle.kernel_turns.proofs.FramesOfThreads.{runs_at}
 
-module _ (k : KernelContent) (t : ThreadNo) (parts : AreKernelParts k) (known : IsKnownWithoutJk (kernel_machine k)) (x : Running)
+module _ (k : KernelContent) (t : ThreadNo) (parts : AreKernelParts k) (known : IsKnownMachine (kernel_machine k)) (x : Running)
     (is : IsRunning k.shared.threads t x) where
   abbrev at : RunsAt k t
   at = runs_at k t parts known is.segment is.is_top

@@ -1,5 +1,6 @@
 -- What one step of one thread over the parts of a kernel is to the machine.
-pub mod FollowingLines
+pub mod ActingAlone
+pub mod GoingDown
 pub mod LiveThreads
 pub mod PaidSteps
 pub mod RunningPlaces

@@ -5,7 +5,7 @@ use Rattle.jk_model_runs.specs.Events.{Turns}
 use Rattle.class_init.specs.KeptStates.{KeptState}
 use Rattle.frame_store.specs.FrameContents.{FrameContent}
 use Rattle.object_store.specs.HeapContents.{HeapContent}
-use Rattle.machine_laws.specs.KnownMachines.{IsKnownWithoutJk}
+use Rattle.machine_laws.specs.KnownMachines.{IsKnownMachine}
 use Rattle.segment_steps.specs.declared.meeting.Runs.{Runs}
 use Rattle.kernel_parts.specs.SoundKernels.{AreKernelParts, KernelContent, kernel_machine}
 use Rattle.kernel_turns.specs.PaidSteps.{spent_times}
@@ -23,7 +23,7 @@ worked n d own heap frames k = record k {
 -- The thread runs there, in a domain with this own state; its segment isn't suspended, and nothing is pending for it.
 pub record MayWork (k : KernelContent) (r : Runs) (own : KeptState) : Type 0 where
   pub parts : AreKernelParts k
-  pub known : IsKnownWithoutJk (kernel_machine k)
+  pub known : IsKnownMachine (kernel_machine k)
   pub at : RunsAt k r.thread
   pub is_there : r ≡ runs r.thread at.segment
   pub is_own : at.own ≡ own

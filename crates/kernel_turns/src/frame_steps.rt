@@ -5,18 +5,22 @@ ghost use Rattle.jk_model.specs.declared.descriptors.MethodType.{MethodType};
 ghost use Rattle.jk_model_runs.specs.Events.{Turns};
 ghost use Rattle.class_init.specs.KeptStates.{KeptState};
 ghost use Rattle.thread_segments.specs.Asked.{IsLiveDomain};
-ghost use Rattle.machine_laws.specs.KnownMachines.{IsKnownWithoutJk};
+ghost use Rattle.frame_store.specs.FrameContents.{KeepsDomains};
+ghost use Rattle.step_contents.specs.Contents.{contents_of, here_at};
+ghost use Rattle.segment_steps.specs.StepsInTurn.{StepsLead};
+ghost use Rattle.machine_laws.specs.KnownMachines.{IsKnownMachine};
+ghost use Rattle.kernel_turns.specs.ActingAlone.{IsActing};
 ghost use Rattle.kernel_turns.specs.PaidSteps.{HasSteps, spent_times};
 ghost use Rattle.kernel_turns.specs.StepsOfThreads.{content_of};
-ghost use Rattle.kernel_turns.specs.WorkingSegments.{MayWork, WorksOn, worked};
+ghost use Rattle.kernel_turns.specs.WorkingSegments.{MayWork, WorksOn};
 
 use crate::running::{Running, run_of};
 use class_init::Own;
 use domain_resolver::World;
-use frame_store::FrameStore;
+use frame_store::{FrameStore, OnSegment, SegmentFrames};
 use jk_model::{DomainId, ThreadNo};
 use kernel_parts::KernelParts;
-use machine_laws::machines::steps_stay_known_without_jk;
+use machine_laws::machines::steps_stay_known;
 use object_store::ObjectStore;
 use row_laws::heap_rows::heap_rows_keep;
 use row_laws::running::local_steps_keep;
@@ -24,14 +28,15 @@ use segment_steps::{Runs, Worked, run_in_frame, stand, work};
 use thread_segments::Shared;
 
 /// At most so many steps of a thread, as long as its top segment does each alone: it computes, jumps, works on objects, calls a method with
-/// code or returns from one, needs no class that isn't ready, and raises and prints nothing. It answers how many they were. It stops before each
-/// other step, and where the domain has no step left. Where the thread runs is looked up once. It takes no memory.
+/// code, returns from one or throws what its frame catches, needs no class that isn't ready, and raises nothing else and prints nothing. It
+/// answers how many they were. It stops before each other step, and where the domain has no step left. Where the thread runs is looked up once.
+/// It takes no memory.
 pub fn steps_alone<H: ObjectStore + Drop, F: FrameStore + Drop>(
     k: &mut KernelParts<H, F>,
     t: ThreadNo,
     most: u32,
 ) -> u32
-    requires known { IsKnownWithoutJk k.old }
+    requires known { IsKnownMachine k.old }
     ensures few { result ≤ most }
     ensures event { Turns result t k.old [] k.new }
 {
@@ -93,9 +98,19 @@ fn work_in_domain<H: ObjectStore, F: FrameStore>(
         → WorksOn (content_of w.now owns.old.items shared.old (H.content heap.old) (F.content frames.old) main) r result
         (content_of w.now owns.new.items shared.new (H.content heap.new) (F.content frames.new) main) }
 {
+    local_steps_keep();
+    heap_rows_keep();
+    steps_stay_known();
     match &mut owns[r.domain.0 as usize] {
         Some(own) => {
-            let done = work_on(w, own, shared, heap, frames, r, most);
+            let mut steps = Steps {
+                world: w,
+                shared,
+                runs: r,
+                count: most,
+            };
+            frames.with_segment(r.segment, &mut steps, heap, own);
+            let done = steps.count;
             pay(shared, r.domain, done);
             done
         }
@@ -103,9 +118,46 @@ fn work_in_domain<H: ObjectStore, F: FrameStore>(
     }
 }
 
+/// Steps that a segment does alone, none of which is paid yet: how many there may be at most, and how many there were once they are done.
+#[derive(Drop)]
+struct Steps<'a> {
+    world: &'a World,
+    shared: &'a Shared,
+    runs: Runs,
+    count: u32,
+}
+
+impl<H: ObjectStore> OnSegment<H, Own> for Steps<'_> {
+    ghost use Rattle.std.specs.Prelude.{◌≤◌};
+    ghost use Rattle.segment_steps.specs.StepsInTurn.{StepsLead};
+    ghost use Rattle.step_contents.specs.Contents.{contents_of, here_at};
+    ghost use Rattle.kernel_turns.specs.ActingAlone.{IsActing};
+
+    ghost may = { λ x heap own frames. IsActing (contents_of (H.content heap) frames own)
+        (here_at x.world.now x.shared.now x.runs.domain x.runs.segment) x.runs.thread };
+
+    ghost did = { λ x y heap new_heap own new_own frames new_frames. (y.count ≤ x.count)
+        × StepsLead (contents_of (H.content heap) frames own) (contents_of (H.content new_heap) new_frames new_own)
+        (here_at x.world.now x.shared.now x.runs.domain x.runs.segment) x.runs.thread y.count };
+
+    #[inline(always)]
+    fn run<T: SegmentFrames>(&mut self, frames: &mut T, heap: &mut H, own: &mut Own) {
+        self.count = work_on(
+            self.world,
+            own,
+            self.shared,
+            heap,
+            frames,
+            self.runs,
+            self.count,
+        );
+    }
+}
+
 /// At most so many steps that a segment does alone, none of which is paid yet. Its frame and the frame's code are looked up where another
 /// frame comes to the top alone.
-fn work_on<H: ObjectStore, F: FrameStore>(
+#[inline(always)]
+fn work_on<H: ObjectStore, F: SegmentFrames>(
     w: &World,
     own: &mut Own,
     shared: &Shared,
@@ -114,25 +166,19 @@ fn work_on<H: ObjectStore, F: FrameStore>(
     r: Runs,
     most: u32,
 ) -> u32
-    requires may { (owns : List (Option KeptState)) × (main : MethodType)
-        × MayWork (content_of w.now owns shared.now (H.content heap.old) (F.content frames.old) main) r own.old }
-    requires budget { HasSteps most r.domain shared.now }
+    requires { IsActing (contents_of (H.content heap.old) (F.content frames.old) own.old) (here_at w.now shared.now r.domain r.segment) r.thread }
     ensures few { result ≤ most }
-    ensures event { (owns : List (Option KeptState)) (main : MethodType)
-        → MayWork (content_of w.now owns shared.now (H.content heap.old) (F.content frames.old) main) r own.old
-        → WorksOn (content_of w.now owns shared.now (H.content heap.old) (F.content frames.old) main) r result
-        (worked result r.domain own.new (H.content heap.new) (F.content frames.new)
-        (content_of w.now owns shared.now (H.content heap.old) (F.content frames.old) main)) }
+    ensures leads { StepsLead (contents_of (H.content heap.old) (F.content frames.old) own.old)
+        (contents_of (H.content heap.new) (F.content frames.new) own.new) (here_at w.now shared.now r.domain r.segment) r.thread result }
+    ensures keeps { KeepsDomains (F.content frames.old) (F.content frames.new) }
 {
     local_steps_keep();
-    heap_rows_keep();
-    steps_stay_known_without_jk();
     let Some(mut at) = stand(w, frames, r.segment) else {
         return 0;
     };
     let mut done = 0;
     while done < most {
-        done += run_in_frame(w, frames, r.segment, &mut at, most - done);
+        done += run_in_frame(w, heap, frames, r.domain, r.segment, &mut at, most - done);
         if done == most {
             return done;
         }

@@ -9,16 +9,17 @@ ghost use Rattle.jk_model_runs.specs.Steps.{Steps};
 ghost use Rattle.class_init.specs.KeptStates.{KeptState};
 ghost use Rattle.frame_store.specs.FrameContents.{TopFrame};
 ghost use Rattle.jk_outside.specs.SeveralLines.{PrintsLines};
+ghost use Rattle.kernel_events.specs.KernelCalls.{MayDraw};
 ghost use Rattle.kernel_events.specs.PrintedLines.{as_done};
-ghost use Rattle.machine_laws.specs.KnownMachines.{IsKnownWithoutJk};
+ghost use Rattle.machine_laws.specs.KnownMachines.{IsKnownMachine};
 ghost use Rattle.segment_steps.specs.Meetings.{Meets};
 ghost use Rattle.thread_segments.specs.Asked.{IsLiveDomain};
 ghost use Rattle.thread_segments.specs.Answers.{steps_left_of};
-ghost use Rattle.kernel_turns.specs.StepsOfThreads.{IsReady, StepsSo, content_of, sink_state};
 
+use crate::following::finish;
 use crate::own_states::meet_in;
 use crate::running::{Running, run_of};
-use crate::stepping::{act_now, raise_pending};
+use crate::stepping::begin;
 use class_init::Own;
 use domain_resolver::World;
 use frame_store::FrameStore;
@@ -31,13 +32,14 @@ use segment_steps::Meeting;
 use thread_segments::Shared;
 
 /// One step of a thread, whose lines are printed. It answers false only where the step changes nothing: the thread isn't live or is held, or its
-/// domain has no step left. It takes no memory. Where the sink fails, the step has happened whole.
+/// domain has no step left. It takes no memory but the words of copies. Where the sink fails, the step has happened whole.
 pub fn step<H: ObjectStore + Drop, F: FrameStore + Drop, S: Sink>(
     k: &mut KernelParts<H, F>,
     t: ThreadNo,
     out: &mut S,
 ) -> Result<bool, SinkFailed>
-    requires known { IsKnownWithoutJk k.old }
+    requires known { IsKnownMachine k.old }
+    requires numbers { MayDraw k.old 1 }
     ensures event { (lines : AList Line)
         × PrintsLines (S.bytes out.old) (S.bytes out.new) (S.pieces out.old) (S.pieces out.new) (S.faults out.old) (S.faults out.new)
         (as_done result) lines
@@ -51,7 +53,7 @@ pub fn step<H: ObjectStore + Drop, F: FrameStore + Drop, S: Sink>(
     if rests(&k.shared, &running, &met) {
         return Ok(false);
     }
-    take_step(
+    let went = begin(
         &k.world,
         &mut k.owns,
         &mut k.shared,
@@ -59,6 +61,16 @@ pub fn step<H: ObjectStore + Drop, F: FrameStore + Drop, S: Sink>(
         &mut k.frames,
         running,
         &met,
+        out,
+    );
+    finish(
+        &mut k.world,
+        &mut k.owns,
+        &mut k.shared,
+        &mut k.heap,
+        &mut k.frames,
+        running.runs,
+        went,
         out,
     )?;
     Ok(true)
@@ -79,31 +91,4 @@ fn rests(shared: &Shared, running: &Running, met: &Meeting<'_>) -> bool
         return true;
     }
     shared.steps_left(running.runs.domain) == Some(0)
-}
-
-/// The step of a thread that isn't held, whose domain has a step left: what is pending is raised, and else its top segment acts.
-fn take_step<H: ObjectStore, F: FrameStore, S: Sink>(
-    w: &World,
-    owns: &mut Vec<Option<Own>>,
-    shared: &mut Shared,
-    heap: &mut H,
-    frames: &mut F,
-    running: Running,
-    met: &Meeting<'_>,
-    out: &mut S,
-) -> Result<(), SinkFailed>
-    requires ready { (main : MethodType)
-        × IsReady (content_of w.now owns.old.items shared.old (H.content heap.old) (F.content frames.old) main) running }
-    requires met { (own : KeptState) × (slice_get owns.old.items running.runs.domain.0 ≡ Some (Some own))
-        × ((f : AFrame) × TopFrame (F.content frames.old) running.runs.segment f × Meets w.now.classes own.state running.runs f met.now) }
-    requires free { met.now.look ≢ Sees.Waits }
-    ensures { (main : MethodType) → IsReady (content_of w.now owns.old.items shared.old (H.content heap.old) (F.content frames.old) main) running
-        → StepsSo (content_of w.now owns.old.items shared.old (H.content heap.old) (F.content frames.old) main) running
-        (sink_state (S.bytes out.old) (S.pieces out.old) (S.faults out.old)) (sink_state (S.bytes out.new) (S.pieces out.new) (S.faults out.new))
-        result (content_of w.now owns.new.items shared.new (H.content heap.new) (F.content frames.new) main) }
-{
-    if running.info.stop || running.info.revoked {
-        return raise_pending(w, owns, shared, heap, frames, running, out);
-    }
-    act_now(w, owns, shared, heap, frames, running, met, out)
 }

@@ -24,7 +24,7 @@ set_local-requires g c =
 
 pub returns : goal.returns
 returns g c =
-    let old = g.F.FrameStore.content c.args.frames.now in
+    let old = g.F.SegmentFrames.content c.args.frames.now in
     let head = c.args.callee.now.head in
-    begun_with old (g.F.FrameStore.content c.begin.new.self) (g.F.FrameStore.content c.set_local.new.self) c.args.n c.args.callee.now.owner head
+    begun_with old (g.F.SegmentFrames.content c.begin.new.self) (g.F.SegmentFrames.content c.set_local.new.self) c.args.n c.args.callee.now.owner head
     c.args.callee.now.target (old.used c.args.callee.now.owner + 1 + head_chunks head) c.in-Ok.ensures.ok c.requires.local c.set_local.ensures

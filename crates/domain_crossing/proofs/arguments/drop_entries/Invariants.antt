@@ -8,11 +8,11 @@ use Rattle.domain_crossing.proofs.arguments.drop_entries.Given as goal
 
 abbrev pub invariant-loop-left : goal.invariant-loop-left
 invariant-loop-left g l =
-    (f : FrameState) (below values : List Value) → TopFrame (g.F.FrameStore.content l.fn.frames) l.s f → f.stack ≡ below ++ values
+    (f : FrameState) (below values : List Value) → TopFrame (g.F.SegmentFrames.content l.fn.frames) l.s f → f.stack ≡ below ++ values
     → length values ≡ l.count
     → (l.left ≤ l.count)
-    × SetsTop (g.F.FrameStore.content l.fn.frames) (g.F.FrameStore.content l.frames) l.s
-    (with_left (g.F.FrameStore.content l.fn.frames) l.s f below values l.left)
+    × SetsTop (g.F.SegmentFrames.content l.fn.frames) (g.F.SegmentFrames.content l.frames) l.s
+    (with_left (g.F.SegmentFrames.content l.fn.frames) l.s f below values l.left)
 
 abbrev pub decreases-loop-left : goal.decreases-loop-left
 decreases-loop-left g l = l.left

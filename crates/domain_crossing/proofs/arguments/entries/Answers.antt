@@ -20,7 +20,7 @@ put-requires g c =
 pub loop-i-preserved : goal.loop-i-preserved
 loop-i-preserved g c = λ values on many.
     let from_top : c.args.count - 1 - c.loop-i.i ≡ length values - 1 - c.loop-i.i = omega (arith, many) in
-    let read = peeked_at (g.F.FrameStore.content c.args.frames.now) c.args.s values on c.loop-i.i c.peek.result (omega (arith, many))
+    let read = peeked_at (g.F.SegmentFrames.content c.args.frames.now) c.args.s values on c.loop-i.i c.peek.result (omega (arith, many))
     (λ f top. subst (λ (k : ℕ). slice_get f.stack (length f.stack - 1 - k) ≡ Some c.peek.result) from_top (c.peek.ensures f top)) in
     let next : c.loop-i.i + 1 ≡ suc c.loop-i.i = omega arith in
     c.put.ensures ∙ ap (λ (vs : List Value). vs ++ c.peek.result ∷ []) (c.loop-i.invariant values on many)

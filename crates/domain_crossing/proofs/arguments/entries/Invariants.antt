@@ -6,4 +6,4 @@ use Rattle.domain_crossing.proofs.arguments.entries.Given as goal
 
 abbrev pub invariant-loop-i : goal.invariant-loop-i
 invariant-loop-i g l =
-    (values : List Value) → HasOnTop (g.F.FrameStore.content l.frames) l.s values → length values ≡ l.count → l.values ≡ take l.i values
+    (values : List Value) → HasOnTop (g.F.SegmentFrames.content l.frames) l.s values → length values ≡ l.count → l.values ≡ take l.i values

@@ -7,12 +7,12 @@ use Rattle.domain_crossing.proofs.arguments.fill.Goals as goal
 
 pub loop-i-init : goal.loop-i-init
 loop-i-init g c = λ head a values begins given many fits.
-    nothing_filled head a values (g.F.FrameStore.content c.args.frames.now) c.args.n begins
+    nothing_filled head a values (g.F.SegmentFrames.content c.args.frames.now) c.args.n begins
 
 pub argument-v-requires-clause-given : goal.argument-v-requires-clause-given
 argument-v-requires-clause-given g c =
-    let first = g.F.FrameStore.content c.args.frames.now in
-    let now = g.F.FrameStore.content c.loop-i.frames in
+    let first = g.F.SegmentFrames.content c.args.frames.now in
+    let now = g.F.SegmentFrames.content c.loop-i.frames in
     let head = c.requires.fits.0 in
     let a = c.requires.fits.1 in
     let values = c.requires.fits.2 in
@@ -25,8 +25,8 @@ argument-v-requires-clause-given g c =
 
 pub put-at-requires : goal.put-at-requires
 put-at-requires g c =
-    let first = g.F.FrameStore.content c.args.frames.now in
-    let now = g.F.FrameStore.content c.loop-i.frames in
+    let first = g.F.SegmentFrames.content c.args.frames.now in
+    let now = g.F.SegmentFrames.content c.loop-i.frames in
     let head = c.requires.fits.0 in
     let a = c.requires.fits.1 in
     let values = c.requires.fits.2 in
@@ -44,9 +44,9 @@ put-at-requires g c =
 
 pub loop-i-preserved : goal.loop-i-preserved
 loop-i-preserved g c = λ head a values begins given many fits.
-    let first = g.F.FrameStore.content c.args.frames.now in
-    let now = g.F.FrameStore.content c.loop-i.frames in
-    let next = g.F.FrameStore.content c.put-at.new.frames in
+    let first = g.F.SegmentFrames.content c.args.frames.now in
+    let now = g.F.SegmentFrames.content c.loop-i.frames in
+    let next = g.F.SegmentFrames.content c.put-at.new.frames in
     let filled = c.loop-i.invariant head a values begins given many fits in
     let read = c.argument-v.ensures values
     (given_elsewhere first now c.args.n c.args.s (called_frame head (so_far head a values c.loop-i.i)) c.args.copies values filled.sets c.requires.apart
@@ -59,5 +59,5 @@ loop-i-preserved g c = λ head a values begins given many fits.
 
 pub returns : goal.returns
 returns g c = λ head a values begins given many fits.
-    all_filled head a values (g.F.FrameStore.content c.args.frames.now) (g.F.FrameStore.content c.loop-i.frames) c.args.n c.loop-i.i c.loop-i.at
+    all_filled head a values (g.F.SegmentFrames.content c.args.frames.now) (g.F.SegmentFrames.content c.loop-i.frames) c.args.n c.loop-i.i c.loop-i.at
     (omega (arith, many)) (c.loop-i.invariant head a values begins given many fits)

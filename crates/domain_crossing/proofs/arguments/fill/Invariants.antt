@@ -9,6 +9,6 @@ use Rattle.domain_crossing.proofs.arguments.fill.Given as goal
 
 abbrev pub invariant-loop-i : goal.invariant-loop-i
 invariant-loop-i g l =
-    (head : FrameHead) (a : ℕ) (values : List Value) → BeginsWith (g.F.FrameStore.content l.fn.frames) l.n head (Held.Obj a ∷ [])
-    → AreGiven (g.F.FrameStore.content l.fn.frames) l.s l.copies values → length values ≡ l.count → FitsLocals head (Held.Obj a ∷ values)
-    → IsFilled head a values (g.F.FrameStore.content l.fn.frames) (g.F.FrameStore.content l.frames) l.n l.i l.at
+    (head : FrameHead) (a : ℕ) (values : List Value) → BeginsWith (g.F.SegmentFrames.content l.fn.frames) l.n head (Held.Obj a ∷ [])
+    → AreGiven (g.F.SegmentFrames.content l.fn.frames) l.s l.copies values → length values ≡ l.count → FitsLocals head (Held.Obj a ∷ values)
+    → IsFilled head a values (g.F.SegmentFrames.content l.fn.frames) (g.F.SegmentFrames.content l.frames) l.n l.i l.at

@@ -11,7 +11,7 @@ pub loop-above-preserved : goal.loop-above-preserved
 loop-above-preserved g c = λ values on many k low v at. elim (less_or_same k c.loop-above.above low) [
   | inl before ↦ c.loop-above.invariant values on many k before v at
   | inr same ↦
-      let read = peeked (g.F.FrameStore.content c.args.frames.now) c.args.s values on c.loop-above.above c.peek.result (omega (arith, many))
+      let read = peeked (g.F.SegmentFrames.content c.args.frames.now) c.args.s values on c.loop-above.above c.peek.result (omega (arith, many))
       c.peek.ensures in
       let one : c.peek.result ≡ v =
       same_Some c.peek.result v (sym read ∙ ap (λ (n : ℕ). slice_get values (length values - 1 - n)) (sym same) ∙ at) in

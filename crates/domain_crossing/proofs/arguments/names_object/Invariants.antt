@@ -7,5 +7,5 @@ use Rattle.domain_crossing.proofs.arguments.names_object.Given as goal
 
 abbrev pub invariant-loop-above : goal.invariant-loop-above
 invariant-loop-above g l =
-    (values : List Value) → HasOnTop (g.F.FrameStore.content l.frames) l.s values → length values ≡ l.count → (k : ℕ) → k < l.above → (v : Value)
+    (values : List Value) → HasOnTop (g.F.SegmentFrames.content l.frames) l.s values → length values ≡ l.count → (k : ℕ) → k < l.above → (v : Value)
     → slice_get values (length values - 1 - k) ≡ Some v → IsNoObject v

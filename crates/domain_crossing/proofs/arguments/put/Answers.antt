@@ -10,7 +10,7 @@ pub returns-in-Long : goal.returns-in-Long
 returns-in-Long g c = λ head before top is fits.
     let two = ap (λ (v : Value). length (as_locals v)) c.in-Long.is in
     let all = locals_length before c.args.v in (
-      one_put (g.F.FrameStore.content c.args.frames.now) (g.F.FrameStore.content c.set_local.new.self) c.args.n head before c.args.v c.args.at is top fits
+      one_put (g.F.SegmentFrames.content c.args.frames.now) (g.F.SegmentFrames.content c.set_local.new.self) c.args.n head before c.args.v c.args.at is top fits
           c.set_local.ensures,
       omega (arith, is, all, two),
     )
@@ -19,7 +19,7 @@ pub returns-in_default : goal.returns-in_default
 returns-in_default g c = λ head before top is fits.
     let one = one_local c.args.v c.in_default.not-Long in
     let all = locals_length before c.args.v in (
-      one_put (g.F.FrameStore.content c.args.frames.now) (g.F.FrameStore.content c.set_local.new.self) c.args.n head before c.args.v c.args.at is top fits
+      one_put (g.F.SegmentFrames.content c.args.frames.now) (g.F.SegmentFrames.content c.set_local.new.self) c.args.n head before c.args.v c.args.at is top fits
           c.set_local.ensures,
       omega (arith, is, all, one),
     )

@@ -28,7 +28,7 @@ begin-requires-clause-admitted g c = c.requires.arrives.admitted
 pub begin-requires-clause-new : goal.begin-requires-clause-new
 begin-requires-clause-new g c =
     let number : c.push-n.result ≡ next_segment c.args.shared.now = (λ i. record { 0 = c.push-n.ensures.number i }) in
-    ap (g.F.FrameStore.content c.args.frames.now).segment number ∙ c.requires.arrives.new
+    ap (g.F.SegmentFrames.content c.args.frames.now).segment number ∙ c.requires.arrives.new
 
 pub begin-requires-clause-local : goal.begin-requires-clause-local
 begin-requires-clause-local g c =
@@ -37,7 +37,7 @@ begin-requires-clause-local g c =
 
 pub fill-requires-clause-apart : goal.fill-requires-clause-apart
 fill-requires-clause-apart g c =
-    let old = g.F.FrameStore.content c.args.frames.now in
+    let old = g.F.SegmentFrames.content c.args.frames.now in
     let s = c.args.caller.now.segment in
     let owner = c.args.callee.now.owner in
     let head = c.args.callee.now.head in
@@ -47,13 +47,13 @@ fill-requires-clause-apart g c =
 
 pub fill-requires-clause-fits : goal.fill-requires-clause-fits
 fill-requires-clause-fits g c =
-    let old = g.F.FrameStore.content c.args.frames.now in
+    let old = g.F.SegmentFrames.content c.args.frames.now in
     let s = c.args.caller.now.segment in
     let owner = c.args.callee.now.owner in
     let head = c.args.callee.now.head in
     let target = c.args.callee.now.target in
     let number : c.push-n.result ≡ next_segment c.args.shared.now = (λ i. record { 0 = c.push-n.ensures.number i }) in
-    let begun = g.F.FrameStore.content c.begin.new.frames in
+    let begun = g.F.SegmentFrames.content c.begin.new.frames in
     let differ = apart_from old s c.requires.fits.0 c.push-n.result (ap old.segment number ∙ c.requires.arrives.new) in (
       head,
       target,
@@ -72,14 +72,14 @@ fill-requires-clause-fits g c =
 
 pub drop_entries-requires : goal.drop_entries-requires
 drop_entries-requires g c =
-    let old = g.F.FrameStore.content c.args.frames.now in
+    let old = g.F.SegmentFrames.content c.args.frames.now in
     let s = c.args.caller.now.segment in
     let owner = c.args.callee.now.owner in
     let head = c.args.callee.now.head in
     let target = c.args.callee.now.target in
     let number : c.push-n.result ≡ next_segment c.args.shared.now = (λ i. record { 0 = c.push-n.ensures.number i }) in
-    let begun = g.F.FrameStore.content c.begin.new.frames in
-    let filled = g.F.FrameStore.content c.fill.new.frames in
+    let begun = g.F.SegmentFrames.content c.begin.new.frames in
+    let filled = g.F.SegmentFrames.content c.fill.new.frames in
     let call = c.requires.fits.0 in
     let differ = apart_from old s call c.push-n.result (ap old.segment number ∙ c.requires.arrives.new) in
     let begins : TopFrame begun c.push-n.result (called_frame head (Held.Obj target ∷ [])) = record {
@@ -104,15 +104,15 @@ drop_entries-requires g c =
 
 pub returns-clause-frames : goal.returns-clause-frames
 returns-clause-frames g c = λ call values counted given many fits.
-    let old = g.F.FrameStore.content c.args.frames.now in
+    let old = g.F.SegmentFrames.content c.args.frames.now in
     let s = c.args.caller.now.segment in
     let owner = c.args.callee.now.owner in
     let head = c.args.callee.now.head in
     let target = c.args.callee.now.target in
     let number : c.push-n.result ≡ next_segment c.args.shared.now = (λ i. record { 0 = c.push-n.ensures.number i }) in
-    let begun = g.F.FrameStore.content c.begin.new.frames in
-    let filled = g.F.FrameStore.content c.fill.new.frames in
-    let new = g.F.FrameStore.content c.drop_entries.new.frames in
+    let begun = g.F.SegmentFrames.content c.begin.new.frames in
+    let filled = g.F.SegmentFrames.content c.fill.new.frames in
+    let new = g.F.SegmentFrames.content c.drop_entries.new.frames in
     let differ = apart_from old s call c.push-n.result (ap old.segment number ∙ c.requires.arrives.new) in
     let begins : TopFrame begun c.push-n.result (called_frame head (Held.Obj target ∷ [])) = record {
       segment = record { domain = owner; frames = called_frame head (Held.Obj target ∷ []) ∷ [] };

@@ -11,7 +11,7 @@ use Rattle.domain_crossing.proofs.entering.cross.Goals as goal
 pub names_object-requires : goal.names_object-requires
 names_object-requires g c =
     let call = c.requires.may.0 in
-    (call.given, given_on_top (g.F.FrameStore.content c.args.frames.now) c.args.caller.now.segment call, c.requires.may.1)
+    (call.given, given_on_top (g.F.SegmentFrames.content c.args.frames.now) c.args.caller.now.segment call, c.requires.may.1)
 
 pub arrive-requires-clause-fits : goal.arrive-requires-clause-fits
 arrive-requires-clause-fits g c =
@@ -20,7 +20,7 @@ arrive-requires-clause-fits g c =
     let to = c.args.callee.now.owner in
     let call = c.requires.may.0 in
     let many = c.requires.may.1 in
-    let on = given_on_top (g.F.FrameStore.content c.args.frames.now) c.args.caller.now.segment call in
+    let on = given_on_top (g.F.SegmentFrames.content c.args.frames.now) c.args.caller.now.segment call in
     let none = c.if-names_object.ensures call.given on many refl in (
       call,
       call.given,
@@ -34,7 +34,7 @@ arrive-requires-clause-fits g c =
 pub returns-then-lacks_chunks : goal.returns-then-lacks_chunks
 returns-then-lacks_chunks g c = λ call many fit.
     let heap = g.H.ObjectStore.content c.args.heap.now in
-    let on = given_on_top (g.F.FrameStore.content c.args.frames.now) c.args.caller.now.segment call in
+    let on = given_on_top (g.F.SegmentFrames.content c.args.frames.now) c.args.caller.now.segment call in
     let none = c.if-names_object.ensures call.given on many refl in
     EntersSo.has_no_chunks heap (nothing_refused heap c.args.w.now c.args.caller.now.domain c.args.callee.now.owner call.given none) (heap_same heap)
     (c.if-lacks_chunks.ensures.lacks.0 refl)
@@ -42,11 +42,11 @@ returns-then-lacks_chunks g c = λ call many fit.
 pub returns : goal.returns
 returns g c = λ call many fit.
     let heap = g.H.ObjectStore.content c.args.heap.now in
-    let old = g.F.FrameStore.content c.args.frames.now in
+    let old = g.F.SegmentFrames.content c.args.frames.now in
     let from = c.args.caller.now.domain in
     let to = c.args.callee.now.owner in
     let x : Crossing = record { world = c.args.w.now; heap = heap; from = from; to = to } in
-    let after = g.F.FrameStore.content c.arrive.new.frames in
+    let after = g.F.SegmentFrames.content c.arrive.new.frames in
     let on = given_on_top old c.args.caller.now.segment call in
     let none = c.if-names_object.ensures call.given on many refl in
     let answer = nothing_refused heap c.args.w.now from to call.given none in

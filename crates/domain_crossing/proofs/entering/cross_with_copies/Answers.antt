@@ -16,13 +16,13 @@ use Rattle.domain_crossing.proofs.entering.cross_with_copies.Goals as goal
 pub entries-values-requires-clause-on_top : goal.entries-values-requires-clause-on_top
 entries-values-requires-clause-on_top g c =
     let call = c.requires.may.0 in
-    (call.given, given_on_top (g.F.FrameStore.content c.args.frames.now) c.args.caller.now.segment call, c.requires.may.1)
+    (call.given, given_on_top (g.F.SegmentFrames.content c.args.frames.now) c.args.caller.now.segment call, c.requires.may.1)
 
 pub copy_unless-requires : goal.copy_unless-requires
 copy_unless-requires g c =
     let call = c.requires.may.0 in
     let heap = g.H.ObjectStore.content c.args.heap.now in
-    let on = given_on_top (g.F.FrameStore.content c.args.frames.now) c.args.caller.now.segment call in
+    let on = given_on_top (g.F.SegmentFrames.content c.args.frames.now) c.args.caller.now.segment call in
     subst (λ (vs : List Value). MayCopy heap c.args.w.now c.args.caller.now.domain c.args.callee.now.owner vs)
     (sym (c.entries-values.ensures call.given on c.requires.may.1)) c.requires.may.2
 
@@ -32,7 +32,7 @@ returns-in-NotCopiable g c = λ call many fit.
     let new = g.H.ObjectStore.content c.copy_unless.new.heap in
     let from = c.args.caller.now.domain in
     let to = c.args.callee.now.owner in
-    let on = given_on_top (g.F.FrameStore.content c.args.frames.now) c.args.caller.now.segment call in
+    let on = given_on_top (g.F.SegmentFrames.content c.args.frames.now) c.args.caller.now.segment call in
     let read = c.entries-values.ensures call.given on many in
     let not : Answered.NotCopiable c.in-NotCopiable.field-0 ≢ Answered.Copied = (λ e. cc) in
     EntersSo.is_uncopied c.in-NotCopiable.field-0 new
@@ -45,7 +45,7 @@ returns-in-NoRoom g c = λ call many fit.
     let new = g.H.ObjectStore.content c.copy_unless.new.heap in
     let from = c.args.caller.now.domain in
     let to = c.args.callee.now.owner in
-    let on = given_on_top (g.F.FrameStore.content c.args.frames.now) c.args.caller.now.segment call in
+    let on = given_on_top (g.F.SegmentFrames.content c.args.frames.now) c.args.caller.now.segment call in
     let read = c.entries-values.ensures call.given on many in
     let not : Answered.NoRoom c.in-NoRoom.field-0 ≢ Answered.Copied = (λ e. cc) in
     EntersSo.has_no_room c.in-NoRoom.field-0 new
@@ -58,7 +58,7 @@ returns-then-lacks g c = λ call many fit.
     let new = g.H.ObjectStore.content c.copy_unless.new.heap in
     let from = c.args.caller.now.domain in
     let to = c.args.callee.now.owner in
-    let on = given_on_top (g.F.FrameStore.content c.args.frames.now) c.args.caller.now.segment call in
+    let on = given_on_top (g.F.SegmentFrames.content c.args.frames.now) c.args.caller.now.segment call in
     let read = c.entries-values.ensures call.given on many in
     EntersSo.has_no_chunks new
     (subst (λ (vs : List Value). CopyAnswers heap c.args.w.now from to vs Answered.Copied) read c.in-Copied.ensures.answer)
@@ -72,7 +72,7 @@ arrive-requires-clause-fits g c =
     let to = c.args.callee.now.owner in
     let call = c.requires.may.0 in
     let many = c.requires.may.1 in
-    let on = given_on_top (g.F.FrameStore.content c.args.frames.now) c.args.caller.now.segment call in
+    let on = given_on_top (g.F.SegmentFrames.content c.args.frames.now) c.args.caller.now.segment call in
     let read = c.entries-values.ensures call.given on many in
     let values = c.copy_unless.new.values in
     let answer = subst (λ (vs : List Value). CopyAnswers heap c.args.w.now from to vs Answered.Copied) read c.in-Copied.ensures.answer in
@@ -90,11 +90,11 @@ pub returns : goal.returns
 returns g c = λ call many fit.
     let heap = g.H.ObjectStore.content c.args.heap.now in
     let new = g.H.ObjectStore.content c.copy_unless.new.heap in
-    let old = g.F.FrameStore.content c.args.frames.now in
+    let old = g.F.SegmentFrames.content c.args.frames.now in
     let from = c.args.caller.now.domain in
     let to = c.args.callee.now.owner in
     let x : Crossing = record { world = c.args.w.now; heap = heap; from = from; to = to } in
-    let after = g.F.FrameStore.content c.arrive.new.frames in
+    let after = g.F.SegmentFrames.content c.arrive.new.frames in
     let on = given_on_top old c.args.caller.now.segment call in
     let read = c.entries-values.ensures call.given on many in
     let values = c.copy_unless.new.values in

@@ -4,7 +4,7 @@ use Rattle.machine_parts.specs.MachineParts.{MachineParts}
 use Rattle.domain_crossing.specs.declared.answers.Crossed.{Crossed}
 use Rattle.domain_crossing.specs.EnteringCalls.{EntersSo}
 use Rattle.domain_crossing.specs.PassedValues.{Crossing}
-use Rattle.domain_crossing.proofs.CallsAsked.{IsCalled, answered, arrives, as_many, copied, few, few_params, fit, fits, given_out, has_stub, here, is_method, refuses, runs, unchanged}
+use Rattle.domain_crossing.proofs.CallsAsked.{IsCalled, answered, arrives, as_many, copied, few, few_params, fit, fits, given_out, has_stub, here, is_method, refuses, runs, stubs_kept, unchanged}
 use Rattle.domain_crossing.proofs.CallsEnter.{frames_same, home_of}
 use Rattle.domain_crossing.proofs.SegmentsArrive.{heap_same}
 use Rattle.domain_crossing.proofs.TopsTakenOff.{over, shared_apart}
@@ -17,7 +17,7 @@ find_callee-requires-clause-given g c =
       owns = c.requires.may.0;
       shared = c.args.shared.now;
       heap = g.H.ObjectStore.content c.args.heap.now;
-      frames = g.F.FrameStore.content c.args.frames.now;
+      frames = g.F.SegmentFrames.content c.args.frames.now;
     } in
     let t = c.args.t in
     let k = c.args.k in
@@ -31,7 +31,7 @@ find_callee-requires-clause-stub g c =
       owns = c.requires.may.0;
       shared = c.args.shared.now;
       heap = g.H.ObjectStore.content c.args.heap.now;
-      frames = g.F.FrameStore.content c.args.frames.now;
+      frames = g.F.SegmentFrames.content c.args.frames.now;
     } in
     let t = c.args.t in
     let k = c.args.k in
@@ -45,7 +45,7 @@ returns-in-Err-clause-answer g c = λ owns may.
       owns = owns;
       shared = c.args.shared.now;
       heap = g.H.ObjectStore.content c.args.heap.now;
-      frames = g.F.FrameStore.content c.args.frames.now;
+      frames = g.F.SegmentFrames.content c.args.frames.now;
     } in
     let t = c.args.t in
     let k = c.args.k in
@@ -54,7 +54,7 @@ returns-in-Err-clause-answer g c = λ owns may.
 
 pub returns-in-Err-clause-as_before : goal.returns-in-Err-clause-as_before
 returns-in-Err-clause-as_before g c = λ r e.
-    (refl, heap_same (g.H.ObjectStore.content c.args.heap.now), frames_same (g.F.FrameStore.content c.args.frames.now))
+    (refl, heap_same (g.H.ObjectStore.content c.args.heap.now), frames_same (g.F.SegmentFrames.content c.args.frames.now))
 
 pub returns-in-Err-clause-fitting : goal.returns-in-Err-clause-fitting
 returns-in-Err-clause-fitting g c = λ owns fit. fit
@@ -67,7 +67,7 @@ caller_of-caller-requires-clause-apart g c =
       owns = c.requires.may.0;
       shared = c.args.shared.now;
       heap = g.H.ObjectStore.content c.args.heap.now;
-      frames = g.F.FrameStore.content c.args.frames.now;
+      frames = g.F.SegmentFrames.content c.args.frames.now;
     } in
     let t = c.args.t in
     let k = c.args.k in
@@ -82,7 +82,7 @@ caller_of-caller-requires-clause-method g c =
       owns = c.requires.may.0;
       shared = c.args.shared.now;
       heap = g.H.ObjectStore.content c.args.heap.now;
-      frames = g.F.FrameStore.content c.args.frames.now;
+      frames = g.F.SegmentFrames.content c.args.frames.now;
     } in
     let t = c.args.t in
     let k = c.args.k in
@@ -97,7 +97,7 @@ caller_of-caller-requires-clause-top g c =
       owns = c.requires.may.0;
       shared = c.args.shared.now;
       heap = g.H.ObjectStore.content c.args.heap.now;
-      frames = g.F.FrameStore.content c.args.frames.now;
+      frames = g.F.SegmentFrames.content c.args.frames.now;
     } in
     let t = c.args.t in
     let k = c.args.k in
@@ -112,7 +112,7 @@ cross-requires-clause-arrives g c =
       owns = c.requires.may.0;
       shared = c.args.shared.now;
       heap = g.H.ObjectStore.content c.args.heap.now;
-      frames = g.F.FrameStore.content c.args.frames.now;
+      frames = g.F.SegmentFrames.content c.args.frames.now;
     } in
     let t = c.args.t in
     let k = c.args.k in
@@ -136,7 +136,7 @@ cross-requires-clause-few g c =
       owns = c.requires.may.0;
       shared = c.args.shared.now;
       heap = g.H.ObjectStore.content c.args.heap.now;
-      frames = g.F.FrameStore.content c.args.frames.now;
+      frames = g.F.SegmentFrames.content c.args.frames.now;
     } in
     let t = c.args.t in
     let k = c.args.k in
@@ -160,7 +160,7 @@ cross-requires-clause-may g c =
       owns = c.requires.may.0;
       shared = c.args.shared.now;
       heap = g.H.ObjectStore.content c.args.heap.now;
-      frames = g.F.FrameStore.content c.args.frames.now;
+      frames = g.F.SegmentFrames.content c.args.frames.now;
     } in
     let t = c.args.t in
     let k = c.args.k in
@@ -187,7 +187,7 @@ returns-clause-answer g c = λ owns may.
       owns = owns;
       shared = c.args.shared.now;
       heap = g.H.ObjectStore.content c.args.heap.now;
-      frames = g.F.FrameStore.content c.args.frames.now;
+      frames = g.F.SegmentFrames.content c.args.frames.now;
     } in
     let t = c.args.t in
     let k = c.args.k in
@@ -202,7 +202,7 @@ returns-clause-answer g c = λ owns may.
       count = c.caller_of-caller.ensures.given may.call.named (is_method p t k m may);
     } in
     let heap = g.H.ObjectStore.content c.cross.new.heap in
-    let after = g.F.FrameStore.content c.cross.new.frames in
+    let after = g.F.SegmentFrames.content c.cross.new.frames in
     let done = c.cross.ensures (here p t k m may callee caller called) (as_many p t k m may callee caller called)
     (fit p t k m may callee caller called) in
     answered p t k m may callee caller called c.cross.result heap c.cross.new.shared after done
@@ -215,7 +215,7 @@ returns-clause-as_before g c = λ r e.
       owns = c.requires.may.0;
       shared = c.args.shared.now;
       heap = g.H.ObjectStore.content c.args.heap.now;
-      frames = g.F.FrameStore.content c.args.frames.now;
+      frames = g.F.SegmentFrames.content c.args.frames.now;
     } in
     let t = c.args.t in
     let k = c.args.k in
@@ -230,12 +230,40 @@ returns-clause-as_before g c = λ r e.
       count = c.caller_of-caller.ensures.given may.call.named (is_method p t k m may);
     } in
     let heap = g.H.ObjectStore.content c.cross.new.heap in
-    let after = g.F.FrameStore.content c.cross.new.frames in
+    let after = g.F.SegmentFrames.content c.cross.new.frames in
     let done = c.cross.ensures (here p t k m may callee caller called) (as_many p t k m may callee caller called)
     (fit p t k m may callee caller called) in
     let crossing : Crossing = record { world = p.world; heap = p.heap; from = caller.domain; to = callee.owner } in
     unchanged p t k m may callee caller called r heap c.cross.new.shared after
     (subst (λ (x : Crossed). EntersSo crossing c.args.shared.now (here p t k m may callee caller called) t callee x heap c.cross.new.shared after) e done)
+
+pub returns-clause-stubs : goal.returns-clause-stubs
+returns-clause-stubs g c =
+    let may = c.requires.may.1 in
+    let p : MachineParts = record {
+      world = c.args.w.now;
+      owns = c.requires.may.0;
+      shared = c.args.shared.now;
+      heap = g.H.ObjectStore.content c.args.heap.now;
+      frames = g.F.SegmentFrames.content c.args.frames.now;
+    } in
+    let t = c.args.t in
+    let k = c.args.k in
+    let m = c.args.method in
+    let callee = c.in-Ok.callee in
+    let caller = c.caller_of-caller.result in
+    let top = over p t may.cross may.call.place in
+    let called : IsCalled p t k m may callee caller = record {
+      run = runs p t k m may callee c.in-Ok.ensures;
+      at = c.caller_of-caller.ensures.segment top;
+      domain = c.caller_of-caller.ensures.domain top ∙ home_of p t may.cross may.call;
+      count = c.caller_of-caller.ensures.given may.call.named (is_method p t k m may);
+    } in
+    let heap = g.H.ObjectStore.content c.cross.new.heap in
+    let after = g.F.SegmentFrames.content c.cross.new.frames in
+    let done = c.cross.ensures (here p t k m may callee caller called) (as_many p t k m may callee caller called)
+    (fit p t k m may callee caller called) in
+    stubs_kept (here p t k m may callee caller called) t callee c.cross.result heap c.cross.new.shared after done
 
 pub returns-clause-fitting : goal.returns-clause-fitting
 returns-clause-fitting g c = λ owns fit_before.
@@ -245,7 +273,7 @@ returns-clause-fitting g c = λ owns fit_before.
       owns = c.requires.may.0;
       shared = c.args.shared.now;
       heap = g.H.ObjectStore.content c.args.heap.now;
-      frames = g.F.FrameStore.content c.args.frames.now;
+      frames = g.F.SegmentFrames.content c.args.frames.now;
     } in
     let t = c.args.t in
     let k = c.args.k in
@@ -260,7 +288,7 @@ returns-clause-fitting g c = λ owns fit_before.
       count = c.caller_of-caller.ensures.given may.call.named (is_method p t k m may);
     } in
     let heap = g.H.ObjectStore.content c.cross.new.heap in
-    let after = g.F.FrameStore.content c.cross.new.frames in
+    let after = g.F.SegmentFrames.content c.cross.new.frames in
     let done = c.cross.ensures (here p t k m may callee caller called) (as_many p t k m may callee caller called)
     (fit p t k m may callee caller called) in
     fits p t k m may callee caller called c.cross.result heap c.cross.new.shared after done owns fit_before

@@ -18,7 +18,7 @@ take_off-taken-requires-clause-apart g c =
       owns = c.requires.may.0;
       shared = c.args.shared.now;
       heap = g.H.ObjectStore.content c.args.heap.now;
-      frames = g.F.FrameStore.content c.args.frames.now;
+      frames = g.F.SegmentFrames.content c.args.frames.now;
     } in
     let t = c.args.t in
     shared_apart p t may.cross may.runs
@@ -31,7 +31,7 @@ take_off-taken-requires-clause-top g c =
       owns = c.requires.may.0;
       shared = c.args.shared.now;
       heap = g.H.ObjectStore.content c.args.heap.now;
-      frames = g.F.FrameStore.content c.args.frames.now;
+      frames = g.F.SegmentFrames.content c.args.frames.now;
     } in
     let t = c.args.t in
     (over p t may.cross may.runs, top_there p t may.cross may.runs)
@@ -43,11 +43,11 @@ returns-in_default-clause-answer g c = λ owns may.
       owns = owns;
       shared = c.args.shared.now;
       heap = g.H.ObjectStore.content c.args.heap.now;
-      frames = g.F.FrameStore.content c.args.frames.now;
+      frames = g.F.SegmentFrames.content c.args.frames.now;
     } in
     let t = c.args.t in
     let left = c.take_off-taken.result in
-    let frames = g.F.FrameStore.content c.take_off-taken.new.frames in
+    let frames = g.F.SegmentFrames.content c.take_off-taken.new.frames in
     let h : HasTaken p t may.cross may.runs left frames = record {
       told = c.take_off-taken.ensures.told (over p t may.cross may.runs);
       ends = c.take_off-taken.ensures.frames (over p t may.cross may.runs);
@@ -64,11 +64,11 @@ returns-in_default-clause-fitting g c = λ owns fit.
       owns = c.requires.may.0;
       shared = c.args.shared.now;
       heap = g.H.ObjectStore.content c.args.heap.now;
-      frames = g.F.FrameStore.content c.args.frames.now;
+      frames = g.F.SegmentFrames.content c.args.frames.now;
     } in
     let t = c.args.t in
     let left = c.take_off-taken.result in
-    let frames = g.F.FrameStore.content c.take_off-taken.new.frames in
+    let frames = g.F.SegmentFrames.content c.take_off-taken.new.frames in
     let h : HasTaken p t may.cross may.runs left frames = record {
       told = c.take_off-taken.ensures.told (over p t may.cross may.runs);
       ends = c.take_off-taken.ensures.frames (over p t may.cross may.runs);
@@ -84,11 +84,11 @@ set_revoked-requires g c =
       owns = c.requires.may.0;
       shared = c.args.shared.now;
       heap = g.H.ObjectStore.content c.args.heap.now;
-      frames = g.F.FrameStore.content c.args.frames.now;
+      frames = g.F.SegmentFrames.content c.args.frames.now;
     } in
     let t = c.args.t in
     let left = c.take_off-taken.result in
-    let frames = g.F.FrameStore.content c.take_off-taken.new.frames in
+    let frames = g.F.SegmentFrames.content c.take_off-taken.new.frames in
     let h : HasTaken p t may.cross may.runs left frames = record {
       told = c.take_off-taken.ensures.told (over p t may.cross may.runs);
       ends = c.take_off-taken.ensures.frames (over p t may.cross may.runs);
@@ -103,11 +103,11 @@ returns-then-taken-clause-answer g c = λ owns may.
       owns = owns;
       shared = c.args.shared.now;
       heap = g.H.ObjectStore.content c.args.heap.now;
-      frames = g.F.FrameStore.content c.args.frames.now;
+      frames = g.F.SegmentFrames.content c.args.frames.now;
     } in
     let t = c.args.t in
     let left = c.take_off-taken.result in
-    let frames = g.F.FrameStore.content c.take_off-taken.new.frames in
+    let frames = g.F.SegmentFrames.content c.take_off-taken.new.frames in
     let h : HasTaken p t may.cross may.runs left frames = record {
       told = c.take_off-taken.ensures.told (over p t may.cross may.runs);
       ends = c.take_off-taken.ensures.frames (over p t may.cross may.runs);
@@ -125,11 +125,11 @@ returns-then-taken-clause-fitting g c = λ owns fit.
       owns = c.requires.may.0;
       shared = c.args.shared.now;
       heap = g.H.ObjectStore.content c.args.heap.now;
-      frames = g.F.FrameStore.content c.args.frames.now;
+      frames = g.F.SegmentFrames.content c.args.frames.now;
     } in
     let t = c.args.t in
     let left = c.take_off-taken.result in
-    let frames = g.F.FrameStore.content c.take_off-taken.new.frames in
+    let frames = g.F.SegmentFrames.content c.take_off-taken.new.frames in
     let h : HasTaken p t may.cross may.runs left frames = record {
       told = c.take_off-taken.ensures.told (over p t may.cross may.runs);
       ends = c.take_off-taken.ensures.frames (over p t may.cross may.runs);
@@ -145,11 +145,11 @@ give-requires-clause-copy g c = λ v is.
       owns = c.requires.may.0;
       shared = c.args.shared.now;
       heap = g.H.ObjectStore.content c.args.heap.now;
-      frames = g.F.FrameStore.content c.args.frames.now;
+      frames = g.F.SegmentFrames.content c.args.frames.now;
     } in
     let t = c.args.t in
     let left = c.take_off-taken.result in
-    let frames = g.F.FrameStore.content c.take_off-taken.new.frames in
+    let frames = g.F.SegmentFrames.content c.take_off-taken.new.frames in
     let h : HasTaken p t may.cross may.runs left frames = record {
       told = c.take_off-taken.ensures.told (over p t may.cross may.runs);
       ends = c.take_off-taken.ensures.frames (over p t may.cross may.runs);
@@ -164,11 +164,11 @@ give-requires-clause-resume g c =
       owns = c.requires.may.0;
       shared = c.args.shared.now;
       heap = g.H.ObjectStore.content c.args.heap.now;
-      frames = g.F.FrameStore.content c.args.frames.now;
+      frames = g.F.SegmentFrames.content c.args.frames.now;
     } in
     let t = c.args.t in
     let left = c.take_off-taken.result in
-    let frames = g.F.FrameStore.content c.take_off-taken.new.frames in
+    let frames = g.F.SegmentFrames.content c.take_off-taken.new.frames in
     let h : HasTaken p t may.cross may.runs left frames = record {
       told = c.take_off-taken.ensures.told (over p t may.cross may.runs);
       ends = c.take_off-taken.ensures.frames (over p t may.cross may.runs);
@@ -182,17 +182,17 @@ returns-clause-answer g c = λ owns may.
       owns = owns;
       shared = c.args.shared.now;
       heap = g.H.ObjectStore.content c.args.heap.now;
-      frames = g.F.FrameStore.content c.args.frames.now;
+      frames = g.F.SegmentFrames.content c.args.frames.now;
     } in
     let t = c.args.t in
     let left = c.take_off-taken.result in
-    let frames = g.F.FrameStore.content c.take_off-taken.new.frames in
+    let frames = g.F.SegmentFrames.content c.take_off-taken.new.frames in
     let h : HasTaken p t may.cross may.runs left frames = record {
       told = c.take_off-taken.ensures.told (over p t may.cross may.runs);
       ends = c.take_off-taken.ensures.frames (over p t may.cross may.runs);
     } in
     let heap = g.H.ObjectStore.content c.give.new.heap in
-    let after = g.F.FrameStore.content c.give.new.frames in
+    let after = g.F.SegmentFrames.content c.give.new.frames in
     subst (λ (s : SharedState). LeavesByReturn (machine_of p) t c.args.returned c.give.result
     (machine_of (record { world = p.world; owns = owns; shared = s; heap = heap; frames = after }))) (sym c.take_off-taken.ensures.shared)
     (given p t may.cross may.runs left frames h c.in-Some.below c.in-Some.is c.args.returned may.taken c.if-taken.false c.give.result heap after
@@ -206,17 +206,17 @@ returns-clause-fitting g c = λ owns fit.
       owns = c.requires.may.0;
       shared = c.args.shared.now;
       heap = g.H.ObjectStore.content c.args.heap.now;
-      frames = g.F.FrameStore.content c.args.frames.now;
+      frames = g.F.SegmentFrames.content c.args.frames.now;
     } in
     let t = c.args.t in
     let left = c.take_off-taken.result in
-    let frames = g.F.FrameStore.content c.take_off-taken.new.frames in
+    let frames = g.F.SegmentFrames.content c.take_off-taken.new.frames in
     let h : HasTaken p t may.cross may.runs left frames = record {
       told = c.take_off-taken.ensures.told (over p t may.cross may.runs);
       ends = c.take_off-taken.ensures.frames (over p t may.cross may.runs);
     } in
     let heap = g.H.ObjectStore.content c.give.new.heap in
-    let after = g.F.FrameStore.content c.give.new.frames in
+    let after = g.F.SegmentFrames.content c.give.new.frames in
     fits_down p t heap after
     (given p t may.cross may.runs left frames h c.in-Some.below c.in-Some.is c.args.returned may.taken c.if-taken.false c.give.result heap after
     c.give.ensures).1 owns fit c.take_off-taken.new.shared c.take_off-taken.ensures.shared

@@ -19,21 +19,21 @@ push_value-requires g c =
     let f : FrameState = c.requires.0 in
     let many = ap (λ (o : Option Value). length (as_entries o)) c.in-Some.is in (
       _,
-      top_after (g.F.FrameStore.content c.args.frames.now) (g.F.FrameStore.content c.go.new.self) c.args.s _ (c.go.ensures f c.requires.1),
+      top_after (g.F.SegmentFrames.content c.args.frames.now) (g.F.SegmentFrames.content c.go.new.self) c.args.s _ (c.go.ensures f c.requires.1),
       omega (arith, c.requires.2.room, many),
     )
 
 pub returns-in-Some : goal.returns-in-Some
 returns-in-Some g c = λ f top none.
-    let old = g.F.FrameStore.content c.args.frames.now in
-    let mid = g.F.FrameStore.content c.go.new.self in
-    let new = g.F.FrameStore.content c.push_value.new.self in
+    let old = g.F.SegmentFrames.content c.args.frames.now in
+    let mid = g.F.SegmentFrames.content c.go.new.self in
+    let new = g.F.SegmentFrames.content c.push_value.new.self in
     subst (λ (o : Option Value). SetsTop old new c.args.s (resumed o f)) (sym c.in-Some.is)
     (goes_on_with old mid c.args.s f c.head-head.result (c.head-head.ensures f top) none (c.go.ensures f top) new c.in-Some.v c.push_value.ensures)
 
 pub returns-in_default : goal.returns-in_default
 returns-in_default g c = λ f top none.
-    let old = g.F.FrameStore.content c.args.frames.now in
-    let mid = g.F.FrameStore.content c.go.new.self in
+    let old = g.F.SegmentFrames.content c.args.frames.now in
+    let mid = g.F.SegmentFrames.content c.go.new.self in
     subst (λ (o : Option Value). SetsTop old mid c.args.s (resumed o f)) (sym c.in_default.is)
     (goes_on_with_none old mid c.args.s f c.head-head.result (c.head-head.ensures f top) none (c.go.ensures f top))

@@ -36,7 +36,7 @@ segment_below-below-requires-clause-top g c =
 pub end-requires : goal.end-requires
 end-requires g c =
     let top = c.requires.top.0 in
-    subst (λ (n : SegmentNo). IsThere (g.F.FrameStore.content c.args.frames.now) n)
+    subst (λ (n : SegmentNo). IsThere (g.F.SegmentFrames.content c.args.frames.now) n)
     (number_is c.args.shared.now.threads c.requires.apart c.args.t top c.in-Some.segment (sym c.top.ensures ∙ c.in-Some.is)) c.requires.top.1
 
 pub returns-clause-told : goal.returns-clause-told
@@ -56,5 +56,5 @@ returns-clause-told g c = λ top.
 
 pub returns-clause-frames : goal.returns-clause-frames
 returns-clause-frames g c = λ top.
-    subst (λ (n : SegmentNo). Ends (g.F.FrameStore.content c.args.frames.now) (g.F.FrameStore.content c.end.new.self) n)
+    subst (λ (n : SegmentNo). Ends (g.F.SegmentFrames.content c.args.frames.now) (g.F.SegmentFrames.content c.end.new.self) n)
     (sym (number_is c.args.shared.now.threads c.requires.apart c.args.t top c.in-Some.segment (sym c.top.ensures ∙ c.in-Some.is))) c.end.ensures

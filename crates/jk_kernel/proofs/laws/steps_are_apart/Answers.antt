@@ -5,5 +5,5 @@ pub returns : goal.returns
 returns c = λ m new t lines sound steps. record {
   deed = steps.0;
   steps = steps.1;
-  confined = λ p. c.steps_are_confined_without_jk.ensures m new t steps.0 lines p sound.run.0.0 sound.run.0.1 steps.1;
+  confined = λ p. c.steps_are_confined.ensures m new t steps.0 lines p sound.known steps.1;
 }

@@ -16,7 +16,7 @@ returns-clause-some g c =
       owns = k.owns.items;
       shared = k.shared;
       heap = g.H.ObjectStore.content k.heap;
-      frames = g.F.FrameStore.content k.frames;
+      frames = g.F.SegmentFrames.content k.frames;
       main_kind = k.main_kind;
     } in
     subst (λ (m : Machine). IfSome c.next_live.result (λ t. IsNextLive m c.args.above t)) c.k.view_is
@@ -30,7 +30,7 @@ returns-clause-none g c =
       owns = k.owns.items;
       shared = k.shared;
       heap = g.H.ObjectStore.content k.heap;
-      frames = g.F.FrameStore.content k.frames;
+      frames = g.F.SegmentFrames.content k.frames;
       main_kind = k.main_kind;
     } in
     subst (λ (m : Machine). IfNone c.next_live.result ((u : ThreadNo) → c.args.above < u.0 → IsLiveThread m u → ⊥)) c.k.view_is

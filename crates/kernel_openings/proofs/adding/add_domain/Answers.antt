@@ -3,25 +3,24 @@ use Rattle.std.proofs.Common.{◌≡◌, ◌⊎◌, inl, inr, [], ◌∷◌, len
 use Rattle.jk_model.specs.declared.output.Line.TheVariants as Says
 use Rattle.jk_model.specs.declared.output.Place.{Place}
 use Rattle.jk_model.specs.declared.output.Rule.{Rule}
-use Rattle.jk_model.specs.declared.output.Rule.TheVariants.{L1, L2, L5, X1}
+use Rattle.jk_model.specs.declared.output.Rule.TheVariants.{L1, L2, L5}
 use Rattle.jk_model.specs.declared.output.Place.TheVariants.{Whole}
 use Rattle.jk_model_classes.specs.Worlds.{WorldRecord}
 use Rattle.jk_model_sharing.specs.SharedStates.{SharedState}
-use Rattle.machine_laws.specs.MachinesOfRuns.{FolderRefersToNoPackageJk}
 use Rattle.jk_model_folders.specs.FolderRules.{IsFolderFault, IsLive}
 use Rattle.jk_model_machine_state.specs.Machines.{Machine, world_of}
 use Rattle.folder_loader.specs.declared.answers.LoadAnswer.{LoadAnswer}
 use Rattle.folder_loader.specs.declared.answers.LoadAnswer.TheVariants as Loading
 use Rattle.kernel_parts.specs.SoundKernels.{AreKernelParts, KernelContent, kernel_machine}
-use Rattle.kernel_openings.specs.AddedDomains.{Opening}
+use Rattle.kernel_openings.specs.AddedDomains.{AddsDomain, IsCauseOf, Opening, OpensAccepted}
 use Rattle.kernel_openings.specs.declared.answers.AddAnswer.{AddAnswer}
 use Rattle.kernel_openings.specs.declared.answers.AddAnswer.TheVariants as Adding
 use Rattle.kernel_openings.specs.declared.answers.AddAnswer.TheVariants.{ReadFault}
 use Rattle.kernel_openings.specs.LoadedFolders.{IsLoadRefusal}
-use Rattle.kernel_openings.specs.AddedWithoutJk.{IsCauseNow, OpensApart, OpensNow}
 use Rattle.kernel_openings.specs.OpenedParts.{IsWhyNot, OpenParts}
-use Rattle.kernel_openings.proofs.AddedKernels.{apart_so, cause_so, content_again, kernel_so, may_open_so, opened_apart, opens_so, parts_with}
+use Rattle.kernel_openings.proofs.AddedKernels.{cause_so, content_again, kernel_so, may_open_so, opened_accepted, opens_so, parts_with}
 use Rattle.kernel_openings.proofs.LoadingKernels.{as_many, may_load, world_is}
+use Rattle.kernel_openings.proofs.OneAnswer.{no_other, none_opened}
 use Rattle.kernel_openings.proofs.OpeningsAnswered.{cause_of_load, load_calm, load_fault, load_refused, told_by_cause}
 use Rattle.kernel_openings.proofs.adding.add_domain.Goals as goal
 
@@ -44,12 +43,6 @@ load_alone e a rule place refusal (inr (inr is)) = inr (inr (subst (λ (x : Load
 load_live : (e : LoadAnswer) (a : AddAnswer) → IsLoadRefusal e a → e ≡ Loading.Refused L1 Whole → a ≡ Adding.Refused L1 Whole
 load_live e a refusal is = subst (λ (x : LoadAnswer). IsLoadRefusal x a) is refusal
 
-no_l2 : L2 ≡ X1 → ⊥
-no_l2 e = cc
-
-no_l5 : L5 ≡ X1 → ⊥
-no_l5 e = cc
-
 pub load-requires : goal.load-requires
 load-requires g c =
     let k = c.k.inside in
@@ -58,7 +51,7 @@ load-requires g c =
       owns = k.owns.items;
       shared = k.shared;
       heap = g.H.ObjectStore.content k.heap;
-      frames = g.F.FrameStore.content k.frames;
+      frames = g.F.SegmentFrames.content k.frames;
       main_kind = k.main_kind;
     } in
     may_load here c.k.invariant
@@ -71,7 +64,7 @@ open-requires-clause-may g c =
       owns = k.owns.items;
       shared = k.shared;
       heap = g.H.ObjectStore.content k.heap;
-      frames = g.F.FrameStore.content k.frames;
+      frames = g.F.SegmentFrames.content k.frames;
       main_kind = k.main_kind;
     } in
     let loaded = c.in-Ok.ensures.ok in
@@ -90,7 +83,7 @@ invariant_of-k-in-Ok-open g c =
       owns = k.owns.items;
       shared = k.shared;
       heap = g.H.ObjectStore.content k.heap;
-      frames = g.F.FrameStore.content k.frames;
+      frames = g.F.SegmentFrames.content k.frames;
       main_kind = k.main_kind;
     } in
     let loaded = c.in-Ok.ensures.ok in
@@ -99,7 +92,7 @@ invariant_of-k-in-Ok-open g c =
       owns = c.open.new.owns.items;
       shared = c.open.new.shared;
       heap = g.H.ObjectStore.content c.open.new.heap;
-      frames = g.F.FrameStore.content c.open.new.frames;
+      frames = g.F.SegmentFrames.content c.open.new.frames;
     } in
     kernel_so here c.k.invariant c.accepted_folders_stay_sound.ensures loaded.found loaded.are_files c.args.name.now c.in-Ok.loaded c.load.new.world
     loaded.loads
@@ -115,7 +108,7 @@ invariant_of-k-in-Err-open g c =
       owns = k.owns.items;
       shared = k.shared;
       heap = g.H.ObjectStore.content k.heap;
-      frames = g.F.FrameStore.content k.frames;
+      frames = g.F.SegmentFrames.content k.frames;
       main_kind = k.main_kind;
     } in
     let loaded = c.in-Ok.ensures.ok in
@@ -124,7 +117,7 @@ invariant_of-k-in-Err-open g c =
       owns = c.open.new.owns.items;
       shared = c.open.new.shared;
       heap = g.H.ObjectStore.content c.open.new.heap;
-      frames = g.F.FrameStore.content c.open.new.frames;
+      frames = g.F.SegmentFrames.content c.open.new.frames;
     } in
     subst AreKernelParts (sym (content_again here c.k.invariant c.accepted_folders_stay_sound.ensures loaded.found loaded.are_files c.args.name.now
     c.in-Ok.loaded c.load.new.world loaded.loads
@@ -140,9 +133,6 @@ returns-in-Err-clause-ok g c = tt
 pub returns-in-Err-clause-opened : goal.returns-in-Err-clause-opened
 returns-in-Err-clause-opened g c = tt
 
-pub returns-in-Err-clause-apart : goal.returns-in-Err-clause-apart
-returns-in-Err-clause-apart g c = tt
-
 pub returns-in-Err-clause-cause : goal.returns-in-Err-clause-cause
 returns-in-Err-clause-cause g c =
     let k = c.k.inside in
@@ -151,11 +141,11 @@ returns-in-Err-clause-cause g c =
       owns = k.owns.items;
       shared = k.shared;
       heap = g.H.ObjectStore.content k.heap;
-      frames = g.F.FrameStore.content k.frames;
+      frames = g.F.SegmentFrames.content k.frames;
       main_kind = k.main_kind;
     } in
     let o : Opening = record { tree = g.R.Files.tree c.args.files.now; root = c.args.root.now; name = c.args.name.now; quotas = c.args.quotas } in
-    subst (λ (m : Machine). IsCauseNow o m c.not_loaded.result) c.k.view_is
+    subst (λ (m : Machine). IsCauseOf o m c.not_loaded.result) c.k.view_is
     (cause_of_load o (kernel_machine here) k.world (world_is here c.k.invariant) c.in-Err.e c.not_loaded.result c.not_loaded.ensures
     (λ rule place is. c.load.ensures.refused rule place (c.in-Err.is ∙ ap Err is))
     (λ t rule place told is. c.load.ensures.folder_fault t rule place told (c.in-Err.is ∙ ap Err is)))
@@ -168,12 +158,12 @@ returns-in-Err-clause-refused g c =
       owns = k.owns.items;
       shared = k.shared;
       heap = g.H.ObjectStore.content k.heap;
-      frames = g.F.FrameStore.content k.frames;
+      frames = g.F.SegmentFrames.content k.frames;
       main_kind = k.main_kind;
     } in
     let o : Opening = record { tree = g.R.Files.tree c.args.files.now; root = c.args.root.now; name = c.args.name.now; quotas = c.args.quotas } in
     λ line is. told_by_cause o c.args.k.now c.not_loaded.result line
-    (subst (λ (m : Machine). IsCauseNow o m c.not_loaded.result) c.k.view_is
+    (subst (λ (m : Machine). IsCauseOf o m c.not_loaded.result) c.k.view_is
     (cause_of_load o (kernel_machine here) k.world (world_is here c.k.invariant) c.in-Err.e c.not_loaded.result c.not_loaded.ensures
     (λ rule place is. c.load.ensures.refused rule place (c.in-Err.is ∙ ap Err is))
     (λ t rule place told is. c.load.ensures.folder_fault t rule place told (c.in-Err.is ∙ ap Err is)))) is
@@ -186,13 +176,31 @@ returns-in-Err-clause-only_refused g c = λ t rule place told fault.
       owns = k.owns.items;
       shared = k.shared;
       heap = g.H.ObjectStore.content k.heap;
-      frames = g.F.FrameStore.content k.frames;
+      frames = g.F.SegmentFrames.content k.frames;
       main_kind = k.main_kind;
     } in
     let there : IsFolderFault t c.args.root.now k.world c.args.name.now rule place =
     subst (λ (w : WorldRecord). IsFolderFault t c.args.root.now w c.args.name.now rule place) (world_is here c.k.invariant)
     (subst (λ (m : Machine). IsFolderFault t c.args.root.now (world_of m) c.args.name.now rule place) (sym c.k.view_is) fault) in
     load_alone c.in-Err.e c.not_loaded.result rule place c.not_loaded.ensures (c.in-Err.ensures.only_refused t rule place told there)
+
+pub returns-in-Err-clause-only_lacking : goal.returns-in-Err-clause-only_lacking
+returns-in-Err-clause-only_lacking g c =
+    let k = c.k.inside in
+    let here : KernelContent = record {
+      world = k.world;
+      owns = k.owns.items;
+      shared = k.shared;
+      heap = g.H.ObjectStore.content k.heap;
+      frames = g.F.SegmentFrames.content k.frames;
+      main_kind = k.main_kind;
+    } in
+    let o : Opening = record { tree = g.R.Files.tree c.args.files.now; root = c.args.root.now; name = c.args.name.now; quotas = c.args.quotas } in
+    λ t e told lacking why. no_other c.folders_have_one_verdict.ensures.loaded o c.args.k.now t told e c.not_loaded.result lacking why
+    (subst (λ (m : Machine). IsCauseOf o m c.not_loaded.result) c.k.view_is
+    (cause_of_load o (kernel_machine here) k.world (world_is here c.k.invariant) c.in-Err.e c.not_loaded.result c.not_loaded.ensures
+    (λ rule place is. c.load.ensures.refused rule place (c.in-Err.is ∙ ap Err is))
+    (λ t rule place told is. c.load.ensures.folder_fault t rule place told (c.in-Err.is ∙ ap Err is))))
 
 pub returns-in-Err-clause-err : goal.returns-in-Err-clause-err
 returns-in-Err-clause-err g c =
@@ -202,7 +210,7 @@ returns-in-Err-clause-err g c =
       owns = k.owns.items;
       shared = k.shared;
       heap = g.H.ObjectStore.content k.heap;
-      frames = g.F.FrameStore.content k.frames;
+      frames = g.F.SegmentFrames.content k.frames;
       main_kind = k.main_kind;
     } in
     ap (λ (w : WorldRecord). kernel_machine (record {
@@ -259,7 +267,7 @@ returns-in-Err-clause-live g c = λ live.
       owns = k.owns.items;
       shared = k.shared;
       heap = g.H.ObjectStore.content k.heap;
-      frames = g.F.FrameStore.content k.frames;
+      frames = g.F.SegmentFrames.content k.frames;
       main_kind = k.main_kind;
     } in
     let there : IsLive k.world c.args.name.now =
@@ -275,7 +283,7 @@ returns-in-Err-clause-live_asks g c = λ live.
       owns = k.owns.items;
       shared = k.shared;
       heap = g.H.ObjectStore.content k.heap;
-      frames = g.F.FrameStore.content k.frames;
+      frames = g.F.SegmentFrames.content k.frames;
       main_kind = k.main_kind;
     } in
     let there : IsLive k.world c.args.name.now =
@@ -297,7 +305,7 @@ returns-in-Ok-open-clause-number g c =
       owns = k.owns.items;
       shared = k.shared;
       heap = g.H.ObjectStore.content k.heap;
-      frames = g.F.FrameStore.content k.frames;
+      frames = g.F.SegmentFrames.content k.frames;
       main_kind = k.main_kind;
     } in
     c.domain_count.ensures.count ∙ sym (as_many here c.k.invariant) ∙ ap (λ (m : Machine). length m.domains) c.k.view_is
@@ -310,7 +318,7 @@ returns-in-Ok-open-clause-ok g c =
       owns = k.owns.items;
       shared = k.shared;
       heap = g.H.ObjectStore.content k.heap;
-      frames = g.F.FrameStore.content k.frames;
+      frames = g.F.SegmentFrames.content k.frames;
       main_kind = k.main_kind;
     } in
     let loaded = c.in-Ok.ensures.ok in
@@ -319,10 +327,10 @@ returns-in-Ok-open-clause-ok g c =
       owns = c.open.new.owns.items;
       shared = c.open.new.shared;
       heap = g.H.ObjectStore.content c.open.new.heap;
-      frames = g.F.FrameStore.content c.open.new.frames;
+      frames = g.F.SegmentFrames.content c.open.new.frames;
     } in
     let o : Opening = record { tree = g.R.Files.tree c.args.files.now; root = c.args.root.now; name = c.args.name.now; quotas = c.args.quotas } in
-    subst (λ (m : Machine). OpensNow o m (Says.Loaded c.args.name.now ∷ []) (kernel_machine (record {
+    subst (λ (m : Machine). AddsDomain o m (Says.Loaded c.args.name.now ∷ []) (kernel_machine (record {
       world = new.world;
       owns = new.owns;
       shared = new.shared;
@@ -344,7 +352,7 @@ returns-in-Ok-open-clause-opened g c =
       owns = k.owns.items;
       shared = k.shared;
       heap = g.H.ObjectStore.content k.heap;
-      frames = g.F.FrameStore.content k.frames;
+      frames = g.F.SegmentFrames.content k.frames;
       main_kind = k.main_kind;
     } in
     let loaded = c.in-Ok.ensures.ok in
@@ -353,9 +361,9 @@ returns-in-Ok-open-clause-opened g c =
       owns = c.open.new.owns.items;
       shared = c.open.new.shared;
       heap = g.H.ObjectStore.content c.open.new.heap;
-      frames = g.F.FrameStore.content c.open.new.frames;
+      frames = g.F.SegmentFrames.content c.open.new.frames;
     } in
-    subst (λ (m : Machine). OpensApart m c.args.name.now c.args.quotas (kernel_machine (record {
+    subst (λ (m : Machine). OpensAccepted m c.args.name.now c.args.quotas (kernel_machine (record {
       world = new.world;
       owns = new.owns;
       shared = new.shared;
@@ -363,34 +371,8 @@ returns-in-Ok-open-clause-opened g c =
       frames = new.frames;
       main_kind = k.main_kind;
     }))) c.k.view_is
-    (opened_apart here c.k.invariant c.accepted_folders_stay_sound.ensures loaded.found loaded.are_files c.args.name.now c.in-Ok.loaded
+    (opened_accepted here c.k.invariant c.accepted_folders_stay_sound.ensures loaded.found loaded.are_files c.args.name.now c.in-Ok.loaded
     c.load.new.world loaded.loads
-    c.in-Ok.ensures.typed c.holds.ensures.ordered (g.met.H.ObjectStore.holds k.heap) (g.met.F.FrameStore.holds k.frames) c.is_sound.ensures c.args.quotas
-    (g.R.Files.tree c.args.files.now) c.args.root.now loaded.are_told
-    new (g.met.H.ObjectStore.holds c.open.new.heap) c.in-Ok-open.ensures.ok)
-
-pub returns-in-Ok-open-clause-apart : goal.returns-in-Ok-open-clause-apart
-returns-in-Ok-open-clause-apart g c =
-    let k = c.k.inside in
-    let here : KernelContent = record {
-      world = k.world;
-      owns = k.owns.items;
-      shared = k.shared;
-      heap = g.H.ObjectStore.content k.heap;
-      frames = g.F.FrameStore.content k.frames;
-      main_kind = k.main_kind;
-    } in
-    let loaded = c.in-Ok.ensures.ok in
-    let new : OpenParts = record {
-      world = c.open.new.world;
-      owns = c.open.new.owns.items;
-      shared = c.open.new.shared;
-      heap = g.H.ObjectStore.content c.open.new.heap;
-      frames = g.F.FrameStore.content c.open.new.frames;
-    } in
-    subst (λ (m : Machine). FolderRefersToNoPackageJk c.open.new.world.classes (record { 0 = length m.classes })) c.k.view_is
-    (apart_so here c.k.invariant c.accepted_folders_stay_sound.ensures loaded.found loaded.are_files c.args.name.now c.in-Ok.loaded c.load.new.world
-    loaded.loads
     c.in-Ok.ensures.typed c.holds.ensures.ordered (g.met.H.ObjectStore.holds k.heap) (g.met.F.FrameStore.holds k.frames) c.is_sound.ensures c.args.quotas
     (g.R.Files.tree c.args.files.now) c.args.root.now loaded.are_told
     new (g.met.H.ObjectStore.holds c.open.new.heap) c.in-Ok-open.ensures.ok)
@@ -409,13 +391,48 @@ returns-in-Ok-open-clause-only_refused g c = λ t rule place told fault.
       owns = k.owns.items;
       shared = k.shared;
       heap = g.H.ObjectStore.content k.heap;
-      frames = g.F.FrameStore.content k.frames;
+      frames = g.F.SegmentFrames.content k.frames;
       main_kind = k.main_kind;
     } in
     let there : IsFolderFault t c.args.root.now k.world c.args.name.now rule place =
     subst (λ (w : WorldRecord). IsFolderFault t c.args.root.now w c.args.name.now rule place) (world_is here c.k.invariant)
     (subst (λ (m : Machine). IsFolderFault t c.args.root.now (world_of m) c.args.name.now rule place) (sym c.k.view_is) fault) in
     absurd (c.in-Ok.ensures.only_refused t rule place told there)
+
+pub returns-in-Ok-open-clause-only_lacking : goal.returns-in-Ok-open-clause-only_lacking
+returns-in-Ok-open-clause-only_lacking g c =
+    let k = c.k.inside in
+    let here : KernelContent = record {
+      world = k.world;
+      owns = k.owns.items;
+      shared = k.shared;
+      heap = g.H.ObjectStore.content k.heap;
+      frames = g.F.SegmentFrames.content k.frames;
+      main_kind = k.main_kind;
+    } in
+    let loaded = c.in-Ok.ensures.ok in
+    let new : OpenParts = record {
+      world = c.open.new.world;
+      owns = c.open.new.owns.items;
+      shared = c.open.new.shared;
+      heap = g.H.ObjectStore.content c.open.new.heap;
+      frames = g.F.SegmentFrames.content c.open.new.frames;
+    } in
+    let o : Opening = record { tree = g.R.Files.tree c.args.files.now; root = c.args.root.now; name = c.args.name.now; quotas = c.args.quotas } in
+    λ t e told lacking why. none_opened o c.args.k.now _ e lacking why
+    (subst (λ (m : Machine). AddsDomain o m (Says.Loaded c.args.name.now ∷ []) (kernel_machine (record {
+      world = new.world;
+      owns = new.owns;
+      shared = new.shared;
+      heap = new.heap;
+      frames = new.frames;
+      main_kind = k.main_kind;
+    }))) c.k.view_is
+    (opens_so here c.k.invariant c.accepted_folders_stay_sound.ensures loaded.found loaded.are_files c.args.name.now c.in-Ok.loaded c.load.new.world
+    loaded.loads
+    c.in-Ok.ensures.typed c.holds.ensures.ordered (g.met.H.ObjectStore.holds k.heap) (g.met.F.FrameStore.holds k.frames) c.is_sound.ensures c.args.quotas
+    (g.R.Files.tree c.args.files.now) c.args.root.now loaded.are_told
+    new (g.met.H.ObjectStore.holds c.open.new.heap) c.in-Ok-open.ensures.ok))
 
 pub returns-in-Ok-open-clause-err : goal.returns-in-Ok-open-clause-err
 returns-in-Ok-open-clause-err g c = tt
@@ -461,7 +478,7 @@ returns-in-Ok-open-clause-live g c = λ live.
       owns = k.owns.items;
       shared = k.shared;
       heap = g.H.ObjectStore.content k.heap;
-      frames = g.F.FrameStore.content k.frames;
+      frames = g.F.SegmentFrames.content k.frames;
       main_kind = k.main_kind;
     } in
     let there : IsLive k.world c.args.name.now =
@@ -477,7 +494,7 @@ returns-in-Ok-open-clause-live_asks g c = λ live.
       owns = k.owns.items;
       shared = k.shared;
       heap = g.H.ObjectStore.content k.heap;
-      frames = g.F.FrameStore.content k.frames;
+      frames = g.F.SegmentFrames.content k.frames;
       main_kind = k.main_kind;
     } in
     let there : IsLive k.world c.args.name.now =
@@ -500,9 +517,6 @@ returns-in-Err-open-clause-ok g c = tt
 pub returns-in-Err-open-clause-opened : goal.returns-in-Err-open-clause-opened
 returns-in-Err-open-clause-opened g c = tt
 
-pub returns-in-Err-open-clause-apart : goal.returns-in-Err-open-clause-apart
-returns-in-Err-open-clause-apart g c = tt
-
 pub returns-in-Err-open-clause-cause : goal.returns-in-Err-open-clause-cause
 returns-in-Err-open-clause-cause g c =
     let k = c.k.inside in
@@ -511,12 +525,12 @@ returns-in-Err-open-clause-cause g c =
       owns = k.owns.items;
       shared = k.shared;
       heap = g.H.ObjectStore.content k.heap;
-      frames = g.F.FrameStore.content k.frames;
+      frames = g.F.SegmentFrames.content k.frames;
       main_kind = k.main_kind;
     } in
     let o : Opening = record { tree = g.R.Files.tree c.args.files.now; root = c.args.root.now; name = c.args.name.now; quotas = c.args.quotas } in
     let loaded = c.in-Ok.ensures.ok in
-    subst (λ (m : Machine). IsCauseNow o m c.in-Err-open.e) c.k.view_is
+    subst (λ (m : Machine). IsCauseOf o m c.in-Err-open.e) c.k.view_is
     (cause_so here c.k.invariant c.accepted_folders_stay_sound.ensures loaded.found loaded.are_files c.args.name.now c.in-Ok.loaded c.load.new.world
     loaded.loads
     c.in-Ok.ensures.typed c.holds.ensures.ordered (g.met.H.ObjectStore.holds k.heap) (g.met.F.FrameStore.holds k.frames) c.is_sound.ensures c.args.quotas
@@ -531,13 +545,13 @@ returns-in-Err-open-clause-refused g c =
       owns = k.owns.items;
       shared = k.shared;
       heap = g.H.ObjectStore.content k.heap;
-      frames = g.F.FrameStore.content k.frames;
+      frames = g.F.SegmentFrames.content k.frames;
       main_kind = k.main_kind;
     } in
     let o : Opening = record { tree = g.R.Files.tree c.args.files.now; root = c.args.root.now; name = c.args.name.now; quotas = c.args.quotas } in
     let loaded = c.in-Ok.ensures.ok in
     λ line is. told_by_cause o c.args.k.now c.in-Err-open.e line
-    (subst (λ (m : Machine). IsCauseNow o m c.in-Err-open.e) c.k.view_is
+    (subst (λ (m : Machine). IsCauseOf o m c.in-Err-open.e) c.k.view_is
     (cause_so here c.k.invariant c.accepted_folders_stay_sound.ensures loaded.found loaded.are_files c.args.name.now c.in-Ok.loaded c.load.new.world
     loaded.loads
     c.in-Ok.ensures.typed c.holds.ensures.ordered (g.met.H.ObjectStore.holds k.heap) (g.met.F.FrameStore.holds k.frames) c.is_sound.ensures c.args.quotas
@@ -552,13 +566,34 @@ returns-in-Err-open-clause-only_refused g c = λ t rule place told fault.
       owns = k.owns.items;
       shared = k.shared;
       heap = g.H.ObjectStore.content k.heap;
-      frames = g.F.FrameStore.content k.frames;
+      frames = g.F.SegmentFrames.content k.frames;
       main_kind = k.main_kind;
     } in
     let there : IsFolderFault t c.args.root.now k.world c.args.name.now rule place =
     subst (λ (w : WorldRecord). IsFolderFault t c.args.root.now w c.args.name.now rule place) (world_is here c.k.invariant)
     (subst (λ (m : Machine). IsFolderFault t c.args.root.now (world_of m) c.args.name.now rule place) (sym c.k.view_is) fault) in
     absurd (c.in-Ok.ensures.only_refused t rule place told there)
+
+pub returns-in-Err-open-clause-only_lacking : goal.returns-in-Err-open-clause-only_lacking
+returns-in-Err-open-clause-only_lacking g c =
+    let k = c.k.inside in
+    let here : KernelContent = record {
+      world = k.world;
+      owns = k.owns.items;
+      shared = k.shared;
+      heap = g.H.ObjectStore.content k.heap;
+      frames = g.F.SegmentFrames.content k.frames;
+      main_kind = k.main_kind;
+    } in
+    let o : Opening = record { tree = g.R.Files.tree c.args.files.now; root = c.args.root.now; name = c.args.name.now; quotas = c.args.quotas } in
+    let loaded = c.in-Ok.ensures.ok in
+    λ t e told lacking why. no_other c.folders_have_one_verdict.ensures.loaded o c.args.k.now t told e c.in-Err-open.e lacking why
+    (subst (λ (m : Machine). IsCauseOf o m c.in-Err-open.e) c.k.view_is
+    (cause_so here c.k.invariant c.accepted_folders_stay_sound.ensures loaded.found loaded.are_files c.args.name.now c.in-Ok.loaded c.load.new.world
+    loaded.loads
+    c.in-Ok.ensures.typed c.holds.ensures.ordered (g.met.H.ObjectStore.holds k.heap) (g.met.F.FrameStore.holds k.frames) c.is_sound.ensures c.args.quotas
+    (g.R.Files.tree c.args.files.now) c.args.root.now loaded.are_told
+    c.in-Err-open.e c.in-Err-open.ensures.cause))
 
 pub returns-in-Err-open-clause-err : goal.returns-in-Err-open-clause-err
 returns-in-Err-open-clause-err g c =
@@ -568,7 +603,7 @@ returns-in-Err-open-clause-err g c =
       owns = k.owns.items;
       shared = k.shared;
       heap = g.H.ObjectStore.content k.heap;
-      frames = g.F.FrameStore.content k.frames;
+      frames = g.F.SegmentFrames.content k.frames;
       main_kind = k.main_kind;
     } in
     let loaded = c.in-Ok.ensures.ok in
@@ -577,7 +612,7 @@ returns-in-Err-open-clause-err g c =
       owns = c.open.new.owns.items;
       shared = c.open.new.shared;
       heap = g.H.ObjectStore.content c.open.new.heap;
-      frames = g.F.FrameStore.content c.open.new.frames;
+      frames = g.F.SegmentFrames.content c.open.new.frames;
     } in
     ap kernel_machine (content_again here c.k.invariant c.accepted_folders_stay_sound.ensures loaded.found loaded.are_files c.args.name.now
     c.in-Ok.loaded c.load.new.world loaded.loads
@@ -592,10 +627,10 @@ returns-in-Err-open-clause-read_fault g c =
       owns = k.owns.items;
       shared = k.shared;
       heap = g.H.ObjectStore.content k.heap;
-      frames = g.F.FrameStore.content k.frames;
+      frames = g.F.SegmentFrames.content k.frames;
       main_kind = k.main_kind;
     } in
-    λ e. absurd (subst (IsWhyNot (parts_with here c.load.new.world) c.in-Ok.loaded c.args.quotas) (same_error e) c.in-Err-open.ensures.cause)
+    λ e. absurd (subst (IsWhyNot (parts_with here c.load.new.world) c.args.quotas) (same_error e) c.in-Err-open.ensures.cause)
 
 pub returns-in-Err-open-clause-something : goal.returns-in-Err-open-clause-something
 returns-in-Err-open-clause-something g c =
@@ -605,10 +640,10 @@ returns-in-Err-open-clause-something g c =
       owns = k.owns.items;
       shared = k.shared;
       heap = g.H.ObjectStore.content k.heap;
-      frames = g.F.FrameStore.content k.frames;
+      frames = g.F.SegmentFrames.content k.frames;
       main_kind = k.main_kind;
     } in
-    λ e. absurd (subst (IsWhyNot (parts_with here c.load.new.world) c.in-Ok.loaded c.args.quotas) (same_error e) c.in-Err-open.ensures.cause)
+    λ e. absurd (subst (IsWhyNot (parts_with here c.load.new.world) c.args.quotas) (same_error e) c.in-Err-open.ensures.cause)
 
 pub returns-in-Err-open-clause-calm : goal.returns-in-Err-open-clause-calm
 returns-in-Err-open-clause-calm g c = λ t told other. c.load.ensures.calm t told (λ fault. ok_isnt_err (sym c.in-Ok.is ∙ fault))
@@ -636,11 +671,10 @@ returns-in-Err-open-clause-no_folder g c = λ e.
       owns = k.owns.items;
       shared = k.shared;
       heap = g.H.ObjectStore.content k.heap;
-      frames = g.F.FrameStore.content k.frames;
+      frames = g.F.SegmentFrames.content k.frames;
       main_kind = k.main_kind;
     } in
-    let why = subst (IsWhyNot (parts_with here c.load.new.world) c.in-Ok.loaded c.args.quotas) (same_error e) c.in-Err-open.ensures.cause in
-    absurd (no_l2 why.0)
+    absurd (subst (IsWhyNot (parts_with here c.load.new.world) c.args.quotas) (same_error e) c.in-Err-open.ensures.cause)
 
 pub returns-in-Err-open-clause-missed : goal.returns-in-Err-open-clause-missed
 returns-in-Err-open-clause-missed g c = λ e.
@@ -650,11 +684,10 @@ returns-in-Err-open-clause-missed g c = λ e.
       owns = k.owns.items;
       shared = k.shared;
       heap = g.H.ObjectStore.content k.heap;
-      frames = g.F.FrameStore.content k.frames;
+      frames = g.F.SegmentFrames.content k.frames;
       main_kind = k.main_kind;
     } in
-    let why = subst (IsWhyNot (parts_with here c.load.new.world) c.in-Ok.loaded c.args.quotas) (same_error e) c.in-Err-open.ensures.cause in
-    absurd (no_l2 why.0)
+    absurd (subst (IsWhyNot (parts_with here c.load.new.world) c.args.quotas) (same_error e) c.in-Err-open.ensures.cause)
 
 pub returns-in-Err-open-clause-large : goal.returns-in-Err-open-clause-large
 returns-in-Err-open-clause-large g c = λ e.
@@ -664,11 +697,10 @@ returns-in-Err-open-clause-large g c = λ e.
       owns = k.owns.items;
       shared = k.shared;
       heap = g.H.ObjectStore.content k.heap;
-      frames = g.F.FrameStore.content k.frames;
+      frames = g.F.SegmentFrames.content k.frames;
       main_kind = k.main_kind;
     } in
-    let why = subst (IsWhyNot (parts_with here c.load.new.world) c.in-Ok.loaded c.args.quotas) (same_error e) c.in-Err-open.ensures.cause in
-    absurd (no_l5 why.0)
+    absurd (subst (IsWhyNot (parts_with here c.load.new.world) c.args.quotas) (same_error e) c.in-Err-open.ensures.cause)
 
 pub returns-in-Err-open-clause-live : goal.returns-in-Err-open-clause-live
 returns-in-Err-open-clause-live g c = λ live.
@@ -678,7 +710,7 @@ returns-in-Err-open-clause-live g c = λ live.
       owns = k.owns.items;
       shared = k.shared;
       heap = g.H.ObjectStore.content k.heap;
-      frames = g.F.FrameStore.content k.frames;
+      frames = g.F.SegmentFrames.content k.frames;
       main_kind = k.main_kind;
     } in
     let there : IsLive k.world c.args.name.now =
@@ -694,7 +726,7 @@ returns-in-Err-open-clause-live_asks g c = λ live.
       owns = k.owns.items;
       shared = k.shared;
       heap = g.H.ObjectStore.content k.heap;
-      frames = g.F.FrameStore.content k.frames;
+      frames = g.F.SegmentFrames.content k.frames;
       main_kind = k.main_kind;
     } in
     let there : IsLive k.world c.args.name.now =

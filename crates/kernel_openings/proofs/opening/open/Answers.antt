@@ -12,7 +12,6 @@ use Rattle.class_init.specs.KeptStates.{HasFirstRooms, KeptState}
 use Rattle.kernel_openings.specs.StandingObjects.{MakesStanding}
 use Rattle.object_store.specs.HeapContents.{Admits}
 use Rattle.frame_store.specs.FrameContents.{Admits as AdmitsStack}
-use Rattle.machine_laws.specs.MachinesOfRuns.{FolderRefersToNoPackageJk}
 use Rattle.kernel_openings.specs.OpenedParts.{next_number}
 use Rattle.kernel_openings.specs.OpenedParts.{OpenParts as Parts}
 use Rattle.kernel_openings.proofs.ClosedStores.{heap_again, stack_again}
@@ -20,7 +19,7 @@ use Rattle.kernel_openings.proofs.OpenedOrNot.{admitted_places, why_full, why_no
 use Rattle.kernel_openings.proofs.opening.open.Goals as goal
 
 pub make-requires : goal.make-requires
-make-requires g c = record { there = λ x named. subst (λ (t : List ClassRecord). HasClass t x) (sym c.classes-2.ensures) (c.requires.may.there x named) }
+make-requires g c = record { there = λ x named. subst (λ (t : List ClassRecord). HasClass t x) (sym c.classes.ensures) (c.requires.may.there x named) }
 
 pub returns-in_err-reserve_own-clause-cause : goal.returns-in_err-reserve_own-clause-cause
 returns-in_err-reserve_own-clause-cause g c =
@@ -30,16 +29,14 @@ returns-in_err-reserve_own-clause-cause g c =
       owns = c.args.owns.now.items;
       shared = c.args.shared.now;
       heap = g.H.ObjectStore.content c.args.heap.now;
-      frames = g.F.FrameStore.content c.args.frames.now;
+      frames = g.F.SegmentFrames.content c.args.frames.now;
     }
     in
-    why_no_memory old c.args.loaded c.args.quotas.now c.from_residual-in_err-reserve_own.result c.from_residual-in_err-reserve_own.ensures.1
+    why_no_memory old c.args.quotas.now c.from_residual-in_err-reserve_own.result c.from_residual-in_err-reserve_own.ensures.1
 
 pub returns-in-Err-NoExtent-clause-cause : goal.returns-in-Err-NoExtent-clause-cause
-returns-in-Err-NoExtent-clause-cause g c = (
-  subst (λ (t : List ClassRecord). FolderRefersToNoPackageJk t c.args.loaded.first) c.classes.ensures c.if-refers_to_package_jk.ensures,
-  c.admit_stores.ensures.no_extent (c.in-Err-NoExtent.is ∙ ap (λ (e : AdmitError). Err e) c.in-Err-NoExtent.field-0-is),
-)
+returns-in-Err-NoExtent-clause-cause g c =
+    c.admit_stores.ensures.no_extent (c.in-Err-NoExtent.is ∙ ap (λ (e : AdmitError). Err e) c.in-Err-NoExtent.field-0-is)
 
 pub enter-requires-clause-free : goal.enter-requires-clause-free
 enter-requires-clause-free g c = λ e live. c.requires.may.not_live e (live.0, live.1, live.2, live.3 ∙ c.in_ok-name.ensures ∙ c.as_bytes.ensures.value)
@@ -56,10 +53,10 @@ returns-in-Err-clause-err g c =
           c.args.quotas.now.heap (g.met.H.ObjectStore.holds c.args.heap.now)
           (subst (λ (n : ℕ). (g.H.ObjectStore.content c.args.heap.now).quota (record { 0 = n }) ≡ None) (sym c.domain_count.ensures.count)
           c.requires.may.new_heap) c.in-Ok.ensures.heap c.close.ensures;
-      frames = stack_again (g.F.FrameStore.content c.args.frames.now) (g.F.FrameStore.content c.admit_stores.new.frames)
-          (g.F.FrameStore.content c.close-in-Err.new.self) d
+      frames = stack_again (g.F.SegmentFrames.content c.args.frames.now) (g.F.SegmentFrames.content c.admit_stores.new.frames)
+          (g.F.SegmentFrames.content c.close-in-Err.new.self) d
           c.args.quotas.now.chunks (g.met.F.FrameStore.holds c.args.frames.now)
-          (subst (λ (n : ℕ). (g.F.FrameStore.content c.args.frames.now).quota (record { 0 = n }) ≡ None) (sym c.domain_count.ensures.count)
+          (subst (λ (n : ℕ). (g.F.SegmentFrames.content c.args.frames.now).quota (record { 0 = n }) ≡ None) (sym c.domain_count.ensures.count)
           c.requires.may.new_stack) c.in-Ok.ensures.stack c.close-in-Err.ensures;
     }
 
@@ -71,11 +68,10 @@ returns-in-Err-clause-cause g c =
       owns = c.args.owns.now.items;
       shared = c.args.shared.now;
       heap = g.H.ObjectStore.content c.args.heap.now;
-      frames = g.F.FrameStore.content c.args.frames.now;
+      frames = g.F.SegmentFrames.content c.args.frames.now;
     }
     in
-    why_full old c.args.loaded c.args.quotas.now c.in-Err.e
-    (subst (λ (t : List ClassRecord). FolderRefersToNoPackageJk t c.args.loaded.first) c.classes.ensures c.if-refers_to_package_jk.ensures)
+    why_full old c.args.quotas.now c.in-Err.e
     (admitted_places old c.args.quotas.now c.admit_stores.result c.in-Ok.is c.admit_stores.ensures.only_no_extent)
     c.in-Err.ensures.cause
 
@@ -87,27 +83,26 @@ returns-clause-ok g c =
       owns = c.args.owns.now.items;
       shared = c.args.shared.now;
       heap = g.H.ObjectStore.content c.args.heap.now;
-      frames = g.F.FrameStore.content c.args.frames.now;
+      frames = g.F.SegmentFrames.content c.args.frames.now;
     }
     in
     let number : record { 0 = c.domain_count.result } ≡ next_number old =
     ap (λ (n : ℕ). let d : DomainId = record { 0 = n } in d) c.domain_count.ensures.count in
-    let same_classes : c.classes-3.result.now ≡ c.args.world.now.classes =
-    c.classes-3.ensures ∙ ap (λ (w : WorldRecord). w.classes) c.in_default.ensures.world in
+    let same_classes : c.classes-2.result.now ≡ c.args.world.now.classes =
+    c.classes-2.ensures ∙ ap (λ (w : WorldRecord). w.classes) c.in_default.ensures.world in
     let with_names : DomainId → List ℕ → WorldRecord =
     λ d n. record old.world {
       domains = old.world.domains
           ++ record { id = d; name = n; live = true; table = c.args.loaded.table; offers = c.args.loaded.offers } ∷ [];
     } in
     record {
-      apart = subst (λ (t : List ClassRecord). FolderRefersToNoPackageJk t c.args.loaded.first) c.classes.ensures c.if-refers_to_package_jk.ensures;
       places = admitted_places old c.args.quotas.now c.admit_stores.result c.in-Ok.is c.admit_stores.ensures.only_no_extent;
       numbers = c.in_default.ensures.numbers;
       few = c.in_default.ensures.few;
       before = c.in_ok-own.own;
       own = c.make_standing.new.own;
-      first = subst (λ (t : List ClassRecord). IsFirstState t c.args.loaded.table c.in_ok-own.own.state) c.classes-2.ensures c.in_ok-own.ensures.state;
-      rooms = subst (λ (t : List ClassRecord). HasFirstRooms t c.args.loaded.table c.in_ok-own.own) c.classes-2.ensures c.in_ok-own.ensures.rooms;
+      first = subst (λ (t : List ClassRecord). IsFirstState t c.args.loaded.table c.in_ok-own.own.state) c.classes.ensures c.in_ok-own.ensures.state;
+      rooms = subst (λ (t : List ClassRecord). HasFirstRooms t c.args.loaded.table c.in_ok-own.own) c.classes.ensures c.in_ok-own.ensures.rooms;
       eight = c.holds-2.ensures.standing;
       empty = g.H.ObjectStore.content c.admit_stores.new.heap;
       heap =
@@ -120,7 +115,7 @@ returns-clause-ok g c =
           (g.H.ObjectStore.content c.make_standing.new.heap) t (record { 0 = c.domain_count.result }) c.in_ok-own.own c.make_standing.new.own)
           same_classes c.make_standing.ensures);
       stack =
-          subst (λ (d : DomainId). AdmitsStack old.frames (g.F.FrameStore.content c.admit_stores.new.frames) d c.args.quotas.now.chunks) number
+          subst (λ (d : DomainId). AdmitsStack old.frames (g.F.SegmentFrames.content c.admit_stores.new.frames) d c.args.quotas.now.chunks) number
           c.in-Ok.ensures.stack;
       names_are =
           c.in_default.ensures.world ∙ ap (λ (d : DomainId). with_names d c.in_ok-name.name) number

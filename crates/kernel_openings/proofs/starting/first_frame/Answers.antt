@@ -7,8 +7,9 @@ use Rattle.jk_model_machine_state.specs.Machines.{Machine}
 use Rattle.jk_model_runs.specs.Starts.{StartWords, Starts}
 use Rattle.kernel_parts.specs.SoundKernels.{KernelContent, kernel_machine}
 use Rattle.kernel_openings.specs.FirstFrames.{BeginsMain, MayStart}
+use Rattle.kernel_openings.proofs.NamedDomains.{domain_here}
 use Rattle.kernel_openings.proofs.StartsOfParts.{frames_admitted, heap_admitted, lives_here}
-use Rattle.kernel_openings.proofs.StartsRefused.{domain_here, none_refuses, refused_chunks, refused_class, refused_main, refused_name, refused_threads, refused_words}
+use Rattle.kernel_openings.proofs.StartsRefused.{none_refuses, refused_chunks, refused_class, refused_main, refused_name, refused_threads, refused_words}
 use Rattle.kernel_openings.proofs.starting.first_frame.Goals as goal
 
 pub returns-in_default-clause-refused : goal.returns-in_default-clause-refused
@@ -19,7 +20,7 @@ returns-in_default-clause-refused g c =
       owns = k.owns.items;
       shared = k.shared;
       heap = g.H.ObjectStore.content k.heap;
-      frames = g.F.FrameStore.content k.frames;
+      frames = g.F.SegmentFrames.content k.frames;
       main_kind = k.main_kind;
     } in
     let start : StartWords = record { domain = c.args.name.now; class = c.args.class.now; words = c.args.words.now } in
@@ -34,11 +35,11 @@ returns-in_default-class_named-clause-refused g c =
       owns = k.owns.items;
       shared = k.shared;
       heap = g.H.ObjectStore.content k.heap;
-      frames = g.F.FrameStore.content k.frames;
+      frames = g.F.SegmentFrames.content k.frames;
       main_kind = k.main_kind;
     } in
     let start : StartWords = record { domain = c.args.name.now; class = c.args.class.now; words = c.args.words.now } in
-    let domain = domain_here here c.k.invariant start c.in-Some.domain c.in-Some.ensures c.is_sound.ensures in
+    let domain = domain_here here c.k.invariant start.domain c.in-Some.domain c.in-Some.ensures in
     subst (λ (m : Machine). Starts m start (Says.StartRefused c.args.name.now 2 ∷ []) m) c.k.view_is
     (refused_class here c.k.invariant start c.in-Some.domain c.in-Some.ensures c.is_sound.ensures domain
     (sym (c.class_named.ensures c.in-Some.ensures.0 c.in-Some.ensures.1) ∙ c.in_default-class_named.is))
@@ -51,11 +52,11 @@ returns-in_default-main_of-clause-refused g c =
       owns = k.owns.items;
       shared = k.shared;
       heap = g.H.ObjectStore.content k.heap;
-      frames = g.F.FrameStore.content k.frames;
+      frames = g.F.SegmentFrames.content k.frames;
       main_kind = k.main_kind;
     } in
     let start : StartWords = record { domain = c.args.name.now; class = c.args.class.now; words = c.args.words.now } in
-    let domain = domain_here here c.k.invariant start c.in-Some.domain c.in-Some.ensures c.is_sound.ensures in
+    let domain = domain_here here c.k.invariant start.domain c.in-Some.domain c.in-Some.ensures in
     let named : class_named c.in-Some.ensures.0.table c.args.class.now ≡ Some c.in-Some-class_named.class =
     sym (c.class_named.ensures c.in-Some.ensures.0 c.in-Some.ensures.1) ∙ c.in-Some-class_named.is in
     let same : (kernel_machine here).classes ≡ c.classes.result.now = sym c.classes.ensures in
@@ -72,11 +73,11 @@ may_begin-requires g c =
       owns = k.owns.items;
       shared = k.shared;
       heap = g.H.ObjectStore.content k.heap;
-      frames = g.F.FrameStore.content k.frames;
+      frames = g.F.SegmentFrames.content k.frames;
       main_kind = k.main_kind;
     } in
     let start : StartWords = record { domain = c.args.name.now; class = c.args.class.now; words = c.args.words.now } in
-    let domain = domain_here here c.k.invariant start c.in-Some.domain c.in-Some.ensures c.is_sound.ensures in
+    let domain = domain_here here c.k.invariant start.domain c.in-Some.domain c.in-Some.ensures in
     lives_here here c.k.invariant c.is_sound.ensures c.in-Some.domain domain.live
 
 pub returns-then-not-may_begin-clause-refused : goal.returns-then-not-may_begin-clause-refused
@@ -87,11 +88,11 @@ returns-then-not-may_begin-clause-refused g c =
       owns = k.owns.items;
       shared = k.shared;
       heap = g.H.ObjectStore.content k.heap;
-      frames = g.F.FrameStore.content k.frames;
+      frames = g.F.SegmentFrames.content k.frames;
       main_kind = k.main_kind;
     } in
     let start : StartWords = record { domain = c.args.name.now; class = c.args.class.now; words = c.args.words.now } in
-    let domain = domain_here here c.k.invariant start c.in-Some.domain c.in-Some.ensures c.is_sound.ensures in
+    let domain = domain_here here c.k.invariant start.domain c.in-Some.domain c.in-Some.ensures in
     let named : class_named c.in-Some.ensures.0.table c.args.class.now ≡ Some c.in-Some-class_named.class =
     sym (c.class_named.ensures c.in-Some.ensures.0 c.in-Some.ensures.1) ∙ c.in-Some-class_named.is in
     let same : (kernel_machine here).classes ≡ c.classes.result.now = sym c.classes.ensures in
@@ -110,11 +111,11 @@ free-requires g c =
       owns = k.owns.items;
       shared = k.shared;
       heap = g.H.ObjectStore.content k.heap;
-      frames = g.F.FrameStore.content k.frames;
+      frames = g.F.SegmentFrames.content k.frames;
       main_kind = k.main_kind;
     } in
     let start : StartWords = record { domain = c.args.name.now; class = c.args.class.now; words = c.args.words.now } in
-    let domain = domain_here here c.k.invariant start c.in-Some.domain c.in-Some.ensures c.is_sound.ensures in
+    let domain = domain_here here c.k.invariant start.domain c.in-Some.domain c.in-Some.ensures in
     heap_admitted here c.k.invariant c.is_sound.ensures c.in-Some.domain domain.live
 
 pub returns-then-words_cost-from-clause-refused : goal.returns-then-words_cost-from-clause-refused
@@ -125,11 +126,11 @@ returns-then-words_cost-from-clause-refused g c =
       owns = k.owns.items;
       shared = k.shared;
       heap = g.H.ObjectStore.content k.heap;
-      frames = g.F.FrameStore.content k.frames;
+      frames = g.F.SegmentFrames.content k.frames;
       main_kind = k.main_kind;
     } in
     let start : StartWords = record { domain = c.args.name.now; class = c.args.class.now; words = c.args.words.now } in
-    let domain = domain_here here c.k.invariant start c.in-Some.domain c.in-Some.ensures c.is_sound.ensures in
+    let domain = domain_here here c.k.invariant start.domain c.in-Some.domain c.in-Some.ensures in
     let named : class_named c.in-Some.ensures.0.table c.args.class.now ≡ Some c.in-Some-class_named.class =
     sym (c.class_named.ensures c.in-Some.ensures.0 c.in-Some.ensures.1) ∙ c.in-Some-class_named.is in
     let same : (kernel_machine here).classes ≡ c.classes.result.now = sym c.classes.ensures in
@@ -149,11 +150,11 @@ free-requires-2 g c =
       owns = k.owns.items;
       shared = k.shared;
       heap = g.H.ObjectStore.content k.heap;
-      frames = g.F.FrameStore.content k.frames;
+      frames = g.F.SegmentFrames.content k.frames;
       main_kind = k.main_kind;
     } in
     let start : StartWords = record { domain = c.args.name.now; class = c.args.class.now; words = c.args.words.now } in
-    let domain = domain_here here c.k.invariant start c.in-Some.domain c.in-Some.ensures c.is_sound.ensures in
+    let domain = domain_here here c.k.invariant start.domain c.in-Some.domain c.in-Some.ensures in
     frames_admitted here c.k.invariant c.is_sound.ensures c.in-Some.domain domain.live
 
 pub returns-then-free-chunks_of-clause-refused : goal.returns-then-free-chunks_of-clause-refused
@@ -164,11 +165,11 @@ returns-then-free-chunks_of-clause-refused g c =
       owns = k.owns.items;
       shared = k.shared;
       heap = g.H.ObjectStore.content k.heap;
-      frames = g.F.FrameStore.content k.frames;
+      frames = g.F.SegmentFrames.content k.frames;
       main_kind = k.main_kind;
     } in
     let start : StartWords = record { domain = c.args.name.now; class = c.args.class.now; words = c.args.words.now } in
-    let domain = domain_here here c.k.invariant start c.in-Some.domain c.in-Some.ensures c.is_sound.ensures in
+    let domain = domain_here here c.k.invariant start.domain c.in-Some.domain c.in-Some.ensures in
     let named : class_named c.in-Some.ensures.0.table c.args.class.now ≡ Some c.in-Some-class_named.class =
     sym (c.class_named.ensures c.in-Some.ensures.0 c.in-Some.ensures.1) ∙ c.in-Some-class_named.is in
     let same : (kernel_machine here).classes ≡ c.classes.result.now = sym c.classes.ensures in
@@ -189,11 +190,11 @@ returns-clause-first g c =
       owns = k.owns.items;
       shared = k.shared;
       heap = g.H.ObjectStore.content k.heap;
-      frames = g.F.FrameStore.content k.frames;
+      frames = g.F.SegmentFrames.content k.frames;
       main_kind = k.main_kind;
     } in
     let start : StartWords = record { domain = c.args.name.now; class = c.args.class.now; words = c.args.words.now } in
-    let domain = domain_here here c.k.invariant start c.in-Some.domain c.in-Some.ensures c.is_sound.ensures in
+    let domain = domain_here here c.k.invariant start.domain c.in-Some.domain c.in-Some.ensures in
     let named : class_named c.in-Some.ensures.0.table c.args.class.now ≡ Some c.in-Some-class_named.class =
     sym (c.class_named.ensures c.in-Some.ensures.0 c.in-Some.ensures.1) ∙ c.in-Some-class_named.is in
     let same : (kernel_machine here).classes ≡ c.classes.result.now = sym c.classes.ensures in

@@ -8,12 +8,12 @@ use Rattle.jk_model_classes.specs.declared.records.ClassRecord.{ClassRecord}
 use Rattle.jk_model_sharing.specs.SharedStates.{SharedState}
 use Rattle.jk_model_machine_state.specs.Machines.{Machine}
 use Rattle.jk_model_runs.specs.Starts.{StartWords, Starts}
+use Rattle.machine_laws.proofs.StartsStayKnown.{start_stays_sealed}
 use Rattle.kernel_parts.specs.SoundKernels.{AreKernelParts, KernelContent, kernel_machine, parts_of}
 use Rattle.kernel_openings.specs.FirstFrames.{BeginsSegment, MakesStartWords, MayStart}
 use Rattle.kernel_openings.proofs.PartsByPlace.{same_segment}
 use Rattle.kernel_openings.proofs.StartedMachines.{next_segment, none_there}
 use Rattle.kernel_openings.proofs.StartsOfParts.{chunks_fit, frames_admitted, has_room, heap_admitted, kernel_next, lives_here, live_home, local_fits, may_begin, next, starts_next, words_fit}
-use Rattle.kernel_openings.proofs.StartsStaySealed.{starts_stay_sealed}
 use Rattle.kernel_openings.proofs.starting.start.Goals as goal
 
 pub make_words-array-requires-clause-admitted : goal.make_words-array-requires-clause-admitted
@@ -24,7 +24,7 @@ make_words-array-requires-clause-admitted g c =
       owns = k.owns.items;
       shared = k.shared;
       heap = g.H.ObjectStore.content k.heap;
-      frames = g.F.FrameStore.content k.frames;
+      frames = g.F.SegmentFrames.content k.frames;
       main_kind = k.main_kind;
     } in
     let start : StartWords = record { domain = c.args.name.now; class = c.args.class.now; words = c.args.words.now } in
@@ -42,7 +42,7 @@ make_words-array-requires-clause-room g c =
       owns = k.owns.items;
       shared = k.shared;
       heap = g.H.ObjectStore.content k.heap;
-      frames = g.F.FrameStore.content k.frames;
+      frames = g.F.SegmentFrames.content k.frames;
       main_kind = k.main_kind;
     } in
     let start : StartWords = record { domain = c.args.name.now; class = c.args.class.now; words = c.args.words.now } in
@@ -60,7 +60,7 @@ begin_thread-begun-requires-clause-live g c =
       owns = k.owns.items;
       shared = k.shared;
       heap = g.H.ObjectStore.content k.heap;
-      frames = g.F.FrameStore.content k.frames;
+      frames = g.F.SegmentFrames.content k.frames;
       main_kind = k.main_kind;
     } in
     let start : StartWords = record { domain = c.args.name.now; class = c.args.class.now; words = c.args.words.now } in
@@ -78,7 +78,7 @@ begin_thread-begun-requires-clause-room g c =
       owns = k.owns.items;
       shared = k.shared;
       heap = g.H.ObjectStore.content k.heap;
-      frames = g.F.FrameStore.content k.frames;
+      frames = g.F.SegmentFrames.content k.frames;
       main_kind = k.main_kind;
     } in
     let start : StartWords = record { domain = c.args.name.now; class = c.args.class.now; words = c.args.words.now } in
@@ -96,7 +96,7 @@ begin_thread-begun-requires-clause-may g c =
       owns = k.owns.items;
       shared = k.shared;
       heap = g.H.ObjectStore.content k.heap;
-      frames = g.F.FrameStore.content k.frames;
+      frames = g.F.SegmentFrames.content k.frames;
       main_kind = k.main_kind;
     } in
     let start : StartWords = record { domain = c.args.name.now; class = c.args.class.now; words = c.args.words.now } in
@@ -114,7 +114,7 @@ begin_segment-requires-clause-admitted g c =
       owns = k.owns.items;
       shared = k.shared;
       heap = g.H.ObjectStore.content k.heap;
-      frames = g.F.FrameStore.content k.frames;
+      frames = g.F.SegmentFrames.content k.frames;
       main_kind = k.main_kind;
     } in
     let start : StartWords = record { domain = c.args.name.now; class = c.args.class.now; words = c.args.words.now } in
@@ -132,7 +132,7 @@ begin_segment-requires-clause-new g c =
       owns = k.owns.items;
       shared = k.shared;
       heap = g.H.ObjectStore.content k.heap;
-      frames = g.F.FrameStore.content k.frames;
+      frames = g.F.SegmentFrames.content k.frames;
       main_kind = k.main_kind;
     } in
     let start : StartWords = record { domain = c.args.name.now; class = c.args.class.now; words = c.args.words.now } in
@@ -142,7 +142,7 @@ begin_segment-requires-clause-new g c =
     subst (λ (m : Machine). MayStart m start d head) (sym c.k.view_is) c.in-Ok.ensures.first in
     let number : c.begin_thread-begun.result.segment ≡ next_segment (parts_of here) =
     same_segment (next_segment (parts_of here)) c.begin_thread-begun.result.segment c.begin_thread-begun.ensures.segment in
-    ap (g.F.FrameStore.content k.frames).segment number ∙ none_there (parts_of here) c.k.invariant.sound.fitting c.is_sound.ensures
+    ap (g.F.SegmentFrames.content k.frames).segment number ∙ none_there (parts_of here) c.k.invariant.sound.fitting c.is_sound.ensures
 
 pub begin_segment-requires-clause-room : goal.begin_segment-requires-clause-room
 begin_segment-requires-clause-room g c =
@@ -152,7 +152,7 @@ begin_segment-requires-clause-room g c =
       owns = k.owns.items;
       shared = k.shared;
       heap = g.H.ObjectStore.content k.heap;
-      frames = g.F.FrameStore.content k.frames;
+      frames = g.F.SegmentFrames.content k.frames;
       main_kind = k.main_kind;
     } in
     let start : StartWords = record { domain = c.args.name.now; class = c.args.class.now; words = c.args.words.now } in
@@ -170,7 +170,7 @@ begin_segment-requires-clause-local g c =
       owns = k.owns.items;
       shared = k.shared;
       heap = g.H.ObjectStore.content k.heap;
-      frames = g.F.FrameStore.content k.frames;
+      frames = g.F.SegmentFrames.content k.frames;
       main_kind = k.main_kind;
     } in
     let start : StartWords = record { domain = c.args.name.now; class = c.args.class.now; words = c.args.words.now } in
@@ -188,7 +188,7 @@ invariant_of-k g c =
       owns = k.owns.items;
       shared = k.shared;
       heap = g.H.ObjectStore.content k.heap;
-      frames = g.F.FrameStore.content k.frames;
+      frames = g.F.SegmentFrames.content k.frames;
       main_kind = k.main_kind;
     } in
     let start : StartWords = record { domain = c.args.name.now; class = c.args.class.now; words = c.args.words.now } in
@@ -199,7 +199,7 @@ invariant_of-k g c =
     let number : c.begin_thread-begun.result.segment ≡ next_segment (parts_of here) =
     same_segment (next_segment (parts_of here)) c.begin_thread-begun.result.segment c.begin_thread-begun.ensures.segment in
     let heap = g.H.ObjectStore.content c.make_words-array.new.heap in
-    let frames = g.F.FrameStore.content c.begin_segment.new.frames in
+    let frames = g.F.SegmentFrames.content c.begin_segment.new.frames in
     let words : MakesStartWords here.heap heap k.world.classes d start.words c.make_words-array.result =
     subst (λ (cs : List ClassRecord). MakesStartWords here.heap heap cs d start.words c.make_words-array.result) c.classes.ensures
     c.make_words-array.ensures in
@@ -208,7 +208,7 @@ invariant_of-k g c =
     let holds = g.met.H.ObjectStore.holds c.make_words-array.new.heap in
     let after = next here c.k.invariant c.is_sound.ensures start d head may heap frames c.make_words-array.result holds words segment in
     let starts = starts_next here c.k.invariant c.is_sound.ensures start d head may heap frames c.make_words-array.result holds words segment in
-    let sealed = starts_stay_sealed (kernel_machine here) start _ (kernel_machine after) c.k.invariant.sound.sealed c.k.invariant.sound.sound starts in
+    let sealed = start_stays_sealed (kernel_machine here) start _ (kernel_machine after) c.k.invariant.sound.sealed c.k.invariant.sound.sound starts in
     subst (λ (s : SharedState). AreKernelParts (record here { shared = s; heap = heap; frames = frames })) (sym c.begin_thread-begun.ensures.begun)
     (kernel_next here c.k.invariant c.is_sound.ensures start d head may heap frames c.make_words-array.result holds words segment sealed)
 
@@ -220,7 +220,7 @@ returns g c =
       owns = k.owns.items;
       shared = k.shared;
       heap = g.H.ObjectStore.content k.heap;
-      frames = g.F.FrameStore.content k.frames;
+      frames = g.F.SegmentFrames.content k.frames;
       main_kind = k.main_kind;
     } in
     let start : StartWords = record { domain = c.args.name.now; class = c.args.class.now; words = c.args.words.now } in
@@ -231,7 +231,7 @@ returns g c =
     let number : c.begin_thread-begun.result.segment ≡ next_segment (parts_of here) =
     same_segment (next_segment (parts_of here)) c.begin_thread-begun.result.segment c.begin_thread-begun.ensures.segment in
     let heap = g.H.ObjectStore.content c.make_words-array.new.heap in
-    let frames = g.F.FrameStore.content c.begin_segment.new.frames in
+    let frames = g.F.SegmentFrames.content c.begin_segment.new.frames in
     let words : MakesStartWords here.heap heap k.world.classes d start.words c.make_words-array.result =
     subst (λ (cs : List ClassRecord). MakesStartWords here.heap heap cs d start.words c.make_words-array.result) c.classes.ensures
     c.make_words-array.ensures in

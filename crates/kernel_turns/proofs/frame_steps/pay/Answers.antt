@@ -1,6 +1,6 @@
 -- So many steps were paid at once, which is as many one after another.
 use Rattle.std.proofs.Common.{◌∙◌}
-use Rattle.kernel_turns.proofs.TurnsInTurn.{all_at_once}
+use Rattle.kernel_turns.proofs.PaidTimes.{all_at_once}
 use Rattle.kernel_turns.proofs.frame_steps.pay.Goals as goal
 
 pub returns : goal.returns

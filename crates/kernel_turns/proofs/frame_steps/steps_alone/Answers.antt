@@ -4,7 +4,7 @@ use Rattle.jk_model.specs.declared.identifiers.ThreadNo.{ThreadNo}
 use Rattle.jk_model_machine_state.specs.Machines.{Machine}
 use Rattle.jk_model_runs.specs.Events.{Turns}
 use Rattle.kernel_parts.specs.SoundKernels.{KernelContent, kernel_machine, parts_of}
-use Rattle.machine_laws.specs.KnownMachines.{IsKnownWithoutJk}
+use Rattle.machine_laws.specs.KnownMachines.{IsKnownMachine}
 use Rattle.segment_steps.specs.declared.meeting.Runs.{Runs}
 use Rattle.kernel_turns.proofs.FramesOfThreads.{lives}
 use Rattle.kernel_turns.proofs.SegmentsApart.{apart_in_shared, sealed_apart}
@@ -18,7 +18,7 @@ run_of-requires g c =
       owns = c.k.inside.owns.items;
       shared = c.k.inside.shared;
       heap = g.H.ObjectStore.content c.k.inside.heap;
-      frames = g.F.FrameStore.content c.k.inside.frames;
+      frames = g.F.SegmentFrames.content c.k.inside.frames;
       main_kind = c.k.inside.main_kind;
     } in
     apart_in_shared (parts_of k) (sealed_apart (kernel_machine k) c.k.invariant.sound.sealed)
@@ -30,10 +30,10 @@ within_budget-most-requires g c =
       owns = c.k.inside.owns.items;
       shared = c.k.inside.shared;
       heap = g.H.ObjectStore.content c.k.inside.heap;
-      frames = g.F.FrameStore.content c.k.inside.frames;
+      frames = g.F.SegmentFrames.content c.k.inside.frames;
       main_kind = c.k.inside.main_kind;
     } in
-    let known : IsKnownWithoutJk (kernel_machine k) = subst IsKnownWithoutJk (sym c.k.view_is) c.requires.known in
+    let known : IsKnownMachine (kernel_machine k) = subst IsKnownMachine (sym c.k.view_is) c.requires.known in
     let running = c.in-Some.running in
     let is = c.in-Some.ensures.some in
     lives k c.args.t c.k.invariant known running is
@@ -45,10 +45,10 @@ work_in_domain-requires-clause-may g c =
       owns = c.k.inside.owns.items;
       shared = c.k.inside.shared;
       heap = g.H.ObjectStore.content c.k.inside.heap;
-      frames = g.F.FrameStore.content c.k.inside.frames;
+      frames = g.F.SegmentFrames.content c.k.inside.frames;
       main_kind = c.k.inside.main_kind;
     } in
-    let known : IsKnownWithoutJk (kernel_machine k) = subst IsKnownWithoutJk (sym c.k.view_is) c.requires.known in
+    let known : IsKnownMachine (kernel_machine k) = subst IsKnownMachine (sym c.k.view_is) c.requires.known in
     let running = c.in-Some.running in
     let is = c.in-Some.ensures.some in
     let free = c.is_free.ensures c.if-not-is_free.false in
@@ -62,10 +62,10 @@ invariant_of-k g c =
       owns = c.k.inside.owns.items;
       shared = c.k.inside.shared;
       heap = g.H.ObjectStore.content c.k.inside.heap;
-      frames = g.F.FrameStore.content c.k.inside.frames;
+      frames = g.F.SegmentFrames.content c.k.inside.frames;
       main_kind = c.k.inside.main_kind;
     } in
-    let known : IsKnownWithoutJk (kernel_machine k) = subst IsKnownWithoutJk (sym c.k.view_is) c.requires.known in
+    let known : IsKnownMachine (kernel_machine k) = subst IsKnownMachine (sym c.k.view_is) c.requires.known in
     let running = c.in-Some.running in
     let is = c.in-Some.ensures.some in
     let free = c.is_free.ensures c.if-not-is_free.false in
@@ -79,10 +79,10 @@ returns-clause-event g c =
       owns = c.k.inside.owns.items;
       shared = c.k.inside.shared;
       heap = g.H.ObjectStore.content c.k.inside.heap;
-      frames = g.F.FrameStore.content c.k.inside.frames;
+      frames = g.F.SegmentFrames.content c.k.inside.frames;
       main_kind = c.k.inside.main_kind;
     } in
-    let known : IsKnownWithoutJk (kernel_machine k) = subst IsKnownWithoutJk (sym c.k.view_is) c.requires.known in
+    let known : IsKnownMachine (kernel_machine k) = subst IsKnownMachine (sym c.k.view_is) c.requires.known in
     let running = c.in-Some.running in
     let is = c.in-Some.ensures.some in
     let free = c.is_free.ensures c.if-not-is_free.false in
@@ -93,7 +93,7 @@ returns-clause-event g c =
       owns = c.work_in_domain.new.owns.items;
       shared = c.work_in_domain.new.shared;
       heap = g.H.ObjectStore.content c.work_in_domain.new.heap;
-      frames = g.F.FrameStore.content c.work_in_domain.new.frames;
+      frames = g.F.SegmentFrames.content c.work_in_domain.new.frames;
       main_kind = c.k.inside.main_kind;
     } in
     let thread = ap (λ (r : Runs). r.thread) is.runs_there in

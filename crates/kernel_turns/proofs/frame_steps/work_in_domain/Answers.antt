@@ -1,12 +1,65 @@
--- The own state among those of all is the one of the domain in which it works, and the steps are paid.
-use Rattle.std.proofs.Common.{◌≡◌, Some, slice_set, sym, subst, ◌∙◌}
+-- The own state among those of all is the one of the domain in which it works; what is lent is the segment; and the steps are paid.
+use Rattle.std.proofs.Common.{◌≡◌, Option, Some, is_some, slice_set, sym, ap, subst, ◌∙◌}
 use Rattle.std.proofs.lemmas.Option.{same_Some, slice_get_within}
 use Rattle.jk_model_sharing.specs.SharedStates.{SharedState}
-use Rattle.class_init.specs.KeptStates.{KeptState}
+use Rattle.frame_store.specs.FrameContents.{StoredSegment}
 use Rattle.list_lemmas.proofs.ItemsByPlace.{item_read}
+use Rattle.step_contents.specs.Contents.{contents_of}
+use Rattle.kernel_parts.specs.SoundKernels.{KernelContent}
 use Rattle.kernel_turns.specs.StepsOfThreads.{content_of}
 use Rattle.kernel_turns.specs.WorkingSegments.{MayWork, WorksOn}
+use Rattle.kernel_turns.proofs.LentSteps.{acting_alone, led_in_store}
+use Rattle.kernel_turns.proofs.WorkedSteps.{acting_first, works_on}
+use Rattle.kernel_turns.proofs.WorkingThreads.{has_fewer}
 use Rattle.kernel_turns.proofs.frame_steps.work_in_domain.Goals as goal
+
+pub with_segment-requires-clause-there : goal.with_segment-requires-clause-there
+with_segment-requires-clause-there g c =
+    let own = c.requires.may.0 in
+    let main = c.requires.may.1 in
+    let is = c.requires.may.2 in
+    let there = item_read c.args.owns.now.items c.args.r.domain.0 c.index_mut.result.now
+    (slice_get_within c.args.owns.now.items c.args.r.domain.0 (Some own) is) c.index_mut.ensures.value in
+    let lent : c.index_mut.result.now ≡ Some own = same_Some c.index_mut.result.now (Some own) (sym there ∙ is) in
+    let same : own ≡ c.in-Some.own = same_Some own c.in-Some.own (sym lent ∙ c.in-Some.is) in
+    let k : KernelContent = content_of c.args.w.now c.args.owns.now.items c.args.shared.now (g.H.ObjectStore.content c.args.heap.now)
+    (g.F.SegmentFrames.content c.args.frames.now) main in
+    let acting = acting_first k c.args.r c.in-Some.own (subst (MayWork k c.args.r) same c.requires.may.3)
+    (g.met.F.FrameStore.holds c.args.frames.now) in
+    ap (λ (o : Option StoredSegment). is_some o) acting.may.holds.frames
+
+pub with_segment-requires-clause-may : goal.with_segment-requires-clause-may
+with_segment-requires-clause-may g c =
+    let own = c.requires.may.0 in
+    let main = c.requires.may.1 in
+    let is = c.requires.may.2 in
+    let there = item_read c.args.owns.now.items c.args.r.domain.0 c.index_mut.result.now
+    (slice_get_within c.args.owns.now.items c.args.r.domain.0 (Some own) is) c.index_mut.ensures.value in
+    let lent : c.index_mut.result.now ≡ Some own = same_Some c.index_mut.result.now (Some own) (sym there ∙ is) in
+    let same : own ≡ c.in-Some.own = same_Some own c.in-Some.own (sym lent ∙ c.in-Some.is) in
+    let k : KernelContent = content_of c.args.w.now c.args.owns.now.items c.args.shared.now (g.H.ObjectStore.content c.args.heap.now)
+    (g.F.SegmentFrames.content c.args.frames.now) main in
+    let acting = acting_first k c.args.r c.in-Some.own (subst (MayWork k c.args.r) same c.requires.may.3)
+    (g.met.F.FrameStore.holds c.args.frames.now) in
+    λ one only.
+    acting_alone c.args.w.now c.args.shared.now c.args.r.domain c.args.r.segment (g.F.SegmentFrames.content c.args.frames.now) one only
+    (g.H.ObjectStore.content c.args.heap.now) c.in-Some.own c.args.r.thread acting
+
+pub pay-requires : goal.pay-requires
+pay-requires g c =
+    let done = led_in_store c.args.w.now c.args.shared.now c.args.r.domain c.args.r.segment (g.F.SegmentFrames.content c.args.frames.now)
+    (g.F.SegmentFrames.content c.with_segment.new.self) c.with_segment.ensures.keeps (g.H.ObjectStore.content c.args.heap.now)
+    (g.H.ObjectStore.content c.with_segment.new.a) c.in-Some.own
+    c.with_segment.new.b c.args.r.thread c.with_segment.new.work.count c.args.most c.with_segment.ensures.did in
+    has_fewer c.with_segment.new.work.count c.args.most c.args.r.domain c.args.shared.now done.0 c.requires.budget
+
+pub returns-clause-few : goal.returns-clause-few
+returns-clause-few g c =
+    let done = led_in_store c.args.w.now c.args.shared.now c.args.r.domain c.args.r.segment (g.F.SegmentFrames.content c.args.frames.now)
+    (g.F.SegmentFrames.content c.with_segment.new.self) c.with_segment.ensures.keeps (g.H.ObjectStore.content c.args.heap.now)
+    (g.H.ObjectStore.content c.with_segment.new.a) c.in-Some.own
+    c.with_segment.new.b c.args.r.thread c.with_segment.new.work.count c.args.most c.with_segment.ensures.did in
+    done.0
 
 pub returns-clause-event : goal.returns-clause-event
 returns-clause-event g c = λ own main is may.
@@ -14,12 +67,19 @@ returns-clause-event g c = λ own main is may.
     (slice_get_within c.args.owns.now.items c.args.r.domain.0 (Some own) is) c.index_mut.ensures.value in
     let lent : c.index_mut.result.now ≡ Some own = same_Some c.index_mut.result.now (Some own) (sym there ∙ is) in
     let same : own ≡ c.in-Some.own = same_Some own c.in-Some.own (sym lent ∙ c.in-Some.is) in
-    let heap = g.H.ObjectStore.content c.work_on-done.new.heap in
-    let frames = g.F.FrameStore.content c.work_on-done.new.frames in
-    let k = content_of c.args.w.now c.args.owns.now.items c.args.shared.now (g.H.ObjectStore.content c.args.heap.now)
-    (g.F.FrameStore.content c.args.frames.now) main in
-    let went = c.work_on-done.ensures.event c.args.owns.now.items main (subst (λ (o : KeptState). MayWork k c.args.r o) same may) in
+    let k : KernelContent = content_of c.args.w.now c.args.owns.now.items c.args.shared.now (g.H.ObjectStore.content c.args.heap.now)
+    (g.F.SegmentFrames.content c.args.frames.now) main in
+    let done = led_in_store c.args.w.now c.args.shared.now c.args.r.domain c.args.r.segment (g.F.SegmentFrames.content c.args.frames.now)
+    (g.F.SegmentFrames.content c.with_segment.new.self) c.with_segment.ensures.keeps (g.H.ObjectStore.content c.args.heap.now)
+    (g.H.ObjectStore.content c.with_segment.new.a) c.in-Some.own
+    c.with_segment.new.b c.args.r.thread c.with_segment.new.work.count c.args.most c.with_segment.ensures.did in
+    let heap = g.H.ObjectStore.content c.with_segment.new.a in
+    let frames = g.F.SegmentFrames.content c.with_segment.new.self in
+    let went = works_on k c.args.r c.in-Some.own (subst (MayWork k c.args.r) same may) (g.met.F.FrameStore.holds c.args.frames.now)
+    (record { rows = c.heap_rows_keep.ensures; keep = c.local_steps_keep.ensures; stay = c.steps_stay_known.ensures }) c.with_segment.new.work.count
+    (has_fewer c.with_segment.new.work.count c.args.most c.args.r.domain c.args.shared.now done.0 c.requires.budget)
+    (contents_of heap frames c.with_segment.new.b) done.1 in
     subst
-    (λ (s : SharedState). WorksOn k c.args.r c.work_on-done.result (content_of c.args.w.now
-    (slice_set c.args.owns.now.items c.args.r.domain.0 (Some c.work_on-done.new.own)) s heap frames main))
+    (λ (s : SharedState). WorksOn k c.args.r c.with_segment.new.work.count (content_of c.args.w.now
+    (slice_set c.args.owns.now.items c.args.r.domain.0 (Some c.with_segment.new.b)) s heap frames main))
     (sym c.pay.ensures) went

@@ -34,15 +34,15 @@ returns g c = λ own is.
     (printed c.act-went.result) lines in
     let here = here_at c.args.w.now c.args.shared.now c.args.r.domain c.args.r.segment in
     let left = left_behind
-    (contents_of (g.H.ObjectStore.content c.act-went.new.heap) (g.F.FrameStore.content c.act-went.new.frames) c.act-went.new.own)
+    (contents_of (g.H.ObjectStore.content c.act-went.new.heap) (g.F.SegmentFrames.content c.act-went.new.frames) c.act-went.new.own)
     c.act-went.new.shared in (
       c.act-went.new.own,
       refl,
       c.holds.ensures.literals,
       subst
-          (λ (o : KeptState). ActsSo (contents_of (g.H.ObjectStore.content c.args.heap.now) (g.F.FrameStore.content c.args.frames.now) o)
+          (λ (o : KeptState). ActsSo (contents_of (g.H.ObjectStore.content c.args.heap.now) (g.F.SegmentFrames.content c.args.frames.now) o)
           here c.args.r.thread left (went_so c.act-went.result) Out)
           (sym same)
-          (acts_either (contents_of (g.H.ObjectStore.content c.args.heap.now) (g.F.FrameStore.content c.args.frames.now) c.in-Some.own)
+          (acts_either (contents_of (g.H.ObjectStore.content c.args.heap.now) (g.F.SegmentFrames.content c.args.frames.now) c.in-Some.own)
           here c.args.r.thread left Out c.act-went.result c.act-went.ensures.ok c.act-went.ensures.err),
     )

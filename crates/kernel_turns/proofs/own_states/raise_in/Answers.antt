@@ -1,7 +1,6 @@
 -- The own state among those of all is the one that is raised in.
 use Rattle.std.proofs.Common.{◌≡◌, Some, refl, sym, subst, ◌∙◌}
 use Rattle.std.proofs.lemmas.Option.{same_Some, slice_get_within}
-use Rattle.jk_model.specs.declared.steps.Raise.TheVariants as Raised
 use Rattle.class_init.specs.KeptStates.{KeptState}
 use Rattle.list_lemmas.proofs.ItemsByPlace.{item_read}
 use Rattle.step_contents.specs.Contents.{contents_of, here_at}
@@ -19,8 +18,8 @@ returns g c = λ own is.
       c.holds.ensures.literals,
       λ shared.
           subst
-          (λ (o : KeptState). RaisedHere (contents_of (g.H.ObjectStore.content c.args.heap.now) (g.F.FrameStore.content c.args.frames.now) o)
-          (contents_of (g.H.ObjectStore.content c.raise_here-went.new.heap) (g.F.FrameStore.content c.raise_here-went.new.frames) c.raise_here-went.new.own)
-          (here_at c.args.w.now shared c.args.r.domain c.args.r.segment) (Raised.Standing c.args.s) c.raise_here-went.result)
+          (λ (o : KeptState). RaisedHere (contents_of (g.H.ObjectStore.content c.args.heap.now) (g.F.SegmentFrames.content c.args.frames.now) o)
+          (contents_of (g.H.ObjectStore.content c.raise_here-went.new.heap) (g.F.SegmentFrames.content c.raise_here-went.new.frames) c.raise_here-went.new.own)
+          (here_at c.args.w.now shared c.args.r.domain c.args.r.segment) c.args.raise c.raise_here-went.result)
           (sym same) (c.raise_here-went.ensures shared),
     )

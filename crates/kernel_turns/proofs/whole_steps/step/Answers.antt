@@ -1,16 +1,18 @@
 -- A thread that rests does nothing, and the step of each other one is taken.
-use Rattle.std.proofs.Common.{Bool, Result, [], refl, sym, subst}
+use Rattle.std.proofs.Common.{Bool, Result, [], ◌++◌, refl, sym, subst}
 use Rattle.std.proofs.lemmas.Result.{err_from_is_err_and}
 use Rattle.jk_model.specs.declared.identifiers.ThreadNo.{ThreadNo}
 use Rattle.jk_model_machine_state.specs.Machines.{Machine}
 use Rattle.jk_model_runs.specs.Steps.{Steps}
 use Rattle.jk_outside.specs.declared.sinks.SinkFailed.{SinkFailed}
+use Rattle.kernel_events.specs.KernelCalls.{MayDraw}
 use Rattle.kernel_events.specs.PrintedLines.{Prints, SinkState, as_done}
 use Rattle.kernel_parts.specs.SoundKernels.{KernelContent, kernel_machine, parts_of}
-use Rattle.machine_laws.specs.KnownMachines.{IsKnownWithoutJk}
+use Rattle.machine_laws.specs.KnownMachines.{IsKnownMachine}
 use Rattle.kernel_turns.proofs.FramesOfThreads.{lives, runs_at}
 use Rattle.kernel_turns.proofs.SegmentsApart.{apart_in_shared, sealed_apart}
-use Rattle.kernel_turns.proofs.PrintedSteps.{failed_as, printed_none}
+use Rattle.domain_ends.proofs.PrintedLines.{printed_none}
+use Rattle.kernel_turns.proofs.PrintedSteps.{failed_as}
 use Rattle.kernel_turns.proofs.WholeSteps.{none_steps, own_there, ready_so, rests_so, running_there, same_thread, top_there}
 use Rattle.kernel_turns.proofs.whole_steps.step.Goals as goal
 
@@ -21,7 +23,7 @@ run_of-requires g c =
       owns = c.k.inside.owns.items;
       shared = c.k.inside.shared;
       heap = g.H.ObjectStore.content c.k.inside.heap;
-      frames = g.F.FrameStore.content c.k.inside.frames;
+      frames = g.F.SegmentFrames.content c.k.inside.frames;
       main_kind = c.k.inside.main_kind;
     } in
     apart_in_shared (parts_of k) (sealed_apart (kernel_machine k) c.k.invariant.sound.sealed)
@@ -33,10 +35,10 @@ returns-in_default-clause-event g c =
       owns = c.k.inside.owns.items;
       shared = c.k.inside.shared;
       heap = g.H.ObjectStore.content c.k.inside.heap;
-      frames = g.F.FrameStore.content c.k.inside.frames;
+      frames = g.F.SegmentFrames.content c.k.inside.frames;
       main_kind = c.k.inside.main_kind;
     } in
-    let known : IsKnownWithoutJk (kernel_machine k) = subst IsKnownWithoutJk (sym c.k.view_is) c.requires.known in
+    let known : IsKnownMachine (kernel_machine k) = subst IsKnownMachine (sym c.k.view_is) c.requires.known in
     let a : SinkState = record { bytes = g.S.Sink.bytes c.args.out.now; pieces = g.S.Sink.pieces c.args.out.now; faults = g.S.Sink.faults c.args.out.now } in
     let rests = none_steps k c.args.t c.k.invariant known (c.in_default.ensures.none) in
     let there : Steps c.args.k.now c.args.t [] c.args.k.now =
@@ -50,10 +52,10 @@ returns-in_default-clause-rests g c =
       owns = c.k.inside.owns.items;
       shared = c.k.inside.shared;
       heap = g.H.ObjectStore.content c.k.inside.heap;
-      frames = g.F.FrameStore.content c.k.inside.frames;
+      frames = g.F.SegmentFrames.content c.k.inside.frames;
       main_kind = c.k.inside.main_kind;
     } in
-    let known : IsKnownWithoutJk (kernel_machine k) = subst IsKnownWithoutJk (sym c.k.view_is) c.requires.known in
+    let known : IsKnownMachine (kernel_machine k) = subst IsKnownMachine (sym c.k.view_is) c.requires.known in
     let rests = none_steps k c.args.t c.k.invariant known (c.in_default.ensures.none) in
     let there : Steps c.args.k.now c.args.t [] c.args.k.now =
     subst (λ (m : Machine). Steps m c.args.t [] m) c.k.view_is rests in
@@ -66,10 +68,10 @@ meet_in-met-requires-clause-own g c =
       owns = c.k.inside.owns.items;
       shared = c.k.inside.shared;
       heap = g.H.ObjectStore.content c.k.inside.heap;
-      frames = g.F.FrameStore.content c.k.inside.frames;
+      frames = g.F.SegmentFrames.content c.k.inside.frames;
       main_kind = c.k.inside.main_kind;
     } in
-    let known : IsKnownWithoutJk (kernel_machine k) = subst IsKnownWithoutJk (sym c.k.view_is) c.requires.known in
+    let known : IsKnownMachine (kernel_machine k) = subst IsKnownMachine (sym c.k.view_is) c.requires.known in
     let x = c.in-Some.running in
     let is = c.in-Some.ensures.some in
     ((runs_at k c.args.t c.k.invariant known is.segment is.is_top).own, own_there k c.args.t c.k.invariant known x is)
@@ -81,10 +83,10 @@ meet_in-met-requires-clause-top g c =
       owns = c.k.inside.owns.items;
       shared = c.k.inside.shared;
       heap = g.H.ObjectStore.content c.k.inside.heap;
-      frames = g.F.FrameStore.content c.k.inside.frames;
+      frames = g.F.SegmentFrames.content c.k.inside.frames;
       main_kind = c.k.inside.main_kind;
     } in
-    let known : IsKnownWithoutJk (kernel_machine k) = subst IsKnownWithoutJk (sym c.k.view_is) c.requires.known in
+    let known : IsKnownMachine (kernel_machine k) = subst IsKnownMachine (sym c.k.view_is) c.requires.known in
     let x = c.in-Some.running in
     let is = c.in-Some.ensures.some in
     top_there k c.args.t c.k.invariant known x is
@@ -96,10 +98,10 @@ rests-requires g c =
       owns = c.k.inside.owns.items;
       shared = c.k.inside.shared;
       heap = g.H.ObjectStore.content c.k.inside.heap;
-      frames = g.F.FrameStore.content c.k.inside.frames;
+      frames = g.F.SegmentFrames.content c.k.inside.frames;
       main_kind = c.k.inside.main_kind;
     } in
-    let known : IsKnownWithoutJk (kernel_machine k) = subst IsKnownWithoutJk (sym c.k.view_is) c.requires.known in
+    let known : IsKnownMachine (kernel_machine k) = subst IsKnownMachine (sym c.k.view_is) c.requires.known in
     let x = c.in-Some.running in
     let is = c.in-Some.ensures.some in
     lives k c.args.t c.k.invariant known x is
@@ -111,10 +113,10 @@ returns-then-rests-clause-event g c =
       owns = c.k.inside.owns.items;
       shared = c.k.inside.shared;
       heap = g.H.ObjectStore.content c.k.inside.heap;
-      frames = g.F.FrameStore.content c.k.inside.frames;
+      frames = g.F.SegmentFrames.content c.k.inside.frames;
       main_kind = c.k.inside.main_kind;
     } in
-    let known : IsKnownWithoutJk (kernel_machine k) = subst IsKnownWithoutJk (sym c.k.view_is) c.requires.known in
+    let known : IsKnownMachine (kernel_machine k) = subst IsKnownMachine (sym c.k.view_is) c.requires.known in
     let x = c.in-Some.running in
     let is = c.in-Some.ensures.some in
     let a : SinkState = record { bytes = g.S.Sink.bytes c.args.out.now; pieces = g.S.Sink.pieces c.args.out.now; faults = g.S.Sink.faults c.args.out.now } in
@@ -133,10 +135,10 @@ returns-then-rests-clause-rests g c =
       owns = c.k.inside.owns.items;
       shared = c.k.inside.shared;
       heap = g.H.ObjectStore.content c.k.inside.heap;
-      frames = g.F.FrameStore.content c.k.inside.frames;
+      frames = g.F.SegmentFrames.content c.k.inside.frames;
       main_kind = c.k.inside.main_kind;
     } in
-    let known : IsKnownWithoutJk (kernel_machine k) = subst IsKnownWithoutJk (sym c.k.view_is) c.requires.known in
+    let known : IsKnownMachine (kernel_machine k) = subst IsKnownMachine (sym c.k.view_is) c.requires.known in
     let x = c.in-Some.running in
     let is = c.in-Some.ensures.some in
     let top = top_there k c.args.t c.k.invariant known x is in
@@ -147,17 +149,17 @@ returns-then-rests-clause-rests g c =
     subst (λ (m : Machine). Steps m c.args.t [] m) c.k.view_is rests in
     λ _. (refl, there)
 
-pub take_step-requires-clause-ready : goal.take_step-requires-clause-ready
-take_step-requires-clause-ready g c =
+pub begin-went-requires-clause-ready : goal.begin-went-requires-clause-ready
+begin-went-requires-clause-ready g c =
     let k : KernelContent = record {
       world = c.k.inside.world;
       owns = c.k.inside.owns.items;
       shared = c.k.inside.shared;
       heap = g.H.ObjectStore.content c.k.inside.heap;
-      frames = g.F.FrameStore.content c.k.inside.frames;
+      frames = g.F.SegmentFrames.content c.k.inside.frames;
       main_kind = c.k.inside.main_kind;
     } in
-    let known : IsKnownWithoutJk (kernel_machine k) = subst IsKnownWithoutJk (sym c.k.view_is) c.requires.known in
+    let known : IsKnownMachine (kernel_machine k) = subst IsKnownMachine (sym c.k.view_is) c.requires.known in
     let x = c.in-Some.running in
     let is = c.in-Some.ensures.some in
     let here = running_there k c.args.t x is in
@@ -166,20 +168,20 @@ take_step-requires-clause-ready g c =
     let own = own_there k u c.k.invariant known x here in
     let meets = c.meet_in-met.ensures (runs_at k u c.k.invariant known here.segment here.is_top).own own top.0 top.1 in
     let no = c.rests.ensures.no c.if-rests.false in
-    let ready = ready_so k x c.k.invariant known here top.0 c.meet_in-met.result top.1 meets no.0 no.1 no.2 in
+    let ready = ready_so k x c.k.invariant known here top.0 c.meet_in-met.result top.1 meets no.0 no.1 no.2 (subst (λ (m : Machine). MayDraw m 1) (sym c.k.view_is) c.requires.numbers) in
     (c.k.inside.main_kind, ready)
 
-pub take_step-requires-clause-met : goal.take_step-requires-clause-met
-take_step-requires-clause-met g c =
+pub begin-went-requires-clause-met : goal.begin-went-requires-clause-met
+begin-went-requires-clause-met g c =
     let k : KernelContent = record {
       world = c.k.inside.world;
       owns = c.k.inside.owns.items;
       shared = c.k.inside.shared;
       heap = g.H.ObjectStore.content c.k.inside.heap;
-      frames = g.F.FrameStore.content c.k.inside.frames;
+      frames = g.F.SegmentFrames.content c.k.inside.frames;
       main_kind = c.k.inside.main_kind;
     } in
-    let known : IsKnownWithoutJk (kernel_machine k) = subst IsKnownWithoutJk (sym c.k.view_is) c.requires.known in
+    let known : IsKnownMachine (kernel_machine k) = subst IsKnownMachine (sym c.k.view_is) c.requires.known in
     let x = c.in-Some.running in
     let is = c.in-Some.ensures.some in
     let here = running_there k c.args.t x is in
@@ -188,8 +190,31 @@ take_step-requires-clause-met g c =
     let own = own_there k u c.k.invariant known x here in
     let meets = c.meet_in-met.ensures (runs_at k u c.k.invariant known here.segment here.is_top).own own top.0 top.1 in
     let no = c.rests.ensures.no c.if-rests.false in
-    let ready = ready_so k x c.k.invariant known here top.0 c.meet_in-met.result top.1 meets no.0 no.1 no.2 in
+    let ready = ready_so k x c.k.invariant known here top.0 c.meet_in-met.result top.1 meets no.0 no.1 no.2 (subst (λ (m : Machine). MayDraw m 1) (sym c.k.view_is) c.requires.numbers) in
     ((runs_at k u c.k.invariant known here.segment here.is_top).own, own, (top.0, top.1, meets))
+
+pub finish-requires : goal.finish-requires
+finish-requires g c =
+    let k : KernelContent = record {
+      world = c.k.inside.world;
+      owns = c.k.inside.owns.items;
+      shared = c.k.inside.shared;
+      heap = g.H.ObjectStore.content c.k.inside.heap;
+      frames = g.F.SegmentFrames.content c.k.inside.frames;
+      main_kind = c.k.inside.main_kind;
+    } in
+    let known : IsKnownMachine (kernel_machine k) = subst IsKnownMachine (sym c.k.view_is) c.requires.known in
+    let x = c.in-Some.running in
+    let is = c.in-Some.ensures.some in
+    let here = running_there k c.args.t x is in
+    let u = x.runs.thread in
+    let top = top_there k u c.k.invariant known x here in
+    let own = own_there k u c.k.invariant known x here in
+    let meets = c.meet_in-met.ensures (runs_at k u c.k.invariant known here.segment here.is_top).own own top.0 top.1 in
+    let no = c.rests.ensures.no c.if-rests.false in
+    let ready = ready_so k x c.k.invariant known here top.0 c.meet_in-met.result top.1 meets no.0 no.1 no.2 (subst (λ (m : Machine). MayDraw m 1) (sym c.k.view_is) c.requires.numbers) in
+    let started = c.begin-went.ensures c.k.inside.main_kind ready in
+    record { may = (c.k.inside.main_kind, started.2.may) }
 
 pub invariant_of-k : goal.invariant_of-k
 invariant_of-k g c =
@@ -198,10 +223,10 @@ invariant_of-k g c =
       owns = c.k.inside.owns.items;
       shared = c.k.inside.shared;
       heap = g.H.ObjectStore.content c.k.inside.heap;
-      frames = g.F.FrameStore.content c.k.inside.frames;
+      frames = g.F.SegmentFrames.content c.k.inside.frames;
       main_kind = c.k.inside.main_kind;
     } in
-    let known : IsKnownWithoutJk (kernel_machine k) = subst IsKnownWithoutJk (sym c.k.view_is) c.requires.known in
+    let known : IsKnownMachine (kernel_machine k) = subst IsKnownMachine (sym c.k.view_is) c.requires.known in
     let x = c.in-Some.running in
     let is = c.in-Some.ensures.some in
     let here = running_there k c.args.t x is in
@@ -210,21 +235,31 @@ invariant_of-k g c =
     let own = own_there k u c.k.invariant known x here in
     let meets = c.meet_in-met.ensures (runs_at k u c.k.invariant known here.segment here.is_top).own own top.0 top.1 in
     let no = c.rests.ensures.no c.if-rests.false in
-    let ready = ready_so k x c.k.invariant known here top.0 c.meet_in-met.result top.1 meets no.0 no.1 no.2 in
-    let took = c.take_step.ensures c.k.inside.main_kind ready in
-    took.3
+    let ready = ready_so k x c.k.invariant known here top.0 c.meet_in-met.result top.1 meets no.0 no.1 no.2 (subst (λ (m : Machine). MayDraw m 1) (sym c.k.view_is) c.requires.numbers) in
+    let n : KernelContent = record {
+      world = c.finish.new.w;
+      owns = c.finish.new.owns.items;
+      shared = c.finish.new.shared;
+      heap = g.H.ObjectStore.content c.finish.new.heap;
+      frames = g.F.SegmentFrames.content c.finish.new.frames;
+      main_kind = c.k.inside.main_kind;
+    } in
+    let started = c.begin-went.ensures c.k.inside.main_kind ready in
+    let on = c.finish.ensures in
+    let stepped = started.2.steps on.0 n (on.2 c.k.inside.main_kind started.2.may) in
+    stepped.1
 
-pub returns-in_err-take_step-clause-event : goal.returns-in_err-take_step-clause-event
-returns-in_err-take_step-clause-event g c =
+pub returns-in_err-finish-clause-event : goal.returns-in_err-finish-clause-event
+returns-in_err-finish-clause-event g c =
     let k : KernelContent = record {
       world = c.k.inside.world;
       owns = c.k.inside.owns.items;
       shared = c.k.inside.shared;
       heap = g.H.ObjectStore.content c.k.inside.heap;
-      frames = g.F.FrameStore.content c.k.inside.frames;
+      frames = g.F.SegmentFrames.content c.k.inside.frames;
       main_kind = c.k.inside.main_kind;
     } in
-    let known : IsKnownWithoutJk (kernel_machine k) = subst IsKnownWithoutJk (sym c.k.view_is) c.requires.known in
+    let known : IsKnownMachine (kernel_machine k) = subst IsKnownMachine (sym c.k.view_is) c.requires.known in
     let x = c.in-Some.running in
     let is = c.in-Some.ensures.some in
     let here = running_there k c.args.t x is in
@@ -233,28 +268,30 @@ returns-in_err-take_step-clause-event g c =
     let own = own_there k u c.k.invariant known x here in
     let meets = c.meet_in-met.ensures (runs_at k u c.k.invariant known here.segment here.is_top).own own top.0 top.1 in
     let no = c.rests.ensures.no c.if-rests.false in
-    let ready = ready_so k x c.k.invariant known here top.0 c.meet_in-met.result top.1 meets no.0 no.1 no.2 in
-    let took = c.in_err-take_step.ensures c.k.inside.main_kind ready in
-    let a : SinkState = record { bytes = g.S.Sink.bytes c.args.out.now; pieces = g.S.Sink.pieces c.args.out.now; faults = g.S.Sink.faults c.args.out.now } in
-    let out = c.take_step.new.out in
-    let b : SinkState = record { bytes = g.S.Sink.bytes out; pieces = g.S.Sink.pieces out; faults = g.S.Sink.faults out } in
+    let ready = ready_so k x c.k.invariant known here top.0 c.meet_in-met.result top.1 meets no.0 no.1 no.2 (subst (λ (m : Machine). MayDraw m 1) (sym c.k.view_is) c.requires.numbers) in
     let n : KernelContent = record {
-      world = c.k.inside.world;
-      owns = c.take_step.new.owns.items;
-      shared = c.take_step.new.shared;
-      heap = g.H.ObjectStore.content c.take_step.new.heap;
-      frames = g.F.FrameStore.content c.take_step.new.frames;
+      world = c.finish.new.w;
+      owns = c.finish.new.owns.items;
+      shared = c.finish.new.shared;
+      heap = g.H.ObjectStore.content c.finish.new.heap;
+      frames = g.F.SegmentFrames.content c.finish.new.frames;
       main_kind = c.k.inside.main_kind;
     } in
-    let by_thread : Steps (kernel_machine k) c.args.t took.0 (kernel_machine n) =
-    subst (λ (t : ThreadNo). Steps (kernel_machine k) t took.0 (kernel_machine n)) (same_thread k c.args.t c.k.invariant known x is) took.2 in
-    let there : Steps c.args.k.now c.args.t took.0 (kernel_machine n) =
-    subst (λ (m : Machine). Steps m c.args.t took.0 (kernel_machine n)) c.k.view_is by_thread in
+    let started = c.begin-went.ensures c.k.inside.main_kind ready in
+    let on = c.in_err-finish.ensures in
+    let stepped = started.2.steps on.0 n (on.2 c.k.inside.main_kind started.2.may) in
+    let a : SinkState = record { bytes = g.S.Sink.bytes c.args.out.now; pieces = g.S.Sink.pieces c.args.out.now; faults = g.S.Sink.faults c.args.out.now } in
+    let out = c.finish.new.out in
+    let b : SinkState = record { bytes = g.S.Sink.bytes out; pieces = g.S.Sink.pieces out; faults = g.S.Sink.faults out } in
+    let by_thread : Steps (kernel_machine k) c.args.t (started.0 ++ on.0) (kernel_machine n) =
+    subst (λ (t : ThreadNo). Steps (kernel_machine k) t (started.0 ++ on.0) (kernel_machine n)) (same_thread k c.args.t c.k.invariant known x is) stepped.0 in
+    let there : Steps c.args.k.now c.args.t (started.0 ++ on.0) (kernel_machine n) =
+    subst (λ (m : Machine). Steps m c.args.t (started.0 ++ on.0) (kernel_machine n)) c.k.view_is by_thread in
     let failed = err_from_is_err_and c.from_residual.result c.from_residual.ensures.1 in
-    let prints : Prints a b (as_done c.from_residual.result) took.0 =
-    subst (λ (r : Result Bool SinkFailed). Prints a b (as_done r) took.0) (sym failed.1)
-    (failed_as a b took.0 c.in_err-take_step.field-0.0 failed.0 took.1) in
-    (took.0, prints, there)
+    let prints : Prints a b (as_done c.from_residual.result) (started.0 ++ on.0) =
+    subst (λ (r : Result Bool SinkFailed). Prints a b (as_done r) (started.0 ++ on.0)) (sym failed.1)
+    (failed_as a b (started.0 ++ on.0) c.in_err-finish.field-0.0 failed.0 (on.1 a started.0 started.1)) in
+    ((started.0 ++ on.0), prints, there)
 
 pub invariant_of-k-2 : goal.invariant_of-k-2
 invariant_of-k-2 g c =
@@ -263,10 +300,10 @@ invariant_of-k-2 g c =
       owns = c.k.inside.owns.items;
       shared = c.k.inside.shared;
       heap = g.H.ObjectStore.content c.k.inside.heap;
-      frames = g.F.FrameStore.content c.k.inside.frames;
+      frames = g.F.SegmentFrames.content c.k.inside.frames;
       main_kind = c.k.inside.main_kind;
     } in
-    let known : IsKnownWithoutJk (kernel_machine k) = subst IsKnownWithoutJk (sym c.k.view_is) c.requires.known in
+    let known : IsKnownMachine (kernel_machine k) = subst IsKnownMachine (sym c.k.view_is) c.requires.known in
     let x = c.in-Some.running in
     let is = c.in-Some.ensures.some in
     let here = running_there k c.args.t x is in
@@ -275,9 +312,19 @@ invariant_of-k-2 g c =
     let own = own_there k u c.k.invariant known x here in
     let meets = c.meet_in-met.ensures (runs_at k u c.k.invariant known here.segment here.is_top).own own top.0 top.1 in
     let no = c.rests.ensures.no c.if-rests.false in
-    let ready = ready_so k x c.k.invariant known here top.0 c.meet_in-met.result top.1 meets no.0 no.1 no.2 in
-    let took = c.take_step.ensures c.k.inside.main_kind ready in
-    took.3
+    let ready = ready_so k x c.k.invariant known here top.0 c.meet_in-met.result top.1 meets no.0 no.1 no.2 (subst (λ (m : Machine). MayDraw m 1) (sym c.k.view_is) c.requires.numbers) in
+    let n : KernelContent = record {
+      world = c.finish.new.w;
+      owns = c.finish.new.owns.items;
+      shared = c.finish.new.shared;
+      heap = g.H.ObjectStore.content c.finish.new.heap;
+      frames = g.F.SegmentFrames.content c.finish.new.frames;
+      main_kind = c.k.inside.main_kind;
+    } in
+    let started = c.begin-went.ensures c.k.inside.main_kind ready in
+    let on = c.finish.ensures in
+    let stepped = started.2.steps on.0 n (on.2 c.k.inside.main_kind started.2.may) in
+    stepped.1
 
 pub returns-clause-event : goal.returns-clause-event
 returns-clause-event g c =
@@ -286,10 +333,10 @@ returns-clause-event g c =
       owns = c.k.inside.owns.items;
       shared = c.k.inside.shared;
       heap = g.H.ObjectStore.content c.k.inside.heap;
-      frames = g.F.FrameStore.content c.k.inside.frames;
+      frames = g.F.SegmentFrames.content c.k.inside.frames;
       main_kind = c.k.inside.main_kind;
     } in
-    let known : IsKnownWithoutJk (kernel_machine k) = subst IsKnownWithoutJk (sym c.k.view_is) c.requires.known in
+    let known : IsKnownMachine (kernel_machine k) = subst IsKnownMachine (sym c.k.view_is) c.requires.known in
     let x = c.in-Some.running in
     let is = c.in-Some.ensures.some in
     let here = running_there k c.args.t x is in
@@ -298,18 +345,21 @@ returns-clause-event g c =
     let own = own_there k u c.k.invariant known x here in
     let meets = c.meet_in-met.ensures (runs_at k u c.k.invariant known here.segment here.is_top).own own top.0 top.1 in
     let no = c.rests.ensures.no c.if-rests.false in
-    let ready = ready_so k x c.k.invariant known here top.0 c.meet_in-met.result top.1 meets no.0 no.1 no.2 in
-    let took = c.in_ok-take_step.ensures c.k.inside.main_kind ready in
+    let ready = ready_so k x c.k.invariant known here top.0 c.meet_in-met.result top.1 meets no.0 no.1 no.2 (subst (λ (m : Machine). MayDraw m 1) (sym c.k.view_is) c.requires.numbers) in
     let n : KernelContent = record {
-      world = c.k.inside.world;
-      owns = c.take_step.new.owns.items;
-      shared = c.take_step.new.shared;
-      heap = g.H.ObjectStore.content c.take_step.new.heap;
-      frames = g.F.FrameStore.content c.take_step.new.frames;
+      world = c.finish.new.w;
+      owns = c.finish.new.owns.items;
+      shared = c.finish.new.shared;
+      heap = g.H.ObjectStore.content c.finish.new.heap;
+      frames = g.F.SegmentFrames.content c.finish.new.frames;
       main_kind = c.k.inside.main_kind;
     } in
-    let by_thread : Steps (kernel_machine k) c.args.t took.0 (kernel_machine n) =
-    subst (λ (t : ThreadNo). Steps (kernel_machine k) t took.0 (kernel_machine n)) (same_thread k c.args.t c.k.invariant known x is) took.2 in
-    let there : Steps c.args.k.now c.args.t took.0 (kernel_machine n) =
-    subst (λ (m : Machine). Steps m c.args.t took.0 (kernel_machine n)) c.k.view_is by_thread in
-    (took.0, took.1, there)
+    let a : SinkState = record { bytes = g.S.Sink.bytes c.args.out.now; pieces = g.S.Sink.pieces c.args.out.now; faults = g.S.Sink.faults c.args.out.now } in
+    let started = c.begin-went.ensures c.k.inside.main_kind ready in
+    let on = c.in_ok-finish.ensures in
+    let stepped = started.2.steps on.0 n (on.2 c.k.inside.main_kind started.2.may) in
+    let by_thread : Steps (kernel_machine k) c.args.t (started.0 ++ on.0) (kernel_machine n) =
+    subst (λ (t : ThreadNo). Steps (kernel_machine k) t (started.0 ++ on.0) (kernel_machine n)) (same_thread k c.args.t c.k.invariant known x is) stepped.0 in
+    let there : Steps c.args.k.now c.args.t (started.0 ++ on.0) (kernel_machine n) =
+    subst (λ (m : Machine). Steps m c.args.t (started.0 ++ on.0) (kernel_machine n)) c.k.view_is by_thread in
+    ((started.0 ++ on.0), (on.1 a started.0 started.1), there)

@@ -48,7 +48,7 @@ returns-in_err-changed-clause-failed g c =
     let out : SinkState =
     record { bytes = g.S.Sink.bytes c.turns.new.out; pieces = g.S.Sink.pieces c.turns.new.out; faults = g.S.Sink.faults c.turns.new.out } in
     let failed = err_from_is_err_and c.from_residual.result c.from_residual.ensures.1 in
-    rw failed.1 (round_failed c.runs_go_on_without_jk.ensures.steps c.runs_go_on_without_jk.ensures.threads steps l.above t m l.self
+    rw failed.1 (round_failed c.machines_go_on.ensures.steps c.machines_go_on.ensures.threads steps l.above t m l.self
     c.turns.new.self a b out l.invariant.0 next c.in_err-changed.ensures.failed)
 
 pub loop-thread-preserved : goal.loop-thread-preserved

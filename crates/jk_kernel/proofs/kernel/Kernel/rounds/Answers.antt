@@ -40,7 +40,7 @@ returns-in_err-changed-clause-failed g c =
     record { bytes = g.S.Sink.bytes c.one_round.new.out; pieces = g.S.Sink.pieces c.one_round.new.out; faults = g.S.Sink.faults c.one_round.new.out } in
     let next = c.one_round.new.self in
     let failed = err_from_is_err_and c.from_residual.result c.from_residual.ensures.1 in
-    rw failed.1 (gone_failed c.runs_go_on_without_jk.ensures.steps c.runs_go_on_without_jk.ensures.rounds steps l.counter c.args.count m l.self
+    rw failed.1 (gone_failed c.machines_go_on.ensures.steps c.machines_go_on.ensures.rounds steps l.counter c.args.count m l.self
     next a b out less l.invariant c.in_err-changed.ensures.failed)
 
 pub returns-in_err-changed-clause-counts : goal.returns-in_err-changed-clause-counts
@@ -55,7 +55,7 @@ returns-in_err-changed-clause-counts g c =
     let out : SinkState =
     record { bytes = g.S.Sink.bytes c.one_round.new.out; pieces = g.S.Sink.pieces c.one_round.new.out; faults = g.S.Sink.faults c.one_round.new.out } in
     let next = c.one_round.new.self in
-    let all = gone_failed c.runs_go_on_without_jk.ensures.steps c.runs_go_on_without_jk.ensures.rounds steps l.counter c.args.count m l.self
+    let all = gone_failed c.machines_go_on.ensures.steps c.machines_go_on.ensures.rounds steps l.counter c.args.count m l.self
     next a b out less l.invariant c.in_err-changed.ensures.failed in
     counts_of m next (steps_of c.args.count steps m)
     (c.numbers_rise.ensures.some_rounds c.args.count steps all.0 m all.1.mid next all.1.before all.1.said all.1.so_far all.1.step)

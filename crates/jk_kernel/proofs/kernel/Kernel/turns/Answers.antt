@@ -7,7 +7,8 @@ use Rattle.jk_model_machine_state.specs.Machines.{Machine}
 use Rattle.jk_model_runs.specs.Steps.{Steps}
 use Rattle.jk_outside.specs.declared.sinks.SinkFailed.{SinkFailed}
 use Rattle.kernel_events.specs.PrintedLines.{SinkState}
-use Rattle.jk_kernel.proofs.NumbersLeft.{counts_of, may_draw, rises_more}
+use Rattle.kernel_events.proofs.NumbersOfEvents.{rises_more}
+use Rattle.jk_kernel.proofs.NumbersLeft.{counts_of, may_draw}
 use Rattle.jk_kernel.proofs.TurnsSoFar.{failed_rises, rests_on, went_all, went_failed, went_more, went_none, went_nowhere, went_on, went_rest, went_rises}
 use Rattle.jk_kernel.proofs.kernel.Kernel.turns.Goals as goal
 
@@ -92,7 +93,7 @@ returns-in_err-step-clause-failed g c =
     let next = c.step.new.self in
     let failed = err_from_is_err_and c.from_residual.result c.from_residual.ensures.1 in
     let event = c.in_err-step.ensures.event in
-    rw failed.1 (went_failed c.machines_stay_sound.ensures.steps c.steps_are_apart.ensures c.runs_go_on_without_jk.ensures.turns t done
+    rw failed.1 (went_failed c.machines_stay_sound.ensures.steps c.steps_are_apart.ensures c.machines_go_on.ensures.turns t done
     c.args.steps m mid next a b out event.0 c.in_err-step.field-0.0 less went event.1 event.2 c.step.ensures.sound.1)
 
 pub returns-in_err-step-clause-counts : goal.returns-in_err-step-clause-counts

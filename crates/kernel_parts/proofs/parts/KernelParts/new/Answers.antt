@@ -8,7 +8,7 @@ invariant_of-result g c =
     let w = c.in_ok-world.world in
     let system = c.in_ok-world.ensures.classes in
     let none = c.in_ok-world.ensures.domains in
-    first_parts w (g.H.ObjectStore.content c.args.heap) (g.F.FrameStore.content c.args.frames) c.in_ok-main_kind.main_kind system none
+    first_parts w (g.H.ObjectStore.content c.args.heap) (g.F.SegmentFrames.content c.args.frames) c.in_ok-main_kind.main_kind system none
     c.first_machines_are_known.ensures.known (world-of-system w system none c.holds.ensures.ordered)
     (g.met.H.ObjectStore.holds c.args.heap) (g.met.F.FrameStore.holds c.args.frames) c.requires.no_domains c.requires.no_segments
     c.in_ok-main_kind.ensures c.new-3.result.items c.in_ok-shared.shared c.new-3.ensures.items c.in_ok-shared.ensures
