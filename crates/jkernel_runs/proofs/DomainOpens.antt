@@ -1,6 +1,6 @@
 -- What a `domain` event does, from what the kernel answers, and how events end whose lines were printed.
 use Rattle.std.proofs.Common.{◌≡◌, ◌≢◌, ℕ, zero, suc, ◌<◌, true, List, [], ◌∷◌, ◌++◌, Contains, get_or, Option, Some, None, Result, Ok, Err, refl, sym, subst, ◌∙◌, append-nil, nat_lt, nat_le, ◌&&◌, length, arith}
-use Rattle.std.specs.Prelude.{IfErr, IsUtf8, OnErr, OnOk, slice_get}
+use Rattle.std.specs.Prelude.{IfErr, IsUtf8, OnErr, OnOk}
 use Rattle.std.specs.List.{AllByRecursion, IsDistinct, list_all}
 use Rattle.std.specs.Str.{bytes_eq}
 use Rattle.std.proofs.lemmas.Bool.{and_parts}
@@ -21,6 +21,7 @@ use Rattle.jk_model.specs.declared.script.Quotas.{Quotas}
 use Rattle.jk_model.specs.Outside.{Ask, ListOf, Tree, HasRisen, ◌/-◌}
 use Rattle.jk_model.specs.Script.{is_name_byte}
 use Rattle.jk_model.specs.ScriptGrammar.{is_name}
+use Rattle.jk_model.proofs.EachItem.{all_at}
 use Rattle.jk_model_classes.specs.Worlds.{WorldRecord}
 use Rattle.jk_model_folders.specs.declared.files.FolderFile.{FolderFile}
 use Rattle.jk_model_folders.specs.declared.files.FolderFiles.{FolderFiles}
@@ -38,11 +39,10 @@ use Rattle.folder_loader.specs.LoadAnswers.{IsRefused}
 use Rattle.folder_loader.specs.LoadAnswers.IsRefused.{name_is_live, no_folder, too_large, files}
 use Rattle.kernel_openings.specs.declared.answers.AddAnswer.{AddAnswer}
 use Rattle.kernel_openings.specs.declared.answers.AddAnswer.TheVariants as Adding
-use Rattle.kernel_openings.specs.AddedDomains.{line_of}
+use Rattle.kernel_openings.specs.AddedDomains.{AddsDomain, line_of}
 use Rattle.kernel_openings.specs.FolderEvents.{IsRefusedFolder}
 use Rattle.jkernel_runs.specs.declared.stop.Stop.{Stop}
 use Rattle.jkernel_runs.specs.declared.stop.Stop.TheVariants.{ReadFault, WriteFault, OutOfMemory}
-use Rattle.kernel_openings.specs.AddedWithoutJk.{OpensNow}
 use Rattle.jkernel_runs.specs.Asked.{AskedInEvent, AsksForEvent, AsksForFolder}
 use Rattle.jkernel_runs.specs.DomainEvents.{OpensFolder}
 use Rattle.jkernel_runs.specs.Events.{Moment, EventEnds, EventAsked, EventAsks, GoesOut, IsPrinted}
@@ -75,17 +75,12 @@ small_bytes (b ∷ bs) e (suc i) = small_bytes bs (and_parts (nat_lt b 128) (lis
 resolver_is_utf8 : IsUtf8 RESOLVER
 resolver_is_utf8 = IsUtf8-from_ascii RESOLVER (small_bytes RESOLVER refl)
 
-item_has : {X : Type 0} (P : X → Type 0) (xs : List X) (i : ℕ) (x : X) → AllByRecursion P xs → slice_get xs i ≡ Some x → P x
-item_has P [] i x all e = absurd cc
-item_has P (y ∷ xs) zero x all e = let is : y ≡ x = cc in subst P is all.0
-item_has P (y ∷ xs) (suc i) x all e = item_has P xs i x all.1 e
-
 files_place : (f : FolderFiles) (w : WorldRecord) (into : List ℕ) (rule : Rule) (place : Place) → AreFiles f → IsFilesFault f w into rule place
     → IsTextPlace place
 files_place f w into rule place are (bad_line n broken least) = resolver_is_utf8
 files_place f w into rule place are (not_offered lines n line says shares there broken least) = resolver_is_utf8
 files_place f w into rule place are (class_file lines same i number file good there fault) =
-    (item_has (λ (c : FolderFile). IsClassPath c.path × IsUtf8 c.path) f.classes i file are.paths there).1
+    (all_at (λ (c : FolderFile). IsClassPath c.path × IsUtf8 c.path) f.classes i file are.paths there).1
 
 folder_place : (t : Tree) (root : List ℕ) (w : WorldRecord) (name : List ℕ) (rule : Rule) (place : Place) → IsFolderFault t root w name rule place
     → IsTextPlace place
@@ -116,13 +111,12 @@ broken_place : (t : Option Tree) (root : List ℕ) (w : WorldRecord) (name : Lis
 broken_place None root w name rule place is = refused_place None root w name rule place is
 broken_place (Some t) root w name rule place is = folder_place t root w name rule place is
 
-now_place : (t : Option Tree) (root : List ℕ) (m : Machine) (name : List ℕ) (quotas : Quotas) (rule : Rule) (place : Place) (lines : List Line)
+event_place : (t : Option Tree) (root : List ℕ) (m : Machine) (name : List ℕ) (quotas : Quotas) (rule : Rule) (place : Place) (lines : List Line)
     (new : Machine)
     → OpensFolder t root m name quotas lines new → lines ≡ Refused name rule place ∷ [] → IsTextPlace place
-now_place t root m name quotas rule place lines new (OpensNow.breaks broken here is) e =
+event_place t root m name quotas rule place lines new (AddsDomain.breaks broken here is) e =
     let same : here ≡ place = cc in subst IsTextPlace same (broken_place t root (world_of m) name broken here is)
-now_place t root m name quotas rule place lines new (OpensNow.refers h) e = whole_place place cc
-now_place t root m name quotas rule place lines new (OpensNow.opens a said last h) e =
+event_place t root m name quotas rule place lines new (AddsDomain.opens a said last h) e =
     accepted_place a.files m name quotas rule place said last h e
 
 -- The event that each answer with a line stands for. It leads to the machine as it was.
@@ -134,7 +128,7 @@ pub text_place : (t : Option Tree) (root : List ℕ) (m : Machine) (name : List 
     → IfErr r (IsEventOf t root m name quotas) → HasTextPlace r
 text_place t root m name quotas (Ok number) h = tt
 text_place t root m name quotas (Err (Adding.Refused rule place)) h =
-    now_place t root m name quotas rule place (Refused name rule place ∷ []) m (h (Refused name rule place) refl) refl
+    event_place t root m name quotas rule place (Refused name rule place ∷ []) m (h (Refused name rule place) refl) refl
 text_place t root m name quotas (Err Adding.NoRoom) h = tt
 text_place t root m name quotas (Err Adding.CapNumbers) h = tt
 text_place t root m name quotas (Err Adding.TooManyDomains) h = tt

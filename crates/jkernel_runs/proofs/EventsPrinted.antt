@@ -1,4 +1,4 @@
--- What the kernel's calls print, as events: starts, turns and rounds whose lines went out, or broke off.
+-- What the kernel's calls print, as events: starts, turns, rounds and kills whose lines went out, or broke off.
 use Rattle.std.proofs.Common.{◌≡◌, ℕ, zero, suc, ◌+◌, ◌*◌, ◌≤◌, List, [], ◌++◌, Ok, Err, sym, subst, append-nil, arith}
 use Rattle.std.proofs.Math.Nat.{mul_assoc}
 use Rattle.std.proofs.lemmas.Nat.{mul-le}

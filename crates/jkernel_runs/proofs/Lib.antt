@@ -1,5 +1,5 @@
 -- Lemmas on the events of scripts, on how they go on, and on how runs end.
-pub mod BuiltEvents
+pub mod EventsOfScripts
 pub mod DomainOpens
 pub mod EventsInTurn
 pub mod EventsPrinted

@@ -34,14 +34,13 @@ pub record AreForKernel (q : Quotas) : Type 0 where
   pub chunks : (1 ≤ q.chunks) × (q.chunks ≤ 262144)
   pub counts : (q.threads ≤ 4096) × (q.names ≤ 4096)
 
--- What holds of each event of a script: the form of a domain's name, and the ranges of what the machine is given. Kills are no
--- events of any script yet.
-abbrev pub IsBuilt : Event → Type 0
-IsBuilt (Domain name quotas) = (is_name name ≡ true) × AreForKernel quotas
-IsBuilt (Start name class words) = (is_name name ≡ true) × (length class ≤ 255) × AreStartWords words
-IsBuilt (Turn thread steps) = steps ≤ MAX_STEPS
-IsBuilt (Round rounds steps) = rounds * steps ≤ MAX_STEPS
-IsBuilt (Kill name) = ⊥
+-- What holds of each event of a script: the form of a domain's name, and the ranges of what the machine is given.
+abbrev pub IsOfScript : Event → Type 0
+IsOfScript (Domain name quotas) = (is_name name ≡ true) × AreForKernel quotas
+IsOfScript (Start name class words) = (is_name name ≡ true) × (length class ≤ 255) × AreStartWords words
+IsOfScript (Turn thread steps) = steps ≤ MAX_STEPS
+IsOfScript (Round rounds steps) = rounds * steps ≤ MAX_STEPS
+IsOfScript (Kill name) = is_name name ≡ true
 
 -- Memory may want and files may fail at this event of a machine: it is a `domain` event, of a name that no live domain has.
 abbrev pub MayStop : Machine → Event → Type 0

@@ -4,14 +4,14 @@ ghost use Rattle.std.specs.Prelude.{◌≡◌, ◌≤◌, length, true, Err, IsS
 ghost use Rattle.std.specs.List.{AllByRecursion};
 ghost use Rattle.jk_model.specs.Outside.{NeverFalls};
 ghost use Rattle.jk_model.specs.ScriptGrammar.{is_name};
-ghost use Rattle.jk_model_runs.specs.Events.{Rounds, Turns};
+ghost use Rattle.jk_model_runs.specs.Events.{Kills, Rounds, Turns};
 ghost use Rattle.jk_model_runs.specs.Starts.{Starts};
 ghost use Rattle.kernel_events.specs.KernelCalls.{MayDraw, steps_of};
 ghost use Rattle.kernel_events.specs.PrintedLines.{sink};
 ghost use Rattle.jkernel_runs.specs.DomainEvents.{OpensFolder};
 ghost use Rattle.kernel_openings.specs.StartedThreads.{AreStartWords};
 ghost use Rattle.jkernel_runs.specs.DrawnNumbers.{MOST_DRAWN, MOST_THREADS, RiseInEvent};
-ghost use Rattle.jkernel_runs.specs.Events.{IsBuilt, IsPrinted, EventEnds, EventAsks, RunEnds, RunAsks, moment};
+ghost use Rattle.jkernel_runs.specs.Events.{IsOfScript, IsPrinted, EventEnds, EventAsks, RunEnds, RunAsks, moment};
 
 use crate::opening::open_domain;
 use crate::stop::Stop;
@@ -101,6 +101,24 @@ fn start_thread<S: Sink>(
     }
 }
 
+/// A `kill` event.
+fn kill_domain<S: Sink>(kernel: &mut PlainKernel, name: &[u8], out: &mut S) -> Result<(), Stop>
+    requires named { is_name name.now ≡ true }
+    ensures ends { IsPrinted (Kills kernel.old name.now) kernel.new
+        (sink (S.bytes out.old) (S.pieces out.old) (S.faults out.old))
+        (sink (S.bytes out.new) (S.pieces out.new) (S.faults out.new)) result }
+    ensures calm_out { (result ≡ Err Stop.WriteFault → ⊥) → S.faults out.new ≡ S.faults out.old }
+    ensures faults { NeverFalls (S.faults out.old) (S.faults out.new) }
+    ensures counts { RiseInEvent kernel.old kernel.new }
+{
+    let went = kernel.kill(name, out);
+    kernel.holds();
+    match went {
+        Ok(()) => Ok(()),
+        Err(SinkFailed) => Err(Stop::WriteFault),
+    }
+}
+
 /// One event of a script.
 fn happen<F: Files, S: Sink>(
     kernel: &mut PlainKernel,
@@ -109,7 +127,7 @@ fn happen<F: Files, S: Sink>(
     files: &mut F,
     out: &mut S,
 ) -> Result<(), Stop>
-    requires built { IsBuilt event.now }
+    requires of_script { IsOfScript event.now }
     requires threads { kernel.old.next_thread ≤ MOST_THREADS }
     requires numbers { MayDraw kernel.old MOST_DRAWN }
     ensures ends { EventEnds (F.tree files.old) root.now (OpensFolder (F.tree files.old) root.now) event.now kernel.old kernel.new
@@ -143,8 +161,7 @@ fn happen<F: Files, S: Sink>(
         }
         Event::Turn { thread, steps } => turn_thread(kernel, *thread, *steps, out),
         Event::Round { rounds, steps } => run_rounds(kernel, *rounds, *steps, out),
-        // No script that is read so far has kills.
-        Event::Kill { .. } => unreachable!(),
+        Event::Kill { name } => kill_domain(kernel, name.as_slice(), out),
     }
 }
 
@@ -156,7 +173,7 @@ pub fn run_events<F: Files, S: Sink>(
     files: &mut F,
     out: &mut S,
 ) -> Result<(), Stop>
-    requires built { AllByRecursion IsBuilt events.now }
+    requires of_script { AllByRecursion IsOfScript events.now }
     requires few { length events.now ≤ 65536 }
     ensures ends { RunEnds (F.tree files.old) root.now (OpensFolder (F.tree files.old) root.now) events.now
         (moment (sink (S.bytes out.old) (S.pieces out.old) (S.faults out.old)) (F.asked files.old) (F.faults files.old))

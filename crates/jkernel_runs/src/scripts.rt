@@ -5,7 +5,7 @@ ghost use Rattle.std.specs.List.{AllByRecursion};
 ghost use Rattle.jk_model.specs.Outside.{HasNoFile, HasLongFile, NeverFalls};
 ghost use Rattle.jkernel_runs.specs.Asked.{ask_for_script};
 ghost use Rattle.jkernel_runs.specs.Ends.{HasText, ScriptEnds, AnswersScript, AnswersFault};
-ghost use Rattle.jkernel_runs.specs.Events.{IsBuilt};
+ghost use Rattle.jkernel_runs.specs.Events.{IsOfScript};
 ghost use Rattle.jkernel_runs.specs.Scripts.{IsScript, IsAtFault};
 
 use crate::ends::End;
@@ -27,7 +27,7 @@ const TOO_LONG: ScriptFault = ScriptFault {
 /// The events of the script at a path, or how the run ends without them.
 pub fn script_at<F: Files>(alloc: Global, files: &mut F, path: &str) -> Result<List<Event>, End>
     ensures ends { ScriptEnds (F.tree files.old) path.now (F.faults files.old) (F.faults files.new) result }
-    ensures built { IfOk result (λ events. AllByRecursion IsBuilt events) }
+    ensures of_script { IfOk result (λ events. AllByRecursion IsOfScript events) }
     ensures few { IfOk result (λ events. length events ≤ 65536) }
     // A script without fault is read, and one at fault is refused for it, unless memory or the files fail.
     ensures script { (text : List ℕ) (events : List Event) → HasText (F.tree files.old) path.now text → IsScript text events

@@ -381,7 +381,7 @@ const REFUSED: &[(Files<'static>, &str)] = &[
         )],
         "L7 resolver.txt 2",
     ),
-    (&[("root/a/R.class", Class(REMOTE))], "X1"),
+    (&[("root/a/R.class", Class(REMOTE))], "C27 R.class 1"),
     (&[("root/b/I.class", Class(INITIALISED))], "L2"),
 ];
 
@@ -518,15 +518,15 @@ fn words_and_scripts_are_refused(rt: HostRuntime) -> Result<(), Fail> {
         ),
         (
             ["root", "script"].as_slice(),
-            b"domain hello\nkill hello\n",
+            b"domain hello\nkill hello hello\n",
             Status::ScriptRefused,
-            b"jkernel: script line 2: NotYet\n",
+            b"jkernel: script line 2: Extra\n",
         ),
         (
             ["root", "script"].as_slice(),
-            b"domain hello heap 64 caps 1\n",
+            b"domain hello heap 64 caps 1 names\n",
             Status::ScriptRefused,
-            b"jkernel: script line 1: NotYet\n",
+            b"jkernel: script line 1: Missing\n",
         ),
         (
             ["root", "script"].as_slice(),

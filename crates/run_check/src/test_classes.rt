@@ -303,8 +303,10 @@ method 0009 main ([Ljava/lang/String;)V 2 1
         return
 end";
 
-/// A class that refers to package jk.
-pub(crate) const REMOTE: &[u8] = b"class 0021 R java/lang/Object jk/Remote";
+/// A remote interface of which a method doesn't announce RemoteException.
+pub(crate) const REMOTE: &[u8] = b"class 0601 R java/lang/Object jk/Remote
+method 0401 count ()I 0 0
+end";
 
 /// A stack of two numbers in an array.
 pub(crate) const STACK: &[u8] = b"class 0021 Stack java/lang/Object

@@ -1,6 +1,8 @@
-//! Tests of `script_reader`, in a crate of their own, so that it isn't proved a second time for them.
+//! Tests of `script_reader` and of `command_words`, in a crate of their own, so that these aren't proved a second time for them.
 #![tactic(auto)]
 
+#[cfg(test)]
+mod command_tests;
 #[cfg(test)]
 mod rows;
 #[cfg(test)]

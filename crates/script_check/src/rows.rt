@@ -39,6 +39,8 @@ domain a.b -> 1 BadName\n\
 domain a23456789_123456789-1234567890123 5 -> 1 BadName\n\
 start a/b -> 1 BadName\n\
 kill a: -> 1 BadName\n\
+kill a23456789_123456789-1234567890123 b -> 1 BadName\n\
+kill a.b c -> 1 BadName\n\
 turn 01 -> 1 BadNumber\n\
 turn 00 -> 1 BadNumber\n\
 turn 1x -> 1 BadNumber\n\
@@ -66,15 +68,21 @@ domain a heap 63 -> 1 BadNumber\n\
 domain a heap 16777217 -> 1 BadNumber\n\
 domain a caps 1000001 -> 1 BadNumber\n\
 domain a names 4097 -> 1 BadNumber\n\
+domain a caps -1 -> 1 BadNumber\n\
+domain a names 00 -> 1 BadNumber\n\
 domain a stack stack stack -> 1 BadNumber\n\
 turn 1 2 3 -> 1 Extra\n\
 round 1 1 x -> 1 Extra\n\
 kill a b -> 1 Extra\n\
 domain a stack 2 steps 1 stack 3 -> 1 Extra\n\
 domain a heap 64 heap -> 1 Extra\n\
+domain a caps 1 names 2 caps 3 -> 1 Extra\n\
+domain a names 1 names -> 1 Extra\n\
 domain -> 1 Missing\n\
 domain a stack -> 1 Missing\n\
 domain a threads 1 steps -> 1 Missing\n\
+domain a caps -> 1 Missing\n\
+domain a caps 1 names -> 1 Missing\n\
 start -> 1 Missing\n\
 start a -> 1 Missing\n\
 turn  -> 1 Missing\n\
@@ -82,8 +90,13 @@ round -> 1 Missing\n\
 round 1 -> 1 Missing\n\
 kill -> 1 Missing\n\
 start a B c -> start a B c\n\
-kill a -> 1 NotYet\n\
+kill a -> kill a\n\
+\tkill \t a23456789_123456789-123456789012 \r| -> kill a23456789_123456789-123456789012\n\
+kill kill -> kill kill\n\
 domain a heap 64 -> domain a 64 256 64 16 16 None\n\
-domain a caps 0 -> 1 NotYet\n\
-domain a stack 2 names 0 -> 1 NotYet\n\
-turn 1||kill a|fly -> 3 NotYet";
+domain a caps 0 -> domain a 65536 256 0 16 16 None\n\
+domain a names 4096 caps 1000000| -> domain a 65536 256 1000000 16 4096 None\n\
+domain a stack 2 names 0 -> domain a 65536 2 64 16 0 None\n\
+domain a heap 64 stack 3 caps 5 threads 6 names 7 steps 8 -> domain a 64 3 5 6 7 Some(8)\n\
+turn 1||kill a|fly -> 4 UnknownWord\n\
+domain a|start a B|kill a|domain a names 0|kill b -> domain a 65536 256 64 16 16 None start a B kill a domain a 65536 256 64 16 0 None kill b";

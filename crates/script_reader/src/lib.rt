@@ -5,11 +5,11 @@
 mod commands;
 mod error;
 mod line;
-mod not_built;
 mod number;
 mod options;
 mod script;
 mod words;
 
 pub use error::ScriptError;
+pub use number::number_within;
 pub use script::read_script;

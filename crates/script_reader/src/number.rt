@@ -44,7 +44,7 @@ fn capped_value(digits: &[u8]) -> u64
 }
 
 /// The number from `low` to `high` that a word writes, or `None` where it writes none.
-pub(crate) fn number_within(low: u32, high: u32, word: &[u8]) -> Option<u32>
+pub fn number_within(low: u32, high: u32, word: &[u8]) -> Option<u32>
     ensures { result ≡ grammar.number_within low high word.now }
 {
     if !is_numeral(word) {

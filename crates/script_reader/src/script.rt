@@ -1,13 +1,12 @@
 //! A script as a whole.
 
 ghost use Rattle.std.specs.Prelude.{◌≡◌, ◌≤◌, ◌⊎◌, List, length, IfOk, MatchResult, Ok, Err};
-ghost use Rattle.jk_model.specs.ScriptGrammar.{events_by, lines_events};
+ghost use Rattle.jk_model.specs.ScriptGrammar.{events_of, line_event, lines_events};
 ghost use Rattle.jk_model.specs.Script.{script_lines};
 ghost use Rattle.script_reader.specs.Answers.{GivesAll, at_line};
-ghost use Rattle.script_reader.specs.NotBuilt as not_built;
 
 use crate::error::{LineError, ScriptError};
-use crate::not_built::built_event;
+use crate::line::line_event;
 use jk_model::{Event, FaultKind, List, ScriptFault};
 use std::alloc::Global;
 use text_lines::next_line;
@@ -27,9 +26,9 @@ fn fault_at(line: u32, kind: FaultKind) -> ScriptError
 
 /// What the line of a number stands for.
 fn event_at(alloc: Global, number: u32, line: &[u8]) -> Result<Option<Event>, ScriptError>
-    ensures { GivesAll (at_line number (not_built.built_event line.now)) result }
+    ensures { GivesAll (at_line number (line_event line.now)) result }
 {
-    match built_event(alloc, line) {
+    match line_event(alloc, line) {
         Ok(event) => Ok(event),
         Err(LineError::Fault(kind)) => Err(fault_at(number, kind)),
         Err(LineError::OutOfMemory) => Err(ScriptError::OutOfMemory),
@@ -38,7 +37,7 @@ fn event_at(alloc: Global, number: u32, line: &[u8]) -> Result<Option<Event>, Sc
 
 /// The events of a script's lines, or the first line at fault.
 fn read_lines(alloc: Global, bytes: &[u8]) -> Result<List<Event>, ScriptError>
-    ensures { GivesAll (lines_events not_built.built_event 1 (script_lines bytes.now)) result }
+    ensures { GivesAll (lines_events line_event 1 (script_lines bytes.now)) result }
 {
     let mut events = List::new(alloc);
     let mut rest = bytes;
@@ -58,7 +57,7 @@ fn read_lines(alloc: Global, bytes: &[u8]) -> Result<List<Event>, ScriptError>
 
 /// The events of bytes, or the first fault.
 fn read(alloc: Global, bytes: &[u8]) -> Result<List<Event>, ScriptError>
-    ensures { GivesAll (events_by not_built.built_event bytes.now) result }
+    ensures { GivesAll (events_of bytes.now) result }
 {
     if bytes.len() > MAX_BYTES {
         return Err(fault_at(0, FaultKind::TooLong));
@@ -70,18 +69,17 @@ fn read(alloc: Global, bytes: &[u8]) -> Result<List<Event>, ScriptError>
 ///
 /// A script has at most 1,048,576 bytes and 65,536 lines, and each line is one of the grammar that `jk_model`'s
 /// `ScriptGrammar` defines. The error names the first line at fault, counted from 1, and what is wrong with it;
-/// its line is 0 where there are too many bytes. A line that the grammar has, but that isn't built yet, is
-/// at fault with the kind `NotYet`: this crate's `NotBuilt` says which.
+/// its line is 0 where there are too many bytes.
 pub fn read_script(alloc: Global, bytes: &[u8]) -> Result<List<Event>, ScriptError>
-    ensures events { IfOk result (λ events. events_by not_built.built_event bytes.now ≡ Ok events) }
+    ensures events { IfOk result (λ events. events_of bytes.now ≡ Ok events) }
     ensures few { IfOk result (λ events. length events ≤ 65536) }
     // What is a script is read, unless memory runs out, and it has no other events.
-    ensures only { (events : List Event) → events_by not_built.built_event bytes.now ≡ Ok events
+    ensures only { (events : List Event) → events_of bytes.now ≡ Ok events
         → MatchResult result (λ found. found ≡ events) (λ e. e ≡ ScriptError.OutOfMemory) }
 
-    ensures fault { (f : ScriptFault) → result ≡ Err (ScriptError.Fault f) → events_by not_built.built_event bytes.now ≡ Err f }
+    ensures fault { (f : ScriptFault) → result ≡ Err (ScriptError.Fault f) → events_of bytes.now ≡ Err f }
     // Bytes at fault are refused so, unless memory runs out.
-    ensures only_fault { (f : ScriptFault) → events_by not_built.built_event bytes.now ≡ Err f
+    ensures only_fault { (f : ScriptFault) → events_of bytes.now ≡ Err f
         → MatchResult result (λ _. ⊥) (λ e. (e ≡ ScriptError.Fault f) ⊎ (e ≡ ScriptError.OutOfMemory)) }
 {
     read(alloc, bytes)

@@ -1,6 +1,6 @@
--- What starts, turns and rounds leave, as events: they ask for nothing.
+-- What starts, turns, rounds and kills leave, as events: they ask for nothing.
 use Rattle.std.proofs.Common.{refl}
-use Rattle.jk_model.specs.declared.script.Event.TheVariants.{Start, Turn, Round}
+use Rattle.jk_model.specs.declared.script.Event.TheVariants.{Start, Turn, Round, Kill}
 use Rattle.kernel_events.specs.PrintedLines.{sink}
 use Rattle.jkernel_runs.specs.DomainEvents.{OpensFolder}
 use Rattle.jkernel_runs.specs.Events.{moment}
@@ -40,3 +40,15 @@ returns-in-Round-clause-ends g c =
     (moment (sink (g.S.Sink.bytes c.run_rounds.new.out) (g.S.Sink.pieces c.run_rounds.new.out) (g.S.Sink.faults c.run_rounds.new.out))
     (g.F.Files.asked c.args.files.now) (g.F.Files.faults c.args.files.now))
     c.run_rounds.result (λ lines. refl) refl c.run_rounds.ensures.ends)
+
+pub returns-in-Kill-clause-ends : goal.returns-in-Kill-clause-ends
+returns-in-Kill-clause-ends g c =
+    let ends = rw c.as_slice-in-Kill.ensures at c.kill_domain.ensures.ends in
+    rw c.in-Kill.is
+    (ends_printed (g.F.Files.tree c.args.files.now) c.args.root.now (OpensFolder (g.F.Files.tree c.args.files.now) c.args.root.now)
+    (Kill c.in-Kill.name) c.args.kernel.now c.kill_domain.new.kernel
+    (moment (sink (g.S.Sink.bytes c.args.out.now) (g.S.Sink.pieces c.args.out.now) (g.S.Sink.faults c.args.out.now))
+    (g.F.Files.asked c.args.files.now) (g.F.Files.faults c.args.files.now))
+    (moment (sink (g.S.Sink.bytes c.kill_domain.new.out) (g.S.Sink.pieces c.kill_domain.new.out) (g.S.Sink.faults c.kill_domain.new.out))
+    (g.F.Files.asked c.args.files.now) (g.F.Files.faults c.args.files.now))
+    c.kill_domain.result (λ lines. refl) refl ends)

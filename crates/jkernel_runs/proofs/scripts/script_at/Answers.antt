@@ -1,7 +1,7 @@
 -- What is found of a script, from what was read at its path.
 use Rattle.std.proofs.Common.{ℕ, List, Err, ap, subst, sym, ◌∙◌}
 use Rattle.jkernel_runs.specs.Scripts.{IsAtFault}
-use Rattle.jkernel_runs.proofs.BuiltEvents.{script_built}
+use Rattle.jkernel_runs.proofs.EventsOfScripts.{script_fits}
 use Rattle.jkernel_runs.proofs.RunEndsSo.{too_long, same_text, fault_is}
 use Rattle.jkernel_runs.proofs.scripts.script_at.Goals as goal
 
@@ -10,8 +10,8 @@ returns-in-Err-TooLong-clause-ends g c =
     too_long (g.F.Files.tree c.args.files.now) c.args.path.now (g.F.Files.taken c.args.files.now) (g.F.Files.taken c.read.new.self) 0 0
     (c.in-Err-TooLong.ensures.too_long (ap Err c.in-Err-TooLong.field-0-is))
 
-pub returns-in-Ok-read_script-clause-built : goal.returns-in-Ok-read_script-clause-built
-returns-in-Ok-read_script-clause-built g c = script_built c.as_slice.result.now c.in-Ok-read_script.events c.in-Ok-read_script.ensures.events
+pub returns-in-Ok-read_script-clause-of_script : goal.returns-in-Ok-read_script-clause-of_script
+returns-in-Ok-read_script-clause-of_script g c = script_fits c.as_slice.result.now c.in-Ok-read_script.events c.in-Ok-read_script.ensures.events
 
 pub returns-in-Ok-read_script-clause-fault : goal.returns-in-Ok-read_script-clause-fault
 returns-in-Ok-read_script-clause-fault g c = λ text f has at.

@@ -1,18 +1,17 @@
--- Each event of a script is built: its name has a name's form, and its numbers are within their ranges.
+-- Of each event of a script the name has a name's form, and the numbers are within their ranges.
 use Rattle.std.proofs.Common.{◌≡◌, ℕ, zero, suc, ◌*◌, ◌≤◌, Bool, true, false, List, [], ◌∷◌, length, Option, Some, None, Result, Ok, Err, refl, sym, subst, bytes_eq, nat_le, ◌&&◌, find, codes, arith, if◌then◌else◌}
 use Rattle.std.specs.List.{AllByRecursion, list_all, list_any}
 use Rattle.std.proofs.lemmas.Bool.{and_parts}
 use Rattle.std.proofs.lemmas.Bool.Decides.{nat_tests}
 use Rattle.jk_model.specs.declared.script.Event.{Event}
-use Rattle.jk_model.specs.declared.script.Event.TheVariants.{Domain, Start, Turn, Round}
+use Rattle.jk_model.specs.declared.script.Event.TheVariants.{Domain, Start, Turn, Round, Kill}
 use Rattle.jk_model.specs.declared.script.FaultKind.{FaultKind}
-use Rattle.jk_model.specs.declared.script.FaultKind.TheVariants.{BadByte, BadName, BadNumber, Extra, Missing, NotYet, TooLong, UnknownWord}
+use Rattle.jk_model.specs.declared.script.FaultKind.TheVariants.{BadByte, BadName, BadNumber, Extra, Missing, TooLong, UnknownWord}
 use Rattle.jk_model.specs.declared.script.Quotas.{Quotas}
 use Rattle.jk_model.specs.declared.script.ScriptFault.{ScriptFault}
 use Rattle.jk_model.specs.Script.{MAX_BYTES, MAX_LINES, script_lines, words, is_line_byte, is_empty_line, default_quotas}
 use Rattle.jk_model.specs.ScriptGrammar.{QuotaOption, quota_options, is_name, is_numeral, numeral_value, number_within, with_number, with_option, with_options, nothing_more, domain_line, start_class, start_line, turn_line, round_line, kill_line, command_line, line_event, then_rest, lines_events, MAX_STEPS, MAX_ROUNDS, MAX_WORD, start_words_fault}
-use Rattle.script_reader.specs.NotBuilt.{is_not_built, built_event}
-use Rattle.jkernel_runs.specs.Events.{AreForKernel, IsBuilt}
+use Rattle.jkernel_runs.specs.Events.{AreForKernel, IsOfScript}
 use Rattle.jkernel_runs.specs.Scripts.{IsScript}
 
 -- ---- Answers that are good.
@@ -23,10 +22,6 @@ no_fault fault x e = absurd cc
 ok_if : {X F : Type 0} (b : Bool) (r : Result X F) (fault : F) (x : X) → (if b then r else Err fault) ≡ Ok x → (b ≡ true) × (r ≡ Ok x)
 ok_if true r fault x e = (refl, e)
 ok_if false r fault x e = absurd cc
-
-ok_unless : {X F : Type 0} (b : Bool) (r : Result X F) (fault : F) (x : X) → (if b then Err fault else r) ≡ Ok x → (b ≡ false) × (r ≡ Ok x)
-ok_unless true r fault x e = absurd cc
-ok_unless false r fault x e = (refl, e)
 
 some_if : {X : Type 0} (b : Bool) (v x : X) → (if b then Some v else None) ≡ Some x → (b ≡ true) × (v ≡ x)
 some_if true v x e = (refl, cc)
@@ -104,23 +99,23 @@ new_option seen word next event e = by_option (find (λ (o : QuotaOption). bytes
     by_option None is = no_fault UnknownWord event (rw is at e)
     by_option (Some o) is = by_seen o is (list_any (bytes_eq word) seen) refl
 
-options_built : (name : List ℕ) (seen : List (List ℕ)) (quotas : Quotas) (more : List (List ℕ)) (event : Event) → AreForKernel quotas
+options_fits : (name : List ℕ) (seen : List (List ℕ)) (quotas : Quotas) (more : List (List ℕ)) (event : Event) → AreForKernel quotas
     → with_options name seen quotas more ≡ Ok event → (q : Quotas) × (event ≡ Domain name q) × AreForKernel q
-options_built name seen quotas [] event r e = (quotas, cc, r)
-options_built name seen quotas (word ∷ []) event r e =
+options_fits name seen quotas [] event r e = (quotas, cc, r)
+options_fits name seen quotas (word ∷ []) event r e =
     let o = new_option seen word (λ option. Err Missing) event e in
     no_fault Missing event o.2
-options_built name seen quotas (word ∷ number ∷ more) event r e =
+options_fits name seen quotas (word ∷ number ∷ more) event r e =
     let o = new_option seen word _ event e in
     let n = numbered o.0.low o.0.high number _ event o.2 in
-    options_built name (word ∷ seen) (o.0.set n.0 quotas) more event (o.1 quotas n.0 n.1 n.2 r) n.3
+    options_fits name (word ∷ seen) (o.0.set n.0 quotas) more event (o.1 quotas n.0 n.1 n.2 r) n.3
 
-domain_built : (more : List (List ℕ)) (event : Event) → domain_line more ≡ Ok event → IsBuilt event
-domain_built [] event e = absurd cc
-domain_built (name ∷ options) event e =
+domain_fits : (more : List (List ℕ)) (event : Event) → domain_line more ≡ Ok event → IsOfScript event
+domain_fits [] event e = absurd cc
+domain_fits (name ∷ options) event e =
     let h = ok_if (is_name name) (with_options name [] default_quotas options) BadName event e in
-    let o = options_built name [] default_quotas options event default_in_range h.1 in
-    subst IsBuilt (sym o.1) (h.0, o.2)
+    let o = options_fits name [] default_quotas options event default_in_range h.1 in
+    subst IsOfScript (sym o.1) (h.0, o.2)
 
 -- ---- `start`.
 
@@ -143,11 +138,11 @@ words_fit (suc room) (word ∷ more) e = by_length (words_fit room more) (nat_le
         let h = rest (rw fits at e) in
         (omega (arith, h.0), (at_most (length word) 255 fits, h.1))
 
-start_built : (name : List ℕ) (more : List (List ℕ)) (event : Event) → start_line (name ∷ more) ≡ Ok event → IsBuilt event
-start_built name [] event e = let h = ok_if (is_name name) (start_class name []) BadName event e in no_fault Missing event h.1
-start_built name (class ∷ words) event e = by_fault (start_words_fault 255 words) refl
+start_fits : (name : List ℕ) (more : List (List ℕ)) (event : Event) → start_line (name ∷ more) ≡ Ok event → IsOfScript event
+start_fits name [] event e = let h = ok_if (is_name name) (start_class name []) BadName event e in no_fault Missing event h.1
+start_fits name (class ∷ words) event e = by_fault (start_words_fault 255 words) refl
   where
-    by_fault : (o : Option FaultKind) → start_words_fault 255 words ≡ o → IsBuilt event
+    by_fault : (o : Option FaultKind) → start_words_fault 255 words ≡ o → IsOfScript event
     by_fault (Some kind) fault =
         let h = ok_if (is_name name) (start_class name (class ∷ words)) BadName event e in
         let k = ok_if (nat_le (length class) MAX_WORD) _ BadName event h.1 in
@@ -158,7 +153,7 @@ start_built name (class ∷ words) event e = by_fault (start_words_fault 255 wor
         let good = rw fault at k.1 in
         let same : event ≡ Start name class words = cc in
         let all = words_fit 255 words fault in
-        subst IsBuilt (sym same) (h.0, at_most (length class) 255 k.0, record { few = all.0; short = all.1 })
+        subst IsOfScript (sym same) (h.0, at_most (length class) 255 k.0, record { few = all.0; short = all.1 })
 
 -- ---- `turn` and `round`.
 
@@ -166,68 +161,68 @@ nothing : (more : List (List ℕ)) (event found : Event) → nothing_more more e
 nothing [] event found e = cc
 nothing (word ∷ more) event found e = absurd cc
 
-turn_built : (more : List (List ℕ)) (event : Event) → turn_line more ≡ Ok event → IsBuilt event
-turn_built [] event e = absurd cc
-turn_built (word ∷ []) event e =
+turn_fits : (more : List (List ℕ)) (event : Event) → turn_line more ≡ Ok event → IsOfScript event
+turn_fits [] event e = absurd cc
+turn_fits (word ∷ []) event e =
     let t = numbered 0 4294967295 word _ event e in
     let is : event ≡ Turn t.0 1 = cc in
-    subst IsBuilt (sym is) (omega arith)
-turn_built (word ∷ steps ∷ more) event e =
+    subst IsOfScript (sym is) (omega arith)
+turn_fits (word ∷ steps ∷ more) event e =
     let t = numbered 0 4294967295 word _ event e in
     let n = numbered 1 MAX_STEPS steps _ event t.3 in
-    subst IsBuilt (sym (nothing more (Turn t.0 n.0) event n.3)) n.2
+    subst IsOfScript (sym (nothing more (Turn t.0 n.0) event n.3)) n.2
 
-round_built : (more : List (List ℕ)) (event : Event) → round_line more ≡ Ok event → IsBuilt event
-round_built [] event e = absurd cc
-round_built (word ∷ []) event e =
+round_fits : (more : List (List ℕ)) (event : Event) → round_line more ≡ Ok event → IsOfScript event
+round_fits [] event e = absurd cc
+round_fits (word ∷ []) event e =
     let r = numbered 1 MAX_ROUNDS word _ event e in
     no_fault Missing event r.3
-round_built (word ∷ steps ∷ more) event e =
+round_fits (word ∷ steps ∷ more) event e =
     let r = numbered 1 MAX_ROUNDS word _ event e in
     let n = numbered 1 MAX_ROUNDS steps _ event r.3 in
     let h = ok_if (nat_le (r.0 * n.0) MAX_STEPS) (nothing_more more (Round r.0 n.0)) BadNumber event n.3 in
     let few : r.0 * n.0 ≤ MAX_STEPS = at_most (r.0 * n.0) MAX_STEPS h.0 in
-    subst IsBuilt (sym (nothing more (Round r.0 n.0) event h.1)) few
+    subst IsOfScript (sym (nothing more (Round r.0 n.0) event h.1)) few
+
+-- ---- `kill`.
+
+kill_fits : (more : List (List ℕ)) (event : Event) → kill_line more ≡ Ok event → IsOfScript event
+kill_fits [] event e = absurd cc
+kill_fits (name ∷ more) event e =
+    let h = ok_if (is_name name) (nothing_more more (Kill name)) BadName event e in
+    subst IsOfScript (sym (nothing more (Kill name) event h.1)) h.0
 
 -- ---- Lines.
 
-no_kill : (word name : List ℕ) (more : List (List ℕ)) → bytes_eq word (codes "kill") ≡ true → is_not_built (word ∷ name ∷ more) ≡ false → ⊥
-no_kill word name more is built = let bad : true ≡ false = rw is at built in absurd cc
-
 -- the line of a command
-command_built : (word : List ℕ) (more : List (List ℕ)) (event : Event) → command_line word more ≡ Ok event → is_not_built (word ∷ more) ≡ false
-    → IsBuilt event
-command_built word more event e built = by_domain (bytes_eq word (codes "domain")) refl
+command_fits : (word : List ℕ) (more : List (List ℕ)) (event : Event) → command_line word more ≡ Ok event → IsOfScript event
+command_fits word more event e = by_domain (bytes_eq word (codes "domain")) refl
   where
     by_kill : bytes_eq word (codes "domain") ≡ false → bytes_eq word (codes "start") ≡ false → bytes_eq word (codes "turn") ≡ false
-        → bytes_eq word (codes "round") ≡ false → (b : Bool) → bytes_eq word (codes "kill") ≡ b → IsBuilt event
+        → bytes_eq word (codes "round") ≡ false → (b : Bool) → bytes_eq word (codes "kill") ≡ b → IsOfScript event
+    by_kill d s t r true k = kill_fits more event (rw (d, s, t, r, k) at e)
     by_kill d s t r false k = no_fault UnknownWord event (rw (d, s, t, r, k) at e)
-    by_kill d s t r true k = kills more (rw (d, s, t, r, k) at e) built
-      where
-        kills : (ws : List (List ℕ)) → kill_line ws ≡ Ok event → is_not_built (word ∷ ws) ≡ false → IsBuilt event
-        kills [] e built = absurd cc
-        kills (name ∷ ws) e built = absurd (no_kill word name ws k built)
 
     by_round : bytes_eq word (codes "domain") ≡ false → bytes_eq word (codes "start") ≡ false → bytes_eq word (codes "turn") ≡ false
-        → (b : Bool) → bytes_eq word (codes "round") ≡ b → IsBuilt event
-    by_round d s t true r = round_built more event (rw (d, s, t, r) at e)
+        → (b : Bool) → bytes_eq word (codes "round") ≡ b → IsOfScript event
+    by_round d s t true r = round_fits more event (rw (d, s, t, r) at e)
     by_round d s t false r = by_kill d s t r (bytes_eq word (codes "kill")) refl
 
     by_turn : bytes_eq word (codes "domain") ≡ false → bytes_eq word (codes "start") ≡ false → (b : Bool) → bytes_eq word (codes "turn") ≡ b
-        → IsBuilt event
-    by_turn d s true t = turn_built more event (rw (d, s, t) at e)
+        → IsOfScript event
+    by_turn d s true t = turn_fits more event (rw (d, s, t) at e)
     by_turn d s false t = by_round d s t (bytes_eq word (codes "round")) refl
 
-    by_start : bytes_eq word (codes "domain") ≡ false → (b : Bool) → bytes_eq word (codes "start") ≡ b → IsBuilt event
+    by_start : bytes_eq word (codes "domain") ≡ false → (b : Bool) → bytes_eq word (codes "start") ≡ b → IsOfScript event
     by_start d true s = starts more (rw (d, s) at e)
       where
-        starts : (ws : List (List ℕ)) → start_line ws ≡ Ok event → IsBuilt event
+        starts : (ws : List (List ℕ)) → start_line ws ≡ Ok event → IsOfScript event
         starts [] e = absurd cc
-        starts (name ∷ ws) e = start_built name ws event e
+        starts (name ∷ ws) e = start_fits name ws event e
     by_start d false s = by_turn d s (bytes_eq word (codes "turn")) refl
 
-    by_domain : (b : Bool) → bytes_eq word (codes "domain") ≡ b → IsBuilt event
-    by_domain true d = domain_built more event (rw d at e)
+    by_domain : (b : Bool) → bytes_eq word (codes "domain") ≡ b → IsOfScript event
+    by_domain true d = domain_fits more event (rw d at e)
     by_domain false d = by_start d (bytes_eq word (codes "start")) refl
 
 abbrev no_event : Result (Option Event) FaultKind
@@ -237,55 +232,47 @@ none_is_some : {P : Type 0} (event : Event) → no_event ≡ Ok (Some event) →
 none_is_some event e = absurd cc
 
 -- a line that stands for an event
-line_built : (line : List ℕ) (event : Event) → built_event line ≡ Ok (Some event) → IsBuilt event
-line_built line event e = by_line (line_event line) refl
+line_fits : (line : List ℕ) (event : Event) → line_event line ≡ Ok (Some event) → IsOfScript event
+line_fits line event e = by_empty (is_empty_line line) refl
   where
-    by_command : (word : List ℕ) (more : List (List ℕ)) → words line ≡ word ∷ more → list_all is_line_byte line ≡ true → is_empty_line line ≡ false
-        → is_not_built (words line) ≡ false → line_event line ≡ Ok (Some event) → (r : Result Event FaultKind) → command_line word more ≡ r
-        → IsBuilt event
-    by_command word more ws bytes full built is (Ok found) c =
-        let same : Ok (Some found) ≡ Ok (Some event) = rw (bytes, full, ws, c) at is in
+    bytes : list_all is_line_byte line ≡ true
+    bytes = (ok_if (list_all is_line_byte line) _ BadByte (Some event) e).0
+
+    by_command : (word : List ℕ) (more : List (List ℕ)) → words line ≡ word ∷ more → is_empty_line line ≡ false → (r : Result Event FaultKind)
+        → command_line word more ≡ r → IsOfScript event
+    by_command word more ws full (Ok found) c =
+        let same : Ok (Some found) ≡ Ok (Some event) = rw (bytes, full, ws, c) at e in
         let one : found ≡ event = cc in
-        subst IsBuilt one (command_built word more found c (rw ws at built))
-    by_command word more ws bytes full built is (Err kind) c = no_fault kind (Some event) (rw (bytes, full, ws, c) at is)
+        subst IsOfScript one (command_fits word more found c)
+    by_command word more ws full (Err kind) c = no_fault kind (Some event) (rw (bytes, full, ws, c) at e)
 
-    by_words : list_all is_line_byte line ≡ true → is_empty_line line ≡ false → is_not_built (words line) ≡ false
-        → line_event line ≡ Ok (Some event) → (ws : List (List ℕ)) → words line ≡ ws → IsBuilt event
-    by_words bytes full built is [] ws = none_is_some event (rw (bytes, full, ws) at is)
-    by_words bytes full built is (word ∷ more) ws = by_command word more ws bytes full built is (command_line word more) refl
+    by_words : is_empty_line line ≡ false → (ws : List (List ℕ)) → words line ≡ ws → IsOfScript event
+    by_words full [] ws = none_is_some event (rw (bytes, full, ws) at e)
+    by_words full (word ∷ more) ws = by_command word more ws full (command_line word more) refl
 
-    by_empty : list_all is_line_byte line ≡ true → is_not_built (words line) ≡ false → line_event line ≡ Ok (Some event) → (b : Bool)
-        → is_empty_line line ≡ b → IsBuilt event
-    by_empty bytes built is true empty = none_is_some event (rw (bytes, empty) at is)
-    by_empty bytes built is false full = by_words bytes full built is (words line) refl
-
-    by_line : (r : Result (Option Event) FaultKind) → line_event line ≡ r → IsBuilt event
-    by_line (Err kind) is = no_fault kind (Some event) (rw is at e)
-    by_line (Ok o) is =
-        let h = ok_unless (is_not_built (words line)) (Ok o) NotYet (Some event) (rw is at e) in
-        let same : o ≡ Some event = cc in
-        let bytes = (ok_if (list_all is_line_byte line) _ BadByte o is).0 in
-        by_empty bytes h.0 (rw same at is) (is_empty_line line) refl
+    by_empty : (b : Bool) → is_empty_line line ≡ b → IsOfScript event
+    by_empty true empty = none_is_some event (rw (bytes, empty) at e)
+    by_empty false full = by_words full (words line) refl
 
 -- ---- Scripts.
 
-then_built : (n : ℕ) (r : Result (Option Event) FaultKind) (rest : Result (List Event) ScriptFault) (events : List Event)
-    → ((event : Event) → r ≡ Ok (Some event) → IsBuilt event) → ((more : List Event) → rest ≡ Ok more → AllByRecursion IsBuilt more)
-    → then_rest n r rest ≡ Ok events → AllByRecursion IsBuilt events
-then_built n (Err kind) rest events one all e = absurd cc
-then_built n (Ok None) rest events one all e = all events e
-then_built n (Ok (Some event)) (Err fault) events one all e = absurd cc
-then_built n (Ok (Some event)) (Ok more) events one all e =
+then_fits : (n : ℕ) (r : Result (Option Event) FaultKind) (rest : Result (List Event) ScriptFault) (events : List Event)
+    → ((event : Event) → r ≡ Ok (Some event) → IsOfScript event) → ((more : List Event) → rest ≡ Ok more → AllByRecursion IsOfScript more)
+    → then_rest n r rest ≡ Ok events → AllByRecursion IsOfScript events
+then_fits n (Err kind) rest events one all e = absurd cc
+then_fits n (Ok None) rest events one all e = all events e
+then_fits n (Ok (Some event)) (Err fault) events one all e = absurd cc
+then_fits n (Ok (Some event)) (Ok more) events one all e =
     let is : event ∷ more ≡ events = cc in
-    subst (AllByRecursion IsBuilt) is (one event refl, all more refl)
+    subst (AllByRecursion IsOfScript) is (one event refl, all more refl)
 
-lines_built : (n : ℕ) (ls : List (List ℕ)) (events : List Event) → lines_events built_event n ls ≡ Ok events → AllByRecursion IsBuilt events
-lines_built n [] events e = let is : [] ≡ events = cc in subst (AllByRecursion IsBuilt) is tt
-lines_built n (line ∷ more) events e =
-    let h = ok_if (nat_le n MAX_LINES) (then_rest n (built_event line) (lines_events built_event (suc n) more)) _ events e in
-    then_built n (built_event line) (lines_events built_event (suc n) more) events (line_built line) (lines_built (suc n) more) h.1
+lines_fits : (n : ℕ) (ls : List (List ℕ)) (events : List Event) → lines_events line_event n ls ≡ Ok events → AllByRecursion IsOfScript events
+lines_fits n [] events e = let is : [] ≡ events = cc in subst (AllByRecursion IsOfScript) is tt
+lines_fits n (line ∷ more) events e =
+    let h = ok_if (nat_le n MAX_LINES) (then_rest n (line_event line) (lines_events line_event (suc n) more)) _ events e in
+    then_fits n (line_event line) (lines_events line_event (suc n) more) events (line_fits line) (lines_fits (suc n) more) h.1
 
-pub script_built : (bytes : List ℕ) (events : List Event) → IsScript bytes events → AllByRecursion IsBuilt events
-script_built bytes events is =
-    lines_built 1 (script_lines bytes) events
-    (ok_if (nat_le (length bytes) MAX_BYTES) (lines_events built_event 1 (script_lines bytes)) _ events is).1
+pub script_fits : (bytes : List ℕ) (events : List Event) → IsScript bytes events → AllByRecursion IsOfScript events
+script_fits bytes events is =
+    lines_fits 1 (script_lines bytes) events
+    (ok_if (nat_le (length bytes) MAX_BYTES) (lines_events line_event 1 (script_lines bytes)) _ events is).1

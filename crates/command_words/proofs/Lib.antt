@@ -1,0 +1,3 @@
+-- Lemmas on the words of the command and on what they call for.
+mod CalledFor
+mod TakenWords

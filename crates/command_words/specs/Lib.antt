@@ -1,0 +1,2 @@
+-- What the words after the program's name call for.
+pub mod CommandLine
