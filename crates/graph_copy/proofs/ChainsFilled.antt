@@ -1,7 +1,6 @@
 -- The copies of a chain are filled one after the other, from the first pair on, and nothing but copies changes.
 use Rattle.std.proofs.Common.{◌≡◌, ◌≢◌, ℕ, ◌-◌, ◌^◌, ◌<◌, ◌≤◌, ◌⊎◌, ◌==◌, Bool, true, false, cond, List, [], ◌∷◌, ◌++◌, Contains, Option, Some, None, nat_eq, refl, sym, ap, ◌∙◌, subst, inl, inr}
 use Rattle.std.specs.List.{IsDistinct}
-use Rattle.std.proofs.lemmas.Bool.{eqb-true}
 use Rattle.std.proofs.lemmas.List.{map-append}
 use Rattle.jk_model.specs.declared.identifiers.DomainId.{DomainId}
 use Rattle.jk_model_classes.specs.declared.records.ClassRecord.{ClassRecord}
@@ -13,6 +12,7 @@ use Rattle.list_lemmas.proofs.TestsAndOrders.{same_or_not}
 use Rattle.object_store.specs.HeapContents.{HeapBecomes, HeapContent, IsHeapContent, IsLive, IsName, WritesObject}
 use Rattle.object_store.proofs.ObjectsByName.{named_beside, named_in_place}
 use Rattle.object_store.proofs.ObjectsWritten.{both_keep, live_after}
+use Rattle.heap_laws.proofs.ObjectsAfterChanges.{name_kept}
 use Rattle.graph_copy.specs.Chains.{AreInTurn, IsChain, IsCopyIn, copies_of, first_source, sources_of}
 use Rattle.graph_copy.specs.Filled.{Fills, HasImage, HasParts, MayFill, MayFillOne, copied_object}
 use Rattle.graph_copy.specs.Laid.{empty_copy, names_of}
@@ -21,10 +21,6 @@ use Rattle.graph_copy.proofs.ChainsForgotten.{another_copy, behind_first, copy_i
 use Rattle.graph_copy.proofs.QueuesForgotten.{rest_distinct}
 
 -- ---- An object of the second part of a heap is written.
-
-name_kept : (b : ℕ) (p : Object) (e : NamedObject) (t : Bool) → (e.name == b) ≡ t → (cond t (named b p) e).name ≡ e.name
-name_kept b p e true is = sym (eqb-true e.name b is)
-name_kept b p e false is = refl
 
 pub names_kept : (b : ℕ) (p : Object) (heap : List NamedObject) → names_of (with_object b p heap) ≡ names_of heap
 names_kept b p [] = refl

@@ -1,6 +1,5 @@
 -- What is found may be laid, filled and forgotten, and is copied then.
-use Rattle.std.proofs.Common.{◌≡◌, ℕ, ◌+◌, ◌-◌, ◌^◌, ◌<◌, ◌≤◌, ◌⊎◌, Bool, true, false, cond, List, [], ◌∷◌, ◌++◌, length, map, Contains, Option, Some, IsSome, sum_by, nat_eq, slice_get, refl, sym, ap, ◌∙◌, subst, inl, inr, arith}
-use Rattle.std.specs.Prelude.{MatchBool}
+use Rattle.std.proofs.Common.{◌≡◌, ℕ, ◌+◌, ◌-◌, ◌^◌, ◌<◌, ◌≤◌, ◌⊎◌, List, [], ◌∷◌, ◌++◌, length, map, Contains, Option, Some, IsSome, sum_by, nat_eq, slice_get, refl, sym, ap, ◌∙◌, subst, inl, inr, arith}
 use Rattle.std.specs.List.{IsDistinct}
 use Rattle.jk_model.specs.declared.identifiers.DomainId.{DomainId}
 use Rattle.jk_model.specs.declared.values.Value.{Value}
@@ -21,6 +20,7 @@ use Rattle.list_lemmas.proofs.ItemsByPlace.{slice_get-back}
 use Rattle.list_lemmas.proofs.ItemsOfLists.{Contains-cases, Contains-here, Contains-none, Contains-there}
 use Rattle.object_store.specs.HeapContents.{AreOfFields, HeapContent, IsHeapContent, IsLaidOut, IsLive}
 use Rattle.object_store.proofs.ObjectsWritten.{both_keep}
+use Rattle.heap_laws.proofs.CopiesAreThere.{field_step, kept_here, kept_there}
 use Rattle.graph_copy.specs.Chains.{AreInTurn, ForgetsPairs, HasChain, IsChain, IsCopyIn, IsOutside, IsSourceIn, sources_of}
 use Rattle.graph_copy.specs.CopiedAll.{IsAllFound}
 use Rattle.graph_copy.specs.CopyAnswers.{Copies, graph_in}
@@ -58,19 +58,6 @@ pub each_corresponds : (pairs : List (ℕ × ℕ)) (mark : ℕ → ℕ) (values 
 each_corresponds pairs mark values h =
     zip_mapped (Corresponds pairs) (image_of mark) values
     (λ v there. corresponds pairs mark v (λ a e. h a (subst (λ (w : Value). Contains values w) e there)))
-
-field_step : (t : Bool) (pairs : List (ℕ × ℕ)) (v w empty : Value) → (t ≡ false → Corresponds pairs v w)
-    → MatchBool t (cond t empty w ≡ empty) (Corresponds pairs v (cond t empty w))
-field_step true pairs v w empty h = refl
-field_step false pairs v w empty h = h refl
-
-kept_here : (t : Bool) (v : Value) (kept : List Value) → t ≡ false → Contains (cond t kept (v ∷ kept)) v
-kept_here true v kept is = absurd cc
-kept_here false v kept is = Contains-here v kept
-
-kept_there : (t : Bool) (v w : Value) (kept : List Value) → Contains kept w → Contains (cond t kept (v ∷ kept)) w
-kept_there true v w kept h = h
-kept_there false v w kept h = Contains-there w v kept h
 
 fields_correspond : (pairs : List (ℕ × ℕ)) (mark : ℕ → ℕ) (fields : List FieldRecord) (values : List Value) → AreOfFields fields values
     → AllLead pairs mark (kept_values fields values) → FieldsCorrespond pairs fields values (copied_fields mark fields values)

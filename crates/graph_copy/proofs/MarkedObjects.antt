@@ -2,9 +2,9 @@
 use Rattle.std.proofs.Common.{◌≡◌, ◌≢◌, ℕ, zero, suc, ◌+◌, ◌<◌, ◌≤◌, List, [], ◌∷◌, Contains, Some, refl, ap, ◌∙◌, inl, inr, arith}
 use Rattle.jk_model_domains.specs.Objects.{NamedObject, Object, object_named}
 use Rattle.jk_model_heaps.specs.Heaps.{named}
-use Rattle.heap_laws.proofs.ReachIsListed.{stands}
 use Rattle.list_lemmas.proofs.ItemsOfLists.{Contains-cases, Contains-none}
 use Rattle.list_lemmas.proofs.TestsAndOrders.{same_or_not}
+use Rattle.jk_model_heaps.proofs.NamesInHeaps.{stands}
 
 -- 1 for every mark but 0
 abbrev pub one_if_marked : ℕ → ℕ

@@ -21,6 +21,7 @@ use Rattle.list_lemmas.proofs.ItemsByPlace.{item_there}
 use Rattle.list_lemmas.proofs.ItemsOfLists.{Contains-at, Contains-cases, Contains-here, Contains-none, Contains-there, each-of}
 use Rattle.list_lemmas.proofs.LastItems.{take_next}
 use Rattle.object_store.specs.HeapContents.{AreOfFields, AreOfKind, HasItem, HeapContent, IsHeapContent, IsLaidOut, IsLive, IsSmall, IsStored, item_of, size_of}
+use Rattle.heap_laws.proofs.CopiesAreThere.{kept_there}
 use Rattle.graph_copy.specs.MetObjects.{AreNamed, Meets}
 use Rattle.graph_copy.specs.Places.{IsWalked, count_of_nulls, followed_at, followed_before, is_kept_at, kept_value, one_item, place_count, reference_count}
 use Rattle.graph_copy.proofs.FieldsByPlace.{field_at}
@@ -125,10 +126,6 @@ one_followed classes (Task s) i v within is at = absurd (omega (arith, within))
 
 -- ---- And all of it is followed.
 
-kept_in_rest : (b : Bool) (v w : Value) (vs : List Value) → Contains vs w → Contains (cond b vs (v ∷ vs)) w
-kept_in_rest true v w vs there = there
-kept_in_rest false v w vs there = Contains-there w v vs there
-
 kept_first : (b : Bool) (v w : Value) (vs : List Value) → Contains (cond b [] (v ∷ [])) w → Contains (cond b vs (v ∷ vs)) w
 kept_first true v w vs there = absurd (Contains-none w there)
 kept_first false v w vs there = subst (λ (u : Value). Contains (v ∷ vs) u) (only_value v w there) (Contains-here v vs)
@@ -143,7 +140,7 @@ kept_in (f ∷ fs) [] (suc i) w there = absurd (none_kept (slice_get fs i) there
     none_kept None there = Contains-none w there
     none_kept (Some g) there = Contains-none w there
 kept_in (f ∷ fs) (v ∷ vs) zero w there = kept_first (is_left_empty f) v w (kept_values fs vs) there
-kept_in (f ∷ fs) (v ∷ vs) (suc i) w there = kept_in_rest (is_left_empty f) v w (kept_values fs vs) (kept_in fs vs i w there)
+kept_in (f ∷ fs) (v ∷ vs) (suc i) w there = kept_there (is_left_empty f) v w (kept_values fs vs) (kept_in fs vs i w there)
 
 item_in : (items : List Value) (i : ℕ) (w : Value) (o : Option Value) → slice_get items i ≡ o → Contains (one_item o) w → Contains items w
 item_in items i w None at there = absurd (Contains-none w there)

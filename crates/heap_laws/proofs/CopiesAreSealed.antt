@@ -29,13 +29,12 @@ use Rattle.jk_model_graphs.specs.Reach.{Graph, Reach}
 use Rattle.jk_model_heaps.specs.Capabilities.{CapRange}
 use Rattle.jk_model_heaps.specs.Heaps.{IsAlike, IsGrown, field_records, named}
 use Rattle.jk_model_heaps.specs.Workings.{with_heap}
-use Rattle.jk_model_heaps.proofs.NamesInHeaps.{by_first, in_front}
+use Rattle.jk_model_heaps.proofs.NamesInHeaps.{by_first, in_front, stands}
 use Rattle.jk_model_sealing.specs.SealedInsides.{IsKnownValue, IsNamedBase, IsSealedInside, IsSealedObject, Surroundings}
 use Rattle.class_lemmas.proofs.NamesOfTables.{means_named}
 use Rattle.list_lemmas.proofs.ItemsOfLists.{Contains-at, Contains-cases, Contains-none, place_of}
 use Rattle.heap_laws.specs.CopiedGraphs.{CopyBetween}
 use Rattle.heap_laws.proofs.CopiesCostTheSame.{copies_cost_their_reach}
-use Rattle.heap_laws.proofs.ReachIsListed.{stands}
 use Rattle.heap_laws.proofs.CopiesFit.{copied_values_fit, is_found, its_own}
 
 -- ---- Heaps in which each name keeps its object.

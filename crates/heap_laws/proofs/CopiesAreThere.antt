@@ -107,16 +107,16 @@ each_corresponds pairs n values h =
     zip_mapped (Corresponds pairs) (moved n) values
     (λ v there. corresponds pairs n v (λ a e. h a (subst (λ (w : Value). Contains values w) e there)))
 
-field_step : (t : Bool) (pairs : List (ℕ × ℕ)) (v w empty : Value) → (t ≡ false → Corresponds pairs v w)
+pub field_step : (t : Bool) (pairs : List (ℕ × ℕ)) (v w empty : Value) → (t ≡ false → Corresponds pairs v w)
     → MatchBool t (cond t empty w ≡ empty) (Corresponds pairs v (cond t empty w))
 field_step true pairs v w empty h = refl
 field_step false pairs v w empty h = h refl
 
-kept_here : (t : Bool) (v : Value) (kept : List Value) → t ≡ false → Contains (cond t kept (v ∷ kept)) v
+pub kept_here : (t : Bool) (v : Value) (kept : List Value) → t ≡ false → Contains (cond t kept (v ∷ kept)) v
 kept_here true v kept is = absurd cc
 kept_here false v kept is = Contains-here v kept
 
-kept_there : (t : Bool) (v w : Value) (kept : List Value) → Contains kept w → Contains (cond t kept (v ∷ kept)) w
+pub kept_there : (t : Bool) (v w : Value) (kept : List Value) → Contains kept w → Contains (cond t kept (v ∷ kept)) w
 kept_there true v w kept h = h
 kept_there false v w kept h = Contains-there w v kept h
 

@@ -14,8 +14,9 @@ use Rattle.jk_model_graphs.specs.Reach.{Graph, IsReach, ReachCosts, words_named}
 use Rattle.jk_model_heaps.specs.Heaps.{heap_words}
 use Rattle.jk_model_heaps.proofs.NamesInHeaps.{by_first}
 use Rattle.list_lemmas.proofs.ItemsOfLists.{Contains-cases, Contains-here, Contains-none, Contains-there, place_of}
+use Rattle.jk_model_graphs.proofs.OneCost.{no_more as sum_no_more}
 use Rattle.heap_laws.proofs.CostsWithinHeaps.{names_cost_at_most}
-use Rattle.heap_laws.proofs.DistinctNumbers.{differs, distinct_fits, one_more}
+use Rattle.heap_laws.proofs.DistinctNumbers.{differs, one_more}
 use Rattle.heap_laws.proofs.MappedLists.{mapped_from}
 
 -- ---- One object and its copy.
@@ -191,7 +192,7 @@ module _ (classes : List ClassRecord) (source : Graph) (before : List NamedObjec
         made_costs classes h.made d,
         same_sums PairBack (words_named classes h.made) (words_named classes source.heap) (names_made h.made) s.others
             (λ b a p. sym (paired_costs classes source.heap h.made pairs a b (h.each_made a b p))) s.zipped,
-        distinct_fits (words_named classes source.heap) s.others names e among,
+        sum_no_more (words_named classes source.heap) s.others names e among,
       )
 
   pub copies_cost_their_reach : (n : ℕ) → IsCopy classes source before copy pairs → ReachCosts classes source n

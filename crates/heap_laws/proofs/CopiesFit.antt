@@ -13,9 +13,8 @@ use Rattle.jk_model_domains.specs.ValueTypes.{HoldsDeclared}
 use Rattle.jk_model_graphs.specs.Copies.{ArePaired, Corresponds, IsCopied, IsCopy}
 use Rattle.jk_model_graphs.specs.Reach.{Graph}
 use Rattle.jk_model_heaps.specs.Heaps.{named}
-use Rattle.jk_model_heaps.proofs.NamesInHeaps.{behind}
+use Rattle.jk_model_heaps.proofs.NamesInHeaps.{behind, stands}
 use Rattle.std.proofs.lemmas.Option.{same_Some}
-use Rattle.heap_laws.proofs.ReachIsListed.{stands}
 
 -- ---- An object and its copy are of one type.
 

@@ -5,8 +5,9 @@ use Rattle.std.proofs.lemmas.Option.{same_Some}
 use Rattle.jk_model_classes.specs.declared.records.ClassRecord.{ClassRecord}
 use Rattle.jk_model_domains.specs.Objects.{NamedObject, Object, object_named}
 use Rattle.jk_model_heaps.specs.Heaps.{IsAlike, IsGrown, Makes, with_object}
+use Rattle.object_store.proofs.ObjectsByName.{named_beside, named_in_place}
 use Rattle.heap_laws.proofs.AlikeObjects.{alike_after, alike_self}
-use Rattle.heap_laws.proofs.ObjectsAfterChanges.{old_there, others_stay, written_there}
+use Rattle.heap_laws.proofs.ObjectsAfterChanges.{old_there}
 
 pub grown_self : (heap : List NamedObject) → IsGrown heap heap
 grown_self heap = record { kept = λ a o is. (o, is, alike_self o) }
@@ -32,9 +33,9 @@ kept_at heap a old new there alike b o is = elim (eqb_tells b a) [
       let same : b ≡ a = h.1 in
       let here : object_named heap a ≡ Some o = subst (λ (n : ℕ). object_named heap n ≡ Some o) same is in
       let one : old ≡ o = same_Some old o (sym there ∙ here) in
-      let found = subst (λ (n : ℕ). object_named (with_object a new heap) n ≡ Some new) (sym same) (written_there a new old heap there) in
+      let found = subst (λ (n : ℕ). object_named (with_object a new heap) n ≡ Some new) (sym same) (named_in_place a new old heap there) in
       (new, found, subst (λ (x : Object). IsAlike x new) one alike)
-  | inr h ↦ (o, others_stay a b new heap h.1 ∙ is, alike_self o)
+  | inr h ↦ (o, named_beside a b new heap h.1 ∙ is, alike_self o)
 ]
 
 pub writing_grows : (heap : List NamedObject) (a : ℕ) (old new : Object) → object_named heap a ≡ Some old → IsAlike old new

@@ -1,55 +1,22 @@
 -- What a heap has under its names after objects were made in it, or after one became another.
-use Rattle.std.proofs.Common.{inl, inr, ◌≡◌, ◌≢◌, ◌⊎◌, ℕ, zero, suc, ◌+◌, ◌==◌, Bool, true, false, cond, List, [], ◌∷◌, ◌++◌, length, Option, Some, None, Contains, slice_get, refl, sym, ap, subst, ◌∙◌, arith}
+use Rattle.std.proofs.Common.{inl, inr, ◌≡◌, ◌⊎◌, ℕ, zero, suc, ◌+◌, ◌==◌, Bool, true, false, cond, List, [], ◌∷◌, ◌++◌, length, Option, Some, None, Contains, slice_get, refl, sym, ap, subst, ◌∙◌, arith}
 use Rattle.std.proofs.lemmas.Bool.{eq-eqb, eqb-true}
-use Rattle.std.proofs.lemmas.Bool.Decides.{eqb_tells}
 use Rattle.std.proofs.lemmas.List.Sums.{sum_by-append, sum_by-cons}
 use Rattle.std.proofs.lemmas.Option.{none-some, same_Some}
 use Rattle.list_lemmas.proofs.ItemsByPlace.{comes_from}
-use Rattle.list_lemmas.proofs.ItemsOfLists.{Contains-at, Contains-here, Contains-there, stands_at}
+use Rattle.list_lemmas.proofs.ItemsOfLists.{Contains-at, stands_at}
 use Rattle.jk_model_classes.specs.declared.records.ClassRecord.{ClassRecord}
 use Rattle.jk_model_domains.specs.Objects.{NamedObject, Object, object_named, object_words}
 use Rattle.jk_model_heaps.specs.Heaps.{IsAlike, Makes, heap_words, named, with_object}
-use Rattle.jk_model_heaps.proofs.NamesInHeaps.{behind, by_first, in_front}
+use Rattle.jk_model_heaps.proofs.NamesInHeaps.{behind, by_first, in_front, stands}
+use Rattle.object_store.proofs.ObjectsByName.{absent_as_is, first_is_alone, rest_differs}
 use Rattle.heap_laws.specs.NamedObjects.{NamesDiffer}
 use Rattle.heap_laws.proofs.AlikeObjects.{alike_words}
 
 -- ---- One object became another.
 
-not_equal : (a b : ℕ) → a ≢ b → (a == b) ≡ false
-not_equal a b differ = elim (eqb_tells a b) [ inl h ↦ absurd (differ h.1) | inr h ↦ h.0 ]
-
-in_place_by : (a : ℕ) (p o : Object) (e : NamedObject) (es : List NamedObject) (t : Bool) → (e.name == a) ≡ t → by_first t e es a ≡ Some o
-    → (object_named es a ≡ Some o → object_named (with_object a p es) a ≡ Some p)
-    → object_named (cond t (named a p) e ∷ with_object a p es) a ≡ Some p
-in_place_by a p o e es true t is later = ap (λ (b : Bool). by_first b (named a p) (with_object a p es) a) (eq-eqb a a refl)
-in_place_by a p o e es false t is later = ap (λ (b : Bool). by_first b e (with_object a p es) a) t ∙ later is
-
-pub written_there : (a : ℕ) (p o : Object) (heap : List NamedObject) → object_named heap a ≡ Some o
-    → object_named (with_object a p heap) a ≡ Some p
-written_there a p o [] is = absurd cc
-written_there a p o (e ∷ es) is = in_place_by a p o e es (e.name == a) refl is (written_there a p o es)
-
-beside_here : (b : ℕ) (e : NamedObject) (es fs : List NamedObject) (t : Bool) → object_named es b ≡ object_named fs b
-    → by_first t e es b ≡ by_first t e fs b
-beside_here b e es fs true rest = refl
-beside_here b e es fs false rest = rest
-
-beside_by : (a b : ℕ) (p : Object) (e : NamedObject) (es : List NamedObject) → b ≢ a → (t : Bool) → (e.name == a) ≡ t
-    → object_named (with_object a p es) b ≡ object_named es b
-    → object_named (cond t (named a p) e ∷ with_object a p es) b ≡ object_named (e ∷ es) b
-beside_by a b p e es differ true t rest =
-    let same : e.name ≡ a = eqb-true e.name a t in
-    let other : (a == b) ≡ false = not_equal a b (λ h. differ (sym h)) in
-    let old : (e.name == b) ≡ false = ap (λ (n : ℕ). n == b) same ∙ other in
-    ap (λ (x : Bool). by_first x (named a p) (with_object a p es) b) other ∙ rest ∙ sym (ap (λ (x : Bool). by_first x e es b) old)
-beside_by a b p e es differ false t rest = beside_here b e (with_object a p es) es (e.name == b) rest
-
-pub others_stay : (a b : ℕ) (p : Object) (heap : List NamedObject) → b ≢ a → object_named (with_object a p heap) b ≡ object_named heap b
-others_stay a b p [] differ = refl
-others_stay a b p (e ∷ es) differ = beside_by a b p e es differ (e.name == a) refl (others_stay a b p es differ)
-
 -- an entry with another object, or as it is, keeps its name
-name_kept : (a : ℕ) (p : Object) (e : NamedObject) (t : Bool) → (e.name == a) ≡ t → (cond t (named a p) e).name ≡ e.name
+pub name_kept : (a : ℕ) (p : Object) (e : NamedObject) (t : Bool) → (e.name == a) ≡ t → (cond t (named a p) e).name ≡ e.name
 name_kept a p e true t = sym (eqb-true e.name a t)
 name_kept a p e false t = refl
 
@@ -64,23 +31,10 @@ written_names_differ a p heap differ = λ i j x y first second same.
 
 -- ---- What is found under a name stands in the heap.
 
-found_by : (a : ℕ) (o : Object) (e : NamedObject) (es : List NamedObject) (t : Bool) → (e.name == a) ≡ t → by_first t e es a ≡ Some o
-    → (object_named es a ≡ Some o → Contains es (named a o)) → Contains (e ∷ es) (named a o)
-found_by a o e es true t is later =
-    let object : e.object ≡ o = same_Some e.object o is in
-    let entry : e ≡ named a o = ap (λ (n : ℕ). named n e.object) (eqb-true e.name a t) ∙ ap (named a) object in
-    subst (Contains (e ∷ es)) entry (Contains-here e es)
-found_by a o e es false t is later = Contains-there (named a o) e es (later is)
-
 pub found_stands : (a : ℕ) (o : Object) (heap : List NamedObject) → object_named heap a ≡ Some o → Contains heap (named a o)
-found_stands a o [] is = absurd cc
-found_stands a o (e ∷ es) is = found_by a o e es (e.name == a) refl is (found_stands a o es)
+found_stands a o heap is = stands heap a o is
 
 -- ---- What stands in a heap in which no name is there twice is found under its name.
-
-rest_differs : (e : NamedObject) (es : List NamedObject) → NamesDiffer (e ∷ es) → NamesDiffer es
-rest_differs e es differ = λ i j a b at bt same.
-    let there = differ (suc i) (suc j) a b at bt same in omega arith
 
 later_by : (x e : NamedObject) (es : List NamedObject) (k : ℕ) → NamesDiffer (x ∷ es) → slice_get es k ≡ Some e → (t : Bool)
     → (x.name == e.name) ≡ t → object_named es e.name ≡ Some e.object → by_first t x es e.name ≡ Some e.object
@@ -164,25 +118,6 @@ module _ (classes : List ClassRecord) (quota : ℕ) (heap made new : List NamedO
 pub costs_together : (classes : List ClassRecord) (heap made : List NamedObject)
     → heap_words classes (heap ++ made) ≡ heap_words classes heap + heap_words classes made
 costs_together classes heap made = sum_by-append (λ (e : NamedObject). object_words classes e.object) heap made
-
--- where no entry bears the name nothing is written
-abbrev IsNotThere : ℕ → List NamedObject → Type 0
-IsNotThere a heap = (k : ℕ) (e : NamedObject) → slice_get heap k ≡ Some e → e.name ≡ a → ⊥
-
-absent_by : (a : ℕ) (p : Object) (e : NamedObject) (t : Bool) → (e.name == a) ≡ t → e.name ≢ a → cond t (named a p) e ≡ e
-absent_by a p e true t differ = absurd (differ (eqb-true e.name a t))
-absent_by a p e false t differ = refl
-
-absent_as_is : (a : ℕ) (p : Object) (heap : List NamedObject) → IsNotThere a heap → with_object a p heap ≡ heap
-absent_as_is a p [] absent = refl
-absent_as_is a p (e ∷ es) absent =
-    let here = absent_by a p e (e.name == a) refl (absent 0 e refl) in
-    let rest = absent_as_is a p es (λ k x. absent (suc k) x) in
-    cc
-
-first_is_alone : (a : ℕ) (e : NamedObject) (es : List NamedObject) → NamesDiffer (e ∷ es) → e.name ≡ a → IsNotThere a es
-first_is_alone a e es differ same = λ k x at other.
-    let there = differ 0 (suc k) e x refl at (same ∙ sym other) in absurd (omega arith)
 
 words_first : (classes : List ClassRecord) (e : NamedObject) (es : List NamedObject)
     → heap_words classes (e ∷ es) ≡ object_words classes e.object + heap_words classes es

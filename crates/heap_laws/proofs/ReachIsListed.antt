@@ -1,11 +1,9 @@
 -- All names that are reached can be listed, each once: as long as a listed name leads to one that isn't listed, that is put in front. There are
 -- no more names than the values and the objects of the heap name.
-use Rattle.std.proofs.Common.{◌≡◌, ℕ, zero, suc, ◌+◌, ◌==◌, ◌≤◌, ◌⊎◌, Bool, true, false, List, [], ◌∷◌, ◌++◌, length, flat_map, Contains, nat_eq, Option, Some, None, refl, sym, subst, inl, inr, arith}
+use Rattle.std.proofs.Common.{◌≡◌, ℕ, zero, suc, ◌+◌, ◌≤◌, ◌⊎◌, List, [], ◌∷◌, ◌++◌, length, flat_map, Contains, nat_eq, Option, Some, None, refl, sym, subst, inl, inr, arith}
 use Rattle.std.specs.List.{IsDistinct}
 use Rattle.std.specs.Option.{option_map_or}
-use Rattle.std.proofs.lemmas.Bool.{eqb-true}
 use Rattle.std.proofs.lemmas.List.Elements.{Contains-append_cases, Contains-append_left, Contains-append_right}
-use Rattle.std.proofs.lemmas.Option.{same_Some}
 use Rattle.jk_model.specs.declared.values.Value.{Value}
 use Rattle.jk_model.specs.declared.values.Value.TheVariants as Held
 use Rattle.jk_model_classes.specs.declared.records.ClassRecord.{ClassRecord}
@@ -13,7 +11,7 @@ use Rattle.jk_model_domains.specs.Objects.{NamedObject, Object, object_named}
 use Rattle.jk_model_graphs.specs.Followed.{followed}
 use Rattle.jk_model_graphs.specs.Reach.{Graph, IsReach, LeadsTo, Reach, from_object, from_value}
 use Rattle.jk_model_heaps.specs.Heaps.{named}
-use Rattle.jk_model_heaps.proofs.NamesInHeaps.{by_first}
+use Rattle.jk_model_heaps.proofs.NamesInHeaps.{stands}
 use Rattle.list_lemmas.proofs.ItemsOfLists.{Contains-cases, Contains-flat_map, Contains-flat_map_from, Contains-here, Contains-none, Contains-there}
 use Rattle.list_lemmas.proofs.TestsAndOrders.{same_or_not}
 use Rattle.heap_laws.specs.ReachedNames.{IsClosed}
@@ -63,22 +61,6 @@ listed_leads_at classes heap a b (Some p) is h = (p, is, from_names (followed cl
 
 listed_leads : (classes : List ClassRecord) (heap : List NamedObject) (a b : ℕ) → Contains (led_to classes heap a) b → LeadsTo classes heap a b
 listed_leads classes heap a b h = listed_leads_at classes heap a b (object_named heap a) refl h
-
--- ---- An object that is found stands in the heap.
-
-same_entry : (x : NamedObject) (n : ℕ) (p : Object) → x.name ≡ n → x.object ≡ p → x ≡ named n p
-same_entry x n p en ep = λ i. record { name = en i; object = ep i }
-
-stands_step : (t : Bool) (e : NamedObject) (heap : List NamedObject) (b : ℕ) (o : Object) → e.name == b ≡ t
-    → (object_named heap b ≡ Some o → Contains heap (named b o)) → by_first t e heap b ≡ Some o → Contains (e ∷ heap) (named b o)
-stands_step true e heap b o same later is =
-    let here : e ≡ named b o = same_entry e b o (eqb-true e.name b same) (same_Some e.object o is) in
-    subst (λ (x : NamedObject). Contains (e ∷ heap) x) here (Contains-here e heap)
-stands_step false e heap b o other later is = Contains-there (named b o) e heap (later is)
-
-pub stands : (heap : List NamedObject) (b : ℕ) (o : Object) → object_named heap b ≡ Some o → Contains heap (named b o)
-stands [] b o is = absurd cc
-stands (e ∷ heap) b o is = stands_step (e.name == b) e heap b o refl (stands heap b o) is
 
 -- ---- All names of a graph.
 

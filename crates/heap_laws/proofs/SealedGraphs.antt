@@ -5,6 +5,7 @@ use Rattle.jk_model.specs.declared.values.Value.{Value}
 use Rattle.jk_model.specs.declared.values.Value.TheVariants as Held
 use Rattle.jk_model_classes.specs.declared.records.FieldRecord.{FieldRecord}
 use Rattle.jk_model_domains.specs.Objects.{NamedObject, Object, Array, Plain, Task, Text, object_named}
+use Rattle.jk_model_heaps.proofs.NamesInHeaps.{stands}
 use Rattle.jk_model_graphs.specs.Followed.{followed, is_left_empty, kept_values}
 use Rattle.jk_model_graphs.specs.Reach.{Graph, Reach, from_object, from_value}
 use Rattle.jk_model_heaps.specs.Heaps.{field_records, named}
@@ -12,7 +13,6 @@ use Rattle.jk_model_heaps.specs.Workings.{Inside}
 use Rattle.jk_model_sealing.specs.SealedInsides.{IsKnownValue, IsSealedInside, IsSealedObject, Surroundings}
 use Rattle.list_lemmas.proofs.ItemsOfLists.{Contains-cases, Contains-none, each-of}
 use Rattle.heap_laws.specs.CopiedGraphs.{HasAllFields, IsWhollyThere}
-use Rattle.heap_laws.proofs.ReachIsListed.{stands}
 
 -- ---- A field that is kept stands at the place of its record.
 

@@ -1,10 +1,11 @@
 -- How texts and arrays of a store change item by item.
+pub mod HeapsBecome
 mod ItemsCopied
 mod ItemsThatFit
 mod KindsOfElements
-mod NamesApart
+pub mod NamesApart
 mod RangesOfLists
 pub mod TreesOfRows
 mod TreesSoFar
-mod UnitsSoFar
+pub mod UnitsSoFar
 mod WordsOfCounts

@@ -1,6 +1,6 @@
 -- The arrays below an array are made one after the other: each is put into the next item, and all that are made so far stand behind the
 -- heap as it was.
-use Rattle.std.proofs.Common.{◌≡◌, ◌≢◌, ℕ, zero, suc, ◌+◌, ◌-◌, ◌*◌, ◌^◌, ◌<◌, ◌≤◌, ◌==◌, Bool, true, false, List, [], ◌∷◌, ◌++◌, length, map, replicate, Option, Some, None, IsSome, slice_get, slice_set, refl, sym, ap, ◌∙◌, subst, arith}
+use Rattle.std.proofs.Common.{◌≡◌, ◌≢◌, ℕ, zero, suc, ◌+◌, ◌-◌, ◌*◌, ◌^◌, ◌<◌, ◌≤◌, ◌==◌, Bool, true, false, List, [], ◌∷◌, ◌++◌, length, map, replicate, Option, Some, IsSome, slice_get, slice_set, refl, sym, ap, ◌∙◌, subst, arith}
 use Rattle.std.specs.Prelude.{flat_map}
 use Rattle.std.specs.List.{AllByRecursion}
 use Rattle.std.specs.Option.{option_map_or}
@@ -26,9 +26,9 @@ use Rattle.jk_model_heap_rows.specs.ArrayTrees.{IsTree, Made, element_type, tree
 use Rattle.jk_model_heap_rows.proofs.TreesCost.{trees_cost}
 use Rattle.object_store.specs.HeapContents.{AreOfKind, HeapBecomes, HeapContent, IsAdmitted, IsHeapContent, IsLive, IsWritten, MakesObject, TakesItem, WritesObject, words_left}
 use Rattle.object_store.proofs.ObjectsByName.{NamesDiffer}
-use Rattle.object_store.proofs.ObjectsWritten.{both_keep}
 use Rattle.heap_loops.specs.ObjectsMade.{MakesObjects}
 use Rattle.heap_loops.proofs.NamesApart.{back_differs, front_lacks, live_in_middle, put_in_middle}
+use Rattle.heap_loops.proofs.HeapsBecome.{both_become, one_word, room_by, told}
 
 abbrev words_in : List ClassRecord → NamedObject → ℕ
 words_in classes e = object_words classes e.object
@@ -55,31 +55,10 @@ pub record TreeSoFar (old now : HeapContent) (classes : List ClassRecord) (d : D
   pub small : a < 2 ^ 30
   pub becomes : HeapBecomes old now d (old.heap d ++ objects_of element n a items) (old.used d + heap_words classes (objects_of element n a items))
 
--- ---- Two changes after one another, and one told otherwise.
-
-told : (old new : HeapContent) (d : DomainId) (heap others : List NamedObject) (used words : ℕ) → heap ≡ others → used ≡ words
-    → HeapBecomes old new d heap used → HeapBecomes old new d others words
-told old new d heap others used words same as_many becomes =
-    subst (λ (n : ℕ). HeapBecomes old new d others n) as_many (subst (λ (h : List NamedObject). HeapBecomes old new d h used) same becomes)
-
-both_become : (a b c : HeapContent) (d : DomainId) (heap others : List NamedObject) (used words : ℕ) → HeapBecomes a b d heap used
-    → HeapBecomes b c d others words → HeapBecomes a c d others words
-both_become a b c d heap others used words first second = record {
-  domains = both_keep a b c first.domains second.domains;
-  becomes = second.becomes;
-  others = λ e differ. second.others e differ ∙ first.others e differ;
-  uses = second.uses;
-  other_uses = λ e differ. second.other_uses e differ ∙ first.other_uses e differ;
-  mark = λ e x. second.mark e x ∙ first.mark e x;
-}
-
 -- ---- The array alone.
 
 no_items : (element : TypeRef) (n a : ℕ) → named a (Array element (replicate n (zero_of element))) ∷ [] ≡ objects_of element n a []
 no_items element n a = ap (λ (k : ℕ). named a (Array element (replicate k (zero_of element))) ∷ []) (sym (sub-zero n))
-
-one_word : (classes : List ClassRecord) (a : ℕ) (object : Object) → object_words classes object ≡ heap_words classes (named a object ∷ [])
-one_word classes a object = let sum = sum_by-cons (words_in classes) (named a object) [] in omega (arith, sum)
 
 pub root_made : (old now : HeapContent) (classes : List ClassRecord) (d : DomainId) (element : TypeRef) (more : List ℕ) (n a : ℕ)
     → MakesObject old now classes d a (Array element (replicate n (zero_of element))) → TreeSoFar old now classes d element more n a 0
@@ -347,11 +326,6 @@ words_so_far old now classes d t more n a i within so_far =
     let all_cost : object_words classes (Array element (items_of element n items)) ≡ HEADER_WORDS + type_words element * n =
     ap (λ (k : ℕ). HEADER_WORDS + type_words element * k) long in
     omega (arith, few, of_few, of_all, few_cost, all_cost)
-
-room_by : (q : Option ℕ) (used before whole part here : ℕ) → used ≡ before + here → here + part ≤ whole → 0 < whole
-    → whole ≤ option_map_or (λ (k : ℕ). k - before) q 0 → part ≤ option_map_or (λ (k : ℕ). k - used) q 0
-room_by None used before whole part here is fits some room = omega arith
-room_by (Some q) used before whole part here is fits some room = omega arith
 
 pub room_below : (old now : HeapContent) (classes : List ClassRecord) (d : DomainId) (t : TypeRef) (more : List ℕ) (n a i : ℕ) → i < n
     → (so_far : TreeSoFar old now classes d (element_type t) more n a i) → tree_words t (n ∷ more) ≤ words_left old d

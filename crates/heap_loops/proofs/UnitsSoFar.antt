@@ -21,7 +21,7 @@ abbrev pub WrittenSoFar : HeapContent → HeapContent → DomainId → ℕ → �
 WrittenSoFar old now d a from units i =
     (text : List ℕ) → IsLive old d a (Text text) → WritesObject old now d a (Text (paste text from units i))
 
-same_text : (c : HeapContent) (d : DomainId) (a : ℕ) (t u : List ℕ) → IsLive c d a (Text t) → IsLive c d a (Text u) → t ≡ u
+pub same_text : (c : HeapContent) (d : DomainId) (a : ℕ) (t u : List ℕ) → IsLive c d a (Text t) → IsLive c d a (Text u) → t ≡ u
 same_text c d a t u first second = let same : Some (Text t) ≡ Some (Text u) = sym first ∙ second in cc
 
 -- places in a text fit 32 bits
@@ -152,7 +152,7 @@ zeros n = Text (replicate n 0)
 pub has_zeros : (c : HeapContent) (d : DomainId) (a n : ℕ) → IsLive c d a (zeros n) → HasUnits c d a (0 + n)
 has_zeros c d a n live = record { text = replicate n 0; live = live; many = omega (arith, length-replicate {A = ℕ} n 0) }
 
-over_zeros : (units : List ℕ) → with_units (replicate (length units) 0) 0 units ≡ units
+pub over_zeros : (units : List ℕ) → with_units (replicate (length units) 0) 0 units ≡ units
 over_zeros units =
     let nothing : drop (0 + length units) (replicate (length units) 0) ≡ [] =
     drop_of_length-le (replicate (length units) 0) (omega (arith, length-replicate {A = ℕ} (length units) 0)) in

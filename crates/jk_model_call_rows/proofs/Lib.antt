@@ -1,6 +1,6 @@
 -- Lemmas on calls: which methods the examples' classes select, and that all is determined.
 mod OneOutcome
-mod OneSelected
+pub mod OneSelected
 mod PackagesOfExamples
 mod ReceiversOfExamples
 mod SelectedMethods

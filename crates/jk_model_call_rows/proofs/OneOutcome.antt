@@ -18,6 +18,7 @@ use Rattle.jk_model_classes.specs.declared.records.Link.TheVariants as To
 use Rattle.jk_model_classes.specs.declared.records.LinkedCode.{LinkedCode}
 use Rattle.jk_model_classes.specs.declared.records.MethodRecord.{MethodRecord}
 use Rattle.jk_model_classes.specs.Lookups.{MethodIs}
+use Rattle.class_lemmas.proofs.OneRecord.{one_method}
 use Rattle.jk_model_typing.specs.Scopes.{CodeScope, LeadsToLink}
 use Rattle.jk_model_frames.specs.Frames.{FrameState, head_chunks}
 use Rattle.jk_model_domains.specs.NumberRows.{Replaces}
@@ -27,7 +28,6 @@ use Rattle.jk_model_heaps.specs.Workings.{Calls, Outcome, RaisesHere, Setting, W
 use Rattle.jk_model_call_rows.specs.CallRows.{AtReceiver, CallRow, CallsSystem, FollowsTarget, MethodCall, RunsMethod, given_count}
 use Rattle.jk_model_call_rows.specs.Targets.{Fails, InterfaceTarget, Runs, SpecialTarget, Target, Through, VirtualTarget}
 use Rattle.jk_model_call_rows.proofs.OneSelected.{one_at_receiver, one_interface_target, one_special_target, one_virtual_target}
-use Rattle.jk_model_call_rows.proofs.SelectedMethods.{one_method}
 
 -- ---- Which method an instruction names.
 

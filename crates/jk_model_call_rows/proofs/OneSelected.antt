@@ -15,12 +15,12 @@ use Rattle.jk_model_classes.specs.declared.records.ClassRecord.{ClassRecord}
 use Rattle.jk_model_classes.specs.declared.records.MethodRecord.{MethodRecord}
 use Rattle.jk_model_classes.specs.Classes.{superclasses}
 use Rattle.jk_model_classes.specs.Lookups.{FindsOn, IsFirstOn, IsNowhereOn, IsUnlessAbstract, MethodIs, RunsFor, Selects}
+use Rattle.class_lemmas.proofs.OneRecord.{one_method}
 use Rattle.jk_model_domains.specs.Objects.{NamedObject}
 use Rattle.jk_model_heaps.specs.Instances.{RunsAs, run_class}
 use Rattle.jk_model_heaps.specs.SystemClasses.{INCOMPATIBLE_CLASS_CHANGE_ERROR}
 use Rattle.jk_model_call_rows.specs.CallRows.{AtReceiver}
 use Rattle.jk_model_call_rows.specs.Targets.{Fails, HasInterface, InterfaceTarget, IsRunAsNamed, IsSelectedAbove, LacksInterface, LocalTarget, PublicTarget, Runs, SelectedTarget, SpecialTarget, Target, VirtualTarget}
-use Rattle.jk_model_call_rows.proofs.SelectedMethods.{one_method}
 
 -- ---- What a walk finds.
 

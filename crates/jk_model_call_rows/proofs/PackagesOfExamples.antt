@@ -12,8 +12,9 @@ use Rattle.jk_model_classes.specs.declared.records.ClassRecord.{ClassRecord}
 use Rattle.jk_model_classes.specs.declared.records.MethodRecord.{MethodRecord}
 use Rattle.jk_model_classes.specs.Classes.{IsInterface, OBJECT}
 use Rattle.jk_model_classes.specs.Lookups.{AreInOnePackage, Declares, IsOverriddenIn, IsPackageOf, RunsFor, Selects}
+use Rattle.class_lemmas.proofs.OneRecord.{one_method}
 use Rattle.jk_model_call_rows.specs.Examples.{P_A, P_C, P_D, P_E, Q_B, classes_of_packages, member_at, p_a, p_d, q_b, unmarked_m}
-use Rattle.jk_model_call_rows.proofs.SelectedMethods.{differ, first_alone, first_of, one_method, selected_at}
+use Rattle.jk_model_call_rows.proofs.SelectedMethods.{differ, first_alone, first_of, selected_at}
 
 -- ---- Packages of names.
 

@@ -14,6 +14,7 @@ use Rattle.jk_model_classes.specs.Classes.{Implements, OBJECT, record_of, superc
 use Rattle.jk_model_classes.specs.Items.{HasItemBefore}
 use Rattle.jk_model_classes.specs.Lookups.{Declares, IsAbstract, IsFirstOf, MethodIs, RunsFor, Selects}
 use Rattle.jk_model_classes.specs.Members.{INIT}
+use Rattle.class_lemmas.proofs.OneRecord.{one_method}
 use Rattle.jk_model_call_rows.specs.Examples.{A, B, C, HIDES, I, LACKS, classes_of_calls, member_at}
 
 -- ---- Of any classes.
@@ -23,15 +24,10 @@ first_alone P x xs never (zero, y, below, at, p) = never (subst P (sym (same_Som
 first_alone P x xs never (suc i, y, below, at, p) = absurd (omega (arith, below))
 
 module _ (classes : List ClassRecord) where
-  pub one_method : (m : MemberId) (a b : MethodRecord) → MethodIs classes m a → MethodIs classes m b → a ≡ b
-  one_method m a b (r, at, there) (s, also, too) =
-      let same : r ≡ s = same_Some r s (sym at ∙ also) in
-      same_Some a b (sym there ∙ ap (λ (x : ClassRecord). slice_get x.methods m.index) same ∙ too)
-
   not_abstract : (m : MemberId) (method : MethodRecord) → MethodIs classes m method → has method.flags ABSTRACT ≡ false
       → IsAbstract classes m → ⊥
   not_abstract m method is plain (other, also, abstract) =
-      let one : method ≡ other = one_method m method other is also in
+      let one : method ≡ other = one_method classes m method other is also in
       true≢false (sym abstract ∙ ap (λ (x : MethodRecord). has x.flags ABSTRACT) (sym one) ∙ plain)
 
   -- of another class than that of m
@@ -47,7 +43,7 @@ module _ (classes : List ClassRecord) where
       (Contains-at r.methods i runs.other_method there) in
       elim runs.suits [
         | inl e ↦ other (ap (λ (x : MemberId). x.class) e)
-        | inr by_name ↦ renamed (by_name.0 ∙ ap (λ (x : MethodRecord). x.name) (one_method m runs.method method runs.m_is is))
+        | inr by_name ↦ renamed (by_name.0 ∙ ap (λ (x : MethodRecord). x.name) (one_method classes m runs.method method runs.m_is is))
       ]
 
   -- the first class of the walk that declares such a method has this one first, and it isn't abstract

@@ -18,7 +18,7 @@ split_item x (y ∷ ys) h = elim (Contains-cases x y ys h) [
 ]
 
 -- different numbers, all of which another list has, have no greater sum
-no_more : (f : ℕ → ℕ) (xs ys : List ℕ) → IsDistinct nat_eq xs → ((a : ℕ) → Contains xs a → Contains ys a) → sum_by f xs ≤ sum_by f ys
+pub no_more : (f : ℕ → ℕ) (xs ys : List ℕ) → IsDistinct nat_eq xs → ((a : ℕ) → Contains xs a → Contains ys a) → sum_by f xs ≤ sum_by f ys
 no_more f [] ys distinct within = omega arith
 no_more f (x ∷ xs) ys distinct within =
     let split = split_item x ys (within x (Contains-here x xs)) in

@@ -16,7 +16,7 @@ pub record IsOneArray (m n : ℕ) (t u : TypeRef) (xs ys : List Value) : Type 0 
 same_parts : (m n : ℕ) (t u : TypeRef) (xs ys : List Value) → m ≡ n → Array t xs ≡ Array u ys → IsOneArray m n t u xs ys
 same_parts m n t u xs ys name e = record { name = name; element = cc; items = cc }
 
-same_name : (a b : ℕ) → Held.Obj a ≡ Held.Obj b → a ≡ b
+pub same_name : (a b : ℕ) → Held.Obj a ≡ Held.Obj b → a ≡ b
 same_name a b e = cc
 
 pub that_array : (heap : List NamedObject) (v : Value) (n : ℕ) (t : TypeRef) (xs : List Value) (a : IsHeapArray heap v) → v ≡ Held.Obj n

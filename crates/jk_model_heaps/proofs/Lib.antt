@@ -1,7 +1,7 @@
 -- Lemmas on heaps that several crates cite, and on the worked examples.
 pub mod ArraysInHeaps
 mod ExampleCapabilities
-mod FieldsInOrder
+pub mod FieldsInOrder
 pub mod NamesInHeaps
 pub mod OneIsMade
 pub mod TypesApart

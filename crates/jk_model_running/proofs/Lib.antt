@@ -1,3 +1,3 @@
 -- That the cases of a local step exclude one another.
-mod NeededClasses
+pub mod NeededClasses
 mod StepsByCase

@@ -1,5 +1,5 @@
 -- A frame runs one code, and needs one class at most; a class has one initialiser.
-use Rattle.std.proofs.Common.{◌≡◌, ℕ, ◌+◌, ◌/◌, inl, inr, ℤ, pos, List, [], ◌∷◌, length, map, slice_get, sum_by, refl, sym, ap, subst, ◌∙◌}
+use Rattle.std.proofs.Common.{◌≡◌, ℕ, ◌+◌, ◌/◌, inl, inr, List, [], ◌∷◌, length, map, slice_get, sum_by, refl, sym, ap, subst, ◌∙◌}
 use Rattle.std.proofs.lemmas.Bool.{cases_order}
 use Rattle.std.proofs.lemmas.List.Sums.{sum_by-cons}
 use Rattle.std.proofs.lemmas.Option.{none-some, same_Some}
@@ -11,21 +11,22 @@ use Rattle.jk_model.specs.declared.identifiers.MemberId.{MemberId}
 use Rattle.jk_model.specs.declared.instructions.Instr.{Instr}
 use Rattle.jk_model_classes.specs.declared.records.BaseRef.TheVariants as Base
 use Rattle.jk_model_classes.specs.declared.records.ClassRecord.{ClassRecord}
-use Rattle.jk_model_classes.specs.declared.records.Link.{Link}
 use Rattle.jk_model_classes.specs.declared.records.Link.TheVariants as To
 use Rattle.jk_model_classes.specs.declared.records.LinkedCode.{LinkedCode}
 use Rattle.jk_model_classes.specs.declared.records.MethodRecord.{MethodRecord}
 use Rattle.jk_model_classes.specs.declared.records.TypeRef.{TypeRef}
 use Rattle.jk_model_classes.specs.Layouts.{HEADER_WORDS}
 use Rattle.jk_model_classes.specs.Lookups.{IsFirstOf}
+use Rattle.class_lemmas.proofs.LinksToMembers.{one_linked}
 use Rattle.jk_model_typing.specs.FrameTypes.{array_type}
-use Rattle.jk_model_typing.specs.Scopes.{CodeScope, IsScopeOf, LeadsToLink}
+use Rattle.jk_model_typing.specs.Scopes.{CodeScope, IsScopeOf}
 use Rattle.jk_model_frames.specs.Frames.{FrameState, head_chunks}
 use Rattle.jk_model_domains.specs.Objects.{NamedObject, object_words}
 use Rattle.jk_model_domains.specs.OwnStates.{Literal}
 use Rattle.jk_model_heaps.specs.Heaps.{heap_words}
 use Rattle.jk_model_heaps.specs.RunningCode.{InstrNeeds, IsClinit, IsClinitOf, RunsCode}
 use Rattle.jk_model_heaps.specs.Workings.{Run}
+use Rattle.typing_lemmas.proofs.OneScope.{one-scope, one_link}
 use Rattle.jk_model_heap_rows.specs.Constants.{text_object}
 use Rattle.jk_model_running.specs.Initialising.{FrameNeeds, IsInitialiserHead}
 use Rattle.jk_model_running.specs.LocalSteps.{TopFrame}
@@ -37,17 +38,6 @@ one_top run p q =
     head_is p.frame q.frame [] []
     (one_split p.callers q.callers (p.frame ∷ []) (q.frame ∷ []) (sym p.are_frames ∙ q.are_frames) refl).1
 
-one_scope : (classes : List ClassRecord) (m : MemberId) (s r : CodeScope) → IsScopeOf classes m s → IsScopeOf classes m r → s ≡ r
-one_scope classes m s r a b =
-    let class : a.class ≡ b.class = same_Some a.class b.class (sym a.class_is ∙ b.class_is) in
-    let all : s.classes ≡ r.classes = a.all ∙ sym b.all in
-    let self : s.self ≡ r.self = a.self ∙ sym b.self in
-    let links : s.links ≡ r.links = a.links ∙ ap (λ (k : ClassRecord). k.links) class ∙ sym b.links in
-    let method : s.method ≡ r.method =
-    same_Some s.method r.method (sym a.method ∙ ap (λ (k : ClassRecord). slice_get k.methods m.index) class ∙ b.method) in
-    let code : s.code ≡ r.code = same_code s.code r.code (sym a.body ∙ ap (λ (k : MethodRecord). k.body) method ∙ b.body) in
-    λ j. record { classes = all j; self = self j; links = links j; method = method j; code = code j }
-
 pub record IsOneCode {classes : List ClassRecord} {f : FrameState} (p q : RunsCode classes f) : Type 0 where
   pub scope : p.scope ≡ q.scope
   pub instr : p.instr ≡ q.instr
@@ -56,7 +46,7 @@ pub one_running : (classes : List ClassRecord) (f : FrameState) (p q : RunsCode 
 one_running classes f p q =
     let method : p.method ≡ q.method = same_Some p.method q.method (sym p.is_method ∙ q.is_method) in
     let scope : p.scope ≡ q.scope =
-    one_scope classes q.method p.scope q.scope (subst (λ (m : MemberId). IsScopeOf classes m p.scope) method p.is_scope) q.is_scope in
+    one-scope classes q.method p.scope q.scope (subst (λ (m : MemberId). IsScopeOf classes m p.scope) method p.is_scope) q.is_scope in
     record {
       scope = scope;
       instr = same_Some p.instr q.instr
@@ -65,19 +55,8 @@ one_running classes f p q =
 
 -- ---- The class that is needed.
 
-same_index : (a : ℤ) (m n : ℕ) → a ≡ pos m → a ≡ pos n → m ≡ n
-same_index a m n e f = cc
-
-one_link : (s : CodeScope) (i : Instr) (a b : Link) → LeadsToLink s i a → LeadsToLink s i b → a ≡ b
-one_link s i a b h k =
-    let place : h.0 ≡ k.0 = same_index i.a h.0 k.0 h.1 k.1 in
-    same_Some a b (sym h.2 ∙ ap (slice_get s.links) place ∙ k.2)
-
 same_field : (c d : ClassId) (m n : MemberId) → To.Field c m ≡ To.Field d n → m ≡ n
 same_field c d m n e = cc
-
-same_method : (c d : ClassId) (m n : MemberId) → To.Method c m ≡ To.Method d n → m ≡ n
-same_method c d m n e = cc
 
 same_type : (t u : TypeRef) → To.Class t ≡ To.Class u → t ≡ u
 same_type t u e = cc
@@ -94,7 +73,7 @@ field_or_class c m t e = cc
 method_or_class : (c : ClassId) (m : MemberId) (t : TypeRef) → To.Method c m ≡ To.Class t → ⊥
 method_or_class c m t e = cc
 
-one_instr_need : (s : CodeScope) (i : Instr) (a b : ClassId) → InstrNeeds s i a → InstrNeeds s i b → a ≡ b
+pub one_instr_need : (s : CodeScope) (i : Instr) (a b : ClassId) → InstrNeeds s i a → InstrNeeds s i b → a ≡ b
 one_instr_need s i a b (inl (op, (c, m, leads, is))) (inl (too, (d, n, also, same))) =
     is ∙ ap (λ (k : MemberId). k.class) (same_field c d m n (one_link s i (To.Field c m) (To.Field d n) leads also)) ∙ sym same
 one_instr_need s i a b (inl (op, (c, m, leads, is))) (inr (inl (too, (d, n, also, same)))) =
@@ -104,7 +83,7 @@ one_instr_need s i a b (inl (op, (c, m, leads, is))) (inr (inr (too, names))) =
 one_instr_need s i a b (inr (inl (op, (c, m, leads, is)))) (inl (too, (d, n, also, same))) =
     absurd (field_or_method d c n m (one_link s i (To.Field d n) (To.Method c m) also leads))
 one_instr_need s i a b (inr (inl (op, (c, m, leads, is)))) (inr (inl (too, (d, n, also, same)))) =
-    is ∙ ap (λ (k : MemberId). k.class) (same_method c d m n (one_link s i (To.Method c m) (To.Method d n) leads also)) ∙ sym same
+    is ∙ ap (λ (k : MemberId). k.class) (one_linked c d m n (one_link s i (To.Method c m) (To.Method d n) leads also)) ∙ sym same
 one_instr_need s i a b (inr (inl (op, (c, m, leads, is)))) (inr (inr (too, names))) =
     absurd (method_or_class c m (array_type 0 (Base.Class b)) (one_link s i (To.Method c m) (To.Class (array_type 0 (Base.Class b))) leads names))
 one_instr_need s i a b (inr (inr (op, names))) (inl (too, (d, n, also, same))) =

@@ -36,18 +36,21 @@ use Rattle.heap_laws.specs.ClassesInProgress.{count_initialisers}
 use Rattle.heap_laws.specs.FittingOutcomes.{IsResult}
 use Rattle.heap_laws.specs.KeptInsides.{KeepsInside}
 use Rattle.row_laws.proofs.CallersResume.{resumes}
+use Rattle.row_laws.proofs.InstructionsFollowed.{value_known}
+use Rattle.row_laws.proofs.ActingSegments.{stays_inside}
+use Rattle.row_laws.proofs.FramesInARow.{answers_replaced, chunks_same, count_same, fit_top}
 use Rattle.machine_laws.specs.CallsAndAnswers.{Awaits, IsAnswerOf, IsLeft, IsTaken}
 use Rattle.machine_laws.specs.SoundMachines.{AreOthersAnswered, HasSoundClasses}
 use Rattle.machine_laws.proofs.CopiesTaken.{keeps_taker, values_known}
 use Rattle.machine_laws.proofs.LowestFramesStay.{gives_by, lowest_method, same_lowest}
 use Rattle.machine_laws.proofs.RaisesSealed.{raises_answered, raises_sealed}
-use Rattle.machine_laws.proofs.RaisesWhereMet.{some_frames, stays_inside}
+use Rattle.machine_laws.proofs.RaisesWhereMet.{some_frames}
 use Rattle.machine_laws.proofs.RunningSegmentsFit.{frames_at, frames_weaker, thread_there}
 use Rattle.machine_laws.proofs.SealedAfterRuns.{sealed_after}
 use Rattle.machine_laws.proofs.SegmentsAnswered.{ended_answered, running_answered}
 use Rattle.machine_laws.proofs.SegmentsThatRan.{HasRun}
 use Rattle.machine_laws.proofs.ThrowablesSealed.{below_answered, ended_sealed, giver, one_running, stands_brought, taker}
-use Rattle.machine_laws.proofs.TopFramesReplaced.{answers_replaced, chunks_same, count_same, fit_top, frames_replaced}
+use Rattle.machine_laws.proofs.TopFramesReplaced.{frames_replaced}
 use Rattle.machine_laws.proofs.TopSegmentsTaken.{below_there, leads_there, lower_is, sealed_there, taken_sealed, without}
 
 -- ---- A frame that waits for an answer goes on with it.
@@ -58,13 +61,6 @@ pub record SuitsCall (around : Surroundings) (heap : List NamedObject) (f : Fram
   pub awaits : AwaitsResult around.classes f result
   pub is : IsResult around heap result v
 
-pub entries_known : (around : Surroundings) (heap : List NamedObject) (o : Option TypeRef) (v : Option Value) → IsResult around heap o v
-    → AllByRecursion (IsKnownValue around.caps heap) (as_entries v)
-entries_known around heap (Some t) (Some v) h = (h.1, tt)
-entries_known around heap None (Some v) h = absurd h
-entries_known around heap (Some t) None h = absurd h
-entries_known around heap None None h = tt
-
 pub frames_resume : (m : Machine) → HasSoundClasses m → (table : List NamedClass) (caps : List CapRange) (heap : List NamedObject) (callers : List FrameState)
     (caller : FrameState) (v : Option Value)
     → AreSealedFrames (record { classes = m.classes; table = table; caps = caps }) (FitsAtCall m.classes heap) heap (callers ++ caller ∷ [])
@@ -74,7 +70,7 @@ frames_resume m sound table caps heap callers caller v frames suits =
     let around : Surroundings = record { classes = m.classes; table = table; caps = caps } in
     let call : FitsAtCall m.classes heap caller = fit_top m.classes heap (FitsAtCall m.classes heap) callers caller frames.fit in
     frames_replaced around heap (FitsAtCall m.classes heap) (FitsAsTop m.classes heap) callers caller (resumed v caller) (refl, refl) (λ h. h) (λ h. h)
-    (λ known. (known.0, each-append (IsKnownValue caps heap) caller.stack (as_entries v) known.1 (entries_known around heap suits.result v suits.is)))
+    (λ known. (known.0, each-append (IsKnownValue caps heap) caller.stack (as_entries v) known.1 (value_known around heap suits.result v suits.is)))
     (inr (inl call.no_need, resumes around sound.codes heap caller call suits.result v suits.awaits suits.is)) frames
 
 -- ---- The segment below stands at its call.

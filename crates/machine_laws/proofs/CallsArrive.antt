@@ -18,7 +18,7 @@ use Rattle.jk_model_classes.specs.Classes.{IsSubclass, record_of}
 use Rattle.jk_model_classes.specs.Worlds.{IsNamed, NamedClass}
 use Rattle.jk_model_domains.specs.Objects.{NamedObject, Plain}
 use Rattle.jk_model_domains.specs.OwnStates.{zero_of}
-use Rattle.jk_model_frames.specs.Frames.{FrameState, as_locals, called_frame, locals_of}
+use Rattle.jk_model_frames.specs.Frames.{FrameState, called_frame, locals_of}
 use Rattle.jk_model_graphs.specs.Copies.{EachCorresponds, IsCopy}
 use Rattle.jk_model_graphs.specs.Reach.{Graph}
 use Rattle.jk_model_heaps.specs.CalledFrames.{call_head}
@@ -49,6 +49,7 @@ use Rattle.row_laws.proofs.BegunMethods.{called_fits, given_fits, has_room}
 use Rattle.row_laws.proofs.ClassesOfReceivers.{receiver_known}
 use Rattle.row_laws.proofs.NamesStayKnown.{unset-known}
 use Rattle.row_laws.proofs.SelectedMethods.{RunsAlike, runs_alike}
+use Rattle.row_laws.proofs.RowsKeep.{locals_known}
 use Rattle.machine_laws.specs.SoundMachines.{HasSoundClasses}
 
 -- ---- The target.
@@ -113,17 +114,6 @@ types_known around heap [] [] h = tt
 types_known around heap [] (v ∷ vs) h = absurd h
 types_known around heap (t ∷ ts) [] h = absurd h
 types_known around heap (t ∷ ts) (v ∷ vs) h = (h.0.1, types_known around heap ts vs h.1)
-
--- what is given is known in the locals, too
-locals_known : (caps : List CapRange) (heap : List NamedObject) (vs : List Value) → AllByRecursion (IsKnownValue caps heap) vs
-    → AllByRecursion (IsKnownValue caps heap) (locals_of vs)
-locals_known caps heap [] h = tt
-locals_known caps heap (v ∷ vs) h =
-    each-append (IsKnownValue caps heap) (as_locals v) (locals_of vs) (one_known v h.0) (locals_known caps heap vs h.1)
-  where
-    one_known : (u : Value) → IsKnownValue caps heap u → AllByRecursion (IsKnownValue caps heap) (as_locals u)
-    one_known (Held.Long n) k = (tt, (tt, tt))
-    one_known u k = (k, tt)
 
 -- ---- The frame that begins.
 

@@ -1,9 +1,8 @@
 -- A call through a capability enters or is refused: each thing that it needs is so or not, and at most one method is the target.
-use Rattle.std.proofs.Common.{◌≡◌, ℕ, ◌<◌, ◌≤◌, ◌⊎◌, Bool, true, false, List, ◌∷◌, slice_get, Option, Some, None, refl, sym, ap, subst, ◌∙◌, inl, inr, IsTrue, codes, arith}
+use Rattle.std.proofs.Common.{◌≡◌, ◌≤◌, ◌⊎◌, Bool, true, false, List, ◌∷◌, Option, Some, None, refl, sym, ap, subst, ◌∙◌, inl, inr, IsTrue}
 use Rattle.std.proofs.lemmas.Bool.{cases_lt}
 use Rattle.std.proofs.lemmas.Option.{same_Some}
 use Rattle.jk_model.specs.Flags.{has, PUBLIC}
-use Rattle.jk_model.specs.SystemTable.{number_named}
 use Rattle.jk_model.specs.declared.identifiers.ClassId.{ClassId}
 use Rattle.jk_model.specs.declared.identifiers.DomainId.{DomainId}
 use Rattle.jk_model.specs.declared.identifiers.MemberId.{MemberId}
@@ -17,14 +16,14 @@ use Rattle.jk_model_classes.specs.declared.records.Body.{Body}
 use Rattle.jk_model_classes.specs.declared.records.Body.TheVariants as Does
 use Rattle.jk_model_classes.specs.declared.records.ClassRecord.{ClassRecord}
 use Rattle.jk_model_classes.specs.declared.records.MethodRecord.{MethodRecord}
-use Rattle.jk_model_classes.specs.Classes.{Implements, superclasses}
-use Rattle.jk_model_classes.specs.Lookups.{FindsOn, IsFirstOn, IsUnlessAbstract, MethodIs, RunsFor, Selects}
-use Rattle.jk_model_classes.specs.Stubs.{ImplementsRemote}
+use Rattle.jk_model_classes.specs.Classes.{superclasses}
+use Rattle.jk_model_classes.specs.Lookups.{FindsOn, IsUnlessAbstract, MethodIs, RunsFor, Selects}
 use Rattle.jk_model_domains.specs.Objects.{NamedObject}
 use Rattle.jk_model_frames.specs.Frames.{FrameState, called_frame}
 use Rattle.jk_model_heaps.specs.CalledFrames.{call_head}
 use Rattle.jk_model_heaps.specs.SystemClasses.{ABSTRACT_METHOD_ERROR, ILLEGAL_ACCESS_ERROR, INCOMPATIBLE_CLASS_CHANGE_ERROR}
 use Rattle.jk_model_heaps.specs.Workings.{Inside}
+use Rattle.jk_model_call_rows.proofs.OneSelected.{one_selected}
 use Rattle.jk_model_machine_state.specs.Machines.{DomainState, Machine, domain_at, free_chunks}
 use Rattle.jk_model_machine_state.specs.Places.{LiveDomain}
 use Rattle.jk_model_crossings.specs.Passages.{Passes}
@@ -35,60 +34,13 @@ use Rattle.decided_lookups.proofs.DecidedRecords.{implements_decided}
 use Rattle.decided_lookups.proofs.MembersFound.{call_selects}
 use Rattle.class_lemmas.proofs.CodeOfMethods.{absent_has_none, system_has_none}
 use Rattle.class_lemmas.proofs.OneRecord.{one_method}
-use Rattle.list_lemmas.proofs.ItemsOfLists.{Contains-at}
+use Rattle.row_laws.proofs.InstancesDecided.{remote_decided}
 use Rattle.machine_laws.specs.GoingOn.{MayArrive}
 use Rattle.machine_laws.proofs.PassagesDecided.{passages_are_decided}
 
--- ---- A walk finds one member.
-
-module _ (Suits : MemberId → Type 0) (walk : List ClassId) where
-  not_later : (m n : MemberId) (a : IsFirstOn Suits walk m) (b : IsFirstOn Suits walk n) → a.place < b.place → ⊥
-  not_later m n a b below = b.earlier (a.place, m.class, below, a.visited, (m.index, a.member.suits))
-
-  not_lower : (m n : MemberId) → IsFirstOn Suits walk m → IsFirstOn Suits walk n → m.class ≡ n.class → m.index < n.index → ⊥
-  not_lower m n a b class below =
-      b.member.first m.index below (subst (λ (c : ClassId). Suits (record { class = c; index = m.index })) class a.member.suits)
-
-  same_index : (m n : MemberId) → IsFirstOn Suits walk m → IsFirstOn Suits walk n → m.class ≡ n.class → m.index ≡ n.index
-  same_index m n a b class = elim (cases_lt m.index n.index) [
-    | inl below ↦ absurd (not_lower m n a b class below)
-    | inr above ↦ elim (cases_lt n.index m.index) [
-      | inl below ↦ absurd (not_lower n m b a (sym class) below)
-      | inr not ↦ omega (arith, above, not)
-    ]
-  ]
-
-  same_place : (m n : MemberId) (a : IsFirstOn Suits walk m) (b : IsFirstOn Suits walk n) → a.place ≡ b.place
-  same_place m n a b = elim (cases_lt a.place b.place) [
-    | inl below ↦ absurd (not_later m n a b below)
-    | inr above ↦ elim (cases_lt b.place a.place) [ inl below ↦ absurd (not_later n m b a below) | inr not ↦ omega (arith, above, not) ]
-  ]
-
-  one_first : (m n : MemberId) → IsFirstOn Suits walk m → IsFirstOn Suits walk n → m ≡ n
-  one_first m n a b =
-      let class : m.class ≡ n.class = same_Some m.class n.class (sym a.visited ∙ ap (slice_get walk) (same_place m n a b) ∙ b.visited) in
-      let index : m.index ≡ n.index = same_index m n a b class in
-      λ i. record { class = class i; index = index i }
-
-  one_found : (a b : Option MemberId) → FindsOn Suits walk a → FindsOn Suits walk b → a ≡ b
-  one_found None None h k = refl
-  one_found None (Some n) h k = absurd (h n.class (Contains-at walk k.place n.class k.visited) (n.index, k.member.suits))
-  one_found (Some m) None h k = absurd (k m.class (Contains-at walk h.place m.class h.visited) (m.index, h.member.suits))
-  one_found (Some m) (Some n) h k = ap (λ (x : MemberId). Some x) (one_first m n h k)
+-- ---- What is selected is there.
 
 module _ (classes : List ClassRecord) where
-  one_unless : (found a b : Option MemberId) → IsUnlessAbstract classes found a → IsUnlessAbstract classes found b → a ≡ b
-  one_unless None a b h k = h ∙ sym k
-  one_unless (Some f) a b (inl h) (inl k) = h.1 ∙ sym k.1
-  one_unless (Some f) a b (inl h) (inr k) = absurd (k.0 h.0)
-  one_unless (Some f) a b (inr h) (inl k) = absurd (h.0 k.0)
-  one_unless (Some f) a b (inr h) (inr k) = h.1 ∙ sym k.1
-
-  one_selected : (receiver : ClassId) (m : MemberId) (a b : Option MemberId) → Selects classes receiver m a → Selects classes receiver m b → a ≡ b
-  one_selected receiver m a b h k =
-      let same : k.0 ≡ h.0 = one_found (RunsFor classes m) (superclasses classes receiver) k.0 h.0 k.1 h.1 in
-      one_unless h.0 a b h.2 (subst (λ (f : Option MemberId). IsUnlessAbstract classes f b) same k.2)
-
   abbrev IsThere : MemberId → Type 0
   IsThere target = (method : MethodRecord) × MethodIs classes target method
 
@@ -101,16 +53,6 @@ module _ (classes : List ClassRecord) where
 
   selected_is : (receiver : ClassId) (m target : MemberId) → Selects classes receiver m (Some target) → IsThere target
   selected_is receiver m target h = found_is m (superclasses classes receiver) target h.0 h.1 h.2
-
-  remote_decided : (i : ClassId) → IsDecided (ImplementsRemote classes i)
-  remote_decided i = by (number_named (codes "jk/Remote")) refl
-    where
-      by : (o : Option ℕ) → number_named (codes "jk/Remote") ≡ o → IsDecided (ImplementsRemote classes i)
-      by None is = inr (λ h. let never : None ≡ Some h.0.0 = sym is ∙ h.1 in absurd cc)
-      by (Some n) is =
-          same_decided (λ implements. (record { 0 = n }, is, implements))
-          (λ h. subst (Implements classes i) (λ k. record { 0 = same_Some h.0.0 n (sym h.1 ∙ is) k }) h.2)
-          (implements_decided classes i (record { 0 = n }))
 
 -- ---- A live owner.
 

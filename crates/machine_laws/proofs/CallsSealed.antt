@@ -32,6 +32,7 @@ use Rattle.heap_laws.specs.RunningFrames.{IsKnownSetting, RunsWell}
 use Rattle.row_laws.proofs.CallersFit.{caller_fits}
 use Rattle.row_laws.proofs.CallsKnown.{CallGiven, call_given}
 use Rattle.row_laws.proofs.NamesStayKnown.{known-parts}
+use Rattle.row_laws.proofs.FramesInARow.{all_top, answers_replaced, chunks_same, count_same}
 use Rattle.machine_laws.specs.CallsAndAnswers.{StandsAtCall}
 use Rattle.machine_laws.specs.SoundMachines.{HasSoundClasses}
 use Rattle.machine_laws.proofs.CallsArrive.{begun, copies_of_types, frames_begin, result_same, target_is, zeros_of_types}
@@ -45,7 +46,7 @@ use Rattle.machine_laws.proofs.SealedAfterRuns.{sealed_after}
 use Rattle.machine_laws.proofs.SegmentsAdded.{MayEnter, added, called, entered, entered_sealed, next}
 use Rattle.machine_laws.proofs.SegmentsAnswered.{each_set, own_answered}
 use Rattle.machine_laws.proofs.SegmentsThatRan.{HasRun}
-use Rattle.machine_laws.proofs.TopFramesReplaced.{answers_replaced, chunks_same, count_same, frames_replaced, top_has}
+use Rattle.machine_laws.proofs.TopFramesReplaced.{frames_replaced}
 use Rattle.machine_laws.proofs.TopSegmentsTaken.{inside_stays}
 
 -- ---- A segment on top of a thread.
@@ -99,7 +100,7 @@ module _ (m : Machine) (t : ThreadNo) (sealed : IsSealed m) (sound : HasSoundCla
   frames = subst (AreSealedFrames around (TopFits m p.home.inside p.segment) heap) c.are_frames (running_frames m t p sealed)
 
   top_known : NamesKnown (caps_of m) heap c.frame
-  top_known = top_has (NamesKnown (caps_of m) heap) c.callers c.frame frames.known
+  top_known = all_top (NamesKnown (caps_of m) heap) c.callers c.frame frames.known
 
   abbrev w : Working
   w = record { inside = p.home.inside; frame = c.frame }
@@ -110,7 +111,7 @@ module _ (m : Machine) (t : ThreadNo) (sealed : IsSealed m) (sound : HasSoundCla
     inside = sealed.domains.insides p.home.domain p.home.inside (home_there m t p sealed) p.home.is_inside;
     no_need = stands.no_need;
     fits = stands.fits;
-    at_home = top_has (IsAtHome p.home.domain.table) c.callers c.frame frames.at_home;
+    at_home = all_top (IsAtHome p.home.domain.table) c.callers c.frame frames.at_home;
     known = top_known;
   }
 

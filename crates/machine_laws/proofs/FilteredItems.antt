@@ -1,5 +1,5 @@
 -- The items of a list that pass a test: where they stood, in which order, and what they come to together.
-use Rattle.std.proofs.Common.{◌≡◌, ℕ, zero, suc, ◌<◌, ◌≤◌, inl, inr, Bool, true, false, cond, List, [], ◌∷◌, length, filter, find, sum_by, Contains, Some, slice_get, refl, subst, arith}
+use Rattle.std.proofs.Common.{◌≡◌, ℕ, zero, suc, ◌<◌, ◌≤◌, inl, inr, Bool, true, false, cond, List, [], ◌∷◌, length, filter, find, sum_by, Contains, Some, slice_get, refl, ap, subst, ◌∙◌, arith}
 use Rattle.std.proofs.lemmas.List.Sums.{sum_by-cons}
 use Rattle.list_lemmas.proofs.ItemsOfLists.{Contains-cases, Contains-here, Contains-none, Contains-there}
 
@@ -117,3 +117,11 @@ module _ {X : Type 0} (p : X → Bool) where
   found_still test (y ∷ xs) keeps =
       found_by (p y) (test y) y (filter p xs) xs test refl (keeps y (Contains-here y xs))
       (found_still test xs (λ x on. keeps x (Contains-there x y xs on)))
+
+-- ---- Where all pass.
+
+pub all_pass : {X : Type 0} (test : X → Bool) (xs : List X) → ((x : X) → Contains xs x → test x ≡ true) → length (filter test xs) ≡ length xs
+all_pass test [] h = refl
+all_pass test (x ∷ xs) h =
+    let rest : length (filter test xs) ≡ length xs = all_pass test xs (λ y on. h y (Contains-there y x xs on)) in
+    ap (λ (b : Bool). length (cond b (x ∷ filter test xs) (filter test xs))) (h x (Contains-here x xs)) ∙ omega (arith, rest)

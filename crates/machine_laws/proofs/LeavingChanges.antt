@@ -1,9 +1,8 @@
 -- What is raised in a segment adds objects to its domain's heap, and breaks classes whose initialisers it leaves; nothing else of the domain changes.
-use Rattle.std.proofs.Common.{◌≡◌, ◌⊎◌, inl, inr, ℕ, ◌+◌, ◌≤◌, ◌==◌, Bool, true, false, cond, List, [], ◌∷◌, ◌++◌, append_assoc, append-nil, find, map, Contains, Option, Some, None, refl, sym, ap, subst, ◌∙◌, arith, eqb-true, eq-eqb}
+use Rattle.std.proofs.Common.{◌≡◌, ◌⊎◌, inl, inr, ℕ, ◌≤◌, ◌==◌, Bool, true, false, cond, List, [], ◌∷◌, ◌++◌, append_assoc, append-nil, find, map, Contains, Option, Some, None, refl, sym, ap, subst, ◌∙◌, arith, eqb-true}
 use Rattle.std.specs.Prelude.{option_and_then}
 use Rattle.std.specs.Option.{option_map, option_map_or}
 use Rattle.std.proofs.lemmas.List.Elements.{Contains-append_right}
-use Rattle.std.proofs.lemmas.List.Sums.{sum_by-cons}
 use Rattle.jk_model.specs.declared.identifiers.ClassId.{ClassId}
 use Rattle.jk_model.specs.declared.identifiers.MemberId.{MemberId}
 use Rattle.jk_model.specs.declared.identifiers.ThreadNo.{ThreadNo}
@@ -25,6 +24,7 @@ use Rattle.jk_model_unwinding.specs.Unwinding.{IsCaughtIn, LeavesFrame, LeavesFr
 use Rattle.heap_laws.specs.ClassesInProgress.{AreInProgress, count_initialisers}
 use Rattle.list_lemmas.proofs.FoundItems.{Finds, finds}
 use Rattle.list_lemmas.proofs.ItemsOfLists.{Contains-cases, Contains-here, Contains-none, Contains-there}
+use Rattle.row_laws.proofs.StatesOfFrames.{counted}
 
 -- ---- One class is broken.
 
@@ -234,24 +234,6 @@ taken_from t (State.InProgress by) h = passes (by.0 == t.0) refl h
 taken_from t State.Untouched h = absurd (omega arith)
 taken_from t State.Done h = absurd (omega arith)
 taken_from t State.Broken h = absurd (omega arith)
-
-counted : (c : ClassId) (frames : List FrameState) (f : FrameState) → Contains frames f → f.head.initialises ≡ Some c → 1 ≤ count_initialisers c frames
-counted c [] f on of = absurd (Contains-none f on)
-counted c (g ∷ frames) f on of = by (λ later. counted c frames f later of) (Contains-cases f g frames on)
-  where
-    one_by : (o : Option ClassId) → o ≡ Some c → elim o as (λ _. Bool) [ Some d ↦ d.0 == c.0 | None ↦ false ] ≡ true
-    one_by None is = absurd cc
-    one_by (Some d) is = let same : d ≡ c = cc in eq-eqb d.0 c.0 (ap (λ (k : ClassId). k.0) same)
-
-    cost : count_initialisers c (g ∷ frames) ≡ cond (initialises c g) 1 0 + count_initialisers c frames
-    cost = sum_by-cons (λ (k : FrameState). cond (initialises c k) 1 0) g frames
-
-    by : (Contains frames f → 1 ≤ count_initialisers c frames) → (g ≡ f) ⊎ Contains frames f → 1 ≤ count_initialisers c (g ∷ frames)
-    by rest (inl same) =
-        let this : ◌≡◌ {A = ℕ} (cond (initialises c g) 1 0) 1 =
-        ap (λ (b : Bool). cond b 1 0) (one_by g.head.initialises (ap (λ (k : FrameState). k.head.initialises) same ∙ of)) in
-        omega (arith, cost, this)
-    by rest (inr later) = let some = rest later in omega (arith, cost, some)
 
 pub in_progress_by : (t : ThreadNo) (run : Run) → AreInProgress t run → (c : ClassId) → Initialises run.frames c
     → state_of run.inside.own c ≡ State.InProgress t

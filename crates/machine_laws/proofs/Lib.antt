@@ -36,7 +36,6 @@ pub mod FoundAmongFiltered
 pub mod FramesStaySealed
 pub mod InitialisersAfterRuns
 pub mod InsidesStaySealed
-pub mod InstructionsKeepHeads
 pub mod InstructionsOfFiles
 pub mod InstructionsThatAsk
 pub mod InstructionsThatCross
@@ -56,7 +55,6 @@ pub mod NamesChanged
 pub mod NamesOfNewCode
 pub mod NamesOfOthers
 pub mod NamesStay
-pub mod NeedsDecided
 pub mod NewMembers
 pub mod NumbersDrawn
 pub mod NumbersFound

@@ -1,6 +1,5 @@
 -- The classes and the names with those of an accepted folder are linked as before, and its names are sound.
-use Rattle.std.proofs.Common.{◌≡◌, ℕ, inl, inr, IsTrue, List, [], ◌∷◌, ◌++◌, length, take, Option, Some, None, Contains, refl, sym, subst, ◌∙◌, arith, take_all}
-use Rattle.std.proofs.lemmas.List.Elements.{Contains-push_cases}
+use Rattle.std.proofs.Common.{◌≡◌, ℕ, inl, IsTrue, List, [], ◌∷◌, ◌++◌, length, take, Option, Some, None, Contains, refl, sym, subst, ◌∙◌, arith, take_all}
 use Rattle.std.proofs.lemmas.Option.{none-some, slice_get_within}
 use Rattle.list_lemmas.proofs.ItemsByPlace.{item_there, slice_get-in_take}
 use Rattle.list_lemmas.proofs.ItemsOfLists.{Contains-at}
@@ -21,14 +20,12 @@ use Rattle.jk_model_typing.specs.Typing.{IsLeastTyping}
 use Rattle.jk_model_typing.specs.declared.frames.FrameType.{FrameType}
 use Rattle.jk_model_folders.specs.Loads.{Loads, MayLoad}
 use Rattle.jk_model_folders.specs.declared.files.FolderFiles.{FolderFiles}
-use Rattle.jk_model_sound_classes.specs.SoundClasses.{AreSoundClasses, IsClosedTable}
+use Rattle.jk_model_sound_classes.specs.SoundClasses.{AreSoundClasses}
 use Rattle.jk_model_sound_classes.specs.VerifiedMethods.{IsVerified}
-use Rattle.class_growth.proofs.MoreClasses.{record-still}
 use Rattle.heap_laws.specs.NamedWell.{uses_static_field}
 use Rattle.heap_laws.specs.SoundTables.{IsSoundTable}
-use Rattle.sound_folders.proofs.NewClasses.{all, added}
-use Rattle.sound_folders.proofs.SoundAgain.{linked-again}
-use Rattle.sound_folders.proofs.TablesAgain.{new_table_closed}
+use Rattle.sound_folders.proofs.NewClasses.{all}
+use Rattle.sound_folders.proofs.SoundAgain.{closed-again, linked-again}
 use Rattle.sound_folders.proofs.TypesByNames.{said-one}
 use Rattle.sound_folders.specs.LinkedWorlds.{AreLinked}
 use Rattle.machine_laws.specs.SoundFolders.{AreSound}
@@ -90,20 +87,10 @@ module _ {f : FolderFiles} {w : WorldRecord} {into : List ℕ} {first : ClassId}
   pub linked_new : AreLinked (all l) (tables ++ table ∷ [])
   linked_new = linked-again l may tables (older w.classes tables sound linked) linked ordered
 
-  closed_new : (t : List NamedClass) → Contains (tables ++ table ∷ []) t → IsClosedTable (all l) t
-  closed_new t on = elim (Contains-push_cases tables table t on) [
-    | inl old ↦ λ c named.
-        let known = (sound.each t old).closed c named in
-        (known.0, record-still w.classes (added l) c known.0 known.1, known.2)
-    | inr same ↦
-        subst (IsClosedTable (all l)) (sym l.table_is ∙ same)
-        (new_table_closed l may linked.closed (older w.classes tables sound linked).of_system linked.around ordered)
-  ]
-
   pub sound_table : (t : List NamedClass) → Contains (tables ++ table ∷ []) t → IsSoundTable (all l) t
   sound_table t on =
       record {
-        closed = closed_new t on;
+        closed = closed-again l may tables (older w.classes tables sound linked) linked ordered t on;
         knows_system = linked_new.knows_system t on;
         agrees = λ m n a b is_a is_b named_m named_n same.
             said-one (class_named t) a b same (linked_new.types t on m a is_a named_m) (linked_new.types t on n b is_b named_n);

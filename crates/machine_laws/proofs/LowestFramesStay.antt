@@ -20,8 +20,8 @@ use Rattle.jk_model_sealing.specs.SealedInsides.{Surroundings}
 use Rattle.jk_model_unwinding.specs.Unwinding.{Unwinds, at_handler}
 use Rattle.row_laws.specs.HeapRowLaws.{HeapRowsKeep}
 use Rattle.row_laws.specs.KeptRuns.{ActsWell}
-use Rattle.machine_laws.proofs.InstructionsKeepHeads.{instruction_kept}
 use Rattle.row_laws.proofs.StepsKept.{runs_well}
+use Rattle.row_laws.proofs.InstructionsKept.{instruction_kept}
 use Rattle.machine_laws.specs.RunsInMachines.{GivesStill}
 
 -- the method of the lowest frame; nothing where there is no frame

@@ -34,7 +34,7 @@ table_of m e on =
     let at = place_of m.domains e on in
     Contains-at (tables_of m) at.0 e.table (mapped_at (λ (x : DomainState). x.table) m.domains at.0 e at.1)
 
-each_table : (m : Machine) → HasSoundClasses m → (table : List NamedClass) → Contains (tables_of m) table → IsSoundTable m.classes table
+pub each_table : (m : Machine) → HasSoundClasses m → (table : List NamedClass) → Contains (tables_of m) table → IsSoundTable m.classes table
 each_table m sound table on =
     let at = place_of (tables_of m) table on in
     let from = comes_from (λ (x : DomainState). x.table) m.domains at.0 table at.1 in

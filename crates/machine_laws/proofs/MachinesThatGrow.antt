@@ -1,6 +1,6 @@
 -- What a change of a machine leaves so that another domain may be opened after it as before: domains keep their quotas and their places in the pools,
 -- capabilities are of classes that are there, and threads were started in domains that were added.
-use Rattle.std.proofs.Common.{inl, inr, ◌≡◌, ℕ, ◌==◌, ◌<◌, ◌⊎◌, Bool, true, false, cond, List, [], ◌∷◌, ◌++◌, filter, length, map, Contains, Option, Some, None, slice_get, refl, sym, ap, subst, ◌∙◌}
+use Rattle.std.proofs.Common.{inl, inr, ◌≡◌, ℕ, ◌==◌, ◌<◌, ◌⊎◌, Bool, true, false, cond, List, [], ◌∷◌, ◌++◌, length, map, Contains, Option, Some, None, slice_get, refl, sym, ap, subst, ◌∙◌}
 use Rattle.std.specs.Option.{option_and_then}
 use Rattle.std.proofs.lemmas.Bool.{eqb-true}
 use Rattle.std.proofs.lemmas.Option.{same_Some}
@@ -16,7 +16,7 @@ use Rattle.jk_model_machine_state.specs.Machines.{DomainState, Machine, Segment,
 use Rattle.jk_model_machine_state.specs.Places.{LiveDomain, RunningSegment, with_running}
 use Rattle.jk_model_openings.specs.PoolsOfMachines.{heap_pages_of, of_live, stack_pages_of}
 use Rattle.list_lemmas.proofs.ItemsByPlace.{comes_from}
-use Rattle.list_lemmas.proofs.ItemsOfLists.{Contains-at, Contains-cases, Contains-here, Contains-there, place_of}
+use Rattle.list_lemmas.proofs.ItemsOfLists.{Contains-at, place_of}
 use Rattle.machine_laws.specs.OpenedMachines.{MayGrow}
 use Rattle.machine_laws.proofs.ChangedItems.{as_many}
 
@@ -197,18 +197,6 @@ mapped_started m g stays thread on =
     let at = place_of (map g m.threads) thread on in
     let from = comes_from g m.threads at.0 thread at.1 in
     inl (from.from, Contains-at m.threads at.0 from.from from.there, sym (ap (λ (e : Thread). e.domain) from.gives) ∙ stays from.from)
-
-kept_by : {X : Type 0} (test : X → Bool) (b : Bool) (y x : X) (xs : List X) → (Contains (filter test xs) x → Contains xs x)
-    → Contains (cond b (y ∷ filter test xs) (filter test xs)) x → Contains (y ∷ xs) x
-kept_by test true y x xs later on = elim (Contains-cases x y (filter test xs) on) [
-  | inl same ↦ subst (Contains (y ∷ xs)) same (Contains-here y xs)
-  | inr there ↦ Contains-there x y xs (later there)
-]
-kept_by test false y x xs later on = Contains-there x y xs (later on)
-
-pub from_filter : {X : Type 0} (test : X → Bool) (xs : List X) (x : X) → Contains (filter test xs) x → Contains xs x
-from_filter test [] x on = on
-from_filter test (y ∷ xs) x on = kept_by test (test y) y x xs (from_filter test xs x) on
 
 segments_by : (b : Bool) (segments : List Segment) (e : Thread) → (cond b (record e { segments = segments }) e).domain ≡ e.domain
 segments_by true segments e = refl

@@ -46,6 +46,7 @@ use Rattle.row_laws.proofs.GivenToCalls.{SuitsCall, for_interface, for_made, for
 use Rattle.row_laws.proofs.NamedMethods.{well}
 use Rattle.row_laws.proofs.SelectedMethods.{selected_runs}
 use Rattle.row_laws.proofs.TargetsFound.{is_selected, runs_at_receiver}
+use Rattle.row_laws.proofs.WaysUp.{the_parent}
 use Rattle.machine_laws.specs.KnownMachines.{IsOfPackageJk}
 use Rattle.machine_laws.proofs.MethodsThatAsk.{is_of_jk}
 
@@ -135,10 +136,6 @@ first_entry = record { class = _; listed = refl; interfaces = refl; names = refl
 
 object_entry : (n : ℕ) → n ≡ 0 → IsObjectEntry n
 object_entry n e = subst IsObjectEntry (sym e) first_entry
-
-the_parent : (o : Option ClassId) (p : ClassId) → option_map_or (λ q. q ∷ []) o [] ≡ p ∷ [] → o ≡ Some p
-the_parent None p e = absurd cc
-the_parent (Some q) p e = let same : q ≡ p = cc in ap (λ (c : ClassId). Some c) same
 
 none_mapped : (cs : List ClassId) → map (λ (c : ClassId). Some c.0) cs ≡ [] → (i : ClassId) → Contains cs i → ⊥
 none_mapped [] e i has = Contains-none i has

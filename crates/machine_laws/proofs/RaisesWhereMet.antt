@@ -18,13 +18,13 @@ use Rattle.jk_model_machine_state.specs.Machines.{DomainState, Machine, Segment,
 use Rattle.jk_model_machine_state.specs.Places.{RunningSegment, run_of, setting_of, with_run, with_running}
 use Rattle.jk_model_runs.specs.Sealed.{IsSealed, TopFits, surroundings}
 use Rattle.list_lemmas.proofs.ItemsOfLists.{Contains-none}
-use Rattle.heap_laws.proofs.GrownHeaps.{grown_self}
 use Rattle.heap_laws.specs.ClassesInProgress.{AreInProgress, KeepsProgress}
 use Rattle.heap_laws.specs.KeptInsides.{KeepsInside}
 use Rattle.heap_laws.specs.RaisableObjects.{MayBeRaised, MayMeetRaise}
 use Rattle.heap_laws.specs.RunningFrames.{IsKnownSetting}
 use Rattle.row_laws.specs.UnwoundFrames.{FitsUnwound, KeepsUnwound}
 use Rattle.row_laws.proofs.UnwindingFramesLeft.{keeps_after}
+use Rattle.row_laws.proofs.ActingSegments.{stays_inside}
 use Rattle.machine_laws.specs.SoundMachines.{HasSoundClasses}
 use Rattle.machine_laws.proofs.ChangedItems.{parts_stay}
 use Rattle.machine_laws.proofs.LowestFramesStay.{LowestStays, raised_lowest}
@@ -177,11 +177,6 @@ module _ (m : Machine) (t : ThreadNo) (h : IsMet m t) where
         caught_answered m.classes x old run r answers (subst (λ (u : Unwound). RaisesIn x old r run u) caught raises_here)
 
 -- ---- The running segment itself, whatever its flags become.
-
-pub stays_inside : (surrounding : Surroundings) (x : Setting) (inside : Inside) → IsSealedInside surrounding x.quota inside
-    → KeepsInside surrounding x inside inside
-stays_inside surrounding x inside sealed =
-    record { sealed = sealed; grown = grown_self inside.heap; tasks = λ a n is. inl is; pages = (refl, refl) }
 
 pub meets : (m : Machine) (t : ThreadNo) (p : RunningSegment m t) (f : FrameState) → TopFits m p.home.inside p.segment f
     → MayMeetRaise m.classes p.home.inside.heap f

@@ -20,18 +20,20 @@ use Rattle.list_lemmas.proofs.LastItems.{each-append, one_last}
 use Rattle.heap_laws.specs.ClassesInProgress.{count_initialisers}
 use Rattle.heap_laws.specs.FittingOutcomes.{IsResult}
 use Rattle.row_laws.proofs.CallersResume.{resumes}
+use Rattle.row_laws.proofs.InstructionsFollowed.{value_known}
+use Rattle.row_laws.proofs.ActingSegments.{stays_inside}
+use Rattle.row_laws.proofs.FramesInARow.{chunks_same, count_same}
 use Rattle.machine_laws.specs.CallsAndAnswers.{IsAnswerOf, IsKnownAnswer}
 use Rattle.machine_laws.specs.SealedCrossings.{Answered}
 use Rattle.machine_laws.specs.SoundMachines.{HasSoundClasses, IsSealedAtCall}
-use Rattle.machine_laws.proofs.AnswersSealed.{SuitsCall, an_answer, entries_known, no_answer, suits_by}
+use Rattle.machine_laws.proofs.AnswersSealed.{SuitsCall, an_answer, no_answer, suits_by}
 use Rattle.machine_laws.proofs.ChangedItems.{parts_stay}
 use Rattle.machine_laws.proofs.RaisesSealed.{flagged, place, sealed as sealed_there, waiting}
-use Rattle.machine_laws.proofs.RaisesWhereMet.{stays_inside}
 use Rattle.machine_laws.proofs.RunningSegmentsFit.{frames_weaker, home_there, running_frames}
 use Rattle.machine_laws.proofs.RunsAgain.{runs_on, set_inside}
 use Rattle.machine_laws.proofs.SealedAfterRuns.{sealed_after}
 use Rattle.machine_laws.proofs.SegmentsThatRan.{HasRun}
-use Rattle.machine_laws.proofs.TopFramesReplaced.{chunks_same, count_same, frames_replaced}
+use Rattle.machine_laws.proofs.TopFramesReplaced.{frames_replaced}
 
 -- a value of its type, where the call returns one
 is_result : (classes : List ClassRecord) (heap : List NamedObject) (around : Surroundings) → around.classes ≡ classes → (v : Option Value)
@@ -92,7 +94,7 @@ module _ (m : Machine) (t : ThreadNo) (p : RunningSegment m t) (waits : IsSealed
       (λ k. (
         k.0,
         each-append (IsKnownValue around.caps inside.heap) caller.stack (as_entries a.answer) k.1
-            (entries_known around inside.heap suits.result a.answer suits.is),
+            (value_known around inside.heap suits.result a.answer suits.is),
       ))
       (inr (inl stands.no_need, resumes around sound.codes inside.heap caller stands suits.result a.answer suits.awaits suits.is)) frames_before
 

@@ -42,6 +42,7 @@ use Rattle.heap_laws.specs.FittingOutcomes.{AwaitsAnswer, IsKnownRequest, answer
 use Rattle.heap_laws.specs.RaisableObjects.{MayBeRaised}
 use Rattle.row_laws.proofs.InstancesFitTypes.{class_fits}
 use Rattle.row_laws.proofs.SystemParents.{below_listed}
+use Rattle.row_laws.proofs.FramesInARow.{answers_replaced}
 use Rattle.machine_laws.specs.CallsAndAnswers.{IsAnswerOf, IsKnownAnswer, MayBeAsked}
 use Rattle.machine_laws.specs.SealedCrossings.{Answered}
 use Rattle.machine_laws.specs.SoundMachines.{HasSoundClasses, IsSealedAtCall}
@@ -57,7 +58,6 @@ use Rattle.machine_laws.proofs.RunningSegmentsFit.{top_answers}
 use Rattle.machine_laws.proofs.SegmentsAnswered.{own_answered, running_answered}
 use Rattle.machine_laws.proofs.ThreadsThinned.{thinned}
 use Rattle.machine_laws.proofs.ThrowablesSealed.{one_running}
-use Rattle.machine_laws.proofs.TopFramesReplaced.{answers_replaced}
 use Rattle.machine_laws.proofs.WorldsKept.{grants_keep, sound_classes_stay}
 
 -- ---- The place of the running segment, where the request is done.

@@ -1,8 +1,5 @@
 -- A segment that has become another one runs in its place. Where something is raised in the only segment of a thread, it is caught there, or ends the thread.
-use Rattle.std.proofs.Common.{inl, inr, ◌≡◌, ◌==◌, ◌+◌, ◌≤◌, ℕ, Bool, true, false, cond, List, [], ◌∷◌, ◌++◌, Contains, Option, Some, None, slice_get, refl, sym, ap, subst, ◌∙◌, arith, eq-eqb}
-use Rattle.std.specs.Option.{option_map_or}
-use Rattle.std.proofs.lemmas.List.Sums.{sum_by-cons}
-use Rattle.jk_model.specs.declared.identifiers.ClassId.{ClassId}
+use Rattle.std.proofs.Common.{◌≡◌, ◌==◌, ℕ, Bool, true, false, cond, List, [], ◌∷◌, ◌++◌, Some, slice_get, refl, sym, ap, subst, ◌∙◌, eq-eqb}
 use Rattle.jk_model.specs.declared.identifiers.DomainId.{DomainId}
 use Rattle.jk_model.specs.declared.identifiers.ThreadNo.{ThreadNo}
 use Rattle.jk_model.specs.declared.output.Line.{Line}
@@ -10,31 +7,26 @@ use Rattle.jk_model.specs.declared.output.Line.TheVariants.{Ended, EndedBy}
 use Rattle.jk_model.specs.declared.steps.Raise.{Raise}
 use Rattle.jk_model_classes.specs.declared.records.ClassRecord.{ClassRecord}
 use Rattle.jk_model_classes.specs.Classes.{record_of}
-use Rattle.jk_model_domains.specs.declared.states.ClassState.{ClassState}
-use Rattle.jk_model_domains.specs.declared.states.ClassState.TheVariants as State
 use Rattle.jk_model_domains.specs.Objects.{Plain}
-use Rattle.jk_model_domains.specs.OwnStates.{ClassPart, HasState, OwnState, part_of}
-use Rattle.jk_model_frames.specs.Frames.{FrameState}
+use Rattle.jk_model_domains.specs.OwnStates.{OwnState}
 use Rattle.jk_model_heaps.specs.declared.shapes.Unwound.{Unwound}
 use Rattle.jk_model_heaps.specs.declared.shapes.Unwound.TheVariants as Unwinding
 use Rattle.jk_model_heaps.specs.Heaps.{named}
 use Rattle.jk_model_heaps.specs.Workings.{Inside, Run, Setting}
 use Rattle.jk_model_running.specs.Raising.{RaisesIn}
-use Rattle.jk_model_sealing.specs.ClassesInProgress.{initialises, progress_by}
 use Rattle.jk_model_sealing.specs.SealedInsides.{IsSealedInside, Surroundings}
 use Rattle.jk_model_machine_state.specs.Machines.{DomainState, Machine, Segment, without_thread}
 use Rattle.jk_model_machine_state.specs.Places.{RunningSegment, run_of, setting_of, with_run, with_running}
 use Rattle.jk_model_crossings.specs.Throwing.{RaisesInThread, Throws}
 use Rattle.jk_model_crossings.specs.Throwing as Crossing
 use Rattle.list_lemmas.proofs.ItemsByPlace.{mapped_at}
-use Rattle.list_lemmas.proofs.ItemsOfLists.{Contains-cases, Contains-none}
 use Rattle.heap_laws.proofs.ObjectsAfterChanges.{found_stands}
 use Rattle.heap_laws.proofs.StillFits.{frames_sealed, meets_raise}
-use Rattle.heap_laws.specs.ClassesInProgress.{count_initialisers}
 use Rattle.heap_laws.specs.RaisableObjects.{IsThrowable, KeepsStates, MayBeRaised, MayMeetRaise}
 use Rattle.heap_laws.specs.SoundTables.{IsSoundTable}
 use Rattle.row_laws.proofs.Raised.{raised_there, thrown}
 use Rattle.row_laws.proofs.WaysThere.{unwound}
+use Rattle.row_laws.proofs.StatesOfFrames.{states_there}
 use Rattle.machine_laws.proofs.RaisesKeep.{MayRaise, raise_keeps}
 use Rattle.machine_laws.proofs.RunsAgain.{thread_set}
 
@@ -72,47 +64,6 @@ module _ {m : Machine} {t : ThreadNo} (p : RunningSegment m t) (s : Segment) (in
       is_inside = refl;
     };
   }
-
--- ---- Each class that a frame initialises has a state, since it is in progress. As row_laws has it.
-
-abbrev taken_by : ThreadNo → ClassState → ℕ
-taken_by t (State.InProgress by) = cond (by.0 == t.0) 1 0
-taken_by t state = 0
-
-abbrev initialises_by : ClassId → Option ClassId → Bool
-initialises_by c (Some d) = d.0 == c.0
-initialises_by c None = false
-
-progress_there : (t : ThreadNo) (own : OwnState) (c : ClassId) → 1 ≤ progress_by t own c → HasState own c
-progress_there t own c some = by_part (part_of own c) refl some
-  where
-    by_part : (o : Option ClassPart) → part_of own c ≡ o → 1 ≤ taken_by t (option_map_or (λ (e : ClassPart). e.state) o State.Done) → HasState own c
-    by_part (Some e) is h = (e, is)
-    by_part None is h = absurd (omega (arith, h))
-
-counts_one : (c : ClassId) (f : FrameState) → f.head.initialises ≡ Some c → ◌≡◌ {A = ℕ} (cond (initialises c f) 1 0) 1
-counts_one c f e =
-    ap (λ (o : Option ClassId). cond (initialises_by c o) 1 0) e ∙ ap (λ (b : Bool). cond b 1 0) (eq-eqb c.0 c.0 refl)
-
-counted : (c : ClassId) (frames : List FrameState) (f : FrameState) → Contains frames f → f.head.initialises ≡ Some c
-    → 1 ≤ count_initialisers c frames
-counted c [] f has e = absurd (Contains-none f has)
-counted c (g ∷ frames) f has e =
-    let first : count_initialisers c (g ∷ frames) ≡ cond (initialises c g) 1 0 + count_initialisers c frames =
-    sum_by-cons (λ (x : FrameState). cond (initialises c x) 1 0) g frames in
-    elim (Contains-cases f g frames has) [
-      | inl is ↦
-          let here : g.head.initialises ≡ Some c = ap (λ (x : FrameState). x.head.initialises) is ∙ e in
-          let one = counts_one c g here in omega (arith, first, one)
-      | inr later ↦ let more = counted c frames f later e in omega (arith, first, more)
-    ]
-
-states_there : (t : ThreadNo) (own : OwnState) (frames : List FrameState)
-    → ((c : ClassId) → count_initialisers c frames ≤ progress_by t own c) → KeepsStates own frames
-states_there t own frames all f c has e =
-    let some = counted c frames f has e in
-    let most = all c in
-    progress_there t own c (omega (arith, some, most))
 
 -- ---- Something is raised in a segment.
 

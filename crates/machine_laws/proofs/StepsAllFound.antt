@@ -1,5 +1,5 @@
 -- Each thread of a machine of which all is known has a step: it isn't live, or is held, or its domain has no step left; or it acts.
-use Rattle.std.proofs.Common.{inl, inr, ◌≡◌, ◌≢◌, ◌-◌, ◌==◌, ℕ, zero, suc, Bool, true, false, cond, List, [], ◌∷◌, length, Contains, Option, Some, None, Ok, Err, refl, sym, ap, subst, ◌∙◌, arith}
+use Rattle.std.proofs.Common.{inl, inr, ◌≡◌, ◌≢◌, ◌-◌, ◌==◌, ℕ, zero, suc, Bool, true, false, cond, List, [], ◌∷◌, Contains, Option, Some, None, Ok, Err, refl, sym, ap, subst, ◌∙◌, arith}
 use Rattle.std.specs.Option.{option_map}
 use Rattle.std.proofs.lemmas.Option.{none-some, same_Some}
 use Rattle.jk_model.specs.declared.identifiers.CapId.{CapId}
@@ -12,9 +12,6 @@ use Rattle.jk_model.specs.declared.steps.Raise.{Raise}
 use Rattle.jk_model.specs.declared.steps.Raise.TheVariants as Raised
 use Rattle.jk_model.specs.declared.steps.Standing.{Standing}
 use Rattle.jk_model.specs.declared.steps.Standing.TheVariants as Stands
-use Rattle.jk_model.specs.declared.values.Value.{Value}
-use Rattle.jk_model_classes.specs.declared.records.TypeRef.{TypeRef}
-use Rattle.jk_model_domains.specs.Objects.{NamedObject}
 use Rattle.jk_model_heaps.specs.Capabilities.{CapRange, IsGivenOut}
 use Rattle.jk_model_heaps.specs.Workings.{Inside, Request, Run}
 use Rattle.jk_model_running.specs.Ways.{Asks, Crosses, Ended, GoesOn, Left, Says, Terminates, Went}
@@ -33,11 +30,12 @@ use Rattle.list_lemmas.proofs.FoundItems.{Finds, finds}
 use Rattle.list_lemmas.proofs.ItemsByPlace.{mapped_at}
 use Rattle.list_lemmas.proofs.ItemsOfLists.{Contains-at}
 use Rattle.list_lemmas.proofs.LastItems.{last_of}
-use Rattle.heap_laws.specs.FittingOutcomes.{AreOfTypes, StandsAtCrossing}
+use Rattle.heap_laws.specs.FittingOutcomes.{StandsAtCrossing}
 use Rattle.heap_laws.specs.RaisableObjects.{IsThrowable}
 use Rattle.row_laws.specs.HeapRowLaws.{HeapRowsKeep}
 use Rattle.row_laws.specs.KeptRuns.{ActsWell, KeepsRun}
 use Rattle.row_laws.specs.LocalStepLaws.{LocalStepsAreThere, LocalStepsKeep}
+use Rattle.row_laws.proofs.CallsFound.{types_count}
 use Rattle.machine_laws.specs.KnownMachines.{IsKnownMachine}
 use Rattle.machine_laws.specs.RunsInMachines.{GivesStill}
 use Rattle.machine_laws.specs.SoundMachines.{HasSoundClasses}
@@ -124,13 +122,6 @@ Acting m t = (deed : Deed) × (lines : List Line) × (new : Machine) × Acts m t
 abbrev Following : Machine → ThreadNo → Went → Type 0
 Following m t went = (deed : Deed) × (lines : List Line) × (new : Machine) × Ensues m t went deed lines new
 
-as_many_of : (around : Surroundings) (heap : List NamedObject) (types : List TypeRef) (values : List Value) → AreOfTypes around heap types values
-    → length values ≡ length types
-as_many_of around heap [] [] h = refl
-as_many_of around heap (t ∷ types) (v ∷ values) h = let rest = as_many_of around heap types values h.1 in omega (arith, rest)
-as_many_of around heap [] (v ∷ values) h = absurd h
-as_many_of around heap (t ∷ types) [] h = absurd h
-
 lives : (m : Machine) (t : ThreadNo) (p : RunningSegment m t) → IsLiveDomain p.home.domain
 lives m t p =
     ap (λ (o : Option Inside). elim o as (λ _. Bool) [ Some i ↦ true | None ↦ false ]) p.home.is_inside
@@ -180,7 +171,7 @@ module _ (m : Machine) (t : ThreadNo) (known : IsKnownMachine m) (p : RunningSeg
         are_frames = keeps.fits.1.0.are_frames;
         below = stands.below;
         given = stands.given;
-        as_many = as_many_of around run.inside.heap stands.method.params stands.given stands.arguments;
+        as_many = types_count around run.inside.heap stands.method.params stands.given stands.arguments;
         stack = stands.stack;
         known = given_there.0;
         is_known = given_there.1;

@@ -55,9 +55,10 @@ use Rattle.row_laws.specs.KeptRuns.{FitsWent, KeepsRun}
 use Rattle.row_laws.specs.LocalStepLaws.{LocalStepsKeep}
 use Rattle.machine_laws.specs.KnownMachines.{IsKnownMachine}
 use Rattle.machine_laws.specs.OpenedMachines.{MayGrow}
-use Rattle.machine_laws.proofs.MachinesThatGrow.{AreNumbered, GrowsOn, IsClassOfMade, StaysPlaced, changed_grows, domains_stay, from_filter, grows_after, grows_self, inside_grows, is_home, mapped_started, running_grows, segments_grow, still_grows, still_numbered}
+use Rattle.machine_laws.proofs.MachinesThatGrow.{AreNumbered, GrowsOn, IsClassOfMade, StaysPlaced, changed_grows, domains_stay, grows_after, grows_self, inside_grows, is_home, mapped_started, running_grows, segments_grow, still_grows, still_numbered}
 use Rattle.machine_laws.proofs.PaidSteps.{known_paid}
 use Rattle.machine_laws.proofs.RunningSegmentsFit.{acts_well}
+use Rattle.machine_laws.proofs.FilteredItems.{filtered_from}
 
 -- ---- What is raised in a segment leaves its domain where it is.
 
@@ -119,7 +120,7 @@ top_grows {m = m} {t = t} p = segments_grow m t p.lower (without_top p) refl ref
 end_grows : (t : ThreadNo) (m : Machine) → Grown m (without_thread t m)
 end_grows t m =
     domains_stay m (without_thread t m) refl refl
-    (λ thread on. inl (thread, from_filter (λ (e : Thread). not (e.number.0 == t.0)) m.threads thread on, refl))
+    (λ thread on. inl (thread, filtered_from (λ (e : Thread). not (e.number.0 == t.0)) m.threads thread on, refl))
 
 raise_grows : {m : Machine} {t : ThreadNo} → AreNumbered m → (p : RunningSegment m t) (r : Raise) (run : Run) (ended : Unwound)
     → RaisesIn (setting_of p) (run_of p) r run ended → Grown m (with_run p run)
@@ -387,7 +388,7 @@ terminates_grow m new d lines h =
         domains_stay ended last refl refl
         (λ thread on.
         mapped_started ended (λ (e : Thread). record e { segments = segments_left segment_form d.number e.segments }) (λ e. refl) thread
-        (from_filter has_segments cut.threads thread on))
+        (filtered_from has_segments cut.threads thread on))
 
 pub kills_grow : (m new : Machine) (name : List ℕ) (lines : List Line) → Kills m name lines new → Grown m new
 kills_grow m new name lines (Kills.no_domain none) = grows_self m

@@ -26,8 +26,8 @@ use Rattle.list_lemmas.proofs.TestsAndOrders.{mapped_option}
 use Rattle.heap_laws.specs.FittingOutcomes.{FitsOutcome}
 use Rattle.row_laws.specs.HeapRowLaws.{HeapRowsKeep}
 use Rattle.row_laws.specs.KeptRuns.{ActsWell}
-use Rattle.machine_laws.proofs.InstructionsKeepHeads.{instruction_kept}
 use Rattle.row_laws.proofs.StepsKept.{runs_well}
+use Rattle.row_laws.proofs.InstructionsKept.{instruction_kept}
 use Rattle.machine_laws.specs.KnownMachines.{RunsNoPackageJk}
 use Rattle.machine_laws.proofs.InstructionsThatAsk.{IsInward, asking_call}
 use Rattle.machine_laws.proofs.MethodsOfPackageJk.{LeadsToPackageJk, leads_to_package}

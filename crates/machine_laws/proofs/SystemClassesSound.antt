@@ -23,13 +23,12 @@ use Rattle.jk_model_classes.specs.declared.records.FieldRecord.{FieldRecord}
 use Rattle.jk_model_classes.specs.declared.records.Link.{Link}
 use Rattle.jk_model_classes.specs.declared.records.MethodRecord.{MethodRecord}
 use Rattle.jk_model_classes.specs.declared.records.TypeRef.{TypeRef}
-use Rattle.class_lemmas.proofs.CodeOfMethods.{system_has_none}
-use Rattle.jk_model_typing.specs.Scopes.{CodeScope, IsScopeOf, is_static}
+use Rattle.jk_model_typing.specs.Scopes.{is_static}
 use Rattle.erased_typings.proofs.SystemParents.{system_parents}
 use Rattle.system_facts.proofs.TypesRead.{method_types-read}
 use Rattle.system_facts.specs.DescriptorReader.{MethodTypes, method_types}
 use Rattle.heap_laws.specs.SoundCodes.{AreSoundCodes, SuitsType}
-use Rattle.sound_folders.proofs.FirstClasses.{first-sound, first-linked}
+use Rattle.sound_folders.proofs.FirstClasses.{entry-of, first-linked, first-sound, never_scope}
 use Rattle.sound_folders.specs.LinkedWorlds.{AreLinked}
 use Rattle.machine_laws.specs.SoundFolders.{AreSound}
 use Rattle.jk_model_classes.specs.declared.records.Link.TheVariants as To
@@ -91,12 +90,6 @@ not_both false b test holds = absurd (false≢true holds)
 -- ---- Records.
 
 module _ (classes : List ClassRecord) (system : AreSystemRecords classes) where
-  entry_of : (c : ClassId) (r : ClassRecord) → record_of classes c ≡ Some r
-      → (entry : SystemClass) × (slice_get system_classes c.0 ≡ Some entry) × IsSystemRecord c.0 entry r
-  entry_of c r is =
-      let entry = item_there system_classes c.0 (omega (arith, slice_get_within classes c.0 r is, system.as_many)) in
-      (entry.0, entry.1, system.each c.0 entry.0 r entry.1 is)
-
   number_of : (c : ClassId) (r : ClassRecord) → record_of classes c ≡ Some r → c.0 < length system_classes
   number_of c r is = omega (arith, slice_get_within classes c.0 r is, system.as_many)
 
@@ -106,7 +99,7 @@ module _ (classes : List ClassRecord) (system : AreSystemRecords classes) where
         × IsSystemMethodAt (method_number m.class.0 m.index) e method
         × ((test : SystemClass → SystemMethod → Bool) → list_all (of_each_method test) system_classes ≡ true → test class e ≡ true)
     method_entry =
-        let of = entry_of m.class is.0 is.1 in
+        let of = entry-of classes system m.class is.0 is.1 in
         let few = slice_get_within is.0.methods m.index method is.2 in
         let e = item_there of.0.methods m.index (omega (arith, few, of.2.method_count)) in (
           of.0,
@@ -168,7 +161,7 @@ module _ (classes : List ClassRecord) (system : AreSystemRecords classes) where
 
   static_field : (m : MemberId) (field : FieldRecord) → IsInterface classes m.class → FieldIs classes m field → IsTrue (has field.flags STATIC)
   static_field m field (q, there, flag) (r, is, at) =
-      let of = entry_of m.class r is in
+      let of = entry-of classes system m.class r is in
       let e = item_there of.0.fields m.index (omega (arith, slice_get_within r.fields m.index field at, of.2.field_count)) in
       let said = of.2.fields m.index e.0 field e.1 at in
       let same : q ≡ r = same_Some q r (sym there ∙ is) in
@@ -179,7 +172,7 @@ module _ (classes : List ClassRecord) (system : AreSystemRecords classes) where
 
   no_constant : (m : MemberId) (field : FieldRecord) → FieldIs classes m field → SuitsType field.kind field.constant
   no_constant m field (r, is, at) =
-      let of = entry_of m.class r is in
+      let of = entry-of classes system m.class r is in
       let e = item_there of.0.fields m.index (omega (arith, slice_get_within r.fields m.index field at, of.2.field_count)) in
       subst (SuitsType field.kind) (sym (of.2.fields m.index e.0 field e.1 at).constant) tt
 
@@ -189,21 +182,21 @@ module _ (classes : List ClassRecord) (system : AreSystemRecords classes) where
 
   interface_parent : (c : ClassId) (r : ClassRecord) → record_of classes c ≡ Some r → IsTrue (has r.flags INTERFACE) → r.parent ≡ Some OBJECT
   interface_parent c r is flag =
-      let of = entry_of c r is in
+      let of = entry-of classes system c r is in
       let over = subst (λ (x : ℕ). IsTrue (has x INTERFACE)) of.2.flags flag in
       let test = or_else (has of.0.flags INTERFACE) (is_object (parent_number of.0)) (passed_at extends_object system_classes c.0 of.0 refl of.1) over in
       object_by r.parent (ap is_object of.2.parent ∙ test)
 
   flagged : (i : ClassId) (q : ClassRecord) → record_of classes i ≡ Some q → is_interface_number (Some i.0) ≡ true → IsTrue (has q.flags INTERFACE)
   flagged i q is test =
-      let of = entry_of i q is in
+      let of = entry-of classes system i q is in
       let flag : has of.0.flags INTERFACE ≡ true =
       sym (ap (λ (o : Option SystemClass). option_map_or (λ (c : SystemClass). has c.flags INTERFACE) o false) of.1) ∙ test in
       subst (λ (x : ℕ). IsTrue (has x INTERFACE)) (sym of.2.flags) flag
 
   listed_there : (c i : ClassId) (r : ClassRecord) → record_of classes c ≡ Some r → Contains r.interfaces i → IsInterface classes i
   listed_there c i r is on =
-      let of = entry_of c r is in
+      let of = entry-of classes system c r is in
       let place = place_of r.interfaces i on in
       let at : slice_get (interface_numbers of.0) place.0 ≡ Some (Some i.0) =
       ap (λ (xs : List (Option ℕ)). slice_get xs place.0) (sym of.2.interfaces)
@@ -214,12 +207,7 @@ module _ (classes : List ClassRecord) (system : AreSystemRecords classes) where
       (q.0, q.1, flagged i q.0 q.1 test)
 
   no_links : (c : ClassId) (r : ClassRecord) (link : Link) → record_of classes c ≡ Some r → Contains r.links link → ⊥
-  no_links c r link is on = Contains-none link (subst (λ (xs : List Link). Contains xs link) (entry_of c r is).2.links on)
-
-  no_scope : (m : MemberId) (s : CodeScope) → IsScopeOf classes m s → ⊥
-  no_scope m s scope =
-      let said = (method_entry m s.method (scope.class, scope.class_is, scope.method)).3 in
-      system_has_none (method_number m.class.0 m.index) s.code (sym said.body ∙ scope.body)
+  no_links c r link is on = Contains-none link (subst (λ (xs : List Link). Contains xs link) (entry-of classes system c r is).2.links on)
 
   system_codes : AreSoundCodes classes
   system_codes =
@@ -227,7 +215,7 @@ module _ (classes : List ClassRecord) (system : AreSystemRecords classes) where
         ordered = (first-sound classes system).ordered;
         system = subst AreSystemRecords (sym (take_all (length system_classes) classes (omega (arith, system.as_many)))) system;
         of_system = λ c r is home. number_of c r is;
-        homed = λ c r is foreign. absurd (foreign (entry_of c r is).2.home);
+        homed = λ c r is foreign. absurd (foreign (entry-of classes system c r is).2.home);
         class_parents = system_parents classes system;
         open_parents = λ c p r high is parent closed. omega (arith, high, number_of c r is);
         interface_parents = interface_parent;
@@ -238,16 +226,16 @@ module _ (classes : List ClassRecord) (system : AreSystemRecords classes) where
         static_methods = λ m method is static. static_there m method is static;
         private_methods = λ m method is private. absurd (no_private m method is private);
         bodies = λ m method is concrete. inr (method_number m.class.0 m.index, (method_entry m method is).3.body);
-        system_bodies = λ m method r n is there body. (entry_of m.class r there).2.home;
+        system_bodies = λ m method r n is there body. (entry-of classes system m.class r there).2.home;
         initialisers = λ m method is named. absurd (no_initialiser m method is named);
         constructors = λ m method is named. constructor_there m method is named;
         few_params = λ m method is. few_there m method is;
         found_fields = λ c named r m is on. absurd (no_links c r (To.Field named m) is on);
         found_methods = λ c named r m is on. absurd (no_links c r (To.Method named m) is on);
         few_dimensions = λ c r t is on. absurd (no_links c r (To.Class t) is on);
-        decoded = λ m s scope. absurd (no_scope m s scope);
-        typed = λ m s scope. absurd (no_scope m s scope);
-        names = λ m s i scope on. absurd (no_scope m s scope);
+        decoded = λ m s scope. absurd (never_scope classes system m s scope);
+        typed = λ m s scope. absurd (never_scope classes system m s scope);
+        names = λ m s i scope on. absurd (never_scope classes system m s scope);
       }
 
   pub system_sound : AreSound classes []

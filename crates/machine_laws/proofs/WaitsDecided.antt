@@ -1,12 +1,10 @@
 -- A segment of a known machine waits for a class that another thread initialises, or it doesn't.
-use Rattle.std.proofs.Common.{inl, inr, ◌≡◌, ◌⊎◌, ℕ, List, [], ◌∷◌, ◌++◌, None, refl, sym, ap, subst, ◌∙◌}
+use Rattle.std.proofs.Common.{inl, inr, ◌≡◌, ◌⊎◌, ℕ, List, [], ◌∷◌, None, refl, sym, ap, subst, ◌∙◌}
 use Rattle.decided_lookups.proofs.DecidedParts.{number_decided}
 use Rattle.jk_model.specs.declared.identifiers.ClassId.{ClassId}
 use Rattle.jk_model.specs.declared.identifiers.ThreadNo.{ThreadNo}
-use Rattle.jk_model_classes.specs.declared.records.ClassRecord.{ClassRecord}
 use Rattle.jk_model_domains.specs.declared.states.ClassState.{ClassState}
 use Rattle.jk_model_domains.specs.declared.states.ClassState.TheVariants as State
-use Rattle.jk_model_domains.specs.Objects.{NamedObject}
 use Rattle.jk_model_domains.specs.OwnStates.{OwnState, state_of}
 use Rattle.jk_model_frames.specs.Frames.{FrameState}
 use Rattle.jk_model_heaps.specs.RunningCode.{RunsCode}
@@ -22,16 +20,10 @@ use Rattle.jk_model_runs.specs.Steps.{Waits}
 use Rattle.list_lemmas.proofs.ItemsOfLists.{Contains-at}
 use Rattle.list_lemmas.proofs.LastItems.{last_of, one_last}
 use Rattle.row_laws.proofs.StandsHere.{code_here}
+use Rattle.row_laws.proofs.NeedsFound.{NeedsOne, frame_needs}
+use Rattle.row_laws.proofs.FramesInARow.{fit_top}
 use Rattle.machine_laws.specs.KnownMachines.{IsKnownMachine}
-use Rattle.machine_laws.proofs.NeedsDecided.{NeedsOne, frame_needs}
 use Rattle.machine_laws.proofs.RunningSegmentsFit.{frames_at, lower_fit, thread_place, top_answers}
-
--- the top frame of a row is as it should be
-top_of_row : (Top : FrameState → Type 0) (classes : List ClassRecord) (heap : List NamedObject) (callers : List FrameState) (f : FrameState)
-    → FramesFit Top classes heap (callers ++ f ∷ []) → Top f
-top_of_row Top classes heap [] f h = h
-top_of_row Top classes heap (a ∷ []) f h = h.1
-top_of_row Top classes heap (a ∷ b ∷ callers) f h = top_of_row Top classes heap (b ∷ callers) f h.1
 
 -- a state is in progress by another thread, or it isn't
 elsewhere_by : (own : OwnState) (t : ThreadNo) (c : ClassId) (s : ClassState) → state_of own c ≡ s
@@ -71,7 +63,7 @@ module _ (m : Machine) (t : ThreadNo) (p : RunningSegment m t) (known : IsKnownM
       (frames_at m (λ inside f. TopFits m inside p.segment f) p.segment p.home
       (lower_fit m p.lower p.segment
       (subst (SegmentsFit m) p.are_segments (known.0.0.threads.segments p.thread (Contains-at m.threads place.0 p.thread place.1))))).fit in
-      top_of_row Fits m.classes p.home.inside.heap top.callers top.frame
+      fit_top m.classes p.home.inside.heap Fits top.callers top.frame
       (subst (FramesFit Fits m.classes p.home.inside.heap) top.are_frames row)
 
   code_of : (f : FrameState) → Fits f → f.head.need ≡ None → RunsCode m.classes f

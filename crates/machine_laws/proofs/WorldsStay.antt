@@ -1,5 +1,5 @@
 -- The world of a machine stays one in which a folder may be loaded where domains keep what they were opened with, and none comes to life.
-use Rattle.std.proofs.Common.{◌≡◌, ℕ, ◌+◌, ◌*◌, ◌^◌, ◌-◌, ◌==◌, ◌<◌, ◌≤◌, ◌⊎◌, Bool, true, false, cond, not, List, [], ◌∷◌, filter, length, map, Contains, Option, Some, None, slice_get, refl, sym, ap, subst, ◌∙◌, arith}
+use Rattle.std.proofs.Common.{◌≡◌, ℕ, ◌+◌, ◌*◌, ◌^◌, ◌-◌, ◌==◌, ◌<◌, ◌≤◌, ◌⊎◌, Bool, true, false, cond, not, List, [], length, map, Contains, Option, Some, None, slice_get, refl, sym, ap, subst, ◌∙◌, arith}
 use Rattle.std.specs.List.{AllByRecursion}
 use Rattle.std.proofs.lemmas.List.{length-map}
 use Rattle.std.proofs.lemmas.Option.{none-some, same_Some}
@@ -21,7 +21,6 @@ use Rattle.jk_model_runs.specs.Sealed.{is_stand_in}
 use Rattle.jk_model_runs.specs.Starts.{Starts, StartWords}
 use Rattle.jk_model_runs.specs.Steps.{Steps}
 use Rattle.list_lemmas.proofs.ItemsByPlace.{comes_from, mapped_at, nothing_at}
-use Rattle.list_lemmas.proofs.ItemsOfLists.{Contains-here, Contains-there}
 use Rattle.row_laws.specs.LocalStepLaws.{LocalStepsKeep}
 use Rattle.machine_laws.specs.KeptWorlds.{LastingDomain, lasting}
 use Rattle.machine_laws.specs.KnownMachines.{IsKnownMachine}
@@ -32,6 +31,7 @@ use Rattle.machine_laws.proofs.MachinesThatGrow.{GrowsOn}
 use Rattle.machine_laws.proofs.OpenedParts.{no_stand_in}
 use Rattle.machine_laws.proofs.StepsGrow.{kills_grow, start_grows, step_grows}
 use Rattle.machine_laws.proofs.WorldsKept.{kills_keep, steps_keep}
+use Rattle.machine_laws.proofs.FilteredItems.{all_pass}
 
 -- what a world has of a domain
 abbrev pub told : DomainState → DomainRecord
@@ -168,12 +168,6 @@ first_loads heap_pages stack_pages m first ordered =
     }
 
 -- ---- A folder may be loaded.
-
-all_pass : {X : Type 0} (test : X → Bool) (xs : List X) → ((x : X) → Contains xs x → test x ≡ true) → length (filter test xs) ≡ length xs
-all_pass test [] h = refl
-all_pass test (x ∷ xs) h =
-    let rest : length (filter test xs) ≡ length xs = all_pass test xs (λ y on. h y (Contains-there y x xs on)) in
-    ap (λ (b : Bool). length (cond b (x ∷ filter test xs) (filter test xs))) (h x (Contains-here x xs)) ∙ omega (arith, rest)
 
 few_domains : (m : Machine) → IsKnownMachine m → MayGrow m → length m.domains ≤ 65535
 few_domains m known may =

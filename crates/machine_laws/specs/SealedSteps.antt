@@ -1,4 +1,4 @@
--- Machines stay sealed, from the first one on, with each start, step and kill. Of the crate `sealed_steps`.
+-- Machines stay sealed, from the first one on, with each start, step and kill.
 use Rattle.std.specs.Prelude.{◌≡◌, ℕ, false, List, [], Option}
 use Rattle.jk_model.specs.declared.identifiers.ThreadNo.{ThreadNo}
 use Rattle.jk_model.specs.declared.output.Line.{Line}

@@ -1,5 +1,5 @@
 -- No thread gets stuck: in a machine of which all is known that a run keeps, each thread has a step, and so there are whole turns and
--- rounds. Of the crate `step_progress`.
+-- rounds.
 use Rattle.std.specs.Prelude.{ℕ, List}
 use Rattle.jk_model.specs.declared.identifiers.ThreadNo.{ThreadNo}
 use Rattle.jk_model.specs.declared.output.Line.{Line}

@@ -69,7 +69,7 @@ pub fn steps_stay_known_without_jk()
     heap_rows_keep();
 }
 
-/// Where no class refers to package jk, a step changes its own thread and the inside of the domain in which that runs, and nothing elsewhere.
+/// Where no class refers to package jk, each step is confined to what its deed may change.
 pub fn steps_are_confined_without_jk()
     ensures { StepsAreConfinedWithoutJk }
 {

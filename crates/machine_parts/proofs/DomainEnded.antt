@@ -1,8 +1,8 @@
 -- Where each part is without a domain, the domain has ended in the machine.
-use Rattle.std.proofs.Common.{◌≡◌, ◌≢◌, ℕ, zero, suc, ◌+◌, ◌<◌, ◌==◌, Bool, true, false, not, cond, filter, List, [], ◌∷◌, length, map, get_or, slice_get, slice_set, Contains, Option, Some, None, option_map, refl, sym, ap, subst, ◌∙◌, inl, inr, arith}
+use Rattle.std.proofs.Common.{◌≡◌, ◌≢◌, ℕ, zero, suc, ◌+◌, ◌<◌, ◌==◌, Bool, true, false, not, cond, filter, List, [], ◌∷◌, length, map, slice_get, slice_set, Contains, Option, Some, None, option_map, refl, sym, ap, subst, ◌∙◌, inl, inr, arith}
 use Rattle.std.specs.Option.{option_map_or}
 use Rattle.std.proofs.lemmas.Bool.{eqb-false, eqb-true}
-use Rattle.std.proofs.lemmas.Option.{same_Some, slice_get-get_or, slice_get_within}
+use Rattle.std.proofs.lemmas.Option.{same_Some, slice_get_within}
 use Rattle.jk_model.specs.declared.identifiers.DomainId.{DomainId}
 use Rattle.jk_model.specs.declared.output.Line.{Line}
 use Rattle.jk_model.specs.declared.output.Line.TheVariants.{EndedByKill, Killed}
@@ -23,6 +23,7 @@ use Rattle.list_lemmas.proofs.ItemsOfLists.{Contains-here, Contains-there}
 use Rattle.machine_parts.specs.EndedParts.{EndsInParts, ended_threads, lines_of_end}
 use Rattle.machine_parts.specs.FittingParts.{AreFittingParts}
 use Rattle.machine_parts.specs.MachineParts.{MachineParts, domain_state, domain_states, frames_in, inside_of, machine_of, segment_with_frames, thread_with_frames}
+use Rattle.machine_parts.proofs.DomainsOfParts.{numbered_shared}
 
 -- ---- Domains.
 
@@ -223,20 +224,14 @@ module _ (p new : MachineParts) (d : DomainId) (l : LiveDomain (machine_of p) d)
   abbrev cut : Machine
   cut = without_segments_of d (with_domain d ended_domain (machine_of p))
 
-  shared_numbers : (i : ℕ) (s : SharedDomain) → slice_get p.shared.domains i ≡ Some s → s.number.0 ≡ i
-  shared_numbers i s at =
-      let low : i < length p.world.domains = omega (arith, slice_get_within p.shared.domains i s at, fit.domains.shared) in
-      let names : DomainRecord = get_or p.world.domains i h.names in
-      let named : slice_get p.world.domains i ≡ Some names = slice_get-get_or p.world.domains i h.names low in
-      ap (λ (x : DomainId). x.0) (fit.domains.same_number i names s named at).0 ∙ fit.domains.numbered i names named
-
   domains_are : (machine_of new).domains ≡ cut.domains
   domains_are =
       ap (λ (w : WorldRecord). domain_states new.heap new.frames w.domains new.shared.domains new.owns) h.world
       ∙ ap (λ (ds : List SharedDomain). domain_states new.heap new.frames names ds new.owns) h.shared.domains
       ∙ ap (λ (os : List (Option OwnState)). domain_states new.heap new.frames names shared os) h.owns
       ∙ ends_at p.heap new.heap p.frames new.frames d keeps 0 d.0 h.names p.world.domains p.shared.domains p.owns
-      (λ i names at. omega (arith, fit.domains.numbered i names at)) (λ i s at. omega (arith, shared_numbers i s at)) (omega arith) h.is_named low
+      (λ i names at. omega (arith, fit.domains.numbered i names at)) (λ i s at. omega (arith, numbered_shared p fit.domains i s at))
+      (omega arith) h.is_named low
     where
       names : List DomainRecord
       names = slice_set p.world.domains d.0 (record h.names { live = false })

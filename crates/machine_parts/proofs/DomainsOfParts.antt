@@ -1,9 +1,11 @@
 -- A domain of the machine is what the world, the shared state, the own states and the stores have at its number.
-use Rattle.std.proofs.Common.{◌≡◌, ℕ, zero, suc, List, [], ◌∷◌, slice_get, Option, Some, None, option_map, refl, sym, ap, ◌∙◌}
-use Rattle.std.proofs.lemmas.Option.{same_Some}
+use Rattle.std.proofs.Common.{◌≡◌, ℕ, zero, suc, List, [], ◌∷◌, length, map, slice_get, Option, Some, None, option_map, refl, sym, ap, ◌∙◌, arith}
+use Rattle.std.proofs.lemmas.Option.{same_Some, slice_get_within}
+use Rattle.list_lemmas.proofs.ItemsByPlace.{item_there}
 use Rattle.jk_model.specs.declared.identifiers.DomainId.{DomainId}
 use Rattle.jk_model_classes.specs.Worlds.{DomainRecord}
 use Rattle.jk_model_domains.specs.OwnStates.{OwnState}
+use Rattle.jk_model_heaps.specs.Capabilities.{CapRange}
 use Rattle.jk_model_heaps.specs.Workings.{Inside}
 use Rattle.jk_model_sharing.specs.SharedStates.{SharedDomain}
 use Rattle.jk_model_machine_state.specs.Machines.{DomainState}
@@ -51,6 +53,36 @@ at_place heap frames (n ∷ world) (s ∷ shared) (o ∷ owns) (suc i) d at =
 at_place heap frames [] shared owns i d at = absurd cc
 at_place heap frames (n ∷ world) [] owns i d at = absurd cc
 at_place heap frames (n ∷ world) (s ∷ shared) [] i d at = absurd cc
+
+pub state_at : (heap : HeapContent) (frames : FrameContent) (world : List DomainRecord) (shared : List SharedDomain) (owns : List (Option OwnState))
+    (i : ℕ) (names : DomainRecord) (s : SharedDomain) (own : Option OwnState) → slice_get world i ≡ Some names → slice_get shared i ≡ Some s
+    → slice_get owns i ≡ Some own → slice_get (domain_states heap frames world shared owns) i ≡ Some (domain_state heap frames names s own)
+state_at heap frames (n ∷ world) (x ∷ shared) (o ∷ owns) zero names s own a b c =
+    λ i. Some (domain_state heap frames (same_Some n names a i) (same_Some x s b i) (same_Some o own c i))
+state_at heap frames (n ∷ world) (x ∷ shared) (o ∷ owns) (suc i) names s own a b c = state_at heap frames world shared owns i names s own a b c
+state_at heap frames [] shared owns i names s own a b c = absurd cc
+state_at heap frames (n ∷ world) [] owns i names s own a b c = absurd cc
+state_at heap frames (n ∷ world) (x ∷ shared) [] i names s own a b c = absurd cc
+
+-- what the domains share stands at their numbers
+pub numbered_shared : (p : MachineParts) → HaveOneList p → (i : ℕ) (s : SharedDomain) → slice_get p.shared.domains i ≡ Some s → s.number.0 ≡ i
+numbered_shared p one i s at =
+    let low = slice_get_within p.shared.domains i s at in
+    let same = one.shared in
+    let names = item_there p.world.domains i (omega (arith, low, same)) in
+    ap (λ (d : DomainId). d.0) (one.same_number i names.0 s names.1 at).0 ∙ one.numbered i names.0 names.1
+
+-- ---- Ranges of capabilities.
+
+pub same_ranges : (heap : HeapContent) (frames : FrameContent) (world : List DomainRecord) (shared : List SharedDomain) (owns : List (Option OwnState))
+    → length shared ≡ length world → length owns ≡ length world
+    → map (λ (d : DomainState). d.caps) (domain_states heap frames world shared owns) ≡ map (λ (s : SharedDomain). s.caps) shared
+same_ranges heap frames [] [] owns many also = refl
+same_ranges heap frames [] (s ∷ shared) owns many also = absurd (omega (arith, many))
+same_ranges heap frames (n ∷ world) [] owns many also = absurd (omega (arith, many))
+same_ranges heap frames (n ∷ world) (s ∷ shared) [] many also = absurd (omega (arith, also))
+same_ranges heap frames (n ∷ world) (s ∷ shared) (own ∷ owns) many also =
+    ap (λ (rs : List CapRange). s.caps ∷ rs) (same_ranges heap frames world shared owns (omega (arith, many)) (omega (arith, also)))
 
 -- ---- Live domains.
 

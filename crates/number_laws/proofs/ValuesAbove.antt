@@ -5,13 +5,15 @@ use Rattle.jk_model.specs.declared.values.Value.TheVariants as Held
 use Rattle.jk_model_classes.specs.declared.records.TypeRef.{TypeRef}
 use Rattle.jk_model_classes.specs.Classes.{AreOrdered}
 use Rattle.jk_model_typing.specs.declared.frames.Demand.TheVariants.{Fitting}
+use Rattle.jk_model_typing.specs.declared.frames.FrameType.{FrameType}
 use Rattle.jk_model_typing.specs.declared.frames.VType.{VType}
 use Rattle.jk_model_typing.specs.declared.frames.VType.TheVariants.{Unusable, Null, Ref}
-use Rattle.jk_model_typing.specs.FrameTypes.{Fits, RefFits}
+use Rattle.jk_model_typing.specs.FrameTypes.{EachFits, FrameFits, Fits, RefFits}
 use Rattle.jk_model_typing.specs.Rows.{AllMeet}
 use Rattle.jk_model_typing.specs.Scopes.{CodeScope}
+use Rattle.jk_model_frames.specs.Frames.{FrameState}
 use Rattle.jk_model_domains.specs.Objects.{CAPABILITY, NamedObject, class_type, type_of}
-use Rattle.jk_model_domains.specs.ValueTypes.{EachValueFits, ValueFits}
+use Rattle.jk_model_domains.specs.ValueTypes.{EachValueFits, FrameHolds, ValueFits}
 use Rattle.type_frames.proofs.OrderOfTypes.{Fits-cases, RefFits-trans}
 
 module _ (s : CodeScope) (heap : List NamedObject) (ordered : AreOrdered s.classes) where
@@ -51,3 +53,18 @@ module _ (s : CodeScope) (heap : List NamedObject) (ordered : AreOrdered s.class
   all-fitting (v ∷ vs) [] ts h k = absurd h
   all-fitting (v ∷ vs) (o ∷ olds) [] h k = absurd k
   all-fitting (v ∷ vs) (o ∷ olds) (t ∷ ts) h k = (value-above v o t h.0 k.0, all-fitting vs olds ts h.1 k.1)
+
+  -- values that fit some types fit those above them, and so do a frame's
+  pub values-above : (vs : List Value) (ts us : List VType) → EachValueFits s heap vs ts → EachFits s.classes ts us → EachValueFits s heap vs us
+  values-above [] [] [] h k = tt
+  values-above [] [] (u ∷ us) h k = absurd k
+  values-above [] (t ∷ ts) us h k = absurd h
+  values-above (v ∷ vs) [] us h k = absurd h
+  values-above (v ∷ vs) (t ∷ ts) [] h k = absurd k
+  values-above (v ∷ vs) (t ∷ ts) (u ∷ us) h k = (value-above v t u h.0 k.0, values-above vs ts us h.1 k.1)
+
+  pub frame-above : (f : FrameState) (t u : FrameType) → FrameHolds s heap f t → FrameFits s.classes t u → FrameHolds s heap f u
+  frame-above f t u h k = record {
+    locals = values-above f.locals t.locals u.locals h.locals k.locals;
+    stack = values-above f.stack t.stack u.stack h.stack k.stack;
+  }

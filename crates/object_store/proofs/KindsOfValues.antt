@@ -1,9 +1,9 @@
 -- Kinds of values: what is of one kind with a third value, and that an object which is written has what objects of a store have.
-use Rattle.std.proofs.Common.{◌≡◌, ℕ, zero, suc, ◌<◌, pos, List, [], ◌∷◌, Some, slice_get, slice_set, sym, subst}
+use Rattle.std.proofs.Common.{ℕ, zero, suc, ◌<◌, pos, List, [], ◌∷◌, slice_set, sym, subst}
 use Rattle.std.specs.List.{AllByRecursion}
-use Rattle.std.proofs.lemmas.Option.{same_Some}
 use Rattle.jk_model.specs.declared.values.Value.{Value}
 use Rattle.jk_model.specs.declared.values.Value.TheVariants as Held
+use Rattle.jk_model.proofs.EachItem.{all_at}
 use Rattle.jk_model_domains.specs.Objects.{Array, Object, Plain, Task, Text}
 use Rattle.jk_model_domains.specs.OwnStates.{zero_of}
 use Rattle.object_store.specs.HeapContents.{AreOfKind, IsSmall, IsStored, IsWritten}
@@ -35,18 +35,13 @@ module _ {X : Type 0} (P : X → Type 0) where
   each_put (y ∷ ys) zero x each new = (new, each.1)
   each_put (y ∷ ys) (suc i) x each new = (each.0, each_put ys i x each.1 new)
 
-  each_there : (xs : List X) (i : ℕ) (x : X) → AllByRecursion P xs → slice_get xs i ≡ Some x → P x
-  each_there [] i x each at = absurd cc
-  each_there (y ∷ ys) zero x each at = subst P (same_Some y x at) each.0
-  each_there (y ∷ ys) (suc i) x each at = each_there ys i x each.1 at
-
 pub written_stored : (object : Object) (i : ℕ) (v : Value) (new : Object) → IsWritten object i v new → IsStored object → IsStored new
 written_stored (Plain c fields) i v new written stored =
     let put = written.1 in
     subst IsStored (sym written.2) (subst (AllByRecursion IsSmall) (sym put.becomes) (each_put IsSmall fields i v stored put.small))
 written_stored (Array t items) i v new written stored =
     let put = written.1 in
-    let before = each_there (λ (w : Value). AreOfKind (zero_of t) w × IsSmall w) items i put.before stored put.stands in
+    let before = all_at (λ (w : Value). AreOfKind (zero_of t) w × IsSmall w) items i put.before stored put.stands in
     let kind = alike put.before (zero_of t) v (turned (zero_of t) put.before before.0) put.kind in
     subst IsStored (sym written.2)
     (subst (AllByRecursion (λ (w : Value). AreOfKind (zero_of t) w × IsSmall w)) (sym put.becomes)

@@ -18,7 +18,7 @@ abbrev pub NamesDiffer : List NamedObject → Type 0
 NamesDiffer heap =
     (i j : ℕ) (a b : NamedObject) → slice_get heap i ≡ Some a → slice_get heap j ≡ Some b → a.name ≡ b.name → i ≡ j
 
-abbrev IsNotThere : ℕ → List NamedObject → Type 0
+abbrev pub IsNotThere : ℕ → List NamedObject → Type 0
 IsNotThere a heap = (k : ℕ) (e : NamedObject) → slice_get heap k ≡ Some e → e.name ≡ a → ⊥
 
 not_equal : (a b : ℕ) → a ≢ b → (a == b) ≡ false
@@ -79,22 +79,22 @@ written_twice a p q (e ∷ es) =
 
 -- ---- An object that is put where it stands changes nothing.
 
-absent_by : (a : ℕ) (o : Object) (e : NamedObject) (t : Bool) → (e.name == a) ≡ t → e.name ≢ a → cond t (named a o) e ≡ e
+pub absent_by : (a : ℕ) (o : Object) (e : NamedObject) (t : Bool) → (e.name == a) ≡ t → e.name ≢ a → cond t (named a o) e ≡ e
 absent_by a o e true t differ = absurd (differ (eqb-true e.name a t))
 absent_by a o e false t differ = refl
 
-absent_as_is : (a : ℕ) (o : Object) (heap : List NamedObject) → IsNotThere a heap → with_object a o heap ≡ heap
+pub absent_as_is : (a : ℕ) (o : Object) (heap : List NamedObject) → IsNotThere a heap → with_object a o heap ≡ heap
 absent_as_is a o [] absent = refl
 absent_as_is a o (e ∷ es) absent =
     let here = absent_by a o e (e.name == a) refl (absent 0 e refl) in
     let rest = absent_as_is a o es (λ k x. absent (suc k) x) in
     cc
 
-rest_differs : (e : NamedObject) (es : List NamedObject) → NamesDiffer (e ∷ es) → NamesDiffer es
+pub rest_differs : (e : NamedObject) (es : List NamedObject) → NamesDiffer (e ∷ es) → NamesDiffer es
 rest_differs e es differ = λ i j a b at bt same.
     let there = differ (suc i) (suc j) a b at bt same in omega arith
 
-first_is_alone : (a : ℕ) (e : NamedObject) (es : List NamedObject) → NamesDiffer (e ∷ es) → e.name ≡ a → IsNotThere a es
+pub first_is_alone : (a : ℕ) (e : NamedObject) (es : List NamedObject) → NamesDiffer (e ∷ es) → e.name ≡ a → IsNotThere a es
 first_is_alone a e es differ same = λ k x at other.
     let there = differ 0 (suc k) e x refl at (same ∙ sym other) in absurd (omega arith)
 

@@ -3,6 +3,7 @@ use Rattle.std.proofs.Common.{inl, inr, ◌≡◌, ◌⊎◌, ℕ, ◌+◌, ◌=
 use Rattle.std.proofs.lemmas.Bool.{eqb-true, or_cases}
 use Rattle.std.proofs.lemmas.Option.{same_Some}
 use Rattle.jk_model.specs.declared.values.Value.{Value}
+use Rattle.jk_model.proofs.EachItem.{all_at}
 use Rattle.jk_model_classes.specs.declared.records.BaseRef.{BaseRef}
 use Rattle.jk_model_classes.specs.declared.records.BaseRef.TheVariants as Base
 use Rattle.jk_model_classes.specs.declared.records.ClassRecord.{ClassRecord}
@@ -24,7 +25,6 @@ use Rattle.heap_laws.proofs.ObjectsAfterChanges.{found_stands}
 use Rattle.number_laws.proofs.ValuesAbove.{value-above}
 use Rattle.heap_laws.specs.FittingOutcomes.{IsOfType}
 use Rattle.row_laws.specs.Operands.{ValueMeets}
-use Rattle.row_laws.proofs.NamesStayKnown.{known-at}
 
 -- ---- Opcodes.
 
@@ -85,4 +85,4 @@ module _ (around : Surroundings) (quota : ℕ) (inside : Inside) (sealed : IsSea
   array_there = sealed.objects (named a.name (Array a.element a.items)) (found_stands a.name (Array a.element a.items) inside.heap a.object)
 
   pub item_held : (place : ℕ) (item : Value) → slice_get a.items place ≡ Some item → IsOfType around inside.heap a.element item
-  item_held place item at = known-at (λ (y : Value). IsOfType around inside.heap a.element y) a.items place item array_there.2 at
+  item_held place item at = all_at (λ (y : Value). IsOfType around inside.heap a.element y) a.items place item array_there.2 at

@@ -21,6 +21,7 @@ use Rattle.jk_model_frames.specs.Frames.{FrameState, as_locals, called_frame, lo
 use Rattle.jk_model_domains.specs.Objects.{NamedObject}
 use Rattle.jk_model_domains.specs.ValueTypes.{EachValueFits, FrameHolds, ValueFits}
 use Rattle.jk_model_heaps.specs.CalledFrames.{IsCalledFrame, call_head}
+use Rattle.number_laws.proofs.ValuesAbove.{frame-above}
 use Rattle.jk_model_sealing.specs.FittingFrames.{FitsAsTop}
 use Rattle.jk_model_sealing.specs.SealedInsides.{Surroundings}
 use Rattle.number_laws.proofs.ValuesFit.{fits-append, fits-length}
@@ -31,7 +32,6 @@ use Rattle.typing_lemmas.proofs.TypesOfValues.{usable-value}
 use Rattle.row_laws.specs.CallOperands.{BeginMethod}
 use Rattle.row_laws.proofs.HeldValues.{fits_here}
 use Rattle.row_laws.proofs.ReceiversFit.{of_a_folder, receiver_begins, receiver_fits}
-use Rattle.row_laws.proofs.StandsHere.{holds_above}
 
 -- ---- Values in the locals.
 
@@ -178,7 +178,7 @@ module _ (around : Surroundings) (sound : AreSoundCodes around.classes) (heap : 
               type = first.0;
               stands = first.1;
             },
-            holds_above s heap sound.ordered (called_frame (call_head m code) given) start first.0 begun first.2,
+            frame-above s heap sound.ordered (called_frame (call_head m code) given) start first.0 begun first.2,
           ),
         )
 

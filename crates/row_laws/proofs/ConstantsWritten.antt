@@ -79,13 +79,13 @@ module _ (f : ClassPart → ClassPart) (class : (e : ClassPart) → (f e).class 
 
 -- ---- A class's static fields with constant texts.
 
+pub index_by : (f : StaticField) (o : Option ℕ) → (option_map_or (λ (a : ℕ). record f { value = Held.Obj a }) o f).index ≡ f.index
+index_by f None = refl
+index_by f (Some a) = refl
+
 module _ (own : OwnState) (c : ClassId) (r : ClassRecord) where
   abbrev constant_of : StaticField → Option ℕ
   constant_of f = option_and_then (literal_named own) (constant_text r f.index)
-
-  index_by : (f : StaticField) (o : Option ℕ) → (option_map_or (λ (a : ℕ). record f { value = Held.Obj a }) o f).index ≡ f.index
-  index_by f None = refl
-  index_by f (Some a) = refl
 
   index_stays : (f : StaticField) → (with_constant own r f).index ≡ f.index
   index_stays f = index_by f (constant_of f)

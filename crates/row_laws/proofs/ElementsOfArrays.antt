@@ -27,12 +27,12 @@ use Rattle.jk_model_domains.specs.Objects.{NamedObject, Object, Array, Plain, Ta
 use Rattle.jk_model_domains.specs.ValueTypes.{EachValueFits, FrameHolds, HoldsDeclared, ValueFits}
 use Rattle.jk_model_heaps.specs.References.{IsHeapArray}
 use Rattle.class_table.proofs.StandingAbove.{superclasses-cases}
+use Rattle.number_laws.proofs.ValuesAbove.{ref-above}
 use Rattle.erased_typings.specs.ErasedFrames.{IsErasedBase, IsErasedFrame, IsErasedType}
 use Rattle.number_laws.specs.FrameLaws.{IsTyped}
 use Rattle.number_laws.proofs.EntriesExchanged.{exchange_kept}
 use Rattle.number_laws.proofs.ValuesFit.{end_fits, int_fits}
 use Rattle.heap_laws.specs.SoundCodes.{AreSoundCodes}
-use Rattle.type_frames.proofs.OrderOfTypes.{RefFits-trans}
 use Rattle.row_laws.proofs.OperandsOnTop.{does_shape}
 
 -- ---- Arrays by their types.
@@ -154,15 +154,6 @@ module _ (classes : List ClassRecord) (sound : AreSoundCodes classes) where
   inside_fits dims base t some none (inr (inr (lower, object))) = inr (inr (omega (arith, lower, some), object))
 
 module _ (s : CodeScope) (heap : List NamedObject) (sound : AreSoundCodes s.classes) where
-  -- an item of a reference type
-  reference_item : (v : Value) (t u : TypeRef) → ValueFits s heap v (Ref t) → RefFits s.classes t u → ValueFits s heap v (Ref u)
-  reference_item (Held.Int n) t u h k = absurd h
-  reference_item (Held.Long n) t u h k = absurd h
-  reference_item Held.Null t u h k = tt
-  reference_item (Held.Obj a) t u (o, is, fits) k = (o, is, RefFits-trans s.classes sound.ordered (type_of o) t u fits k)
-  reference_item (Held.Cap c) t u h k = RefFits-trans s.classes sound.ordered (class_type CAPABILITY) t u h k
-  reference_item Held.Unset t u h k = absurd h
-
   -- a value that is held where a reference is declared
   held_reference : (v : Value) (dims : ℕ) (base : BaseRef) → (1 ≤ dims) ⊎ IsClass base → HoldsDeclared s.classes heap v (array_type dims base)
       → ValueFits s heap v (Ref (erased s.classes (array_type dims base)))
@@ -201,7 +192,7 @@ module _ (s : CodeScope) (heap : List NamedObject) (sound : AreSoundCodes s.clas
       let same : here.0 ≡ Array a.element a.items = same_Some here.0 (Array a.element a.items) (sym here.1 ∙ a.object) in
       let of_array : RefFits s.classes (array_type (a.element.dims + 1) a.element.base) t =
       subst (λ (o : Object). RefFits s.classes (type_of o) t) same here.2 in
-      reference_item item (erased s.classes a.element) (array_type (t.dims - 1) t.base)
+      ref-above s heap sound.ordered item (erased s.classes a.element) (array_type (t.dims - 1) t.base)
       (held_reference item a.element.dims a.element.base (of_references a.element.dims a.element.base t k of_array) held)
       (inside_fits s.classes sound a.element.dims a.element.base t (some_dims t k) none of_array)
 

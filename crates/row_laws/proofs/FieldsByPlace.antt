@@ -1,8 +1,8 @@
 -- The place of a field among the values of an object is the place of its record, and so what stands there is of the field's type.
-use Rattle.std.proofs.Common.{◌≡◌, ℕ, suc, ◌+◌, ◌==◌, ◌&&◌, ◌<◌, Bool, true, false, not, cond, List, [], ◌∷◌, length, Some, slice_get, refl, sym, ap, subst, ◌∙◌, arith}
+use Rattle.std.proofs.Common.{◌≡◌, ℕ, suc, ◌+◌, ◌==◌, ◌<◌, Bool, true, false, not, cond, List, [], ◌∷◌, length, Some, slice_get, refl, sym, ap, subst, ◌∙◌, arith}
 use Rattle.std.specs.Prelude.{position}
 use Rattle.std.specs.List.{AllZip, position_or_len}
-use Rattle.std.proofs.lemmas.Bool.{eqb-true}
+use Rattle.std.proofs.lemmas.Bool.{eqb-true, and_parts}
 use Rattle.std.proofs.lemmas.Option.{slice_get_within}
 use Rattle.list_lemmas.proofs.FirstByTest.{found_at}
 use Rattle.list_lemmas.proofs.ItemByItem.{zip_at}
@@ -47,13 +47,9 @@ module _ {X : Type 0} (p : X → Bool) where
 
 -- ---- The record at a field's place is the field's.
 
-both_of : (a b : Bool) → (a && b) ≡ true → (a ≡ true) × (b ≡ true)
-both_of true b e = (refl, e)
-both_of false b e = absurd cc
-
-is_member : (m : MemberId) (g : InstanceField) → is_field m g ≡ true → g.member ≡ m
+pub is_member : (m : MemberId) (g : InstanceField) → is_field m g ≡ true → g.member ≡ m
 is_member m g e =
-    let both = both_of (g.member.class.0 == m.class.0) (g.member.index == m.index) e in
+    let both = and_parts (g.member.class.0 == m.class.0) (g.member.index == m.index) e in
     same_member g.member m (same_class g.member.class m.class (eqb-true g.member.class.0 m.class.0 both.0))
     (eqb-true g.member.index m.index both.1)
 

@@ -16,7 +16,7 @@ use Rattle.jk_model_typing.specs.FrameTypes.{STRING, THROWABLE}
 use Rattle.jk_model_domains.specs.Objects.{class_type}
 use Rattle.jk_model_heaps.specs.Heaps.{IsFieldWith, field_records}
 use Rattle.jk_model_heaps.specs.SystemClasses.{STRING_BUFFER, STRING_BUILDER}
-use Rattle.row_laws.proofs.RecordsOfFields.{fields_have_records}
+use Rattle.jk_model_heaps.proofs.FieldsInOrder.{fields_have_records}
 use Rattle.heap_laws.specs.SoundCodes.{AreSoundCodes}
 use Rattle.system_facts.specs.DescriptorReader.{field_kind}
 use Rattle.system_facts.specs.SystemLayouts.{class_at, text_field}

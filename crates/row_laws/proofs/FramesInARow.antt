@@ -24,7 +24,7 @@ module _ {X : Type 0} (P : X → Type 0) where
   all_below : (xs : List X) (y : X) → AllByRecursion P (xs ++ y ∷ []) → AllByRecursion P xs
   all_below xs y h = (known-parts P xs (y ∷ []) h).0
 
-  all_top : (xs : List X) (y : X) → AllByRecursion P (xs ++ y ∷ []) → P y
+  pub all_top : (xs : List X) (y : X) → AllByRecursion P (xs ++ y ∷ []) → P y
   all_top xs y h = (known-parts P xs (y ∷ []) h).1.0
 
 -- ---- That they fit.
@@ -34,7 +34,7 @@ abbrev pub LooksAlike : FrameState → FrameState → Type 0
 LooksAlike f g = (g.head.initialises ≡ f.head.initialises) × (g.head.method ≡ f.head.method)
 
 module _ (classes : List ClassRecord) (heap : List NamedObject) (A : FrameState → Type 0) where
-  fit_top : (callers : List FrameState) (f : FrameState) → FramesFit A classes heap (callers ++ f ∷ []) → A f
+  pub fit_top : (callers : List FrameState) (f : FrameState) → FramesFit A classes heap (callers ++ f ∷ []) → A f
   fit_top [] f h = h
   fit_top (c ∷ []) f h = h.1
   fit_top (c ∷ d ∷ more) f h = fit_top (d ∷ more) f h.1
@@ -50,7 +50,7 @@ module _ (classes : List ClassRecord) (heap : List NamedObject) (A : FrameState 
   caller_still c f g same (inr h) = inr (same.0 ∙ h.0, h.1)
 
   module _ (B : FrameState → Type 0) where
-    fit_replaced : (callers : List FrameState) (f g : FrameState) → LooksAlike f g → B g → FramesFit A classes heap (callers ++ f ∷ [])
+    pub fit_replaced : (callers : List FrameState) (f g : FrameState) → LooksAlike f g → B g → FramesFit A classes heap (callers ++ f ∷ [])
         → FramesFit B classes heap (callers ++ g ∷ [])
     fit_replaced [] f g same b h = b
     fit_replaced (c ∷ []) f g same b h = (caller_still c f g same h.0, b)
@@ -86,7 +86,7 @@ module _ (classes : List ClassRecord) where
   each_replaced (c ∷ []) f g same h = (answered_still c f g same h.0, tt)
   each_replaced (c ∷ d ∷ more) f g same h = (h.0, each_replaced (d ∷ more) f g same h.1)
 
-  answers_replaced : (callers : List FrameState) (f g : FrameState) → LooksAlike f g → FramesAnswer classes (callers ++ f ∷ [])
+  pub answers_replaced : (callers : List FrameState) (f g : FrameState) → LooksAlike f g → FramesAnswer classes (callers ++ f ∷ [])
       → FramesAnswer classes (callers ++ g ∷ [])
   answers_replaced [] f g same h = (same.0 ∙ h.0, tt)
   answers_replaced (c ∷ more) f g same h = (h.0, each_replaced (c ∷ more) f g same h.1)
@@ -189,6 +189,11 @@ module _ (around : Surroundings) (heap : List NamedObject) (A : FrameState → T
 
 pub chunks_push : (frames : List FrameState) (f : FrameState) → frames_chunks (frames ++ f ∷ []) ≡ frames_chunks frames + head_chunks f.head
 chunks_push frames f = sum_by_push (λ (x : FrameState). head_chunks x.head) frames f
+
+pub chunks_same : (callers : List FrameState) (f g : FrameState) → head_chunks g.head ≡ head_chunks f.head
+    → frames_chunks (callers ++ g ∷ []) ≡ frames_chunks (callers ++ f ∷ [])
+chunks_same callers f g same =
+    chunks_push callers g ∙ ap (λ (n : ℕ). frames_chunks callers + n) same ∙ sym (chunks_push callers f)
 
 abbrev pub is_for : ClassId → Option ClassId → Bool
 is_for c o = elim o as (λ _. Bool) [ Some d ↦ d.0 == c.0 | None ↦ false ]

@@ -11,6 +11,7 @@ use Rattle.jk_model_domains.specs.Objects.{NamedObject, Plain, Text, class_type,
 use Rattle.jk_model_domains.specs.ValueTypes.{HoldsDeclared}
 use Rattle.jk_model_heaps.specs.Heaps.{IsGrown, MakesOne, field_records, named, with_object}
 use Rattle.jk_model_heaps.specs.Workings.{Inside, Setting, with_heap}
+use Rattle.jk_model_heaps.proofs.ArraysInHeaps.{same_name}
 use Rattle.jk_model_sealing.specs.SealedInsides.{HasFields, IsKnownValue, IsSealedInside, IsSealedObject, Surroundings}
 use Rattle.jk_model_system_rows.specs.Answers.{Answer, Answered, gives_nothing, with_answer}
 use Rattle.jk_model_system_rows.specs.HiddenTexts.{SetsNewText, SetsText, TextHolder, with_text}
@@ -79,9 +80,6 @@ module _ (around : Surroundings) (x : Setting) (sound : AreSoundCodes around.cla
         (λ n e. absurd cc)
 
 -- ---- Rows that set a text.
-
-same_name : (a b : ℕ) → Held.Obj a ≡ Held.Obj b → a ≡ b
-same_name a b e = cc
 
 same_class_there : (c d : ClassId) (vs ws : List Value) → Plain c vs ≡ Plain d ws → c ≡ d
 same_class_there c d vs ws e = cc

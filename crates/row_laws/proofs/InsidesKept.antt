@@ -8,9 +8,10 @@ use Rattle.jk_model.specs.declared.identifiers.SegmentNo.{SegmentNo}
 use Rattle.jk_model_domains.specs.Objects.{NamedObject, Object, Task, object_named}
 use Rattle.jk_model_heaps.specs.Heaps.{IsAlike, IsGrown, MakesOne, named, with_object}
 use Rattle.jk_model_heaps.specs.Workings.{Inside, Setting, with_heap}
+use Rattle.object_store.proofs.ObjectsByName.{named_beside, named_in_place}
 use Rattle.jk_model_sealing.specs.SealedInsides.{IsSealedInside, IsSealedObject, Surroundings}
 use Rattle.heap_laws.proofs.GrownHeaps.{grown_after, grown_self, making_grows, writing_grows}
-use Rattle.heap_laws.proofs.ObjectsAfterChanges.{made_there, nothing_else, others_stay, written_there}
+use Rattle.heap_laws.proofs.ObjectsAfterChanges.{made_there, nothing_else}
 use Rattle.heap_laws.proofs.SealedStill.{made_sealed, written_sealed}
 use Rattle.heap_laws.specs.KeptInsides.{KeepsInside}
 
@@ -80,8 +81,8 @@ module _ (around : Surroundings) (x : Setting) where
           → (object_named inside.heap b ≡ Some (Task n)) ⊎ (n ≡ x.segment)
       written_task none b n (inl same) is =
           absurd (none n (same_Some new (Task n)
-          (sym (written_there a new old inside.heap there) ∙ ap (object_named written) (sym same) ∙ is)))
-      written_task none b n (inr other) is = inl (sym (others_stay a b new inside.heap other) ∙ is)
+          (sym (named_in_place a new old inside.heap there) ∙ ap (object_named written) (sym same) ∙ is)))
+      written_task none b n (inr other) is = inl (sym (named_beside a b new inside.heap other) ∙ is)
 
       pub writing_kept : IsSealedObject around (with_object a new inside.heap) new → IsNoTask new
           → KeepsInside around x inside (with_heap inside (with_object a new inside.heap))

@@ -25,9 +25,9 @@ use Rattle.jk_model_heaps.specs.Capabilities.{CapRange}
 use Rattle.jk_model_heaps.specs.Heaps.{IsAlike, with_object}
 use Rattle.jk_model_heaps.specs.StoredValues.{stored, stored_int}
 use Rattle.jk_model_heaps.specs.Workings.{Inside, Setting, with_heap, with_own}
+use Rattle.object_store.proofs.ObjectsByName.{named_beside, named_in_place}
 use Rattle.jk_model_sealing.specs.SealedInsides.{IsKnownValue, IsSealedInside, IsSealedObject, Surroundings}
 use Rattle.heap_laws.proofs.GrownHeaps.{grown_self, writing_grows}
-use Rattle.heap_laws.proofs.ObjectsAfterChanges.{others_stay, written_there}
 use Rattle.heap_laws.proofs.SealedStill.{static_sealed, written_sealed}
 use Rattle.heap_laws.specs.FittingOutcomes.{IsOfType}
 use Rattle.heap_laws.specs.KeptInsides.{KeepsInside}
@@ -51,7 +51,7 @@ module _ (classes : List ClassRecord) (heap : List NamedObject) where
   stored_held t (Held.Cap k) h = h
   stored_held t Held.Unset h = h
 
-stored_known : (caps : List CapRange) (heap : List NamedObject) (t : TypeRef) (v : Value) → IsKnownValue caps heap v → IsKnownValue caps heap (stored t v)
+pub stored_known : (caps : List CapRange) (heap : List NamedObject) (t : TypeRef) (v : Value) → IsKnownValue caps heap v → IsKnownValue caps heap (stored t v)
 stored_known caps heap t (Held.Int n) h = tt
 stored_known caps heap t (Held.Long n) h = tt
 stored_known caps heap t Held.Null h = tt
@@ -75,8 +75,8 @@ module _ (around : Surroundings) (x : Setting) (inside : Inside) (a : ℕ) (old 
   old_task b n is = elim (eqb_tells b a) [
     | inl h ↦
         let here : object_named written a ≡ Some (Task n) = subst (λ (k : ℕ). object_named written k ≡ Some (Task n)) h.1 is in
-        absurd (no_task n (same_Some new (Task n) (sym (written_there a new old inside.heap there) ∙ here)))
-    | inr h ↦ sym (others_stay a b new inside.heap h.1) ∙ is
+        absurd (no_task n (same_Some new (Task n) (sym (named_in_place a new old inside.heap there) ∙ here)))
+    | inr h ↦ sym (named_beside a b new inside.heap h.1) ∙ is
   ]
 
   pub written_keeps : KeepsInside around x inside (with_heap inside written)

@@ -71,7 +71,7 @@ module _ (classes : List ClassRecord) where
 
   -- ---- Capabilities.
 
-  remote_decided : (c : ClassId) → IsDecided (ImplementsRemote classes c)
+  pub remote_decided : (c : ClassId) → IsDecided (ImplementsRemote classes c)
   remote_decided c =
       same_decided
       (λ (n, is, h). (numbered n, is, h))

@@ -1,4 +1,4 @@
-mod ActingSegments
+pub mod ActingSegments
 pub mod AnsweredFrames
 pub mod ArraysByType
 pub mod ArraysCopied
@@ -18,7 +18,7 @@ pub mod ClassesLeft
 pub mod ClassesOfReceivers
 pub mod ClassesToMake
 pub mod ConstantsKept
-mod ConstantsWritten
+pub mod ConstantsWritten
 pub mod CopiesKept
 pub mod ElementsOfArrays
 pub mod ElementsRead
@@ -29,7 +29,7 @@ pub mod FieldsOfObjects
 pub mod FieldsRead
 pub mod FieldsWritten
 pub mod FirstFields
-mod FramesInARow
+pub mod FramesInARow
 pub mod FreshObjects
 pub mod GivenByNumber
 pub mod GivenFromTypes
@@ -46,8 +46,8 @@ pub mod InsidesMade
 pub mod InsidesWritten
 pub mod InstancesDecided
 pub mod InstancesFitTypes
-mod InstructionsFollowed
-mod InstructionsKept
+pub mod InstructionsFollowed
+pub mod InstructionsKept
 mod InstructionsThere
 mod KindsOfInstructions
 pub mod KnownMethods
@@ -57,7 +57,7 @@ pub mod MeaningsOfTable
 pub mod NamedMethods
 pub mod NamesStayKnown
 mod NeededClassesKnown
-mod NeedsFound
+pub mod NeedsFound
 mod NeedsKept
 pub mod NumberRowsKept
 pub mod NumberRowsThere
@@ -71,7 +71,6 @@ pub mod Raised
 mod RaisesKept
 mod RaisesThere
 pub mod ReceiversFit
-pub mod RecordsOfFields
 pub mod RoomToCatch
 pub mod RowsFromGiven
 pub mod RowsFromOperands
@@ -81,7 +80,7 @@ pub mod RowsOfCalls
 pub mod SelectedMethods
 pub mod StacksNotRead
 pub mod StandsHere
-mod StatesOfFrames
+pub mod StatesOfFrames
 pub mod StaticsNamed
 pub mod StepsKept
 pub mod StepsThere
@@ -89,7 +88,7 @@ pub mod SystemAnswersKept
 pub mod SystemParents
 pub mod TargetsFound
 pub mod TargetsThatFail
-mod TextsOfLiterals
+pub mod TextsOfLiterals
 pub mod TreesOfArrays
 pub mod UnwindingAnswersKept
 pub mod UnwindingFramesLeft

@@ -1,14 +1,13 @@
 -- What a frame names stays known where entries of its stack are replaced by known ones, and an instruction on numbers makes no new names.
 use Rattle.std.proofs.Common.{◌≡◌, inl, inr, ℕ, zero, suc, List, [], ◌∷◌, ◌++◌, replicate, set, Some, sym, subst}
-use Rattle.std.specs.Prelude.{slice_get}
 use Rattle.std.specs.List.{AllByRecursion}
-use Rattle.std.proofs.lemmas.Option.{same_Some}
 use Rattle.list_lemmas.proofs.LastItems.{each-append}
 use Rattle.jk_model.specs.declared.instructions.Instr.{Instr}
 use Rattle.jk_model.specs.declared.steps.After.{After}
 use Rattle.jk_model.specs.declared.steps.After.TheVariants as Next
 use Rattle.jk_model.specs.declared.values.Value.{Value}
 use Rattle.jk_model.specs.declared.values.Value.TheVariants as Held
+use Rattle.jk_model.proofs.EachItem.{all_at}
 use Rattle.jk_model_typing.specs.Scopes.{CodeScope}
 use Rattle.jk_model_frames.specs.Frames.{FrameState}
 use Rattle.jk_model_domains.specs.NumberRows.{Calculates, Exchanges, IsConversion, Moves, NumberRow, Pushes, Replaces, UsesLocal, divides_by_zero, exchanges, jumps, returns, returns_nothing, switches, uses_local, with_value}
@@ -23,11 +22,6 @@ module _ {X : Type 0} (P : X → Type 0) where
   pub known-parts : (xs ys : List X) → AllByRecursion P (xs ++ ys) → AllByRecursion P xs × AllByRecursion P ys
   known-parts [] ys h = (tt, h)
   known-parts (x ∷ xs) ys h = let more = known-parts xs ys h.1 in ((h.0, more.0), more.1)
-
-  pub known-at : (xs : List X) (k : ℕ) (x : X) → AllByRecursion P xs → slice_get xs k ≡ Some x → P x
-  known-at [] k x h e = absurd cc
-  known-at (y ∷ xs) zero x h e = subst P (same_Some y x e) h.0
-  known-at (y ∷ xs) (suc k) x h e = known-at xs k x h.1 e
 
 module _ (caps : List CapRange) (heap : List NamedObject) where
   abbrev pub AreKnown : List Value → Type 0
@@ -118,7 +112,7 @@ module _ (caps : List CapRange) (heap : List NamedObject) where
   local-known : (i : Instr) (f g : FrameState) → NamesKnown caps heap f → UsesLocal i f g → NamesKnown caps heap g
   local-known i f g h (inl u) =
       let v = u.1 in
-      let one = known-at (IsKnownValue caps heap) f.locals u.0 v h.0 u.4 in
+      let one = all_at (IsKnownValue caps heap) f.locals u.0 v h.0 u.4 in
       subst (NamesKnown caps heap) (sym u.5) (h.0, each-append (IsKnownValue caps heap) f.stack (v ∷ []) h.1 (one, tt))
   local-known i f g h (inr (inl u)) =
       let parts = known-parts (IsKnownValue caps heap) u.2 (u.1 ∷ []) (subst AreKnown u.5 h.1) in

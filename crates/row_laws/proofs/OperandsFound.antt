@@ -1,5 +1,5 @@
 -- An instruction on objects finds its operands where a frame runs: what its operand leads to, and values of the right kinds on the stack.
-use Rattle.std.proofs.Common.{inl, inr, ◌≡◌, ◌⊎◌, ℕ, zero, suc, ◌+◌, ◌-◌, ◌≤◌, ℤ, pos, IsTrue, List, [], ◌∷◌, ◌++◌, replicate, Contains, Some, slice_get, refl, sym, ap, subst, ◌∙◌, arith}
+use Rattle.std.proofs.Common.{inl, inr, ◌≡◌, ◌⊎◌, ℕ, zero, suc, ◌+◌, ◌-◌, ◌≤◌, ℤ, pos, IsTrue, List, [], ◌∷◌, replicate, Contains, Some, slice_get, refl, sym, ap, subst, ◌∙◌, arith}
 use Rattle.std.specs.Prelude.{IsFalse}
 use Rattle.std.specs.List.{AllByRecursion}
 use Rattle.std.proofs.lemmas.Option.{same_Some}
@@ -11,6 +11,7 @@ use Rattle.jk_model.specs.declared.identifiers.MemberId.{MemberId}
 use Rattle.jk_model.specs.declared.instructions.Instr.{Instr}
 use Rattle.jk_model.specs.declared.values.Value.{Value}
 use Rattle.jk_model.specs.declared.values.Value.TheVariants as Held
+use Rattle.jk_model.proofs.EachItem.{all_back}
 use Rattle.jk_model_classes.specs.declared.records.BaseRef.{BaseRef}
 use Rattle.jk_model_classes.specs.declared.records.BaseRef.TheVariants as Base
 use Rattle.jk_model_classes.specs.declared.records.ClassRecord.{ClassRecord}
@@ -65,11 +66,6 @@ in_range P first more n low high each =
     let number : first + k ≡ n = omega (arith, low) in
     subst P number (each k (omega (arith, low, high)))
 
--- the last of a list of known values
-last_known : (P : Value → Type 0) (below taken : List Value) → AllByRecursion P (below ++ taken) → AllByRecursion P taken
-last_known P [] taken h = h
-last_known P (v ∷ below) taken h = last_known P below taken h.1
-
 module _ (around : Surroundings) (x : Setting) (w : Working) (runs : RunsWell around x w) (code : RunsCode around.classes w.frame) where
   abbrev s : CodeScope
   s = code.scope
@@ -103,7 +99,7 @@ module _ (around : Surroundings) (x : Setting) (w : Working) (runs : RunsWell ar
   taken demands gives takes = taken_meet s heap w.frame.head.at i w.frame typed.before typed.after demands gives typed.typed takes
 
   known_top : (vs : List Value) → IsOnTop w.frame vs → AllByRecursion (IsKnownValue around.caps heap) vs
-  known_top vs (below, is) = last_known (IsKnownValue around.caps heap) below vs (subst (AllByRecursion (IsKnownValue around.caps heap)) is runs.known.1)
+  known_top vs (below, is) = all_back (IsKnownValue around.caps heap) below vs (subst (AllByRecursion (IsKnownValue around.caps heap)) is runs.known.1)
 
   with_index : (d : Demand) (gives : List VType) → typed.typed.row.shape ≡ Takes (d ∷ Fitting Int ∷ []) gives
       → (v : Value) × (n : ℤ) × IsOnTop w.frame (v ∷ Held.Int n ∷ []) × ValueMeets s heap d v

@@ -42,7 +42,7 @@ use Rattle.row_laws.proofs.NamedMethods.{interface_found, is_here}
 use Rattle.row_laws.proofs.TargetsThatFail.{call_fails, call_goes, error_raised}
 
 -- what is given is known in the locals, too
-locals_known : (caps : List CapRange) (heap : List NamedObject) (vs : List Value) → AllByRecursion (IsKnownValue caps heap) vs
+pub locals_known : (caps : List CapRange) (heap : List NamedObject) (vs : List Value) → AllByRecursion (IsKnownValue caps heap) vs
     → AllByRecursion (IsKnownValue caps heap) (locals_of vs)
 locals_known caps heap [] h = tt
 locals_known caps heap (v ∷ vs) h =

@@ -1,47 +1,28 @@
 -- A frame that runs stands at an instruction of its method, and fits again where it goes on.
-use Rattle.std.proofs.Common.{◌≡◌, ℕ, pos, List, [], ◌∷◌, Some, slice_get, sym, ap, subst, ◌∙◌, arith}
+use Rattle.std.proofs.Common.{◌≡◌, ℕ, pos, List, Some, slice_get, sym, ap, subst, ◌∙◌, arith}
 use Rattle.std.proofs.lemmas.Option.{same_Some, slice_get_within}
 use Rattle.list_lemmas.proofs.ItemsByPlace.{item_there}
 use Rattle.list_lemmas.proofs.TestsAndOrders.{same_pos}
 use Rattle.jk_model.specs.declared.frames.FrameHead.{FrameHead}
 use Rattle.jk_model.specs.declared.identifiers.MemberId.{MemberId}
-use Rattle.jk_model.specs.declared.values.Value.{Value}
 use Rattle.jk_model_classes.specs.declared.records.ClassRecord.{ClassRecord}
 use Rattle.jk_model_classes.specs.Classes.{AreOrdered}
 use Rattle.jk_model_typing.specs.declared.frames.FrameType.{FrameType}
-use Rattle.jk_model_typing.specs.declared.frames.VType.{VType}
-use Rattle.jk_model_typing.specs.FrameTypes.{EachFits, FrameFits, IsFrameOf}
+use Rattle.jk_model_typing.specs.FrameTypes.{IsFrameOf}
 use Rattle.jk_model_typing.specs.Scopes.{CodeScope, IsScopeOf}
 use Rattle.jk_model_typing.specs.Typing.{FitsAt, GoesOnAt, GoesWell, IsLeastTyping}
 use Rattle.typing_lemmas.proofs.OneScope.{one-scope}
 use Rattle.jk_model_frames.specs.Frames.{FrameState}
 use Rattle.jk_model_domains.specs.Objects.{NamedObject}
-use Rattle.jk_model_domains.specs.ValueTypes.{EachValueFits, FrameHolds}
+use Rattle.jk_model_domains.specs.ValueTypes.{FrameHolds}
 use Rattle.jk_model_heaps.specs.CalledFrames.{at_place}
 use Rattle.jk_model_heaps.specs.RunningCode.{RunsCode}
 use Rattle.jk_model_sealing.specs.FittingFrames.{FitsHere, HasTyping}
 use Rattle.erased_typings.specs.ErasedFrames.{IsErasedFrame}
 use Rattle.erased_typings.proofs.InterfacesErased.{least-erased}
-use Rattle.number_laws.proofs.ValuesAbove.{value-above}
+use Rattle.number_laws.proofs.ValuesAbove.{frame-above}
 use Rattle.heap_laws.specs.SoundCodes.{AreSoundCodes}
 use Rattle.row_laws.specs.StandingFrames.{StandsTyped}
-
--- ---- Values that fit a frame type fit each one above it.
-
-module _ (s : CodeScope) (heap : List NamedObject) (ordered : AreOrdered s.classes) where
-  many_above : (vs : List Value) (ts us : List VType) → EachValueFits s heap vs ts → EachFits s.classes ts us → EachValueFits s heap vs us
-  many_above [] [] [] h k = tt
-  many_above [] [] (u ∷ us) h k = absurd k
-  many_above [] (t ∷ ts) us h k = absurd h
-  many_above (v ∷ vs) [] us h k = absurd h
-  many_above (v ∷ vs) (t ∷ ts) [] h k = absurd k
-  many_above (v ∷ vs) (t ∷ ts) (u ∷ us) h k = (value-above s heap ordered v t u h.0 k.0, many_above vs ts us h.1 k.1)
-
-  pub holds_above : (f : FrameState) (t u : FrameType) → FrameHolds s heap f t → FrameFits s.classes t u → FrameHolds s heap f u
-  holds_above f t u h k = record {
-    locals = many_above f.locals t.locals u.locals h.locals k.locals;
-    stack = many_above f.stack t.stack u.stack h.stack k.stack;
-  }
 
 -- ---- Code.
 
@@ -123,7 +104,7 @@ module _ (classes : List ClassRecord) (sound : AreSoundCodes classes) (f : Frame
         type = fits.0;
         stands = fits.1;
       } in
-      (typing, holds_above code.scope heap ordered g after fits.0 holds fits.2)
+      (typing, frame-above code.scope heap ordered g after fits.0 holds fits.2)
 
   -- the same typing of a frame with the same head
   abbrev pub typing_of : (g : FrameState) → g.head ≡ f.head → HasTyping classes g

@@ -94,7 +94,7 @@ both_new : (own : OwnState) (texts : List Text) → AllByRecursion (LacksObject 
 both_new own [] lack once = tt
 both_new own (text ∷ more) lack once = (lack.0, once.0, both_new own more lack.1 once.1)
 
-lacks_by : (o : Option ℕ) → option_map_or (λ (a : ℕ). false) o true ≡ true → o ≡ None
+pub lacks_by : (o : Option ℕ) → option_map_or (λ (a : ℕ). false) o true ≡ true → o ≡ None
 lacks_by None e = refl
 lacks_by (Some a) e = absurd cc
 

@@ -33,7 +33,7 @@ from_parts (y ∷ xs) ys x has = elim (Contains-cases x y (xs ++ ys) has) [
 
 -- ---- Names.
 
-the_parent : (o : Option ClassId) (p : ClassId) → option_map_or (λ q. q ∷ []) o [] ≡ p ∷ [] → o ≡ Some p
+pub the_parent : (o : Option ClassId) (p : ClassId) → option_map_or (λ q. q ∷ []) o [] ≡ p ∷ [] → o ≡ Some p
 the_parent None p e = absurd cc
 the_parent (Some q) p e = ap Some (head_is q p [] [] e)
 

@@ -69,7 +69,7 @@ interfaces_by n (i ∷ interfaces) low =
     (ltb-true i.0 n parts.0, interfaces_by n interfaces parts.1)
 
 module _ (classes : List ClassRecord) (system : AreSystemRecords classes) where
-  entry-of : (c : ClassId) (r : ClassRecord) → record_of classes c ≡ Some r
+  pub entry-of : (c : ClassId) (r : ClassRecord) → record_of classes c ≡ Some r
       → (entry : SystemClass) × (slice_get system_classes c.0 ≡ Some entry) × IsSystemRecord c.0 entry r
   entry-of c r is =
       let entry = item_there system_classes c.0 (omega (arith, slice_get_within classes c.0 r is, system.as_many)) in
@@ -82,7 +82,7 @@ module _ (classes : List ClassRecord) (system : AreSystemRecords classes) where
       let entry = item_there of.0.methods m.index (omega (arith, slice_get_within r.methods m.index method at, of.2.method_count)) in
       (method_number m.class.0 m.index, entry.0, of.2.methods m.index entry.0 method entry.1 at)
 
-  never_scope : (m : MemberId) (s : CodeScope) → IsScopeOf classes m s → ⊥
+  pub never_scope : (m : MemberId) (s : CodeScope) → IsScopeOf classes m s → ⊥
   never_scope m s scope =
       let of = method-of m s.method (scope.class, scope.class_is, scope.method) in
       system_has_none of.0 s.code (sym of.2.body ∙ scope.body)

@@ -159,7 +159,7 @@ module _ {f : FolderFiles} {w : WorldRecord} {into : List ℕ} {first : ClassId}
 
   -- ---- The name tables.
 
-  closed-again : (t : List NamedClass) → Contains (tables ++ table ∷ []) t → IsClosedTable (all l) t
+  pub closed-again : (t : List NamedClass) → Contains (tables ++ table ∷ []) t → IsClosedTable (all l) t
   closed-again t on = elim (Contains-push_cases tables table t on) [
     | inl old ↦ λ c named.
         let known = sound.closed t old c named in

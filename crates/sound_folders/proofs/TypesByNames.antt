@@ -14,6 +14,7 @@ use Rattle.jk_model_classes.specs.declared.records.TypeRef.{TypeRef}
 use Rattle.jk_model_classes.specs.Items.{HasItem}
 use Rattle.jk_model_classes.specs.References.{IsOfClass, IsResultOfClass}
 use Rattle.jk_model_classes.specs.SystemRecords.{AreTypesFor, IsBaseFor, IsResultFor, IsTypeFor}
+use Rattle.class_lemmas.proofs.OneMember.{same_type}
 use Rattle.sound_folders.specs.NamesAndTypes.{IsSaidBy, NamesInType}
 
 -- ---- By another meaning.
@@ -66,11 +67,6 @@ same-items {X = X} (x ∷ xs) (y ∷ ys) many same =
     let rest : xs ≡ ys = same-items xs ys (omega (arith, many)) (λ i a b. same (suc i) a b) in
     ap (λ (z : X). z ∷ xs) first ∙ ap (λ (zs : List X). y ∷ zs) rest
 
-same-type : (x y : TypeRef) → x.dims ≡ y.dims → x.base ≡ y.base → x ≡ y
-same-type x y dims base =
-    let of : ℕ → BaseRef → TypeRef = λ d b. record { dims = d; base = b } in
-    ap (λ (d : ℕ). of d x.base) dims ∙ ap (of y.dims) base
-
 module _ (M : List ℕ → Option ClassId) where
   base-one : (b : ABase) (x y : BaseRef) → IsBaseFor M b x → IsBaseFor M b y → x ≡ y
   base-one (Said.Class name) x y (c, meant, is) (d, also, so) =
@@ -84,7 +80,7 @@ module _ (M : List ℕ → Option ClassId) where
   base-one b x y never so = absurd never
 
   type-one : (t : FieldType) (x y : TypeRef) → IsTypeFor M t x → IsTypeFor M t y → x ≡ y
-  type-one t x y h k = same-type x y (h.0 ∙ sym k.0) (base-one t.base x.base y.base h.1 k.1)
+  type-one t x y h k = same_type x y (h.0 ∙ sym k.0) (base-one t.base x.base y.base h.1 k.1)
 
   types-one : (types : List FieldType) (xs ys : List TypeRef) → AreTypesFor M types xs → AreTypesFor M types ys → xs ≡ ys
   types-one types xs ys h k =
