@@ -1,7 +1,6 @@
 // Programs that are refused, each in a folder of its own. output.txt has the line for each, in the order of this file: the rule that
 // is broken first, the file, and where in it. 0 is the class itself; fields and then methods count from 1; for a reference it is its
-// place in the constant pool. X1, the last rule, has no place: the folder keeps every other rule, and asks for package jk, which isn't
-// built yet.
+// place in the constant pool.
 
 /** Needs floating point, in its second method. The first is the constructor. */
 class UsesFloats {
@@ -29,5 +28,7 @@ class CallsPrint {
     }
 }
 
-/** May be called from another domain, once calls through capabilities are built. */
-class IsRemote implements jk.Remote {}
+/** A remote interface of which a method doesn't say that it throws RemoteException. */
+interface IsSilent extends jk.Remote {
+    int count();
+}

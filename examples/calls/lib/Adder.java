@@ -1,0 +1,3 @@
+public interface Adder extends jk.Remote {
+    int add(int[] numbers) throws jk.RemoteException;
+}

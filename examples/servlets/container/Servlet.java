@@ -1,0 +1,4 @@
+/** What answers requests. */
+public interface Servlet extends jk.Remote {
+    String service(String request) throws jk.RemoteException;
+}
