@@ -1,7 +1,7 @@
 -- The order of all rules, and which of two faults counts.
 use Rattle.std.specs.Prelude.{ℕ, Option, Some, None, nat_lt, if◌then◌else◌}
 use Rattle.jk_model.specs.declared.output.Rule.{Rule}
-use Rattle.jk_model.specs.declared.output.Rule.TheVariants.{L1, L2, L3, L4, L5, L6, L7, L8, C1, C2, C3, C4, C5, C6, C7, C8, C9, C10, C11, C12, C13, C14, C15, C16, C17, C18, C19, C20, C21, C22, C23, C24, C25, C26, C27, X1}
+use Rattle.jk_model.specs.declared.output.Rule.TheVariants.{L1, L2, L3, L4, L5, L6, L7, L8, C1, C2, C3, C4, C5, C6, C7, C8, C9, C10, C11, C12, C13, C14, C15, C16, C17, C18, C19, C20, C21, C22, C23, C24, C25, C26, C27}
 use Rattle.class_files.specs.declared.faults.FileFault.{FileFault}
 
 -- the place of a rule among all, as they are declared
@@ -41,7 +41,6 @@ rank_of C24 = 31
 rank_of C25 = 32
 rank_of C26 = 33
 rank_of C27 = 34
-rank_of X1 = 35
 
 -- of the fault so far and that of a later file: the one of the earlier rule, or else the one so far
 abbrev pub earlier_of : Option FileFault → FileFault → FileFault

@@ -7,7 +7,7 @@ use Rattle.std.proofs.Math.Nat.{eq-or-lt_of_le}
 use Rattle.jk_model.specs.declared.class_file.ClassFile.{ClassFile}
 use Rattle.jk_model.specs.declared.class_file.PoolEntry.{PoolEntry}
 use Rattle.jk_model.specs.declared.output.Rule.{Rule}
-use Rattle.jk_model.specs.declared.output.Rule.TheVariants.{L1, L2, L3, L4, L5, L6, L7, L8, C1, C2, C3, C4, C5, C6, C7, C8, C9, C10, C11, C12, C13, C14, C15, C16, C17, C18, C19, C20, C21, C22, C23, C24, C25, C26, C27, X1}
+use Rattle.jk_model.specs.declared.output.Rule.TheVariants.{L1, L2, L3, L4, L5, L6, L7, L8, C1, C2, C3, C4, C5, C6, C7, C8, C9, C10, C11, C12, C13, C14, C15, C16, C17, C18, C19, C20, C21, C22, C23, C24, C25, C26, C27}
 use Rattle.jk_model_classes.specs.Items.{Spot}
 use Rattle.jk_model_classes.specs.OneClassRules.{one_class_rules, Breaks, IsFirstFault, HasNoFault}
 use Rattle.class_rules.specs.Answers.{IsLeastSpot}
@@ -97,7 +97,6 @@ module _ (c : ClassFile) (path : List ℕ) where
   nothing_is_broken all C25 = λ spot broken. broken
   nothing_is_broken all C26 = λ spot broken. broken
   nothing_is_broken all C27 = λ spot broken. broken
-  nothing_is_broken all X1 = λ spot broken. broken
 
   -- ---- What is answered once all rules were asked.
 

@@ -44,7 +44,7 @@ impl<H: ObjectStore + Drop, F: FrameStore + Drop> Kernel<H, F> {
         ensures number { IfOk result (λ d. d.0 ≡ length self.old.domains) }
         ensures ok { let o : Opening = record { tree = R.tree files.old; root = root.now; name = name.now; quotas = quotas } in
             OnOk result (AddsDomain o self.old (Says.Loaded name.now ∷ []) self.new) }
-        // Each error has its cause, and none but the last two leaves the folder unjudged.
+        // Each error has its cause.
         ensures cause { let o : Opening = record { tree = R.tree files.old; root = root.now; name = name.now; quotas = quotas } in
             IfErr result (IsCauseOf o self.old) }
         // A folder of a told tree that breaks a rule is refused by exactly this rule, there, unless the files fail or memory runs out.

@@ -5,7 +5,7 @@ use Rattle.jk_model.specs.declared.output.Line.TheVariants.{Said, Loaded, Refuse
 use Rattle.jk_model.specs.declared.output.Place.{Place}
 use Rattle.jk_model.specs.declared.output.Place.TheVariants.{Whole, At}
 use Rattle.jk_model.specs.declared.output.Rule.{Rule}
-use Rattle.jk_model.specs.declared.output.Rule.TheVariants.{L1, L2, L3, L4, L5, L6, L7, L8, C1, C2, C3, C4, C5, C6, C7, C8, C9, C10, C11, C12, C13, C14, C15, C16, C17, C18, C19, C20, C21, C22, C23, C24, C25, C26, C27, X1}
+use Rattle.jk_model.specs.declared.output.Rule.TheVariants.{L1, L2, L3, L4, L5, L6, L7, L8, C1, C2, C3, C4, C5, C6, C7, C8, C9, C10, C11, C12, C13, C14, C15, C16, C17, C18, C19, C20, C21, C22, C23, C24, C25, C26, C27}
 use Rattle.jk_model.specs.Text.{shown, utf16_of}
 
 abbrev pub rule_text : Rule → List ℕ
@@ -44,7 +44,6 @@ rule_text C24 = codes "C24"
 rule_text C25 = codes "C25"
 rule_text C26 = codes "C26"
 rule_text C27 = codes "C27"
-rule_text X1 = codes "X1"
 
 -- nothing for the folder as a whole; else the path in it, and the number
 abbrev pub place_text : Place → List ℕ

@@ -41,8 +41,6 @@ pub enum Rule {
     C25,
     C26,
     C27,
-    /// The folder asks for what is not built yet.
-    X1,
 }
 
 /// Where a rule is broken: in the folder as a whole, or at a number in a file.

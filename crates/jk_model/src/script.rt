@@ -69,6 +69,4 @@ pub enum FaultKind {
     Extra,
     /// A word too few.
     Missing,
-    /// A line that is not built yet.
-    NotYet,
 }

@@ -45,6 +45,5 @@ pub(crate) fn rule_name(rule: Rule) -> &'static [u8]
         Rule::C25 => b"C25",
         Rule::C26 => b"C26",
         Rule::C27 => b"C27",
-        Rule::X1 => b"X1",
     }
 }

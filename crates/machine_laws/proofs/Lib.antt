@@ -37,7 +37,6 @@ pub mod FramesStaySealed
 pub mod InitialisersAfterRuns
 pub mod InsidesStaySealed
 pub mod InstructionsOfFiles
-pub mod InstructionsThatAsk
 pub mod InstructionsThatCross
 pub mod KillsKnown
 pub mod LeavingChanges
@@ -49,8 +48,6 @@ pub mod MachinesThatGrow
 pub mod MainsTakeTexts
 pub mod MeaningsOfNames
 pub mod MethodsNamedWell
-pub mod MethodsOfPackageJk
-pub mod MethodsThatAsk
 pub mod NamesChanged
 pub mod NamesOfNewCode
 pub mod NamesOfOthers
@@ -67,7 +64,6 @@ pub mod OpenedThreads
 pub mod OpeningsSealed
 pub mod OpeningsStayWhole
 pub mod OpeningsThere
-pub mod PackageJkApart
 pub mod PaidSoFar
 pub mod PaidSteps
 pub mod ParentsOfClasses
@@ -86,7 +82,6 @@ pub mod ReturnsFound
 pub mod RunningSegmentsFit
 pub mod RunsAgain
 pub mod RunsAnswered
-pub mod RunsGoOn
 pub mod SealedAfterRuns
 pub mod SegmentsAdded
 pub mod SegmentsAnswered
@@ -102,12 +97,9 @@ pub mod StaticsBegin
 pub mod StepsAllFound
 pub mod StepsAllKnown
 pub mod StepsConfined
-pub mod StepsFound
 pub mod StepsGrow
 pub mod StepsKnown
-pub mod StepsKnownWithoutJk
 pub mod StepsThatCross
-pub mod StepsWithinDomains
 pub mod SystemClassesSound
 pub mod TasksAfterRuns
 pub mod ThreadsAfterRuns

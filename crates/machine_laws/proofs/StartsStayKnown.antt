@@ -3,7 +3,6 @@
 use Rattle.std.proofs.Common.{inl, inr, ◌≡◌, ℕ, ◌+◌, ◌==◌, ◌<◌, ◌≤◌, ◌&&◌, Bool, true, false, cond, List, [], ◌∷◌, ◌++◌, length, map, Contains, Option, Some, None, slice_get, refl, sym, ap, subst, ◌∙◌, arith, eq-eqb, ne_eqb}
 use Rattle.std.specs.Prelude.{bytes_eq}
 use Rattle.std.proofs.lemmas.Bool.{cases_lt}
-use Rattle.std.proofs.lemmas.List.Elements.{Contains-push_cases}
 use Rattle.class_lemmas.proofs.NamesOfTables.{means_named}
 use Rattle.jk_model.specs.declared.identifiers.ThreadNo.{ThreadNo}
 use Rattle.jk_model.specs.declared.output.Line.{Line}
@@ -23,10 +22,9 @@ use Rattle.jk_model_runs.specs.Sealed.{IsSealed, TopFits, surroundings}
 use Rattle.jk_model_runs.specs.Starts.{HasMain, HasManyThreads, LacksChunks, MakesWords, StartWords, Starts, begins, few_chunks, many_threads, many_words, no_class, no_domain, no_main, with_new_thread}
 use Rattle.list_lemmas.proofs.FoundItems.{Finds, finds}
 use Rattle.list_lemmas.proofs.EndsOfLists.{head_is}
-use Rattle.list_lemmas.proofs.ItemsByPlace.{comes_from}
-use Rattle.list_lemmas.proofs.ItemsOfLists.{Contains-at, place_of}
+use Rattle.list_lemmas.proofs.ItemsOfLists.{Contains-at}
 use Rattle.machine_laws.specs.KeptWorlds.{lasting}
-use Rattle.machine_laws.specs.KnownMachines.{IsKnownMachine, RunsNoPackageJk}
+use Rattle.machine_laws.specs.KnownMachines.{IsKnownMachine}
 use Rattle.machine_laws.specs.RunsInMachines.{GivesStill}
 use Rattle.machine_laws.specs.SoundMachines.{HasSoundClasses}
 use Rattle.machine_laws.proofs.ChangedItems.{parts_stay}
@@ -203,27 +201,6 @@ module _ (m : Machine) (start : StartWords) (sealed : IsSealed m) (sound : HasSo
       lasts : (e : DomainState) → lasting (cond (e.number.0 == d.number.0) (record e { inside = Some words_made }) e) ≡ lasting e
       lasts e = lasts_by (e.number.0 == d.number.0) e
 
-  -- ---- Without package jk.
-
-  pub begins_without_jk : RunsNoPackageJk m → RunsNoPackageJk then
-  begins_without_jk apart = record {
-    fields = apart.fields;
-    methods = apart.methods;
-    no_capabilities = λ e on.
-        let at = place_of then.domains e on in
-        let from = comes_from (λ (x : DomainState). cond (x.number.0 == d.number.0) (record x { inside = Some words_made }) x) m.domains at.0 e at.1 in
-        subst (λ (x : DomainState). x.caps.made ≡ []) from.gives
-        (caps_by (from.from.number.0 == d.number.0) from.from (apart.no_capabilities from.from (Contains-at m.domains at.0 from.from from.there)));
-    one_segment = λ e on. elim (Contains-push_cases m.threads (record (new_thread may_begin) { segments = segment ∷ [] }) e on) [
-      | inl old ↦ apart.one_segment e old
-      | inr same ↦ (segment, ap (λ (x : Thread). x.segments) (sym same))
-    ];
-  }
-    where
-      caps_by : (b : Bool) (e : DomainState) → e.caps.made ≡ [] → (cond b (record e { inside = Some words_made }) e).caps.made ≡ []
-      caps_by true e none = none
-      caps_by false e none = none
-
 -- ---- All starts.
 
 -- What is so of a machine, and of each to which a start leads where a thread begins, is so of each to which a start leads.
@@ -264,9 +241,3 @@ pub start_stays_known : (m : Machine) (start : StartWords) (lines : List Line) (
 start_stays_known m start lines new known starts =
     let both = start_stays_sealed m start lines new known.0.0 known.1 starts in
     ((both.0, start_stays_answered m start lines new known starts), both.1)
-
-pub start_stays_without_jk : (m : Machine) (start : StartWords) (lines : List Line) (new : Machine) → IsKnownMachine m → RunsNoPackageJk m
-    → Starts m start lines new → RunsNoPackageJk new
-start_stays_without_jk m start lines new known apart =
-    each_start m start known.0.0 known.1 RunsNoPackageJk apart
-    (λ h few room heap words fits. begins_without_jk m start known.0.0 known.1 h few room heap words fits apart) lines new

@@ -6,15 +6,9 @@ use Rattle.jk_model_machine_state.specs.Machines.{Machine}
 use Rattle.jk_model_machine_state.specs.Places.{RunningSegment}
 use Rattle.jk_model_runs.specs.Confined.{Confined}
 use Rattle.jk_model_runs.specs.Steps.{Deed, StepsBy}
-use Rattle.machine_laws.specs.KnownMachines.{IsKnownMachine, RunsNoPackageJk}
+use Rattle.machine_laws.specs.KnownMachines.{IsKnownMachine}
 
 abbrev pub StepsAreConfined : Type 0
 StepsAreConfined =
     (m new : Machine) (t : ThreadNo) (deed : Deed) (lines : List Line) (p : RunningSegment m t) → IsKnownMachine m → StepsBy m t deed lines new
     → Confined (record { machine = m; thread = t; deed = deed }) p.segment.shared.domain new
-
--- and so in machines without package jk
-abbrev pub StepsAreConfinedWithoutJk : Type 0
-StepsAreConfinedWithoutJk =
-    (m new : Machine) (t : ThreadNo) (deed : Deed) (lines : List Line) (p : RunningSegment m t) → IsKnownMachine m → RunsNoPackageJk m
-    → StepsBy m t deed lines new → Confined (record { machine = m; thread = t; deed = deed }) p.segment.shared.domain new

@@ -11,7 +11,7 @@ use Rattle.jk_model_runs.specs.Sealed.{IsSealed, surroundings}
 use Rattle.jk_model_runs.specs.Starts.{Starts, StartWords}
 use Rattle.jk_model_runs.specs.Steps.{Steps}
 use Rattle.machine_laws.specs.SoundMachines.{HasSoundClasses, IsSealedAtCall}
-use Rattle.machine_laws.specs.KnownMachines.{IsKnownMachine, RunsNoPackageJk}
+use Rattle.machine_laws.specs.KnownMachines.{IsKnownMachine}
 use Rattle.row_laws.specs.KeptRuns.{ActsWell, AwaitOn, KeepsRun}
 
 abbrev pub FirstMachinesAreKnown : Type 0
@@ -56,15 +56,3 @@ StartsStaySealed =
 
 abbrev pub KillsStayKnown : Type 0
 KillsStayKnown = (m new : Machine) (name : List ℕ) (lines : List Line) → IsKnownMachine m → Kills m name lines new → IsKnownMachine new
-
--- ---- The same without package jk, whose calls and crossings then never come.
-
-abbrev pub StepsStayWithoutJk : Type 0
-StepsStayWithoutJk =
-    (m new : Machine) (t : ThreadNo) (lines : List Line) → IsKnownMachine m → RunsNoPackageJk m → Steps m t lines new
-    → IsKnownMachine new × RunsNoPackageJk new
-
-abbrev pub StartsStayWithoutJk : Type 0
-StartsStayWithoutJk =
-    (m new : Machine) (start : StartWords) (lines : List Line) → IsKnownMachine m → RunsNoPackageJk m → Starts m start lines new
-    → RunsNoPackageJk new

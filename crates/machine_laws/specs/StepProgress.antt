@@ -6,16 +6,12 @@ use Rattle.jk_model.specs.declared.output.Line.{Line}
 use Rattle.jk_model_machine_state.specs.Machines.{Machine}
 use Rattle.jk_model_runs.specs.Events.{Goes, Rounds, Turns}
 use Rattle.jk_model_runs.specs.Steps.{Steps}
-use Rattle.machine_laws.specs.KnownMachines.{IsKnownMachine, RunsNoPackageJk}
+use Rattle.machine_laws.specs.KnownMachines.{IsKnownMachine}
 
 -- ---- A thread that isn't live has a step too, which changes nothing.
 
 abbrev pub StepsAreThere : Type 0
 StepsAreThere = (m : Machine) (t : ThreadNo) → IsKnownMachine m → (lines : List Line) × (new : Machine) × Steps m t lines new
-
-abbrev pub StepsAreThereWithoutJk : Type 0
-StepsAreThereWithoutJk =
-    (m : Machine) (t : ThreadNo) → IsKnownMachine m → RunsNoPackageJk m → (lines : List Line) × (new : Machine) × Steps m t lines new
 
 -- ---- Where each such machine has steps that lead to such machines, there are whole events.
 

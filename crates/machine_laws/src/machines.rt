@@ -1,14 +1,12 @@
 //! The laws. The functions have no bodies: each stands for its clauses.
 
-ghost use Rattle.machine_laws.specs.ConfinedSteps.{StepsAreConfinedWithoutJk};
-ghost use Rattle.machine_laws.specs.KnownMachines.{IsKnownMachine, IsKnownWithoutJk};
+ghost use Rattle.machine_laws.specs.KnownMachines.{IsKnownMachine};
 ghost use Rattle.machine_laws.specs.LowestFrames.{LowestFramesGiveStill};
-ghost use Rattle.machine_laws.specs.MachinesOfRuns.{FirstMachinesAreWithoutJk, IsOfRunWithoutJk, KillsMayGrow, RoundsGoOn, StartsMayGrow, StartsStayOfRuns, StepsMayGrow, StepsStayOfRuns, ThreadsGoOn, TurnsGoOn};
+ghost use Rattle.machine_laws.specs.MachinesOfRuns.{KillsMayGrow, StartsMayGrow, StepsMayGrow};
 ghost use Rattle.machine_laws.specs.RunsInMachines.{AnsweringRunsStayWhole, FirstMachinesAreWhole, KeptRunsStaySealed, PaidMachinesStayKnown};
-ghost use Rattle.machine_laws.specs.SealedSteps.{FirstMachinesAreKnown, KillsStayKnown, LeftRunsStaySealed, RunningSegmentsActWell, StartsStayKnown, StartsStaySealed, StartsStayWithoutJk, StepsStayKnown, StepsStayWithoutJk, WaitingRunsStaySealed};
-ghost use Rattle.machine_laws.specs.StepProgress.{GoingIsThere, RoundsAreThere, StepsAreThere, StepsAreThereWithoutJk, TurnsAreThere};
+ghost use Rattle.machine_laws.specs.SealedSteps.{FirstMachinesAreKnown, KillsStayKnown, LeftRunsStaySealed, RunningSegmentsActWell, StartsStayKnown, StartsStaySealed, StepsStayKnown, WaitingRunsStaySealed};
+ghost use Rattle.machine_laws.specs.StepProgress.{GoingIsThere, RoundsAreThere, StepsAreThere, TurnsAreThere};
 
-use crate::confined::steps_are_confined;
 use crate::folders::system_classes_are_sound;
 use row_laws::heap_rows::heap_rows_keep;
 use row_laws::running::{local_steps_are_there, local_steps_keep};
@@ -18,13 +16,6 @@ pub fn turns_are_there()
     ensures turns { TurnsAreThere IsKnownMachine }
     ensures goes { GoingIsThere IsKnownMachine }
     ensures rounds { RoundsAreThere IsKnownMachine }
-{}
-
-/// The same of machines of which no class refers to package jk.
-pub fn turns_are_there_without_jk()
-    ensures turns { TurnsAreThere IsKnownWithoutJk }
-    ensures goes { GoingIsThere IsKnownWithoutJk }
-    ensures rounds { RoundsAreThere IsKnownWithoutJk }
 {}
 
 /// The first machine is whole, and all is known of it.
@@ -61,21 +52,6 @@ pub fn lowest_frames_give_still()
     heap_rows_keep();
 }
 
-/// Where no class refers to package jk, no capability was created and each thread has one segment, a step leads to such a machine, and all is
-/// known of it that was known.
-pub fn steps_stay_known_without_jk()
-    ensures { StepsStayWithoutJk }
-{
-    heap_rows_keep();
-}
-
-/// Where no class refers to package jk, each step is confined to what its deed may change.
-pub fn steps_are_confined_without_jk()
-    ensures { StepsAreConfinedWithoutJk }
-{
-    steps_are_confined();
-}
-
 /// All is known of the machine to which a step leads of which all is known: whatever the step was, also where the thread entered another domain,
 /// came back from one or asked for something, and where a domain ended.
 pub fn steps_stay_known()
@@ -89,12 +65,10 @@ pub fn kills_stay_known()
     ensures { KillsStayKnown }
 {}
 
-/// A start leads from a machine of which all is known to such a machine, from a sealed one to a sealed one where classes and names are sound, and
-/// from one without package jk to one without it.
+/// A start leads from a machine of which all is known to such a machine, and from a sealed one to a sealed one where classes and names are sound.
 pub fn starts_stay_known()
     ensures known { StartsStayKnown }
     ensures sealed { StartsStaySealed }
-    ensures without_jk { StartsStayWithoutJk }
 {}
 
 /// Where another domain may be opened, it may be opened after each start, step and kill.
@@ -106,23 +80,6 @@ pub fn machines_may_grow()
     local_steps_keep();
 }
 
-/// The first machine has all that a run without package jk keeps, and a start keeps it.
-pub fn runs_begin_without_jk()
-    ensures first { FirstMachinesAreWithoutJk }
-    ensures starts { StartsStayOfRuns }
-{
-    first_machines_are_known();
-}
-
-/// Each thread of a machine without package jk has a step.
-pub fn steps_are_there_without_jk()
-    ensures { StepsAreThereWithoutJk }
-{
-    heap_rows_keep();
-    local_steps_are_there();
-    local_steps_keep();
-}
-
 /// Each thread of a machine of which all is known has a step.
 pub fn steps_are_there()
     ensures { StepsAreThere }
@@ -130,19 +87,4 @@ pub fn steps_are_there()
     heap_rows_keep();
     local_steps_are_there();
     local_steps_keep();
-}
-
-/// In a run without package jk each step leads to a machine of the run, and there are whole turns and rounds, which lead to machines of the run.
-/// There are also from each machine without package jk of which all is known.
-pub fn runs_go_on_without_jk()
-    ensures steps { StepsStayOfRuns }
-    ensures turns { TurnsGoOn IsOfRunWithoutJk }
-    ensures threads { ThreadsGoOn IsOfRunWithoutJk }
-    ensures rounds { RoundsGoOn IsOfRunWithoutJk }
-    ensures known_turns { TurnsGoOn IsKnownWithoutJk }
-    ensures known_rounds { RoundsGoOn IsKnownWithoutJk }
-{
-    steps_are_there_without_jk();
-    steps_stay_known_without_jk();
-    machines_may_grow();
 }

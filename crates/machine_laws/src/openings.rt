@@ -1,7 +1,7 @@
 //! The laws. The functions have no bodies: each stands for its clauses.
 
 ghost use Rattle.machine_laws.specs.LoadingNext.{FirstMachinesLoadNext, FoldersMayLoad, KillsLoadNext, OpeningsLoadNext, StartsLoadNext, StepsLoadNext};
-ghost use Rattle.machine_laws.specs.MachinesOfRuns.{OpeningsStayKnown, OpeningsStayOfRuns};
+ghost use Rattle.machine_laws.specs.MachinesOfRuns.{OpeningsStayKnown};
 ghost use Rattle.machine_laws.specs.OpenedMachines.{FirstMachinesMayGrow, OpeningsStayWhole};
 ghost use Rattle.machine_laws.specs.SealedOpenings.{FramesStaySealed, InsidesStaySealed, OpeningsAreSealed, OpeningsAreThere};
 
@@ -28,11 +28,9 @@ pub fn machines_stay_whole()
     ensures first { FirstMachinesMayGrow }
 {}
 
-/// All is known of a machine in which a domain is opened from accepted files, and another domain may be opened in it. Where no class of the
-/// folder refers to package jk, that package stays out of the run.
+/// All is known of a machine in which a domain is opened from accepted files, and another domain may be opened in it.
 pub fn openings_stay_known()
-    ensures known { OpeningsStayKnown }
-    ensures without_jk { OpeningsStayOfRuns }
+    ensures { OpeningsStayKnown }
 {
     accepted_folders_stay_sound();
 }

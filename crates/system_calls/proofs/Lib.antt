@@ -20,7 +20,7 @@ mod MethodsMayBeDone
 mod NamesAsked
 mod NumbersRead
 mod OwnDomain
-mod RemoteClasses
+pub mod RemoteClasses
 mod RoomForAnswers
 mod RowsOfNewObjects
 mod StoresBecome

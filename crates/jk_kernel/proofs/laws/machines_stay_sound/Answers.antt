@@ -19,4 +19,4 @@ returns-clause-kills c =
     kills_sound c.kills_stay_known.ensures c.machines_may_grow.ensures.kills c.folders_may_be_loaded.ensures.kills c.numbers_rise.ensures
 
 pub returns-clause-openings : goal.returns-clause-openings
-returns-clause-openings c = openings_sound c.openings_stay_known.ensures.known c.folders_may_be_loaded.ensures.openings
+returns-clause-openings c = openings_sound c.openings_stay_known.ensures c.folders_may_be_loaded.ensures.openings

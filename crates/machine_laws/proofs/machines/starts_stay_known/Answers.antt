@@ -1,5 +1,5 @@
 -- By the lemmas on starts.
-use Rattle.machine_laws.proofs.StartsStayKnown.{start_stays_known, start_stays_sealed, start_stays_without_jk}
+use Rattle.machine_laws.proofs.StartsStayKnown.{start_stays_known, start_stays_sealed}
 use Rattle.machine_laws.proofs.machines.starts_stay_known.Goals as goal
 
 pub returns-clause-known : goal.returns-clause-known
@@ -7,6 +7,3 @@ returns-clause-known c = λ m new start lines known starts. start_stays_known m 
 
 pub returns-clause-sealed : goal.returns-clause-sealed
 returns-clause-sealed c = λ m new start lines sealed sound starts. start_stays_sealed m start lines new sealed sound starts
-
-pub returns-clause-without_jk : goal.returns-clause-without_jk
-returns-clause-without_jk c = λ m new start lines known apart starts. start_stays_without_jk m start lines new known apart starts
