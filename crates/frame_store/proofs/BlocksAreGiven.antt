@@ -1,7 +1,7 @@
 -- A frame gives back its blocks one after another.
 use Rattle.std.proofs.Common.{◌≡◌, ◌≢◌, ℕ, ◌+◌, ◌<◌, refl, arith, ◌∙◌}
-use Rattle.frame_store.specs.declared.chains.Chains.{Chains}
-use Rattle.frame_store.specs.ChainMoves.{count, place, nodes, stacks, MovesTop}
+use Rattle.number_table.specs.declared.chains.Chains.{Chains}
+use Rattle.number_table.specs.ChainMoves.{count, place, nodes, stacks, MovesTop}
 use Rattle.frame_store.specs.FrameBlocks.{GivesBlocks}
 
 -- A frame gives some of its blocks to the last stack.

@@ -5,11 +5,11 @@ use Rattle.indexmap.specs.IndexMap.{IndexMap, get, insert_entry, swap_remove_ent
 use Rattle.indexmap.proofs.CallerLemmas.{insert_entry-new}
 use Rattle.frame_store.specs.declared.cursor.Cursor.{Cursor}
 use Rattle.frame_store.specs.declared.domain_frames.DomainFrames.{DomainFrames}
-use Rattle.frame_store.specs.declared.segment_table.Place.{Place}
-use Rattle.frame_store.specs.declared.segment_table.SegmentTable.{SegmentTable}
+use Rattle.number_table.specs.declared.entry_table.Place.{Place}
+use Rattle.number_table.specs.NumberPlaces.{NumberPlaces}
 use Rattle.frame_store.specs.DomainMoves.{top_number}
 use Rattle.frame_store.specs.StoreContents.{AreForgotten, IsFound, IsStore, StandsAt}
-use Rattle.frame_store.specs.TableMoves as table
+use Rattle.number_table.specs.NumberPlaces as table
 use Rattle.frame_store.specs.Cursors.{IsAimed, IsCursor, IsRightFor}
 use Rattle.frame_store.proofs.CursorPoints.{is_right, right_moved}
 use Rattle.frame_store.proofs.DomainIsEntered.{get_unchanged}
@@ -21,9 +21,9 @@ get_more [] y i x e = absurd (cc)
 get_more (z ∷ xs) y zero x e = e
 get_more (z ∷ xs) y (suc i) x e = get_more xs y i x e
 
-module _ {S : Type 0} (m n : IndexMap ℕ DomainFrames S) (t u : SegmentTable) (owed : ℕ) (h : IsStore m t owed) (c : Cursor) (k : IsCursor m t c) where
-  module _ (places : table.IsSameTable t u) where
-    placed : (p : Place) → table.place_in u c.segment ≡ Some p → table.place_in t c.segment ≡ Some p
+module _ {S : Type 0} (m n : IndexMap ℕ DomainFrames S) (t u : NumberPlaces) (owed : ℕ) (h : IsStore m t owed) (c : Cursor) (k : IsCursor m t c) where
+  module _ (places : table.HasSamePlaces t u) where
+    placed : (p : Place) → table.place_of u c.segment ≡ Some p → table.place_of t c.segment ≡ Some p
     placed p e = sym (places c.segment) ∙ e
 
     -- the domains stay
@@ -46,12 +46,12 @@ module _ {S : Type 0} (m n : IndexMap ℕ DomainFrames S) (t u : SegmentTable) (
   module _ (d : ℕ) (x : DomainFrames) (is : get nat_eq m d ≡ Some x) (updates : (q : ℕ) → get nat_eq n q ≡ cond (nat_eq d q) None (get nat_eq m q))
       (gone : get nat_eq n d ≡ None) (entries : n.entries ≡ swap_remove_entry (nat_eq d) m.entries)
       (forgotten : AreForgotten t u x.slots d x.slots.live) where
-    kept : (p : Place) (y : DomainFrames) → table.place_in u c.segment ≡ Some p → get nat_eq n p.domain ≡ Some y → get nat_eq m p.domain ≡ Some y
+    kept : (p : Place) (y : DomainFrames) → table.place_of u c.segment ≡ Some p → get nat_eq n p.domain ≡ Some y → get nat_eq m p.domain ≡ Some y
     kept p y at e =
         let other = closed.other_domain m n t u owed d x h is updates gone entries forgotten c.segment p at in
         sym (closed.elsewhere m n t u owed d x h is updates gone entries forgotten p.domain other) ∙ e
 
-    stood : (p : Place) → table.place_in u c.segment ≡ Some p → table.place_in t c.segment ≡ Some p
+    stood : (p : Place) → table.place_of u c.segment ≡ Some p → table.place_of t c.segment ≡ Some p
     stood p e = closed.before m n t u owed d x h is updates gone entries forgotten c.segment p e
 
     moved : (i : ℕ)
@@ -78,7 +78,7 @@ module _ {S : Type 0} (m n : IndexMap ℕ DomainFrames S) (t u : SegmentTable) (
         absurd (cc))
 
 -- a cursor is moved to the top frame of a segment that is found
-module _ {S : Type 0} (m : IndexMap ℕ DomainFrames S) (t : SegmentTable) (s : ℕ) (c b : Cursor) (x : DomainFrames) (slot : ℕ) (f : IsFound m t s x slot)
+module _ {S : Type 0} (m : IndexMap ℕ DomainFrames S) (t : NumberPlaces) (s : ℕ) (c b : Cursor) (x : DomainFrames) (slot : ℕ) (f : IsFound m t s x slot)
     (at : c.place ≡ record { domain = f.domain; slot = slot }) (entry : slice_get m.entries c.domain ≡ Some (f.domain, x)) (aimed : IsAimed x c b) where
   pub aimed_right : IsRightFor m t s b
   aimed_right =

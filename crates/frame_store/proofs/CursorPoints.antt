@@ -7,17 +7,17 @@ use Rattle.std.specs.Map.{values_of}
 use Rattle.jk_model.specs.declared.identifiers.SegmentNo.{SegmentNo}
 use Rattle.jk_model_frames.specs.Frames.{FrameState}
 use Rattle.indexmap.specs.IndexMap.{IndexMap, IsUnique, get, values, with_value_at, set_value_at}
-use Rattle.frame_store.specs.declared.chains.Chains.{Chains}
+use Rattle.number_table.specs.declared.chains.Chains.{Chains}
 use Rattle.frame_store.specs.declared.cursor.Cursor.{Cursor}
 use Rattle.frame_store.specs.declared.domain_frames.DomainFrames.{DomainFrames}
-use Rattle.frame_store.specs.declared.segment_table.Place.{Place}
-use Rattle.frame_store.specs.declared.segment_table.SegmentTable.{SegmentTable}
+use Rattle.number_table.specs.declared.entry_table.Place.{Place}
+use Rattle.number_table.specs.NumberPlaces.{NumberPlaces}
 use Rattle.frame_store.specs.declared.slot_set.SlotSet.{SlotSet}
 use Rattle.frame_store.specs.FrameContents.{IsThere, TopFrame, HasTop as HasTopFrame}
-use Rattle.frame_store.specs.TableMoves as table
+use Rattle.number_table.specs.NumberPlaces as table
 use Rattle.frame_store.specs.Builds.{length-build}
 use Rattle.frame_store.specs.SlotMoves.{IsLive}
-use Rattle.frame_store.specs.ChainMoves.{count, place}
+use Rattle.number_table.specs.ChainMoves.{count, place}
 use Rattle.frame_store.specs.DomainMoves.{depth_of, frames_of, locals_at, start_of, top_number, value_at, HasTop, IsSlot, IsTopOf, IsFrameNumber, Becomes}
 use Rattle.frame_store.specs.StoreContents.{content_of, IsStore, IsFound, IsStanding, StandsAt}
 use Rattle.frame_store.specs.StoreIsContent.{stands}
@@ -36,7 +36,7 @@ some_place None e = absurd (cc)
 some_place (Some p) e = (p, refl)
 
 -- the frame in a domain in which the segment is found
-module _ {S : Type 0} (m : IndexMap ℕ DomainFrames S) (t : SegmentTable) (owed : ℕ) (s : SegmentNo) (h : IsStore m t owed)
+module _ {S : Type 0} (m : IndexMap ℕ DomainFrames S) (t : NumberPlaces) (owed : ℕ) (s : SegmentNo) (h : IsStore m t owed)
     (at frame : ℕ) (k : IsTopAt m t s.0 at frame)
     (x : DomainFrames) (slot : ℕ) (f : IsFound m t s.0 x slot) where
   pub frame_is : IsFrameNumber x frame
@@ -45,12 +45,12 @@ module _ {S : Type 0} (m : IndexMap ℕ DomainFrames S) (t : SegmentTable) (owed
   pub value_is : (g : FrameState) → TopFrame (content_of m t) s g → g ≡ value_at x frame
   value_is g top = (found_top_is m t owed s h x slot f g top).1 ∙ ap (value_at x) (sym (k.top x slot f).is)
 
-module _ {S : Type 0} (m : IndexMap ℕ DomainFrames S) (t : SegmentTable) (owed : ℕ) (s : SegmentNo) (h : IsStore m t owed)
+module _ {S : Type 0} (m : IndexMap ℕ DomainFrames S) (t : NumberPlaces) (owed : ℕ) (s : SegmentNo) (h : IsStore m t owed)
     (at frame : ℕ) (k : IsTopAt m t s.0 at frame) where
   -- the segment's domain
   abbrev pub found_at : IsStanding m t s.0
   found_at =
-      let p = some_place (table.place_in t s.0) k.in_table in
+      let p = some_place (table.place_of t s.0) k.in_table in
       let x = stands m t owed h s.0 p.0 p.1 in
       (x.0, p.0.slot, record { domain = p.0.domain; at = p.1; is = x.1.is })
 
@@ -99,7 +99,7 @@ set_here (f ∷ es) (suc i) d x y e = set_here es i d x y e
 
 -- ---- A cursor that has what is found.
 
-module _ {S : Type 0} (m : IndexMap ℕ DomainFrames S) (t : SegmentTable) (s : ℕ) (c : Cursor) (x : DomainFrames) (slot : ℕ) (f : IsFound m t s x slot)
+module _ {S : Type 0} (m : IndexMap ℕ DomainFrames S) (t : NumberPlaces) (s : ℕ) (c : Cursor) (x : DomainFrames) (slot : ℕ) (f : IsFound m t s x slot)
     (is_place : c.place ≡ record { domain = f.domain; slot = slot }) (is_entry : slice_get m.entries c.domain ≡ Some (f.domain, x))
     (is_top : HasTop x slot → c.frame ≡ top_number x slot) (are_values : HasTop x slot → HasValuesAt x c) where
   module _ (z : DomainFrames) (i : ℕ) (g : IsFound m t s z i) where
@@ -135,7 +135,7 @@ module _ {S : Type 0} (m : IndexMap ℕ DomainFrames S) (t : SegmentTable) (s : 
   pub is_right : IsRightFor m t s c
   is_right = record { place = λ z i g. is_place ∙ sym (same_place z i g); entry = entry_at; frame = frame_at; values = values_at }
 
-module _ {S : Type 0} (m : IndexMap ℕ DomainFrames S) (t : SegmentTable) (s : ℕ) (c : Cursor) (none : table.place_in t s ≡ None) where
+module _ {S : Type 0} (m : IndexMap ℕ DomainFrames S) (t : NumberPlaces) (s : ℕ) (c : Cursor) (none : table.place_of t s ≡ None) where
   never_found : (x : DomainFrames) (slot : ℕ) → IsFound m t s x slot → ⊥
   never_found x slot f =
       let p : Place = record { domain = f.domain; slot = slot } in
@@ -154,7 +154,7 @@ module _ {S : Type 0} (m : IndexMap ℕ DomainFrames S) (t : SegmentTable) (s : 
 
 -- ---- What a cursor at a segment has.
 
-module _ {S : Type 0} (m : IndexMap ℕ DomainFrames S) (t : SegmentTable) (owed : ℕ) (s : SegmentNo) (h : IsStore m t owed) (c : Cursor)
+module _ {S : Type 0} (m : IndexMap ℕ DomainFrames S) (t : NumberPlaces) (owed : ℕ) (s : SegmentNo) (h : IsStore m t owed) (c : Cursor)
     (k : IsRightFor m t s.0 c) where
   pub points : HasTopFrame (content_of m t) s → PointsAt m t s.0 c
   points has =
@@ -212,7 +212,7 @@ module _ {S : Type 0} (m : IndexMap ℕ DomainFrames S) (t : SegmentTable) (owed
       same_there : found_there.0 ≡ x
       same_there = same_Some found_there.0 x (second_at m.entries c.domain _ found_there.0 stands_cursor.entry ∙ sym (second_at m.entries c.domain d x reads))
 
-      pub placed_there : table.place_in t s.0 ≡ Some c.place
+      pub placed_there : table.place_of t s.0 ≡ Some c.place
       placed_there = found_cursor.at
 
       pub read_there : get nat_eq m c.place.domain ≡ Some x
@@ -258,7 +258,7 @@ module _ {S : Type 0} (m : IndexMap ℕ DomainFrames S) (t : SegmentTable) (owed
             let P : ℕ → Type 0 = λ r. IsRightFor (with_value_at m c.domain y) t r b in
             subst P (sym (aims.segment ∙ here)) (right_again b aims.place aims.domain aims.frame aims.values)
 
-module _ {S : Type 0} (m : IndexMap ℕ DomainFrames S) (t : SegmentTable) (owed : ℕ) (s : SegmentNo) (h : IsStore m t owed) (c : Cursor)
+module _ {S : Type 0} (m : IndexMap ℕ DomainFrames S) (t : NumberPlaces) (owed : ℕ) (s : SegmentNo) (h : IsStore m t owed) (c : Cursor)
     (k : IsRightFor m t s.0 c) (there : IsThere (content_of m t) s) (x : DomainFrames) (d : ℕ) (reads : slice_get m.entries c.domain ≡ Some (d, x))
     (unique : IsUnique nat_eq m) (here : c.segment ≡ s.0) where
   -- where nothing is written
@@ -276,7 +276,7 @@ same_top x y i frame chunks frames top =
     let Is : Chains → Type 0 = λ (q : Chains). frame ≡ place q i (count q i - 1) in
     record { has_top = (subst (λ n. i < n) (sym chunks) top.has_top.0, subst Deep (sym frames) top.has_top.1); is = subst Is (sym frames) top.is }
 
-module _ {S : Type 0} (m : IndexMap ℕ DomainFrames S) (t : SegmentTable) (owed : ℕ) (s : SegmentNo) (x y : DomainFrames) (slot : ℕ)
+module _ {S : Type 0} (m : IndexMap ℕ DomainFrames S) (t : NumberPlaces) (owed : ℕ) (s : SegmentNo) (x y : DomainFrames) (slot : ℕ)
     (h : IsStore m t owed) (c : Cursor) (k : PointsAt m t s.0 c) (f : IsFound m t s.0 x slot)
     (wrote : WritesThrough nat_eq (nat_eq f.domain) m y (with_value_at m c.domain y))
     (chunks : y.chunks ≡ x.chunks) (frames : y.frames ≡ x.frames) (parts : y.parts ≡ x.parts) (locals : locals_at y c.frame ≡ locals_at x c.frame) where
@@ -342,9 +342,9 @@ some_of_two (h ∷ fs) f g = omega arith
 
 -- ---- After a change of the map or of the table elsewhere.
 
-module _ {S : Type 0} (m n : IndexMap ℕ DomainFrames S) (t u : SegmentTable) (s : ℕ) (c : Cursor) (k : IsRightFor m t s c)
-    (placed : (p : Place) → table.place_in u s ≡ Some p → table.place_in t s ≡ Some p)
-    (kept : (p : Place) (x : DomainFrames) → table.place_in u s ≡ Some p → get nat_eq n p.domain ≡ Some x → get nat_eq m p.domain ≡ Some x) where
+module _ {S : Type 0} (m n : IndexMap ℕ DomainFrames S) (t u : NumberPlaces) (s : ℕ) (c : Cursor) (k : IsRightFor m t s c)
+    (placed : (p : Place) → table.place_of u s ≡ Some p → table.place_of t s ≡ Some p)
+    (kept : (p : Place) (x : DomainFrames) → table.place_of u s ≡ Some p → get nat_eq n p.domain ≡ Some x → get nat_eq m p.domain ≡ Some x) where
   abbrev before : (x : DomainFrames) (slot : ℕ) → IsFound n u s x slot → IsFound m t s x slot
   before x slot f = record { domain = f.domain; at = placed _ f.at; is = kept _ x f.at f.is }
 

@@ -7,8 +7,8 @@ use Rattle.jk_model_frames.specs.Frames.{FrameState}
 use Rattle.indexmap.specs.IndexMap.{IndexMap, IsUnique, values, with_value_at}
 use Rattle.frame_store.specs.declared.cursor.Cursor.{Cursor}
 use Rattle.frame_store.specs.declared.domain_frames.DomainFrames.{DomainFrames}
-use Rattle.frame_store.specs.declared.segment_table.Place.{Place}
-use Rattle.frame_store.specs.declared.segment_table.SegmentTable.{SegmentTable}
+use Rattle.number_table.specs.declared.entry_table.Place.{Place}
+use Rattle.number_table.specs.NumberPlaces.{NumberPlaces}
 use Rattle.frame_store.specs.FrameContents.{FrameContent, TopFrame, SetsTop, TakesEntry, DropsEntries, ExchangesEntries}
 use Rattle.frame_store.specs.DomainMoves.{locals_at, lower_of, top_of, value_at, IsFrameNumber, IsTopOf, Becomes, TakesTopEntry, DropsTopEntries, ExchangesTopEntries}
 use Rattle.frame_store.specs.StoreContents.{content_of, IsStore, IsFound}
@@ -19,7 +19,7 @@ use Rattle.frame_store.proofs.StoreSteps.{steps_top}
 use Rattle.frame_store.proofs.WrittenAt.{written_at}
 use Rattle.frame_store.proofs.CursorPoints.{found_at, stands_at, found_read, frame_is, second_at, value_is, still_right, within}
 
-module _ {S : Type 0} (old : FrameContent) (m : IndexMap ℕ DomainFrames S) (t : SegmentTable) (owed : ℕ) (s : SegmentNo) (h : IsStore m t owed) (c : Cursor)
+module _ {S : Type 0} (old : FrameContent) (m : IndexMap ℕ DomainFrames S) (t : NumberPlaces) (owed : ℕ) (s : SegmentNo) (h : IsStore m t owed) (c : Cursor)
     (k : PointsAt m t s.0 c) (same : content_of m t ≡ old) where
   -- a domain is at the cursor
   pub at_domain : c.domain < length m.entries

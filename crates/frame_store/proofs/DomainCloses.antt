@@ -1,5 +1,5 @@
 -- A domain goes with its segments.
-use Rattle.std.proofs.Common.{◌≡◌, ◌≢◌, ℕ, zero, suc, ◌+◌, ◌-◌, ◌<◌, ◌≤◌, Bool, cond, List, [], ◌∷◌, length, get_or, position, Option, Some, None, option_map, is_some, slice_get, nat_eq, refl, sym, ap, subst, arith, ◌∙◌, inl, inr, sum_by, IfSome}
+use Rattle.std.proofs.Common.{◌≡◌, ◌≢◌, ℕ, zero, suc, ◌+◌, ◌-◌, ◌^◌, ◌<◌, ◌≤◌, Bool, cond, List, [], ◌∷◌, length, get_or, position, Option, Some, None, option_map, is_some, slice_get, nat_eq, refl, sym, ap, subst, arith, ◌∙◌, inl, inr, sum_by, IfSome}
 use Rattle.std.specs.Option.{option_map_or}
 use Rattle.std.specs.Map.{values_of, keys_of, lookup}
 use Rattle.std.specs.List.{swap_remove}
@@ -10,11 +10,12 @@ use Rattle.indexmap.proofs.MapLemmas.{swap_remove_entry-found, value_index, some
 use Rattle.jk_model.specs.declared.identifiers.DomainId.{DomainId}
 use Rattle.indexmap.specs.IndexMap.{IndexMap, get, values, swap_remove_entry}
 use Rattle.frame_store.specs.declared.domain_frames.DomainFrames.{DomainFrames}
-use Rattle.frame_store.specs.declared.segment_table.Place.{Place}
-use Rattle.frame_store.specs.declared.segment_table.SegmentTable.{SegmentTable}
+use Rattle.number_table.specs.declared.entry_table.Place.{Place}
+use Rattle.number_table.specs.NumberPlaces.{NumberPlaces}
 use Rattle.frame_store.specs.FrameContents.{StoredSegment, Closes, IsLeftOf}
 use Rattle.frame_store.specs.SlotMoves.{number_of, place_in, slot_in_order}
-use Rattle.frame_store.specs.TableMoves as table
+use Rattle.number_table.specs.NumberPlaces as table
+use Rattle.frame_store.specs.ForgottenSegments.{domain_in}
 use Rattle.frame_store.specs.StoreContents.{content_of, stored, owed_by, IsStore, AreForgotten}
 use Rattle.frame_store.specs.StoreIsContent.{stands}
 use Rattle.frame_store.proofs.StoreChanges.{segment_in, read_some, lt_by}
@@ -58,24 +59,27 @@ part_le o a s b e f = omega arith
 less_le : (o b r u : ℕ) → o ≤ r → r ≤ u → o - b ≤ u
 less_le o b r u h k = omega arith
 
+less_lt : (o b r : ℕ) → o < r → o - b < r
+less_lt o b r h = omega arith
+
 pub owed_part : {S : Type 0} (m n : IndexMap ℕ DomainFrames S) (d : ℕ) (x : DomainFrames) → get nat_eq m d ≡ Some x
     → n.entries ≡ swap_remove_entry (nat_eq d) m.entries → sum_by owed_by (values n) + owed_by x ≡ sum_by owed_by (values m)
 owed_part m n d x is entries =
     ap (λ es. sum_by owed_by (values_of es) + owed_by x) entries ∙ sum_without owed_by (nat_eq d) m.entries d x
     (position (nat_eq d) (keys_of m.entries)) is refl
 
-module _ {S : Type 0} (m n : IndexMap ℕ DomainFrames S) (t u : SegmentTable) (owed d : ℕ) (x : DomainFrames) (h : IsStore m t owed)
+module _ {S : Type 0} (m n : IndexMap ℕ DomainFrames S) (t u : NumberPlaces) (owed d : ℕ) (x : DomainFrames) (h : IsStore m t owed)
     (is : get nat_eq m d ≡ Some x)
     (updates : (q : ℕ) → get nat_eq n q ≡ cond (nat_eq d q) None (get nat_eq m q)) (gone : get nat_eq n d ≡ None)
     (entries : n.entries ≡ swap_remove_entry (nat_eq d) m.entries) (forgotten : AreForgotten t u x.slots d x.slots.live) where
   pub elsewhere : (q : ℕ) → q ≢ d → get nat_eq n q ≡ get nat_eq m q
   elsewhere = others_by_updates m n d None updates
 
-  pub before : (r : ℕ) (q : Place) → table.place_in u r ≡ Some q → table.place_in t r ≡ Some q
+  pub before : (r : ℕ) (q : Place) → table.place_of u r ≡ Some q → table.place_of t r ≡ Some q
   before r q e = elim (forgotten.fewer r) [ inl same ↦ sym same ∙ e | inr none ↦ absurd (cc) ]
 
   -- no segment of the domain stands any more
-  pub other_domain : (r : ℕ) (q : Place) → table.place_in u r ≡ Some q → q.domain ≢ d
+  pub other_domain : (r : ℕ) (q : Place) → table.place_of u r ≡ Some q → q.domain ≢ d
   other_domain r q e same =
       let old = before r q e in
       let e_get : get nat_eq m q.domain ≡ Some x = ap (get nat_eq m) same ∙ is in
@@ -88,9 +92,9 @@ module _ {S : Type 0} (m n : IndexMap ℕ DomainFrames S) (t u : SegmentTable) (
       sym (read_some (λ (z : DomainFrames). number_of z.slots q.slot) (get nat_eq m q.domain) x e_get) ∙ h.has_number r q old in
       let at : number_of x.slots (slot_in_order x.slots (place_in x.slots q.slot)) ≡ r = ap (number_of x.slots) (x.slots.ok.placed q.slot within).1 ∙ number in
       forgotten.out (place_in x.slots q.slot) live live
-      (ap (table.domain_in u) at ∙ ap (λ o. option_map_or (λ (k : Place). k.domain + 1) o 0) e ∙ ap (λ k. k + 1) same)
+      (ap (domain_in u) at ∙ ap (λ o. option_map_or (λ (k : Place). k.domain + 1) o 0) e ∙ ap (λ k. k + 1) same)
 
-  read : (r : ℕ) (q : Place) → table.place_in u r ≡ Some q → (f : DomainFrames → ℕ)
+  read : (r : ℕ) (q : Place) → table.place_of u r ≡ Some q → (f : DomainFrames → ℕ)
       → option_map_or f (get nat_eq n q.domain) 0 ≡ option_map_or f (get nat_eq m q.domain) 0
   read r q e f = ap (λ o. option_map_or f o 0) (elsewhere q.domain (other_domain r q e))
 
@@ -106,25 +110,26 @@ module _ {S : Type 0} (m n : IndexMap ℕ DomainFrames S) (t u : SegmentTable) (
             (read r q e (λ (z : DomainFrames). z.slots.live));
         has_number = λ r q e. read r q e (λ (z : DomainFrames). number_of z.slots q.slot) ∙ h.has_number r q (before r q e);
         owes = part_less owed (sum_by owed_by (values n)) (sum_by owed_by (values m)) (owed_by x) (owed_part m n d x is entries) h.owes;
-        enough = less_le owed (owed_by x) (table.room t) (table.room u) h.enough forgotten.at_least;
+        enough = less_le owed (owed_by x) t.room u.room h.enough forgotten.at_least;
+        few = less_lt owed (owed_by x) (2 ^ 63) h.few;
       }
 
   -- what is left of a segment
-  left_none : (s : ℕ) → table.place_in u s ≡ None → stored n (table.place_in u s) ≡ None
+  left_none : (s : ℕ) → table.place_of u s ≡ None → stored n (table.place_of u s) ≡ None
   left_none s e = ap (stored n) e
 
-  left : (s : ℕ) (o : Option Place) → table.place_in t s ≡ o → IsLeftOf (record { 0 = d }) (stored m o) (stored n (table.place_in u s))
+  left : (s : ℕ) (o : Option Place) → table.place_of t s ≡ o → IsLeftOf (record { 0 = d }) (stored m o) (stored n (table.place_of u s))
   left s None e =
-      let none : table.place_in u s ≡ None = elim (forgotten.fewer s) [ inl same ↦ same ∙ e | inr none ↦ none ] in
+      let none : table.place_of u s ≡ None = elim (forgotten.fewer s) [ inl same ↦ same ∙ e | inr none ↦ none ] in
       left_none s none
   left s (Some p) e =
       let y = stands m t owed h s p e in
-      let P : Option StoredSegment → Type 0 = λ o. IsLeftOf (record { 0 = d }) o (stored n (table.place_in u s)) in
+      let P : Option StoredSegment → Type 0 = λ o. IsLeftOf (record { 0 = d }) o (stored n (table.place_of u s)) in
       let is_stored : stored m (Some p) ≡ Some (segment_in y.0 p.domain p.slot) = ap (option_map (λ (z : DomainFrames). segment_in z p.domain p.slot)) y.1.is in
       subst P (sym is_stored)
       (elim (cases_eq p.domain d) [
         | inl same ↦
-            let none : table.place_in u s ≡ None =
+            let none : table.place_of u s ≡ None =
             elim (forgotten.fewer s) [ inl kept ↦ absurd (other_domain s p (kept ∙ e) same) | inr none ↦ none ] in
             inl (ap (λ k. let z : DomainId = record { 0 = k } in z) same, left_none s none)
         | inr ne ↦
@@ -147,5 +152,5 @@ module _ {S : Type 0} (m n : IndexMap ℕ DomainFrames S) (t u : SegmentTable) (
         other_quotas = λ e differs. ap (option_map (λ (z : DomainFrames). z.chunks)) (elsewhere e.0 (ne e differs));
         other_places = λ _ _. refl;
         other_uses = λ e differs. ap (λ o. option_map_or (λ (z : DomainFrames). z.used) o 0) (elsewhere e.0 (ne e differs));
-        segment = λ s. left s.0 (table.place_in t s.0) refl;
+        segment = λ s. left s.0 (table.place_of t s.0) refl;
       }

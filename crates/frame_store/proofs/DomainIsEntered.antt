@@ -1,5 +1,5 @@
 -- A domain is entered into a store.
-use Rattle.std.proofs.Common.{◌≡◌, ◌≢◌, ℕ, ◌+◌, ◌-◌, ◌≤◌, cond, List, [], ◌∷◌, Option, Some, None, option_map, nat_eq, refl, sym, ap, arith, ◌∙◌, inl, inr, sum_by}
+use Rattle.std.proofs.Common.{◌≡◌, ◌≢◌, ℕ, ◌+◌, ◌-◌, ◌^◌, ◌<◌, ◌≤◌, cond, List, [], ◌∷◌, Option, Some, None, option_map, nat_eq, refl, sym, ap, arith, ◌∙◌, inl, inr, sum_by}
 use Rattle.std.specs.Option.{option_map_or}
 use Rattle.std.specs.Map.{values_of, lookup}
 use Rattle.std.proofs.lemmas.Bool.Decides.{eqb_tells}
@@ -7,11 +7,11 @@ use Rattle.std.proofs.lemmas.List.Sums.{sum_by-cons}
 use Rattle.jk_model.specs.declared.identifiers.DomainId.{DomainId}
 use Rattle.indexmap.specs.IndexMap.{IndexMap, get, values, insert_entry}
 use Rattle.frame_store.specs.declared.domain_frames.DomainFrames.{DomainFrames}
-use Rattle.frame_store.specs.declared.segment_table.Place.{Place}
-use Rattle.frame_store.specs.declared.segment_table.SegmentTable.{SegmentTable}
+use Rattle.number_table.specs.declared.entry_table.Place.{Place}
+use Rattle.number_table.specs.NumberPlaces.{NumberPlaces}
 use Rattle.frame_store.specs.FrameContents.{Admits, IsSame}
 use Rattle.frame_store.specs.SlotMoves.{number_of, place_in}
-use Rattle.frame_store.specs.TableMoves as table
+use Rattle.number_table.specs.NumberPlaces as table
 use Rattle.frame_store.specs.DomainMoves.{IsFresh}
 use Rattle.frame_store.specs.StoreContents.{content_of, stored, owed_by, IsStore, Enters, IsUnentered}
 use Rattle.frame_store.specs.StoreIsContent.{stands}
@@ -47,24 +47,24 @@ sum_insert f d v (x ∷ es) e =
           ∙ ap (λ k. k + f v) (sym (sum_by-cons f x.1 (values_of es)))
     ]
 
-module _ {S : Type 0} (m n : IndexMap ℕ DomainFrames S) (t u : SegmentTable) (owed : ℕ) (h : IsStore m t owed) where
+module _ {S : Type 0} (m n : IndexMap ℕ DomainFrames S) (t u : NumberPlaces) (owed : ℕ) (h : IsStore m t owed) where
   -- places in domains that are as before
-  module _ (d : ℕ) (none : get nat_eq m d ≡ None) (others : (e : ℕ) → e ≢ d → get nat_eq n e ≡ get nat_eq m e) (places : table.IsSameTable t u) where
-    pub other_domain : (r : ℕ) (q : Place) → table.place_in t r ≡ Some q → q.domain ≢ d
+  module _ (d : ℕ) (none : get nat_eq m d ≡ None) (others : (e : ℕ) → e ≢ d → get nat_eq n e ≡ get nat_eq m e) (places : table.HasSamePlaces t u) where
+    pub other_domain : (r : ℕ) (q : Place) → table.place_of t r ≡ Some q → q.domain ≢ d
     other_domain r q e same =
         let x = stands m t owed h r q e in
         let f : get nat_eq m d ≡ Some x.0 = ap (get nat_eq m) (sym same) ∙ x.1.is in
         absurd (cc)
 
-    before : (r : ℕ) (q : Place) → table.place_in u r ≡ Some q → table.place_in t r ≡ Some q
+    before : (r : ℕ) (q : Place) → table.place_of u r ≡ Some q → table.place_of t r ≡ Some q
     before r q e = sym (places r) ∙ e
 
-    read : (r : ℕ) (q : Place) → table.place_in t r ≡ Some q → (f : DomainFrames → ℕ)
+    read : (r : ℕ) (q : Place) → table.place_of t r ≡ Some q → (f : DomainFrames → ℕ)
         → option_map_or f (get nat_eq n q.domain) 0 ≡ option_map_or f (get nat_eq m q.domain) 0
     read r q e f = ap (λ o. option_map_or f o 0) (others q.domain (other_domain r q e))
 
-    pub entered_store : (more : ℕ) → more ≡ sum_by owed_by (values n) → more ≤ table.room u → IsStore n u more
-    entered_store more owes enough =
+    pub entered_store : (more : ℕ) → more ≡ sum_by owed_by (values n) → more ≤ u.room → more < 2 ^ 63 → IsStore n u more
+    entered_store more owes enough few =
         record {
           in_domain =
               λ r q e. lt_by q.slot (option_map_or (λ (z : DomainFrames). z.chunks) (get nat_eq m q.domain) 0) q.slot
@@ -77,14 +77,15 @@ module _ {S : Type 0} (m n : IndexMap ℕ DomainFrames S) (t u : SegmentTable) (
           has_number = λ r q e. read r q (before r q e) (λ (z : DomainFrames). number_of z.slots q.slot) ∙ h.has_number r q (before r q e);
           owes = owes;
           enough = enough;
+          few = few;
         }
 
-    stored_same : (r : ℕ) (o : Option Place) → table.place_in t r ≡ o → stored n o ≡ stored m o
+    stored_same : (r : ℕ) (o : Option Place) → table.place_of t r ≡ o → stored n o ≡ stored m o
     stored_same r None e = refl
     stored_same r (Some q) e = ap (option_map (λ (z : DomainFrames). segment_in z q.domain q.slot)) (others q.domain (other_domain r q e))
 
-    pub segments_same : (r : ℕ) → stored n (table.place_in u r) ≡ stored m (table.place_in t r)
-    segments_same r = ap (stored n) (places r) ∙ stored_same r (table.place_in t r) refl
+    pub segments_same : (r : ℕ) → stored n (table.place_of u r) ≡ stored m (table.place_of t r)
+    segments_same r = ap (stored n) (places r) ∙ stored_same r (table.place_of t r) refl
 
   pub admits : (d : DomainId) (x : DomainFrames) (chunks : ℕ) → get nat_eq m d.0 ≡ None → IsFresh x chunks → Enters m n t u d.0 x
       → Admits (content_of m t) (content_of n u) d chunks
@@ -125,7 +126,7 @@ stored_all : {S : Type 0} (m n : IndexMap ℕ DomainFrames S) → ((e : ℕ) →
 stored_all m n same None = refl
 stored_all m n same (Some q) = ap (option_map (λ (z : DomainFrames). segment_in z q.domain q.slot)) (same q.domain)
 
-pub unentered : {S : Type 0} (m n : IndexMap ℕ DomainFrames S) (t u : SegmentTable) → IsUnentered m n t u → IsSame (content_of m t) (content_of n u)
+pub unentered : {S : Type 0} (m n : IndexMap ℕ DomainFrames S) (t u : NumberPlaces) → IsUnentered m n t u → IsSame (content_of m t) (content_of n u)
 unentered m n t u h =
     record {
       domains = record {
@@ -135,7 +136,7 @@ unentered m n t u h =
         first_page = λ _. refl;
       };
       used = λ d. ap (λ o. option_map_or (λ (z : DomainFrames). z.used) o 0) (h.same d.0);
-      segment = λ s. ap (stored n) (h.places s.0) ∙ stored_all m n h.same (table.place_in t s.0);
+      segment = λ s. ap (stored n) (h.places s.0) ∙ stored_all m n h.same (table.place_of t s.0);
     }
 
 none_by : (o : Option DomainFrames) → option_map (λ (z : DomainFrames). z.chunks) o ≡ None → o ≡ None

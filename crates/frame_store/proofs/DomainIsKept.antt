@@ -2,16 +2,16 @@
 use Rattle.std.proofs.Common.{◌≡◌, ℕ, ◌+◌, ◌-◌, ◌*◌, ◌<◌, ◌≤◌, List, length, ap, arith, inl, inr, ◌∙◌}
 use Rattle.std.proofs.lemmas.Bool.{cases_eq, cases_lt}
 use Rattle.jk_model.specs.declared.values.Value.{Value}
-use Rattle.frame_store.specs.declared.chains.Chains.{Chains}
+use Rattle.number_table.specs.declared.chains.Chains.{Chains}
 use Rattle.frame_store.specs.declared.slot_set.SlotSet.{SlotSet}
 use Rattle.frame_store.specs.declared.frame_blocks.FrameRecord.{FrameRecord}
 use Rattle.frame_store.specs.declared.domain_frames.DomainFrames.{DomainFrames}
-use Rattle.frame_store.specs.ChainMoves.{count, place, nodes, stacks}
+use Rattle.number_table.specs.ChainMoves.{count, place, nodes, stacks}
 use Rattle.frame_store.specs.SlotMoves.{size, place_in, GivesSlot}
 use Rattle.frame_store.specs.FrameBlocks.{cost_in, cost_below, IsDomain}
 use Rattle.frame_store.specs.DomainMoves.{depth_of}
-use Rattle.frame_store.proofs.PlacesApart.{place_lt}
-use Rattle.frame_store.specs.SumsBelow.{sum_below-none}
+use Rattle.number_table.proofs.PlacesApart.{place_lt}
+use Rattle.number_table.proofs.SumsBelow.{sum_below-none}
 
 pub fresh_domain : (chunks : ℕ) (slots : SlotSet) (frames parts : Chains) (records : List FrameRecord) (values : List Value)
     → 1 ≤ chunks → chunks ≤ 262144 → size slots ≡ chunks → slots.live ≡ 0

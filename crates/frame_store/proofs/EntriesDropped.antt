@@ -5,7 +5,7 @@ use Rattle.jk_model.specs.declared.values.Value.{Value}
 use Rattle.jk_model_frames.specs.Frames.{FrameState}
 use Rattle.frame_store.specs.declared.frame_blocks.FrameRecord.{FrameRecord}
 use Rattle.frame_store.specs.declared.domain_frames.DomainFrames.{DomainFrames}
-use Rattle.frame_store.specs.ChainMoves.{place}
+use Rattle.number_table.specs.ChainMoves.{place}
 use Rattle.frame_store.specs.FrameBlocks.{build, record_at, value_of, frame_of, lowest_in}
 use Rattle.frame_store.specs.DomainMoves.{depth_of, frames_of, value_at, IsFrameNumber}
 use Rattle.frame_store.specs.Builds.{build-same, build-set, build-split, length-build}

@@ -6,17 +6,17 @@ use Rattle.jk_model.specs.declared.frames.FrameHead.{FrameHead}
 use Rattle.jk_model.specs.declared.values.Value.{Value}
 use Rattle.jk_model.specs.declared.values.Value.TheVariants.{Unset}
 use Rattle.jk_model_frames.specs.Frames.{FrameState, new_frame, head_chunks}
-use Rattle.frame_store.specs.declared.chains.Chains.{Chains}
+use Rattle.number_table.specs.declared.chains.Chains.{Chains}
 use Rattle.frame_store.specs.declared.frame_blocks.FrameRecord.{FrameRecord}
 use Rattle.frame_store.specs.declared.domain_frames.DomainFrames.{DomainFrames}
-use Rattle.frame_store.specs.Chains.{sum_below}
-use Rattle.frame_store.specs.ChainMoves.{count, place, nodes, stacks, MovesTop}
+use Rattle.number_table.specs.Chains.{sum_below}
+use Rattle.number_table.specs.ChainMoves.{count, place, nodes, stacks, MovesTop}
 use Rattle.frame_store.specs.SlotMoves.{place_in}
 use Rattle.frame_store.specs.FrameBlocks.{build, record_at, value_of, frame_of, lowest_in, cost_in, cost_below, IsFramed, IsDomain, TakesBlocks}
 use Rattle.frame_store.specs.DomainMoves.{depth_of, frames_of, start_of, value_at, IsFrameNumber, IsSlot}
-use Rattle.frame_store.proofs.PlacesApart.{place_lt}
+use Rattle.number_table.proofs.PlacesApart.{place_lt}
 use Rattle.frame_store.specs.Builds.{build-same, build-more, build-replicate, le_count}
-use Rattle.frame_store.specs.SumsBelow.{sum_below-same, sum_below-change, sum_below-le}
+use Rattle.number_table.proofs.SumsBelow.{sum_below-same, sum_below-change, sum_below-le}
 use Rattle.frame_store.proofs.FrameValues.{frame-same}
 use Rattle.frame_store.proofs.TopIsWritten.{is_frame, numbers_apart, in_blocks, other_records_of, record_of}
 

@@ -3,15 +3,15 @@ use Rattle.std.proofs.Common.{◌≡◌, ◌≢◌, ℕ, suc, ◌+◌, ◌-◌, 
 use Rattle.std.proofs.lemmas.Bool.{cases_eq}
 use Rattle.jk_model.specs.declared.values.Value.TheVariants.{Unset}
 use Rattle.jk_model_frames.specs.Frames.{head_chunks}
-use Rattle.frame_store.specs.declared.chains.Chains.{Chains}
+use Rattle.number_table.specs.declared.chains.Chains.{Chains}
 use Rattle.frame_store.specs.declared.domain_frames.DomainFrames.{DomainFrames}
-use Rattle.frame_store.specs.Chains.{sum_below}
-use Rattle.frame_store.specs.ChainMoves.{count, place, MovesTop}
+use Rattle.number_table.specs.Chains.{sum_below}
+use Rattle.number_table.specs.ChainMoves.{count, place, MovesTop}
 use Rattle.frame_store.specs.FrameBlocks.{build, record_at, frame_of, lowest_in, cost_in, cost_below, IsFramed, IsDomain, GivesBlocks}
 use Rattle.frame_store.specs.DomainMoves.{depth_of, frames_of, top_number, lower_of, value_at, HasTop}
-use Rattle.frame_store.proofs.PlacesApart.{place_lt}
+use Rattle.number_table.proofs.PlacesApart.{place_lt}
 use Rattle.frame_store.specs.Builds.{build-same}
-use Rattle.frame_store.specs.SumsBelow.{sum_below-same, sum_below-change}
+use Rattle.number_table.proofs.SumsBelow.{sum_below-same, sum_below-change}
 use Rattle.frame_store.proofs.FrameValues.{frame-same}
 use Rattle.frame_store.proofs.TopIsWritten.{is_frame, numbers_apart, in_blocks, top_is_frame}
 

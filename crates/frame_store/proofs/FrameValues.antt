@@ -4,11 +4,11 @@ use Rattle.std.proofs.lemmas.Bool.{cases_eq}
 use Rattle.jk_model.specs.declared.values.Value.{Value}
 use Rattle.jk_model.specs.declared.values.Value.TheVariants.{Unset}
 use Rattle.jk_model_frames.specs.Frames.{FrameState}
-use Rattle.frame_store.specs.declared.chains.Chains.{Chains}
+use Rattle.number_table.specs.declared.chains.Chains.{Chains}
 use Rattle.frame_store.specs.declared.frame_blocks.FrameRecord.{FrameRecord}
-use Rattle.frame_store.specs.ChainMoves.{count, place, stacks, MovesTop}
+use Rattle.number_table.specs.ChainMoves.{count, place, stacks, MovesTop}
 use Rattle.frame_store.specs.FrameBlocks.{build, record_at, index_of, value_of, frame_of, IsCleared, TakesBlocks}
-use Rattle.frame_store.proofs.PlacesApart.{places_apart}
+use Rattle.number_table.proofs.PlacesApart.{places_apart}
 use Rattle.frame_store.specs.Builds.{build-same}
 
 split_blocks : (b c x y : ℕ) → 20 * b + x ≡ 20 * c + y → x < 20 → y < 20 → (b ≡ c) × (x ≡ y)

@@ -7,9 +7,9 @@ use Rattle.jk_model.specs.declared.frames.FrameHead.{FrameHead}
 use Rattle.jk_model.specs.declared.values.Value.{Value}
 use Rattle.jk_model.specs.declared.values.Value.TheVariants.{Unset}
 use Rattle.jk_model_frames.specs.Frames.{FrameState, as_locals, called_frame, locals_of, new_frame}
-use Rattle.frame_store.specs.declared.chains.Chains.{Chains}
+use Rattle.number_table.specs.declared.chains.Chains.{Chains}
 use Rattle.frame_store.specs.declared.domain_frames.DomainFrames.{DomainFrames}
-use Rattle.frame_store.specs.ChainMoves.{count, place, MovesTop}
+use Rattle.number_table.specs.ChainMoves.{count, place, MovesTop}
 use Rattle.frame_store.specs.DomainMoves.{depth_of, frames_of, lower_of, start_of, top_of, top_number, value_at, HasTop, IsTopOf, IsFrameNumber, Becomes, HasGiven, MayGive, GivesTo}
 use Rattle.frame_store.specs.Builds.{get-build, length-build}
 use Rattle.frame_store.proofs.TopIsWritten.{frames_more, is_frame, top_is_frame}

@@ -4,10 +4,10 @@ use Rattle.std.proofs.lemmas.List.{append-nil}
 use Rattle.list_lemmas.proofs.LastItems.{one_last}
 use Rattle.jk_model.specs.declared.values.Value.{Value}
 use Rattle.jk_model_frames.specs.Frames.{FrameState, head_chunks}
-use Rattle.frame_store.specs.declared.chains.Chains.{Chains}
+use Rattle.number_table.specs.declared.chains.Chains.{Chains}
 use Rattle.frame_store.specs.declared.cursor.Cursor.{Cursor}
 use Rattle.frame_store.specs.declared.domain_frames.DomainFrames.{DomainFrames}
-use Rattle.frame_store.specs.ChainMoves.{count, place}
+use Rattle.number_table.specs.ChainMoves.{count, place}
 use Rattle.frame_store.specs.Cursors.{HasValuesAt, IsAimed}
 use Rattle.frame_store.specs.FrameContents.{given_back, gone_on}
 use Rattle.frame_store.specs.DomainMoves.{depth_of, frames_of, locals_at, lower_of, start_of, top_of, top_number, value_at, Becomes, HasTop, IsFrameNumber, IsSlot, IsTopOf}

@@ -11,12 +11,12 @@ use Rattle.jk_model.specs.declared.identifiers.DomainId.{DomainId}
 use Rattle.jk_model.specs.declared.identifiers.SegmentNo.{SegmentNo}
 use Rattle.jk_model.specs.declared.values.Value.{Value}
 use Rattle.jk_model_frames.specs.Frames.{FrameState, called_frame, head_chunks, new_frame}
-use Rattle.frame_store.specs.declared.chains.Chains.{Chains}
+use Rattle.number_table.specs.declared.chains.Chains.{Chains}
 use Rattle.frame_store.specs.declared.cursor.Cursor.{Cursor}
 use Rattle.frame_store.specs.declared.domain_frames.DomainFrames.{DomainFrames}
-use Rattle.frame_store.specs.declared.segment_table.Place.{Place}
+use Rattle.number_table.specs.declared.entry_table.Place.{Place}
 use Rattle.frame_store.specs.declared.slot_set.SlotSet.{SlotSet}
-use Rattle.frame_store.specs.ChainMoves.{count, place}
+use Rattle.number_table.specs.ChainMoves.{count, place}
 use Rattle.frame_store.specs.Cursors.{AimsIfThere, HasValuesAt, IsAimed}
 use Rattle.frame_store.specs.DomainMoves.{depth_of, frames_of, locals_at, lower_of, top_number, top_of, value_at, Becomes, CallsOn, DropsTopEntries, ExchangesTopEntries, GivesTopBack, HasTop, IsFrameNumber, IsSlot, IsTopOf, TakesTopEntry}
 use Rattle.frame_store.specs.FrameContents.{Calls, Changes, DropsEntries, ExchangesEntries, FrameContent, GivesBack, HasTop as HasTopFrame, IsThere, Pops, Pushes, SetsTop, StoredSegment, TakesEntry, TopFrame, gone_on}

@@ -9,14 +9,14 @@ use Rattle.jk_model.specs.declared.identifiers.SegmentNo.{SegmentNo}
 use Rattle.indexmap.specs.IndexMap.{IndexMap, IsUnique, get, with_value_at}
 use Rattle.frame_store.specs.declared.cursor.Cursor.{Cursor}
 use Rattle.frame_store.specs.declared.domain_frames.DomainFrames.{DomainFrames}
-use Rattle.frame_store.specs.declared.segment_table.Place.{Place}
-use Rattle.frame_store.specs.declared.segment_table.SegmentTable.{SegmentTable}
+use Rattle.number_table.specs.declared.entry_table.Place.{Place}
+use Rattle.number_table.specs.NumberPlaces.{NumberPlaces}
 use Rattle.frame_store.specs.Cursors.{IsCursor, IsRightFor}
 use Rattle.frame_store.specs.DomainMoves.{frames_of, top_number, HasTop}
 use Rattle.frame_store.specs.FrameContents.{IsOnly, IsThere, KeepsOthers, StoredSegment}
 use Rattle.frame_store.specs.LentSegments.{IsAtSegment, StaysBeside, beside_of, content_at, segment_at}
 use Rattle.frame_store.specs.StoreContents.{content_of, stored, IsFound, IsStore}
-use Rattle.frame_store.specs.TableMoves as table
+use Rattle.number_table.specs.NumberPlaces as table
 use Rattle.frame_store.proofs.CursorPoints.{found_read_at, placed_there, read_there, right_again, slot_there, wrote_cursor}
 use Rattle.frame_store.proofs.LentCalls.{quota_here, segment_elsewhere, segment_here, used_here}
 use Rattle.frame_store.proofs.StoreChanges.{get_here, get_other, map_same, others_by, segment_in, segment_is, store_kept_by}
@@ -36,8 +36,8 @@ beside_now x c =
     }
 
 -- What is lent is the segment alone.
-module _ {S : Type 0} (m : IndexMap ℕ DomainFrames S) (t : SegmentTable) (owed : ℕ) (s : SegmentNo) (h : IsStore m t owed) (c : Cursor) (x : DomainFrames)
-    (here : c.segment ≡ s.0) (at : table.place_in t s.0 ≡ Some c.place) (is : get nat_eq m c.place.domain ≡ Some x) (name : ℕ) where
+module _ {S : Type 0} (m : IndexMap ℕ DomainFrames S) (t : NumberPlaces) (owed : ℕ) (s : SegmentNo) (h : IsStore m t owed) (c : Cursor) (x : DomainFrames)
+    (here : c.segment ≡ s.0) (at : table.place_of t s.0 ≡ Some c.place) (is : get nat_eq m c.place.domain ≡ Some x) (name : ℕ) where
   found : IsFound m t s.0 x c.place.slot
   found = record { domain = c.place.domain; at = at; is = is }
 
@@ -69,7 +69,7 @@ module _ {S : Type 0} (m : IndexMap ℕ DomainFrames S) (t : SegmentTable) (owed
         first_page = λ _ _. refl;
       }
 
-module _ {S : Type 0} (m : IndexMap ℕ DomainFrames S) (t : SegmentTable) (owed : ℕ) (s : SegmentNo) (h : IsStore m t owed) (c : Cursor)
+module _ {S : Type 0} (m : IndexMap ℕ DomainFrames S) (t : NumberPlaces) (owed : ℕ) (s : SegmentNo) (h : IsStore m t owed) (c : Cursor)
     (k : IsRightFor m t s.0 c) (there : IsThere (content_of m t) s) (x : DomainFrames) (d : ℕ) (reads : slice_get m.entries c.domain ≡ Some (d, x))
     (here : c.segment ≡ s.0) where
   pub right_at : IsAtSegment x c
@@ -81,7 +81,7 @@ module _ {S : Type 0} (m : IndexMap ℕ DomainFrames S) (t : SegmentTable) (owed
         values = λ top. k.values x c.place.slot f top;
       }
 
-  at : table.place_in t s.0 ≡ Some c.place
+  at : table.place_of t s.0 ≡ Some c.place
   at = placed_there m t owed s h c k there x d reads
 
   is : get nat_eq m c.place.domain ≡ Some x
@@ -140,7 +140,7 @@ module _ {S : Type 0} (m : IndexMap ℕ DomainFrames S) (t : SegmentTable) (owed
           others =
               λ r ne.
               others_by m n t owed s c.place x y h at is wrote stays.frames r.0
-              (λ e. ne (ap (λ q. let z : SegmentNo = record { 0 = q } in z) e)) (table.place_in t r.0) refl;
+              (λ e. ne (ap (λ q. let z : SegmentNo = record { 0 = q } in z) e)) (table.place_of t r.0) refl;
           other_domains =
               λ g e q ne.
               let differs : q.0 ≢ c.place.domain = λ same.

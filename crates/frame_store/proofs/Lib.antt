@@ -1,5 +1,6 @@
 pub mod ArgumentsInLocals
 pub mod BlocksAreGiven
+pub mod ChangesInTurn
 mod WrittenAt
 pub mod CursorIsKept
 pub mod CursorPoints
@@ -8,20 +9,13 @@ pub mod DomainCloses
 pub mod DomainIsEntered
 pub mod DomainIsKept
 pub mod EntriesDropped
-pub mod EntriesOfANumber
-pub mod EntryIsPut
-pub mod EntryIsTaken
 pub mod FrameIsAdded
 pub mod FramesCalled
 pub mod FrameIsOff
 pub mod FrameValues
 pub mod GivenBack
-pub mod FreeChains
 pub mod LentCalls
 pub mod LentStores
-pub mod MovesKeepChains
-pub mod NodeOfAKey
-pub mod PlacesApart
 pub mod RoomIsTested
 pub mod SegmentsAlone
 pub mod SegmentBegins
@@ -32,7 +26,6 @@ pub mod SlotsAreForgotten
 pub mod StoreChanges
 pub mod StoreReads
 pub mod StoreSteps
-pub mod TableIsMoved
 pub mod TopEntries
 pub mod TopIsWritten
 pub mod TopValues

@@ -8,13 +8,13 @@ use Rattle.jk_model.specs.declared.identifiers.SegmentNo.{SegmentNo}
 use Rattle.jk_model_frames.specs.Frames.{head_chunks}
 use Rattle.indexmap.specs.IndexMap.{IndexMap, get}
 use Rattle.frame_store.specs.declared.domain_frames.DomainFrames.{DomainFrames}
-use Rattle.frame_store.specs.declared.segment_table.SegmentTable.{SegmentTable}
+use Rattle.number_table.specs.NumberPlaces.{NumberPlaces}
 use Rattle.frame_store.specs.FrameContents.{FrameContent, HasRoomFor, StoredSegment, free_chunks}
 use Rattle.frame_store.specs.StoreContents.{content_of, IsFound, IsStore}
 use Rattle.frame_store.proofs.StoreChanges.{found_segment, segment_in}
 
 -- what the domain may still use
-free_is : {S : Type 0} (m : IndexMap ℕ DomainFrames S) (places : SegmentTable) (d : DomainId) (x : DomainFrames) → get nat_eq m d.0 ≡ Some x
+free_is : {S : Type 0} (m : IndexMap ℕ DomainFrames S) (places : NumberPlaces) (d : DomainId) (x : DomainFrames) → get nat_eq m d.0 ≡ Some x
     → free_chunks (content_of m places) d ≡ x.chunks - x.used
 free_is m places d x is =
     ap (λ o. option_map_or (λ q. q - option_map_or (λ (z : DomainFrames). z.used) o 0) (option_map (λ (z : DomainFrames). z.chunks) o) 0) is
@@ -22,7 +22,7 @@ free_is m places d x is =
 too_many : (a b c : ℕ) → a < b → b ≤ c → c ≡ a → ⊥
 too_many a b c low high same = omega arith
 
-module _ {S : Type 0} (old : FrameContent) (m : IndexMap ℕ DomainFrames S) (t : SegmentTable) (owed : ℕ) (s : SegmentNo)
+module _ {S : Type 0} (old : FrameContent) (m : IndexMap ℕ DomainFrames S) (t : NumberPlaces) (owed : ℕ) (s : SegmentNo)
     (h : IsStore m t owed) (x : DomainFrames) (slot : ℕ) (f : IsFound m t s.0 x slot) (head : FrameHead) (same : content_of m t ≡ old) where
   abbrev domain : DomainId
   domain = record { 0 = f.domain }

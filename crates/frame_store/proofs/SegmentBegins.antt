@@ -3,37 +3,25 @@ use Rattle.std.proofs.Common.{◌≡◌, ◌≢◌, ℕ, ◌+◌, ◌-◌, ◌<�
 use Rattle.std.specs.Option.{option_map_or}
 use Rattle.std.specs.HashMap.{WritesThrough}
 use Rattle.std.specs.Map.{values_of}
-use Rattle.std.proofs.lemmas.Bool.{cases_eq, cases_lt}
+use Rattle.std.proofs.lemmas.Bool.{cases_eq}
 use Rattle.std.proofs.lemmas.Bool.Decides.{eqb_tells}
-use Rattle.std.proofs.lemmas.List.{get_or_past}
 use Rattle.std.proofs.lemmas.Map.Entries.{sum_by-set_value}
 use Rattle.jk_model.specs.declared.frames.FrameHead.{FrameHead}
 use Rattle.jk_model.specs.declared.identifiers.DomainId.{DomainId}
 use Rattle.jk_model.specs.declared.identifiers.SegmentNo.{SegmentNo}
 use Rattle.jk_model_frames.specs.Frames.{FrameState, new_frame, head_chunks}
 use Rattle.indexmap.specs.IndexMap.{IndexMap, get, values}
-use Rattle.frame_store.specs.declared.chains.Stack.{Stack}
 use Rattle.frame_store.specs.declared.domain_frames.DomainFrames.{DomainFrames}
-use Rattle.frame_store.specs.declared.segment_table.Place.{Place}
-use Rattle.frame_store.specs.declared.segment_table.SegmentTable.{SegmentTable}
-use Rattle.frame_store.specs.Chains.{no_stack}
-use Rattle.frame_store.specs.ChainMoves.{stacks}
+use Rattle.number_table.specs.declared.entry_table.Place.{Place}
+use Rattle.number_table.specs.NumberPlaces.{NumberPlaces, Inserts}
 use Rattle.frame_store.specs.FrameContents.{StoredSegment, Changes, IsSame}
 use Rattle.frame_store.specs.SlotMoves.{IsLive, number_of, place_in, size}
-use Rattle.frame_store.specs.TableMoves.{Inserts}
-use Rattle.frame_store.specs.TableMoves as table
+use Rattle.number_table.specs.NumberPlaces as table
 use Rattle.frame_store.specs.DomainMoves.{frames_of}
 use Rattle.frame_store.specs.DomainMoves as domain
 use Rattle.frame_store.specs.StoreContents.{content_of, stored, owed_by, IsStore}
 use Rattle.frame_store.specs.StoreIsContent.{stands}
-use Rattle.frame_store.proofs.MovesKeepChains.{count_le}
 use Rattle.frame_store.proofs.StoreChanges.{segment_in, read_some, lt_by}
-
-lt_le : (a b c : ℕ) → a ≤ b → b < c → a < c
-lt_le a b c h k = omega arith
-
-zero_lt : (a : ℕ) → a ≡ 0 → a < 2 ^ 63
-zero_lt a e = omega arith
 
 same_sum : (a b c d : ℕ) → a + b ≡ c + d → d ≡ b → c ≡ a
 same_sum a b c d e f = omega arith
@@ -53,17 +41,8 @@ some_by a b c d e s f g = omega arith
 room_less : (a b c : ℕ) → a ≤ b → c + 1 ≡ b → a - 1 ≤ c
 room_less a b c h e = omega arith
 
-pub room_small : (t : SegmentTable) → table.room t < 2 ^ 63
-room_small t =
-    elim (cases_lt t.buckets (stacks t.chains)) [
-      | inl lt ↦ lt_le (table.room t) _ (2 ^ 63) (count_le t.chains.nodes.items t.chains.stacks.items t.buckets t.chains.ok lt) t.chains.ok.few
-      | inr past ↦
-          let e : table.room t ≡ 0 = ap (λ (k : Stack). k.count) (get_or_past t.chains.stacks.items t.buckets no_stack past) in
-          zero_lt (table.room t) e
-    ]
-
-pub owed_small : (owed room : ℕ) → owed ≤ room → room < 2 ^ 63 → owed + 1 < 2 ^ 64
-owed_small owed room h k = omega arith
+lt_less : (a b : ℕ) → a < b → a - 1 < b
+lt_less a b h = omega arith
 
 live_by : (used chunks sum live k : ℕ) → used ≡ sum + live → 1 + k ≤ chunks - used → live < chunks
 live_by used chunks sum live k e h = omega arith
@@ -72,8 +51,8 @@ pub live_lt : (x : DomainFrames) (k : ℕ) → 1 + k ≤ x.chunks - x.used → x
 live_lt x k h = live_by x.used x.chunks _ x.slots.live k x.ok.uses h
 
 -- a segment without a stored frame has no place
-pub no_place : {S : Type 0} (m : IndexMap ℕ DomainFrames S) (t : SegmentTable) (owed : ℕ) → IsStore m t owed → (s : ℕ) (o : Option Place)
-    → table.place_in t s ≡ o → stored m o ≡ None → table.place_in t s ≡ None
+pub no_place : {S : Type 0} (m : IndexMap ℕ DomainFrames S) (t : NumberPlaces) (owed : ℕ) → IsStore m t owed → (s : ℕ) (o : Option Place)
+    → table.place_of t s ≡ o → stored m o ≡ None → table.place_of t s ≡ None
 no_place m t owed h s None e f = e
 no_place m t owed h s (Some p) e f =
     let x = stands m t owed h s p e in
@@ -131,7 +110,7 @@ module _ {S : Type 0} (m n : IndexMap ℕ DomainFrames S) (d : ℕ) (x y : Domai
   stored_is e None = refl
   stored_is e (Some q) = ap (option_map (λ (z : DomainFrames). segment_in z q.domain q.slot)) (all_is e q.domain)
 
-  pub same_content : y ≡ x → (t : SegmentTable) → IsSame (content_of m t) (content_of n t)
+  pub same_content : y ≡ x → (t : NumberPlaces) → IsSame (content_of m t) (content_of n t)
   same_content e t =
       record {
         domains = record {
@@ -141,10 +120,10 @@ module _ {S : Type 0} (m n : IndexMap ℕ DomainFrames S) (d : ℕ) (x y : Domai
           first_page = λ _. refl;
         };
         used = λ k. ap (λ o. option_map_or (λ (z : DomainFrames). z.used) o 0) (all_is e k.0);
-        segment = λ r. stored_is e (table.place_in t r.0);
+        segment = λ r. stored_is e (table.place_of t r.0);
       }
 
-  pub same_store : y ≡ x → (t : SegmentTable) (owed : ℕ) → IsStore m t owed → IsStore n t owed
+  pub same_store : y ≡ x → (t : NumberPlaces) (owed : ℕ) → IsStore m t owed → IsStore n t owed
   same_store e t owed h =
       record {
         in_domain =
@@ -158,13 +137,14 @@ module _ {S : Type 0} (m n : IndexMap ℕ DomainFrames S) (d : ℕ) (x y : Domai
         has_number = λ r q f. ap (λ o. option_map_or (λ (z : DomainFrames). number_of z.slots q.slot) o 0) (all_is e q.domain) ∙ h.has_number r q f;
         owes = h.owes ∙ same_sum (sum_by owed_by (values n)) (owed_by x) (sum_by owed_by (values m)) (owed_by y) sum_is (ap owed_by e);
         enough = h.enough;
+        few = h.few;
       }
 
   -- ---- A segment begins.
 
-  module _ (t u : SegmentTable) (owed : ℕ) (s : SegmentNo) (head : FrameHead) (slot : ℕ) (h : IsStore m t owed)
+  module _ (t u : NumberPlaces) (owed : ℕ) (s : SegmentNo) (head : FrameHead) (slot : ℕ) (h : IsStore m t owed)
       (begins : domain.Begins x y s.0 head slot) (inserts : Inserts t u s.0 (record { domain = d; slot = slot })) where
-    live_in : (r : ℕ) (q : Place) → table.place_in t r ≡ Some q → q.domain ≡ d → IsLive x.slots q.slot
+    live_in : (r : ℕ) (q : Place) → table.place_of t r ≡ Some q → q.domain ≡ d → IsLive x.slots q.slot
     live_in r q e same =
         let e_get : get nat_eq m q.domain ≡ Some x = ap (get nat_eq m) same ∙ is in (
           lt_by q.slot (option_map_or (λ (z : DomainFrames). z.chunks) (get nat_eq m q.domain) 0) q.slot (size x.slots) (h.in_domain r q e) refl
@@ -174,7 +154,7 @@ module _ {S : Type 0} (m n : IndexMap ℕ DomainFrames S) (d : ℕ) (x y : Domai
               (sym (read_some (λ (z : DomainFrames). z.slots.live) (get nat_eq m q.domain) x e_get)),
         )
 
-    other : (r : ℕ) (q : Place) → table.place_in t r ≡ Some q → q.domain ≡ d → q.slot ≢ slot
+    other : (r : ℕ) (q : Place) → table.place_of t r ≡ Some q → q.domain ≡ d → q.slot ≢ slot
     other r q e same e2 = not_both _ _ _ (ap (place_in x.slots) e2) (live_in r q e same).1 begins.takes.was_vacant
 
     abbrev IsGood : ℕ → Place → Type 0
@@ -193,7 +173,7 @@ module _ {S : Type 0} (m n : IndexMap ℕ DomainFrames S) (d : ℕ) (x y : Domai
       read_some (λ (z : DomainFrames). number_of z.slots slot) (get nat_eq n d) y here ∙ begins.takes.has_number,
     )
 
-    good_before : (r : ℕ) (q : Place) → table.place_in t r ≡ Some q → IsGood r q
+    good_before : (r : ℕ) (q : Place) → table.place_of t r ≡ Some q → IsGood r q
     good_before r q e =
         let chunks =
         lt_by q.slot (option_map_or (λ (z : DomainFrames). z.chunks) (get nat_eq m q.domain) 0) q.slot
@@ -221,11 +201,11 @@ module _ {S : Type 0} (m n : IndexMap ℕ DomainFrames S) (d : ℕ) (x y : Domai
           )
         ]
 
-    good : (r : ℕ) (q : Place) → table.place_in u r ≡ Some q → IsGood r q
+    good : (r : ℕ) (q : Place) → table.place_of u r ≡ Some q → IsGood r q
     good r q e =
         elim (cases_eq r s.0) [
           | inl same ↦
-              let q_is : Some (record { domain = d; slot = slot }) ≡ Some q = sym inserts.is_in ∙ ap (table.place_in u) (sym same) ∙ e in
+              let q_is : Some (record { domain = d; slot = slot }) ≡ Some q = sym inserts.is_in ∙ ap (table.place_of u) (sym same) ∙ e in
               let q_same : record { domain = d; slot = slot } ≡ q = cc in
               let P : Place → Type 0 = λ k. IsGood r k in
               let Q : ℕ → Type 0 = λ k. IsGood k (record { domain = d; slot = slot }) in
@@ -242,10 +222,11 @@ module _ {S : Type 0} (m n : IndexMap ℕ DomainFrames S) (d : ℕ) (x y : Domai
           owes =
               one_less (sum_by owed_by (values n)) (owed_by x) (sum_by owed_by (values m)) (owed_by y) owed sum_is
               (owes_less x.chunks x.slots.live y.chunks y.slots.live begins.same_chunks begins.takes.live room) h.owes;
-          enough = room_less owed (table.room t) (table.room u) h.enough inserts.less_room;
+          enough = room_less owed t.room u.room h.enough inserts.less_room;
+          few = lt_less owed (2 ^ 63) h.few;
         }
 
-    others_are : (r : ℕ) (o : Option Place) → table.place_in t r ≡ o → stored n o ≡ stored m o
+    others_are : (r : ℕ) (o : Option Place) → table.place_of t r ≡ o → stored n o ≡ stored m o
     others_are r None e = refl
     others_are r (Some q) e =
         elim (cases_eq q.domain d) [
@@ -276,7 +257,7 @@ module _ {S : Type 0} (m n : IndexMap ℕ DomainFrames S) (d : ℕ) (x y : Domai
           others =
               λ r ne.
               ap (stored n) (inserts.others r.0 (λ e. ne (ap (λ k. let z : SegmentNo = record { 0 = k } in z) e)))
-              ∙ others_are r.0 (table.place_in t r.0) refl;
+              ∙ others_are r.0 (table.place_of t r.0) refl;
           uses =
               read_some (λ (z : DomainFrames). z.used) (get nat_eq n d) y here ∙ begins.uses
               ∙ ap (λ k. k + 1 + head_chunks head) (sym (read_some (λ (z : DomainFrames). z.used) (get nat_eq m d) x is));

@@ -1,5 +1,5 @@
 -- A segment goes from its domain and from the table.
-use Rattle.std.proofs.Common.{◌≡◌, ◌≢◌, ℕ, ◌+◌, ◌-◌, ◌≤◌, Some, None, nat_eq, refl, sym, ap, subst, arith, ◌∙◌, inl, inr, sum_by}
+use Rattle.std.proofs.Common.{◌≡◌, ◌≢◌, ℕ, ◌+◌, ◌-◌, ◌^◌, ◌<◌, ◌≤◌, Some, None, nat_eq, refl, sym, ap, subst, arith, ◌∙◌, inl, inr, sum_by}
 use Rattle.std.specs.Option.{option_map_or}
 use Rattle.std.specs.HashMap.{WritesThrough}
 use Rattle.std.specs.Map.{values_of}
@@ -10,12 +10,11 @@ use Rattle.jk_model.specs.declared.identifiers.SegmentNo.{SegmentNo}
 use Rattle.jk_model_frames.specs.Frames.{segment_chunks}
 use Rattle.indexmap.specs.IndexMap.{IndexMap, get, values}
 use Rattle.frame_store.specs.declared.domain_frames.DomainFrames.{DomainFrames}
-use Rattle.frame_store.specs.declared.segment_table.Place.{Place}
-use Rattle.frame_store.specs.declared.segment_table.SegmentTable.{SegmentTable}
+use Rattle.number_table.specs.declared.entry_table.Place.{Place}
+use Rattle.number_table.specs.NumberPlaces.{NumberPlaces, Removes}
 use Rattle.frame_store.specs.FrameContents.{Changes, Ends}
 use Rattle.frame_store.specs.SlotMoves.{IsLive, number_of, place_in, size}
-use Rattle.frame_store.specs.TableMoves.{Removes}
-use Rattle.frame_store.specs.TableMoves as table
+use Rattle.number_table.specs.NumberPlaces as table
 use Rattle.frame_store.specs.DomainMoves.{frames_of}
 use Rattle.frame_store.specs.DomainMoves as domain
 use Rattle.frame_store.specs.StoreContents.{content_of, stored, owed_by, IsStore}
@@ -30,19 +29,22 @@ owes_more chunks live new e le = omega arith
 le_more : (a b c : ℕ) → a ≤ b → c ≡ b + 1 → a + 1 ≤ c
 le_more a b c h e = omega arith
 
+le_lt : (a b c : ℕ) → a ≤ b → b < c → a < c
+le_lt a b c h k = omega arith
+
 le_is : (a b c : ℕ) → a ≤ b → b ≡ c → a ≤ c
 le_is a b c h e = omega arith
 
-module _ {S : Type 0} (m n : IndexMap ℕ DomainFrames S) (t u : SegmentTable) (owed : ℕ) (s : SegmentNo) (p : Place) (x y : DomainFrames) (h : IsStore m t owed)
-    (at : table.place_in t s.0 ≡ Some p) (is : get nat_eq m p.domain ≡ Some x) (wrote : WritesThrough nat_eq (nat_eq p.domain) m y n)
+module _ {S : Type 0} (m n : IndexMap ℕ DomainFrames S) (t u : NumberPlaces) (owed : ℕ) (s : SegmentNo) (p : Place) (x y : DomainFrames) (h : IsStore m t owed)
+    (at : table.place_of t s.0 ≡ Some p) (is : get nat_eq m p.domain ≡ Some x) (wrote : WritesThrough nat_eq (nat_eq p.domain) m y n)
     (ends : domain.Ends x y p.slot) (removes : Removes t u s.0) where
   -- a segment that still stands is another, and stood before
-  before : (r : ℕ) (q : Place) → table.place_in u r ≡ Some q → (r ≢ s.0) × (table.place_in t r ≡ Some q)
+  before : (r : ℕ) (q : Place) → table.place_of u r ≡ Some q → (r ≢ s.0) × (table.place_of t r ≡ Some q)
   before r q e =
-      let ne : r ≢ s.0 = λ e2. let f : table.place_in u r ≡ None = ap (table.place_in u) e2 ∙ removes.is_out in absurd (cc) in
+      let ne : r ≢ s.0 = λ e2. let f : table.place_of u r ≡ None = ap (table.place_of u) e2 ∙ removes.is_out in absurd (cc) in
       (ne, sym (removes.others r ne) ∙ e)
 
-  live_in : (r : ℕ) (q : Place) → table.place_in t r ≡ Some q → q.domain ≡ p.domain → IsLive x.slots q.slot
+  live_in : (r : ℕ) (q : Place) → table.place_of t r ≡ Some q → q.domain ≡ p.domain → IsLive x.slots q.slot
   live_in r q e same =
       let e_get : get nat_eq m q.domain ≡ Some x = ap (get nat_eq m) same ∙ is in (
         lt_by q.slot x.chunks q.slot (size x.slots) (slot_in m n t owed s p x y h at is wrote r q e same) refl x.ok.slots_are,
@@ -52,15 +54,15 @@ module _ {S : Type 0} (m n : IndexMap ℕ DomainFrames S) (t u : SegmentTable) (
       )
 
   -- what is known of it in its domain
-  kept : (r : ℕ) (q : Place) → r ≢ s.0 → table.place_in t r ≡ Some q → q.domain ≡ p.domain → (number_of y.slots q.slot ≡ number_of x.slots q.slot)
+  kept : (r : ℕ) (q : Place) → r ≢ s.0 → table.place_of t r ≡ Some q → q.domain ≡ p.domain → (number_of y.slots q.slot ≡ number_of x.slots q.slot)
       × IsLive y.slots q.slot
   kept r q ne e same =
       let live = live_in r q e same in
       let o = ends.gives.others q.slot live.0 (other_slot m n t owed s p x y h at is wrote r q e same ne) in
       (o.0, o.1 live)
 
-  pub gone_kept : IsStore n u (owed + 1)
-  gone_kept =
+  pub gone_kept : u.room < 2 ^ 63 → IsStore n u (owed + 1)
+  gone_kept small =
       record {
         in_domain =
             λ r q e.
@@ -104,7 +106,8 @@ module _ {S : Type 0} (m n : IndexMap ℕ DomainFrames S) (t u : SegmentTable) (
             (ap (λ k. k - y.slots.live) ends.same_chunks ∙ owes_more x.chunks x.slots.live y.slots.live ends.gives.live
             (le_is x.slots.live (size x.slots) x.chunks x.slots.ok.few x.ok.slots_are))
             h.owes;
-        enough = le_more owed (table.room t) (table.room u) h.enough removes.more_room;
+        enough = le_more owed t.room u.room h.enough removes.more_room;
+        few = le_lt (owed + 1) u.room (2 ^ 63) (le_more owed t.room u.room h.enough removes.more_room) small;
       }
 
   pub gone_ends : Ends (content_of m t) (content_of n u) s
@@ -123,7 +126,7 @@ module _ {S : Type 0} (m n : IndexMap ℕ DomainFrames S) (t u : SegmentTable) (
             λ r ne.
             let ne2 : r.0 ≢ s.0 = λ e. ne (ap (λ k. let z : SegmentNo = record { 0 = k } in z) e) in
             ap (stored n) (removes.others r.0 ne2)
-            ∙ others_by m n t owed s p x y h at is wrote ends.others r.0 ne2 (table.place_in t r.0) refl;
+            ∙ others_by m n t owed s p x y h at is wrote ends.others r.0 ne2 (table.place_of t r.0) refl;
         uses = read_some (λ (z : DomainFrames). z.used) (get nat_eq n p.domain) y (get_here m n t owed s p x y h at is wrote) ∙ ends.uses;
         other_domains =
             λ e ne. ap (λ o. option_map_or (λ (z : DomainFrames). z.used) o 0)

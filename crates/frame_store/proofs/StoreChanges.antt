@@ -12,13 +12,13 @@ use Rattle.jk_model_frames.specs.Frames.{FrameState}
 use Rattle.indexmap.specs.IndexMap.{IndexMap, get, values}
 use Rattle.frame_store.specs.declared.domain_frames.DomainFrames.{DomainFrames}
 use Rattle.frame_store.specs.declared.slot_set.SlotSet.{SlotSet}
-use Rattle.frame_store.specs.declared.segment_table.Place.{Place}
-use Rattle.frame_store.specs.declared.segment_table.SegmentTable.{SegmentTable}
+use Rattle.number_table.specs.declared.entry_table.Place.{Place}
+use Rattle.number_table.specs.NumberPlaces.{NumberPlaces}
 use Rattle.frame_store.specs.FrameContents.{StoredSegment, Changes, TopFrame}
 use Rattle.frame_store.specs.SlotMoves.{number_of, place_in, size}
-use Rattle.frame_store.specs.TableMoves as table
+use Rattle.number_table.specs.NumberPlaces as table
 use Rattle.frame_store.specs.DomainMoves.{depth_of, frames_of, top_of, lower_of, value_at, IsSlot, HasTop, Becomes}
-use Rattle.frame_store.specs.ChainMoves.{place}
+use Rattle.number_table.specs.ChainMoves.{place}
 use Rattle.std.proofs.lemmas.List.{length_push}
 use Rattle.std.proofs.lemmas.Option.{same_Some}
 use Rattle.list_lemmas.proofs.LastItems.{one_last}
@@ -40,8 +40,8 @@ sum_same a b c d e f = omega arith
 pub lt_by : (a b c d : ℕ) → a < b → c ≡ a → d ≡ b → c < d
 lt_by a b c d h e f = omega arith
 
-module _ {S : Type 0} (m n : IndexMap ℕ DomainFrames S) (t : SegmentTable) (owed : ℕ) (s : SegmentNo) (p : Place) (x y : DomainFrames) (h : IsStore m t owed)
-    (at : table.place_in t s.0 ≡ Some p) (is : get nat_eq m p.domain ≡ Some x) (wrote : WritesThrough nat_eq (nat_eq p.domain) m y n) where
+module _ {S : Type 0} (m n : IndexMap ℕ DomainFrames S) (t : NumberPlaces) (owed : ℕ) (s : SegmentNo) (p : Place) (x y : DomainFrames) (h : IsStore m t owed)
+    (at : table.place_of t s.0 ≡ Some p) (is : get nat_eq m p.domain ≡ Some x) (wrote : WritesThrough nat_eq (nat_eq p.domain) m y n) where
   some : IsSome (get nat_eq m p.domain)
   some = ap is_some is
 
@@ -97,6 +97,7 @@ module _ {S : Type 0} (m n : IndexMap ℕ DomainFrames S) (t : SegmentTable) (ow
             (ap (λ es. sum_by owed_by (values_of es) + owed_by x) wrote.0 ∙ sum_by-set_value owed_by (nat_eq p.domain) m.entries x y is)
             (ap (λ k. k - y.slots.live) same_chunks ∙ ap (λ k. x.chunks - k) same_live);
         enough = h.enough;
+        few = h.few;
       }
 
   pub store_kept : y.chunks ≡ x.chunks → y.slots ≡ x.slots → IsStore n t owed
@@ -105,7 +106,7 @@ module _ {S : Type 0} (m n : IndexMap ℕ DomainFrames S) (t : SegmentTable) (ow
       (λ i. ap (λ (k : SlotSet). number_of k i) same_slots)
 
   -- another segment of the domain is in another slot
-  pub other_slot : (r : ℕ) (q : Place) → table.place_in t r ≡ Some q → q.domain ≡ p.domain → r ≢ s.0 → q.slot ≢ p.slot
+  pub other_slot : (r : ℕ) (q : Place) → table.place_of t r ≡ Some q → q.domain ≡ p.domain → r ≢ s.0 → q.slot ≢ p.slot
   other_slot r q e same ne e2 =
       let e_get : get nat_eq m q.domain ≡ Some x = ap (get nat_eq m) same ∙ is in
       let a : number_of x.slots q.slot ≡ r = sym (read_some (λ (z : DomainFrames). number_of z.slots q.slot) (get nat_eq m q.domain) x e_get)
@@ -114,14 +115,14 @@ module _ {S : Type 0} (m n : IndexMap ℕ DomainFrames S) (t : SegmentTable) (ow
       ∙ h.has_number s.0 p at in
       ne (sym a ∙ ap (number_of x.slots) e2 ∙ b)
 
-  pub slot_in : (r : ℕ) (q : Place) → table.place_in t r ≡ Some q → q.domain ≡ p.domain → q.slot < x.chunks
+  pub slot_in : (r : ℕ) (q : Place) → table.place_of t r ≡ Some q → q.domain ≡ p.domain → q.slot < x.chunks
   slot_in r q e same =
       let e_get : get nat_eq m q.domain ≡ Some x = ap (get nat_eq m) same ∙ is in
       lt_by q.slot (option_map_or (λ (z : DomainFrames). z.chunks) (get nat_eq m q.domain) 0) q.slot x.chunks (h.in_domain r q e) refl
       (sym (read_some (λ (z : DomainFrames). z.chunks) (get nat_eq m q.domain) x e_get))
 
   pub others_by : ((j : ℕ) → j < x.chunks → j ≢ p.slot → frames_of y j ≡ frames_of x j) → (r : ℕ) → r ≢ s.0 → (o : Option Place)
-      → table.place_in t r ≡ o → stored n o ≡ stored m o
+      → table.place_of t r ≡ o → stored n o ≡ stored m o
   others_by same r ne None e = refl
   others_by same r ne (Some q) e =
       elim (cases_eq q.domain p.domain) [
@@ -151,7 +152,7 @@ module _ {S : Type 0} (m n : IndexMap ℕ DomainFrames S) (t : SegmentTable) (ow
             ∙ ap (option_map (λ (z : DomainFrames). segment_in z p.domain p.slot)) get_here
             ∙ ap (λ (k : List FrameState). let g : StoredSegment = record { domain = record { 0 = p.domain }; frames = k } in Some g) b.becomes;
         others =
-            λ r ne. others_by b.others r.0 (λ e. ne (ap (λ k. let z : SegmentNo = record { 0 = k } in z) e)) (table.place_in t r.0) refl;
+            λ r ne. others_by b.others r.0 (λ e. ne (ap (λ k. let z : SegmentNo = record { 0 = k } in z) e)) (table.place_of t r.0) refl;
         uses = read_some (λ (z : DomainFrames). z.used) (get nat_eq n p.domain) y get_here ∙ b.uses;
         other_domains =
             λ e ne. ap (λ o. option_map_or (λ (z : DomainFrames). z.used) o 0)
@@ -169,7 +170,7 @@ module _ {S : Type 0} (m n : IndexMap ℕ DomainFrames S) (t : SegmentTable) (ow
 some_by : (a b : ℕ) → a ≡ b + 1 → 0 < a
 some_by a b e = omega arith
 
-module _ {S : Type 0} (m : IndexMap ℕ DomainFrames S) (t : SegmentTable) (owed : ℕ) (s : SegmentNo) (h : IsStore m t owed) where
+module _ {S : Type 0} (m : IndexMap ℕ DomainFrames S) (t : NumberPlaces) (owed : ℕ) (s : SegmentNo) (h : IsStore m t owed) where
   pub standing_at : (g : StoredSegment) → (content_of m t).segment s ≡ Some g → IsStanding m t s.0
   standing_at g e =
       let p = placed m t owed h s g e in

@@ -5,9 +5,9 @@ use Rattle.jk_model.specs.declared.identifiers.SegmentNo.{SegmentNo}
 use Rattle.jk_model_frames.specs.Frames.{FrameState}
 use Rattle.indexmap.specs.IndexMap.{IndexMap}
 use Rattle.frame_store.specs.declared.domain_frames.DomainFrames.{DomainFrames}
-use Rattle.frame_store.specs.declared.segment_table.SegmentTable.{SegmentTable}
+use Rattle.number_table.specs.NumberPlaces.{NumberPlaces}
 use Rattle.frame_store.specs.FrameContents.{StoredSegment, FrameAt}
-use Rattle.frame_store.specs.ChainMoves.{place}
+use Rattle.number_table.specs.ChainMoves.{place}
 use Rattle.frame_store.specs.DomainMoves.{depth_of, frames_of, value_at}
 use Rattle.frame_store.specs.StoreContents.{content_of, IsStore, IsFound}
 use Rattle.frame_store.specs.Builds.{length-build}
@@ -33,7 +33,7 @@ index_below a b i e h = omega arith
 low_by : (n a b : ℕ) → n < a → a ≡ b → n < b
 low_by n a b h e = omega arith
 
-module _ {S : Type 0} (m : IndexMap ℕ DomainFrames S) (t : SegmentTable) (owed : ℕ) (s : SegmentNo) (h : IsStore m t owed) (x : DomainFrames) (i : ℕ)
+module _ {S : Type 0} (m : IndexMap ℕ DomainFrames S) (t : NumberPlaces) (owed : ℕ) (s : SegmentNo) (h : IsStore m t owed) (x : DomainFrames) (i : ℕ)
     (f : IsFound m t s.0 x i) (n : ℕ) (g : FrameState) (at : FrameAt (content_of m t) s n g) where
   get_is : slice_get (frames_of x i) n ≡ Some g
   get_is =

@@ -10,17 +10,17 @@ use Rattle.jk_model.specs.declared.values.Value.{Value}
 use Rattle.jk_model_frames.specs.Frames.{FrameState, called_frame, new_frame, head_chunks}
 use Rattle.indexmap.specs.IndexMap.{IndexMap, get}
 use Rattle.frame_store.specs.declared.domain_frames.DomainFrames.{DomainFrames}
-use Rattle.frame_store.specs.declared.segment_table.Place.{Place}
-use Rattle.frame_store.specs.declared.segment_table.SegmentTable.{SegmentTable}
+use Rattle.number_table.specs.declared.entry_table.Place.{Place}
+use Rattle.number_table.specs.NumberPlaces.{NumberPlaces}
 use Rattle.frame_store.specs.FrameContents.{StoredSegment, Calls, Changes, GivesBack, IsSame, SetsTop, Pops, Pushes, gone_on}
-use Rattle.frame_store.specs.TableMoves as table
+use Rattle.number_table.specs.NumberPlaces as table
 use Rattle.frame_store.specs.DomainMoves.{frames_of, top_of, lower_of, HasTop, Becomes, CallsOn, GivesTopBack}
 use Rattle.frame_store.specs.StoreContents.{content_of, stored, IsFound, IsStore}
 use Rattle.frame_store.proofs.TopIsWritten.{frames_more}
 use Rattle.frame_store.proofs.StoreChanges.{segment_in, found_top_is, get_here, get_other, store_changes, used_is, segment_is}
 
-module _ {S : Type 0} (m n : IndexMap ℕ DomainFrames S) (t : SegmentTable) (owed : ℕ) (s : SegmentNo) (p : Place) (x y : DomainFrames) (h : IsStore m t owed)
-    (at : table.place_in t s.0 ≡ Some p) (is : get nat_eq m p.domain ≡ Some x) (wrote : WritesThrough nat_eq (nat_eq p.domain) m y n) where
+module _ {S : Type 0} (m n : IndexMap ℕ DomainFrames S) (t : NumberPlaces) (owed : ℕ) (s : SegmentNo) (p : Place) (x y : DomainFrames) (h : IsStore m t owed)
+    (at : table.place_of t s.0 ≡ Some p) (is : get nat_eq m p.domain ≡ Some x) (wrote : WritesThrough nat_eq (nat_eq p.domain) m y n) where
   abbrev segment_here : StoredSegment
   segment_here = segment_in x p.domain p.slot
 
@@ -119,5 +119,5 @@ module _ {S : Type 0} (m n : IndexMap ℕ DomainFrames S) (t : SegmentTable) (ow
           first_page = λ _. refl;
         };
         used = λ d. ap (λ o. option_map_or (λ (z : DomainFrames). z.used) o 0) (get_all e d.0);
-        segment = λ r. stored_all e (table.place_in t r.0);
+        segment = λ r. stored_all e (table.place_of t r.0);
       }

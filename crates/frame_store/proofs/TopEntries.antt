@@ -4,7 +4,7 @@ use Rattle.std.proofs.lemmas.List.{length-drop, take-append-drop}
 use Rattle.jk_model.specs.declared.values.Value.{Value}
 use Rattle.jk_model_frames.specs.Frames.{FrameState}
 use Rattle.frame_store.specs.declared.domain_frames.DomainFrames.{DomainFrames}
-use Rattle.frame_store.specs.ChainMoves.{place}
+use Rattle.number_table.specs.ChainMoves.{place}
 use Rattle.frame_store.specs.DomainMoves.{depth_of, frames_of, lower_of, top_of, value_at, HasTop}
 use Rattle.frame_store.specs.Builds.{length-build}
 use Rattle.frame_store.proofs.TopIsWritten.{frames_more}

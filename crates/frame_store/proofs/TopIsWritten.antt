@@ -7,13 +7,13 @@ use Rattle.jk_model.specs.declared.values.Value.TheVariants.{Unset}
 use Rattle.jk_model_frames.specs.Frames.{FrameState, head_chunks}
 use Rattle.frame_store.specs.declared.frame_blocks.FrameRecord.{FrameRecord}
 use Rattle.frame_store.specs.declared.domain_frames.DomainFrames.{DomainFrames}
-use Rattle.frame_store.specs.ChainMoves.{count, place, stacks}
+use Rattle.number_table.specs.ChainMoves.{count, place, stacks}
 use Rattle.frame_store.specs.FrameBlocks.{no_record, record_at, index_of, value_of, frame_of, lowest_in, cost_in, IsDomain}
 use Rattle.frame_store.specs.DomainMoves.{depth_of, frames_of, top_of, top_number, lower_of, value_at, HasTop, IsFrameNumber}
-use Rattle.frame_store.proofs.PlacesApart.{place_lt, places_apart}
+use Rattle.number_table.proofs.PlacesApart.{place_lt, places_apart}
 use Rattle.frame_store.specs.Builds.{build-same, build-more}
-use Rattle.frame_store.specs.SumsBelow.{sum_below-same, le_sum_below}
-use Rattle.frame_store.proofs.MovesKeepChains.{count_le}
+use Rattle.number_table.proofs.SumsBelow.{sum_below-same, le_sum_below}
+use Rattle.number_table.proofs.MovesKeepChains.{count_le}
 use Rattle.frame_store.proofs.FrameValues.{frame-same, indices_apart}
 
 -- ---- Frames of a domain.

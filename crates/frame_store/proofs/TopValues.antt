@@ -4,7 +4,7 @@ use Rattle.jk_model.specs.declared.values.Value.{Value}
 use Rattle.jk_model_frames.specs.Frames.{FrameState}
 use Rattle.frame_store.specs.declared.frame_blocks.FrameRecord.{FrameRecord}
 use Rattle.frame_store.specs.declared.domain_frames.DomainFrames.{DomainFrames}
-use Rattle.frame_store.specs.ChainMoves.{count}
+use Rattle.number_table.specs.ChainMoves.{count}
 use Rattle.frame_store.specs.FrameBlocks.{build, record_at, index_of, value_of, frame_of}
 use Rattle.frame_store.specs.DomainMoves.{value_at, IsFrameNumber}
 use Rattle.frame_store.specs.Builds.{build-same, build-set, build-more, length-build}

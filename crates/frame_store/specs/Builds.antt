@@ -4,7 +4,7 @@ use Rattle.std.proofs.lemmas.Bool.{cases_eq}
 use Rattle.std.proofs.lemmas.List.{append-nil, length_push}
 use Rattle.jk_model_frames.specs.Frames.{FrameState, head_chunks, frames_chunks}
 use Rattle.std.proofs.lemmas.List.Sums.{sum_by_push}
-use Rattle.frame_store.specs.Chains.{sum_below}
+use Rattle.number_table.specs.Chains.{sum_below}
 use Rattle.frame_store.specs.FrameBlocks.{build}
 
 pub build-same : {X : Type 0} (f g : ℕ → X) (n : ℕ) → ((k : ℕ) → k < n → g k ≡ f k) → build g n ≡ build f n

@@ -3,10 +3,10 @@ use Rattle.std.specs.Prelude.{◌≡◌, ℕ, ◌+◌, ◌-◌, Some, IsSome, sl
 use Rattle.indexmap.specs.IndexMap.{IndexMap}
 use Rattle.frame_store.specs.declared.cursor.Cursor.{Cursor}
 use Rattle.frame_store.specs.declared.domain_frames.DomainFrames.{DomainFrames}
-use Rattle.frame_store.specs.declared.segment_table.SegmentTable.{SegmentTable}
+use Rattle.number_table.specs.NumberPlaces.{NumberPlaces}
 use Rattle.frame_store.specs.DomainMoves.{locals_at, start_of, top_number, HasTop, IsTopOf}
 use Rattle.frame_store.specs.StoreContents.{StandsAt, IsFound}
-use Rattle.frame_store.specs.TableMoves as table
+use Rattle.number_table.specs.NumberPlaces as table
 
 -- The cursor has where the values of its frame begin, where the entries of its operand stack begin after the locals, and for how
 -- many of them there is room in the lowest block.
@@ -34,20 +34,20 @@ pub record AimsIfThere (x : DomainFrames) (old new : Cursor) : Type 0 where
 module _ {S : Type 0} where
   -- The segment is in the table. The domain and the slot in which it is found: the domain is at this place of the map,
   -- and the slot's top frame has this number.
-  pub record IsTopAt (domains : IndexMap ℕ DomainFrames S) (places : SegmentTable) (s place frame : ℕ) : Type 0 where
-    pub in_table : IsSome (table.place_in places s)
+  pub record IsTopAt (domains : IndexMap ℕ DomainFrames S) (places : NumberPlaces) (s place frame : ℕ) : Type 0 where
+    pub in_table : IsSome (table.place_of places s)
     pub entry : (x : DomainFrames) (slot : ℕ) (found : IsFound domains places s x slot) → slice_get domains.entries place ≡ Some (found.domain, x)
     pub top : (x : DomainFrames) (slot : ℕ) → IsFound domains places s x slot → IsTopOf x slot frame
 
   -- The cursor has where the segment stands, where its top frame is, and where that frame's values are.
-  pub record PointsAt (domains : IndexMap ℕ DomainFrames S) (places : SegmentTable) (s : ℕ) (c : Cursor) : Type 0 where
-    pub place : table.place_in places s ≡ Some c.place
+  pub record PointsAt (domains : IndexMap ℕ DomainFrames S) (places : NumberPlaces) (s : ℕ) (c : Cursor) : Type 0 where
+    pub place : table.place_of places s ≡ Some c.place
     pub top : IsTopAt domains places s c.domain c.frame
     pub values : (x : DomainFrames) (slot : ℕ) → IsFound domains places s x slot → HasValuesAt x c
 
   -- The cursor is right for a segment. Where the segment is found, the cursor has its place, and where its domain stands in the
   -- map; where it has a frame too, the cursor has the number of the top one, and where that frame's values are.
-  pub record IsRightFor (domains : IndexMap ℕ DomainFrames S) (places : SegmentTable) (s : ℕ) (c : Cursor) : Type 0 where
+  pub record IsRightFor (domains : IndexMap ℕ DomainFrames S) (places : NumberPlaces) (s : ℕ) (c : Cursor) : Type 0 where
     pub place : (x : DomainFrames) (slot : ℕ) (found : IsFound domains places s x slot) → c.place ≡ record { domain = found.domain; slot = slot }
     pub entry : (x : DomainFrames) (slot : ℕ) (found : IsFound domains places s x slot)
         → slice_get domains.entries c.domain ≡ Some (found.domain, x)
@@ -55,7 +55,7 @@ module _ {S : Type 0} where
     pub values : (x : DomainFrames) (slot : ℕ) → IsFound domains places s x slot → HasTop x slot → HasValuesAt x c
 
   -- The cursor is right for its segment.
-  abbrev pub IsCursor : IndexMap ℕ DomainFrames S → SegmentTable → Cursor → Type 0
+  abbrev pub IsCursor : IndexMap ℕ DomainFrames S → NumberPlaces → Cursor → Type 0
   IsCursor domains places c = IsRightFor domains places c.segment c
 
   -- A domain stands at this place of the map.

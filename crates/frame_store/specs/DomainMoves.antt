@@ -4,7 +4,7 @@ use Rattle.jk_model.specs.declared.frames.FrameHead.{FrameHead}
 use Rattle.jk_model.specs.declared.values.Value.{Value}
 use Rattle.jk_model_frames.specs.Frames.{FrameState, called_frame, head_chunks, locals_of, new_frame, segment_chunks}
 use Rattle.frame_store.specs.declared.domain_frames.DomainFrames.{DomainFrames}
-use Rattle.frame_store.specs.ChainMoves.{count, place}
+use Rattle.number_table.specs.ChainMoves.{count, place}
 use Rattle.frame_store.specs.SlotMoves.{IsLive, TakesSlot, GivesSlot}
 use Rattle.frame_store.specs.FrameContents.{gone_on}
 use Rattle.frame_store.specs.FrameBlocks.{frame_of, lowest_in, record_at, IsFramed}

@@ -3,11 +3,11 @@ use Rattle.std.specs.Prelude.{◌≡◌, ◌≢◌, ℕ, zero, suc, ◌+◌, ◌
 use Rattle.jk_model.specs.declared.values.Value.{Value}
 use Rattle.jk_model.specs.declared.values.Value.TheVariants.{Unset}
 use Rattle.jk_model_frames.specs.Frames.{FrameState, head_chunks}
-use Rattle.frame_store.specs.declared.chains.Chains.{Chains}
+use Rattle.number_table.specs.declared.chains.Chains.{Chains}
 use Rattle.frame_store.specs.declared.slot_set.SlotSet.{SlotSet}
 use Rattle.frame_store.specs.declared.frame_blocks.FrameRecord.{FrameRecord}
-use Rattle.frame_store.specs.Chains.{sum_below}
-use Rattle.frame_store.specs.ChainMoves.{count, place, nodes, stacks}
+use Rattle.number_table.specs.Chains.{sum_below}
+use Rattle.number_table.specs.ChainMoves.{count, place, nodes, stacks}
 use Rattle.frame_store.specs.SlotMoves.{size, place_in}
 
 -- what a function has at the numbers below this one

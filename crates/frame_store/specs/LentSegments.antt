@@ -3,7 +3,7 @@ use Rattle.std.specs.Prelude.{◌≡◌, ◌≢◌, ℕ, ◌<◌, List, [], fals
 use Rattle.jk_model_frames.specs.Frames.{FrameState}
 use Rattle.frame_store.specs.declared.cursor.Cursor.{Cursor}
 use Rattle.frame_store.specs.declared.domain_frames.DomainFrames.{DomainFrames}
-use Rattle.frame_store.specs.declared.segment_table.Place.{Place}
+use Rattle.number_table.specs.declared.entry_table.Place.{Place}
 use Rattle.frame_store.specs.Cursors.{HasValuesAt}
 use Rattle.frame_store.specs.DomainMoves.{frames_of, top_number, HasTop, IsSlot}
 use Rattle.frame_store.specs.FrameContents.{FrameContent, StoredSegment}

@@ -1,9 +1,7 @@
 pub mod Builds
-pub mod ChainMoves
-pub mod Chains
 pub mod Cursors
 pub mod DomainMoves
-pub mod Entries
+pub mod ForgottenSegments
 pub mod FrameBlocks
 pub mod FrameContents
 pub mod LentSegments
@@ -11,5 +9,3 @@ pub mod SlotMoves
 pub mod Slots
 pub mod StoreContents
 pub mod StoreIsContent
-pub mod SumsBelow
-pub mod TableMoves

@@ -7,17 +7,17 @@ use Rattle.jk_model.specs.declared.identifiers.SegmentNo.{SegmentNo}
 use Rattle.jk_model_frames.specs.Frames.{FrameState, frames_chunks, segment_chunks}
 use Rattle.indexmap.specs.IndexMap.{IndexMap, get}
 use Rattle.frame_store.specs.declared.domain_frames.DomainFrames.{DomainFrames}
-use Rattle.frame_store.specs.declared.segment_table.Place.{Place}
-use Rattle.frame_store.specs.declared.segment_table.SegmentTable.{SegmentTable}
+use Rattle.number_table.specs.declared.entry_table.Place.{Place}
+use Rattle.number_table.specs.NumberPlaces.{NumberPlaces}
 use Rattle.frame_store.specs.FrameContents.{StoredSegment, IsContent, IsSized, IsAdmitted}
-use Rattle.frame_store.specs.ChainMoves.{place}
+use Rattle.number_table.specs.ChainMoves.{place}
 use Rattle.frame_store.specs.SlotMoves.{number_of, place_in}
-use Rattle.frame_store.specs.TableMoves as table
+use Rattle.number_table.specs.NumberPlaces as table
 use Rattle.frame_store.specs.FrameBlocks.{build, record_at, value_of, cost_in}
 use Rattle.frame_store.specs.DomainMoves.{depth_of, frames_of, value_at}
 use Rattle.frame_store.specs.StoreContents.{content_of, stored, IsStore}
 use Rattle.frame_store.specs.Builds.{length-build, chunks-build}
-use Rattle.frame_store.specs.SumsBelow.{le_sum_below}
+use Rattle.number_table.proofs.SumsBelow.{le_sum_below}
 
 -- ---- Of a domain.
 
@@ -64,21 +64,21 @@ stands_by : {S : Type 0} (domains : IndexMap ℕ DomainFrames S) (s : ℕ) (p : 
 stands_by domains s p None e a b c = absurd (omega arith)
 stands_by domains s p (Some x) e a b c = (x, record { is = e; within = a; live = b; number = c })
 
-pub stands : {S : Type 0} (domains : IndexMap ℕ DomainFrames S) (places : SegmentTable) (owed : ℕ) → IsStore domains places owed
-    → (s : ℕ) (p : Place) → table.place_in places s ≡ Some p → (x : DomainFrames) × StandsIn domains s p x
+pub stands : {S : Type 0} (domains : IndexMap ℕ DomainFrames S) (places : NumberPlaces) (owed : ℕ) → IsStore domains places owed
+    → (s : ℕ) (p : Place) → table.place_of places s ≡ Some p → (x : DomainFrames) × StandsIn domains s p x
 stands domains places owed h s p e =
     stands_by domains s p (get nat_eq domains p.domain) refl (h.in_domain s p e) (h.is_live s p e) (h.has_number s p e)
 
 -- a stored segment with its place
-pub record HasPlace {S : Type 0} (domains : IndexMap ℕ DomainFrames S) (places : SegmentTable) (s : ℕ) (g : StoredSegment) : Type 0 where
+pub record HasPlace {S : Type 0} (domains : IndexMap ℕ DomainFrames S) (places : NumberPlaces) (s : ℕ) (g : StoredSegment) : Type 0 where
   pub place : Place
   pub domain : DomainFrames
-  pub at : table.place_in places s ≡ Some place
+  pub at : table.place_of places s ≡ Some place
   pub stands : StandsIn domains s place domain
   pub is : g ≡ record { domain = record { 0 = place.domain }; frames = frames_of domain place.slot }
 
-placed_by : {S : Type 0} (domains : IndexMap ℕ DomainFrames S) (places : SegmentTable) (owed : ℕ) → IsStore domains places owed
-    → (s : ℕ) (g : StoredSegment) (o : Option Place) → table.place_in places s ≡ o → stored domains o ≡ Some g → HasPlace domains places s g
+placed_by : {S : Type 0} (domains : IndexMap ℕ DomainFrames S) (places : NumberPlaces) (owed : ℕ) → IsStore domains places owed
+    → (s : ℕ) (g : StoredSegment) (o : Option Place) → table.place_of places s ≡ o → stored domains o ≡ Some g → HasPlace domains places s g
 placed_by domains places owed h s g None e f = absurd (cc)
 placed_by domains places owed h s g (Some p) e f =
     let x = stands domains places owed h s p e in
@@ -86,9 +86,9 @@ placed_by domains places owed h s g (Some p) e f =
     ap (option_map (λ (y : DomainFrames). let t : StoredSegment = record { domain = record { 0 = p.domain }; frames = frames_of y p.slot } in t)) x.1.is in
     record { place = p; domain = x.0; at = e; stands = x.1; is = cc }
 
-pub placed : {S : Type 0} (domains : IndexMap ℕ DomainFrames S) (places : SegmentTable) (owed : ℕ) → IsStore domains places owed
+pub placed : {S : Type 0} (domains : IndexMap ℕ DomainFrames S) (places : NumberPlaces) (owed : ℕ) → IsStore domains places owed
     → (s : SegmentNo) (g : StoredSegment) → (content_of domains places).segment s ≡ Some g → HasPlace domains places s.0 g
-placed domains places owed h s g e = placed_by domains places owed h s.0 g (table.place_in places s.0) refl e
+placed domains places owed h s g e = placed_by domains places owed h s.0 g (table.place_of places s.0) refl e
 
 le_by : (a b c : ℕ) → a ≤ b → c ≡ b → a ≤ c
 le_by a b c h e = omega arith
@@ -111,7 +111,7 @@ unused_by : (o : Option DomainFrames) → option_map (λ (y : DomainFrames). y.c
 unused_by None e = refl
 unused_by (Some x) e = absurd (cc)
 
-pub store_holds : {S : Type 0} (domains : IndexMap ℕ DomainFrames S) (places : SegmentTable) (owed : ℕ) → IsStore domains places owed
+pub store_holds : {S : Type 0} (domains : IndexMap ℕ DomainFrames S) (places : NumberPlaces) (owed : ℕ) → IsStore domains places owed
     → IsContent (content_of domains places)
 store_holds domains places owed h =
     record {

@@ -1,6 +1,6 @@
 //! Where a store was last at work.
 
-use crate::segment_table::Place;
+use number_table::Place;
 
 /// Where the top frame of the segment that a store last touched is, so that a run of calls on one segment looks it up once:
 /// the segment's number and where it stands, the place of its domain in the map, the frame's number in the domain, the

@@ -4,13 +4,13 @@ ghost use Rattle.std.specs.Prelude.{◌≡◌, ◌+◌, ◌*◌, ◌<◌, ◌≤
 ghost use Rattle.jk_model_frames.specs.Frames.{as_locals};
 ghost use Rattle.frame_store.specs.FrameBlocks.{IsDomain};
 
-use crate::chains::Chains;
 use crate::cursor::Cursor;
 use crate::frame_blocks::{
     BLOCK, FrameRecord, entry_index, give_blocks, head_chunks, take_blocks, value_index,
 };
 use crate::slot_set::SlotSet;
 use jk_model::{ClassId, FrameHead, NoChunks, OutOfMemory, Value};
+use number_table::chains::Chains;
 use std::alloc::Global;
 
 /// The frames of a domain's segments. A segment has a slot. A frame has a number, under which its record stands; the numbers
@@ -32,7 +32,7 @@ impl DomainFrames {
     ghost use Rattle.std.specs.Prelude.{◌≡◌, ℕ, ◌+◌, ◌-◌, ◌*◌, ◌^◌, ◌<◌, ◌≤◌, ◌++◌, ◌∷◌, [], List, Some, None, length, slice_get, slice_set, IfOk, OnOk, OnErr};
     ghost use Rattle.jk_model.specs.declared.values.Value.{Value as AValue};
     ghost use Rattle.jk_model_frames.specs.Frames.{FrameState as AFrame, called_frame, new_frame, head_chunks, frames_chunks};
-    ghost use Rattle.frame_store.specs.ChainMoves.{MovesTop, place};
+    ghost use Rattle.number_table.specs.ChainMoves.{MovesTop, place};
     ghost use Rattle.frame_store.specs.FrameContents.{TwoFrames};
     ghost use Rattle.frame_store.specs.Cursors.{HasValuesAt, IsAimed, AimsIfThere};
     ghost use Rattle.frame_store.specs.DomainMoves.{MayGive, GivesTo, HasGiven, CallsOn, depth_of, frames_of, top_of, top_number, locals_at, lower_of, start_of, value_at, IsSlot, HasTop, IsTopOf, IsFrameNumber, IsFresh, Opens, Becomes, Begins, Ends, TakesTopEntry, DropsTopEntries, ExchangesTopEntries, GivesTopBack};

@@ -4,11 +4,11 @@
 ghost use Rattle.std.specs.Prelude.{◌≡◌, ◌≢◌, ◌+◌, ◌-◌, ◌*◌, ◌^◌, ◌<◌, ◌≤◌, length, slice_index_or};
 ghost use Rattle.jk_model.specs.declared.values.Value.TheVariants.{Unset};
 ghost use Rattle.jk_model_frames.specs.Frames.{head_chunks};
-ghost use Rattle.frame_store.specs.ChainMoves.{count, place, nodes, stacks};
+ghost use Rattle.number_table.specs.ChainMoves.{count, place, nodes, stacks};
 ghost use Rattle.frame_store.specs.FrameBlocks.{index_of, IsCleared, TakesBlocks, GivesBlocks};
 
-use crate::chains::Chains;
 use jk_model::{FrameHead, Value};
+use number_table::chains::Chains;
 
 /// How many values a block has.
 pub(crate) const BLOCK: u16 = 20;

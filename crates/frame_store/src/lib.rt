@@ -4,13 +4,11 @@
 //! vectors of its own. It lends the frames of a segment to an `OnSegment`, whose calls then want no look-up.
 #![tactic(auto)]
 
-mod chains;
 mod cursor;
 mod domain_frames;
 mod frame_blocks;
 mod one_segment;
 mod plain_frames;
-mod segment_table;
 mod slot_set;
 mod store;
 

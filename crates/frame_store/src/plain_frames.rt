@@ -3,17 +3,18 @@
 ghost use Rattle.std.specs.Prelude.{◌≡◌, ◌≤◌, IsSome, Some, None, nat_eq};
 ghost use Rattle.indexmap.specs.IndexMap.{get};
 ghost use Rattle.frame_store.specs.StoreContents.{IsStore, AreForgotten};
+ghost use Rattle.frame_store.specs.ForgottenSegments.{Forgets};
 ghost use Rattle.frame_store.specs.Cursors.{IsCursor};
 
 use crate::cursor::{Cursor, NOWHERE};
 use crate::domain_frames::DomainFrames;
 use crate::frame_blocks::head_chunks;
 use crate::one_segment::lend;
-use crate::segment_table::{Place, SegmentTable};
 use crate::slot_set::SlotSet;
 use crate::store::{FrameStore, OnSegment, SegmentFrames};
 use indexmap::IndexMap;
 use jk_model::{AdmitError, ClassId, DomainId, FrameHead, NoChunks, OutOfMemory, SegmentNo, Value};
+use number_table::{NumberTable, Place};
 use std::alloc::Global;
 use std::marker::Brand;
 
@@ -24,7 +25,7 @@ pub struct PlainFrames {
     /// The domains, by their numbers.
     domains: IndexMap<u32, DomainFrames>,
     /// Where each segment stands.
-    places: SegmentTable,
+    places: NumberTable,
     /// How many more segments the domains may begin.
     owed: u64,
     /// Where the store was last at work.
@@ -38,7 +39,7 @@ impl PlainFrames {
     ghost use Rattle.indexmap.specs.IndexMap.{get};
     ghost use Rattle.jk_model.specs.declared.identifiers.DomainId.{DomainId};
     ghost use Rattle.jk_model.specs.declared.identifiers.SegmentNo.{SegmentNo};
-    ghost use Rattle.frame_store.specs.TableMoves.{place_in};
+    ghost use Rattle.number_table.specs.NumberPlaces.{place_of};
     ghost use Rattle.frame_store.specs.StoreContents.{content_of, IsStanding, IsFound, Enters, IsUnentered, StandsAt};
 
     /// A store without domains.
@@ -51,7 +52,7 @@ impl PlainFrames {
         PlainFrames {
             alloc,
             domains: IndexMap::new(alloc),
-            places: SegmentTable::empty(alloc),
+            places: NumberTable::empty(alloc),
             owed: 0,
             cursor: NOWHERE,
         }
@@ -59,8 +60,8 @@ impl PlainFrames {
 
     /// Where a segment stands.
     fn place(&self, s: SegmentNo) -> Place
-        requires { IsSome (place_in self.now.places s.0) }
-        ensures { place_in self.now.places s.0 ≡ Some result }
+        requires { IsSome (place_of self.now.places s.0) }
+        ensures { place_of self.now.places s.0 ≡ Some result }
     {
         self.places.get(s.0).unwrap()
     }
@@ -120,7 +121,7 @@ impl PlainFrames {
 
 impl PlainFrames {
     ghost use Rattle.std.specs.Prelude.{◌≡◌, ℕ, ◌-◌, Some, IsSome, IsTrue, ◌↔◌, length, option_map, slice_get};
-    ghost use Rattle.frame_store.specs.TableMoves.{place_in};
+    ghost use Rattle.number_table.specs.NumberPlaces.{place_of};
     ghost use Rattle.jk_model_frames.specs.Frames.{FrameState as AFrame};
     ghost use Rattle.frame_store.specs.FrameContents.{HasTop, HasLocal, HasEntry, IsThere, TopFrame};
     ghost use Rattle.frame_store.specs.StoreContents.{content_of, StandsAt};
@@ -484,10 +485,23 @@ fn cursor_at(segment: u64, place: Place, domain: usize) -> Cursor
 }
 
 /// Takes out the segments of all live slots of a domain.
-fn forget_all(places: &mut SegmentTable, slots: &SlotSet, domain: u32)
+fn forget_all(places: &mut NumberTable, slots: &SlotSet, domain: u32)
     ensures { AreForgotten places.old places.new slots.now domain slots.now.live }
 {
     for t in 0..slots.live {
-        places.forget(slots.number_at(t), domain);
+        forget(places, slots.number_at(t), domain);
     }
+}
+
+/// Takes out a segment, if it is there and stands in this domain.
+fn forget(places: &mut NumberTable, number: u64, domain: u32)
+    ensures { Forgets places.old places.new number domain }
+{
+    let Some(place) = places.get(number) else {
+        return;
+    };
+    if place.domain != domain {
+        return;
+    }
+    places.remove(number);
 }

@@ -1,9 +1,10 @@
 -- The list of a table's entries has for each key what the table finds.
-use Rattle.std.proofs.Common.{◌≡◌, ◌≢◌, ℕ, zero, suc, ◌+◌, ◌<◌, ◌≤◌, Option, Some, None, nat_eq, refl, sym, ap, arith, inl, inr, ◌∙◌}
+use Rattle.std.proofs.Common.{◌≡◌, ◌≢◌, ℕ, zero, suc, ◌<◌, ◌≤◌, Option, Some, nat_eq, refl, sym, ap, arith, inl, inr, ◌∙◌}
 use Rattle.std.specs.Map.{lookup}
 use Rattle.std.proofs.lemmas.Bool.{cases_eq}
 use Rattle.std.proofs.lemmas.Bool.Decides.{eqb_tells}
 use Rattle.number_table.specs.declared.entry_table.EntryTable.{EntryTable}
+use Rattle.number_table.specs.declared.entry_table.Place.{Place}
 use Rattle.number_table.specs.ChainMoves.{nodes, stack_of}
 use Rattle.number_table.specs.Entries.{entry_at}
 use Rattle.number_table.specs.NumberPlaces as places
@@ -16,7 +17,7 @@ module _ (t : EntryTable) where
   key_of b = (entry_at t.entries.items b).number
 
   -- what is listed of a key by the first nodes
-  abbrev seen : ℕ → ℕ → Option ℕ
+  abbrev seen : ℕ → ℕ → Option Place
   seen n s = lookup (nat_eq s) (listed_below t n)
 
   seen-free : (n s : ℕ) → stack_of t.chains n ≡ t.buckets → seen (suc n) s ≡ seen n s
@@ -86,7 +87,7 @@ module _ (t : EntryTable) where
 abbrev pub of_table : EntryTable → NumberPlaces
 of_table t = record { entries = listed t; room = room t }
 
-pub inserts_listed : (old new : EntryTable) (key place : ℕ) → Inserts old new key place → places.Inserts (of_table old) (of_table new) key place
+pub inserts_listed : (old new : EntryTable) (key : ℕ) (place : Place) → Inserts old new key place → places.Inserts (of_table old) (of_table new) key place
 inserts_listed old new key place h = record {
   is_in = lookup-listed new key ∙ h.is_in;
   others = λ other ne. lookup-listed new other ∙ h.others other ne ∙ sym (lookup-listed old other);

@@ -1,6 +1,6 @@
 -- A table finds the one entry of a number, and none where there is none.
-use Rattle.std.proofs.Common.{◌≡◌, ◌≢◌, ℕ, zero, suc, ◌<◌, ◌%◌, List, length, Option, Some, None, option_map, refl, sym, ap, subst, arith, inl, inr, ◌⊎◌, ◌∙◌}
-use Rattle.std.proofs.lemmas.Bool.{cases_eq}
+use Rattle.std.proofs.Common.{◌≡◌, ◌≢◌, ℕ, zero, suc, ◌<◌, ◌≤◌, ◌%◌, ◌^◌, List, length, Option, Some, None, option_map, refl, sym, ap, subst, arith, inl, inr, ◌⊎◌, ◌∙◌}
+use Rattle.std.proofs.lemmas.Bool.{cases_eq, cases_lt}
 use Rattle.std.proofs.lemmas.Bool.Decides.{eqb_tells}
 use Rattle.std.proofs.lemmas.List.{get_or_past}
 use Rattle.number_table.specs.declared.chains.Node.{Node}
@@ -8,9 +8,10 @@ use Rattle.number_table.specs.declared.chains.Stack.{Stack}
 use Rattle.number_table.specs.declared.entry_table.Entry.{Entry}
 use Rattle.number_table.specs.declared.entry_table.EntryTable.{EntryTable}
 use Rattle.number_table.specs.Chains.{no_stack, place_of}
-use Rattle.number_table.specs.ChainMoves.{count}
+use Rattle.number_table.specs.ChainMoves.{count, stacks}
 use Rattle.number_table.specs.Entries.{entry_at, number_at, found_at}
-use Rattle.number_table.specs.TableMoves.{find, place_in}
+use Rattle.number_table.specs.TableMoves.{find, place_in, room}
+use Rattle.number_table.proofs.MovesKeepChains.{count_le}
 
 -- the entry at a position of a bucket
 abbrev pub entry_in : List Node → List Entry → ℕ → ℕ → Entry
@@ -148,6 +149,22 @@ some_buckets t k p low =
           let e : count t.chains k ≡ 0 = ap (λ (s : Stack). s.count) (get_or_past t.chains.stacks.items k no_stack (omega (arith, t.ok.empty none))) in
           absurd (omega arith)
       | inr ne ↦ omega arith
+    ]
+
+lt_le : (a b c : ℕ) → a ≤ b → b < c → a < c
+lt_le a b c h k = omega arith
+
+zero_lt : (a : ℕ) → a ≡ 0 → a < 2 ^ 63
+zero_lt a e = omega arith
+
+-- no table has room for more entries than there are nodes
+pub room_small : (t : EntryTable) → room t < 2 ^ 63
+room_small t =
+    elim (cases_lt t.buckets (stacks t.chains)) [
+      | inl lt ↦ lt_le (room t) _ (2 ^ 63) (count_le t.chains.nodes.items t.chains.stacks.items t.buckets t.chains.ok lt) t.chains.ok.few
+      | inr past ↦
+          let e : room t ≡ 0 = ap (λ (k : Stack). k.count) (get_or_past t.chains.stacks.items t.buckets no_stack past) in
+          zero_lt (room t) e
     ]
 
 pub found_some : (t : EntryTable) (s b : ℕ) → find t s ≡ Some b → 0 < t.buckets

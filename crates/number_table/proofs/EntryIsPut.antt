@@ -5,6 +5,7 @@ use Rattle.std.proofs.lemmas.List.{get_or-set_same, get_or-set_other, length-set
 use Rattle.number_table.specs.declared.chains.Chains.{Chains}
 use Rattle.number_table.specs.declared.entry_table.Entry.{Entry}
 use Rattle.number_table.specs.declared.entry_table.EntryTable.{EntryTable}
+use Rattle.number_table.specs.declared.entry_table.Place.{Place}
 use Rattle.number_table.specs.ChainMoves.{count, place, nodes, stacks, MovesTop}
 use Rattle.number_table.specs.Entries.{no_entry, entry_at, IsTable}
 use Rattle.number_table.specs.TableMoves.{find, place_in, Inserts}
@@ -19,7 +20,7 @@ pub record IsPut (old : EntryTable) (chains : Chains) (s h b : ℕ) : Type 0 whe
   pub moves : MovesTop old.chains chains old.buckets h b
   pub within : b < nodes old.chains
 
-module _ (old : EntryTable) (chains : Chains) (s h b : ℕ) (new_place : ℕ) (put : IsPut old chains s h b) where
+module _ (old : EntryTable) (chains : Chains) (s h b : ℕ) (new_place : Place) (put : IsPut old chains s h b) where
   abbrev put_entry : Entry
   put_entry = record { number = s; place = new_place }
 

@@ -2,6 +2,7 @@
 use Rattle.std.proofs.Common.{◌≡◌, ◌≢◌, ℕ, ◌+◌, ◌<◌, ◌%◌, Option, Some, None, option_map, sym, ap, subst, arith, inl, inr, ◌∙◌}
 use Rattle.std.proofs.lemmas.Bool.{cases_eq}
 use Rattle.number_table.specs.declared.entry_table.EntryTable.{EntryTable}
+use Rattle.number_table.specs.declared.entry_table.Place.{Place}
 use Rattle.number_table.specs.Chains.{node_at}
 use Rattle.number_table.specs.ChainMoves.{count, place, nodes, stacks, stack_of}
 use Rattle.number_table.specs.Entries.{entry_at}
@@ -10,7 +11,7 @@ use Rattle.number_table.proofs.PlacesApart.{place_lt, stack_of_place, IsAt, node
 use Rattle.number_table.proofs.EntriesOfANumber.{found_or_not, found-tells, found-lacks, some_buckets}
 
 -- The entries of the first nodes that aren't free are there, and no others.
-pub record AreMoved (from : EntryTable) (to : ℕ → Option ℕ) (n : ℕ) : Type 0 where
+pub record AreMoved (from : EntryTable) (to : ℕ → Option Place) (n : ℕ) : Type 0 where
   pub each : (b : ℕ) → b < n → b < nodes from.chains → stack_of from.chains b ≢ from.buckets
       → to (entry_at from.entries.items b).number ≡ Some (entry_at from.entries.items b).place
   pub only : (s : ℕ) → ((b : ℕ) → b < n → b < nodes from.chains → stack_of from.chains b ≢ from.buckets → (entry_at from.entries.items b).number ≢ s)
@@ -65,7 +66,7 @@ module _ (t : EntryTable) where
       (ap (λ d. (entry_at t.entries.items d).number) x.at.is ∙ e ∙ ap (λ d. (entry_at t.entries.items d).number) (sym q_is)) in
       sym x.at.is ∙ ap (place t.chains k) at ∙ q_is
 
-  pub not_yet : (to : ℕ → Option ℕ) (b : ℕ) → b < nodes t.chains → stack_of t.chains b ≢ t.buckets → AreMoved t to b
+  pub not_yet : (to : ℕ → Option Place) (b : ℕ) → b < nodes t.chains → stack_of t.chains b ≢ t.buckets → AreMoved t to b
       → to (entry_at t.entries.items b).number ≡ None
   not_yet to b lt ne moved =
       moved.only (entry_at t.entries.items b).number
@@ -90,7 +91,7 @@ module _ (t : EntryTable) where
             ∙ moved.only s (λ c c_low. lacks c (omega arith));
       }
 
-  pub free_passed : (to : ℕ → Option ℕ) (b : ℕ) → stack_of t.chains b ≡ t.buckets → AreMoved t to b → AreMoved t to (b + 1)
+  pub free_passed : (to : ℕ → Option Place) (b : ℕ) → stack_of t.chains b ≡ t.buckets → AreMoved t to b → AreMoved t to (b + 1)
   free_passed to b is_free moved =
       record {
         each =
@@ -101,7 +102,7 @@ module _ (t : EntryTable) where
         only = λ s lacks. moved.only s (λ c c_low. lacks c (omega arith));
       }
 
-  pub all_moved : (to : ℕ → Option ℕ) → AreMoved t to (nodes t.chains) → (s : ℕ) → to s ≡ place_in t s
+  pub all_moved : (to : ℕ → Option Place) → AreMoved t to (nodes t.chains) → (s : ℕ) → to s ≡ place_in t s
   all_moved to moved s =
       elim (found_or_not (find t s)) [
         | inl none ↦

@@ -7,7 +7,7 @@ use Rattle.number_table.specs.Chains.{count_of, place_of}
 
 -- what stands past the end of the entries
 abbrev pub no_entry : Entry
-no_entry = record { number = 0; place = 0 }
+no_entry = record { number = 0; place = record { domain = 0; slot = 0 } }
 
 abbrev pub entry_at : List Entry → ℕ → Entry
 entry_at entries b = slice_index_or entries b no_entry

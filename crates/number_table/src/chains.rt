@@ -12,25 +12,25 @@ use std::alloc::Global;
 /// Where a node stands: its stack, and how many nodes are below it there; the number of the node below, and that of one
 /// further below. The lowest node has numbers of no meaning for the first, and its own for the second.
 #[derive(Clone, Copy)]
-pub(crate) struct Node {
-    pub(crate) stack: usize,
-    pub(crate) position: usize,
-    pub(crate) below: usize,
-    pub(crate) jump: usize,
+struct Node {
+    stack: usize,
+    position: usize,
+    below: usize,
+    jump: usize,
 }
 
 /// A stack: how many nodes it has, and the number of the top one, where there is one.
 #[derive(Clone, Copy)]
-pub(crate) struct Stack {
-    pub(crate) count: usize,
-    pub(crate) top: usize,
+struct Stack {
+    count: usize,
+    top: usize,
 }
 
 /// So many nodes on so many stacks.
 #[derive(Drop)]
-pub(crate) struct Chains {
-    pub(crate) nodes: Vec<Node>,
-    pub(crate) stacks: Vec<Stack>,
+pub struct Chains {
+    nodes: Vec<Node>,
+    stacks: Vec<Stack>,
     ghost ok: { IsChains nodes.items stacks.items },
 }
 
@@ -40,7 +40,7 @@ impl Chains {
     ghost use Rattle.number_table.specs.ChainMoves.{count, place, nodes, stacks, stack_of, MovesTop};
 
     /// So many nodes, all on the last of the stacks, whose number is `last`.
-    pub(crate) fn new(alloc: Global, size: usize, last: usize) -> Result<Chains, OutOfMemory>
+    pub fn new(alloc: Global, size: usize, last: usize) -> Result<Chains, OutOfMemory>
         requires few_stacks { last < 2 ^ 63 }
         ensures nodes { IfOk result (λ c. nodes c ≡ size) }
         ensures stacks { IfOk result (λ c. stacks c ≡ last + 1) }
@@ -53,7 +53,7 @@ impl Chains {
     }
 
     /// No nodes on no stacks.
-    pub(crate) fn empty(alloc: Global) -> Chains
+    pub fn empty(alloc: Global) -> Chains
         ensures nodes { nodes result ≡ 0 }
         ensures stacks { stacks result ≡ 0 }
     {
@@ -64,7 +64,7 @@ impl Chains {
     }
 
     /// The stack of a node.
-    pub(crate) fn stack_of(&self, node: usize) -> usize
+    pub fn stack_of(&self, node: usize) -> usize
         requires { node < nodes self.now }
         ensures { result ≡ stack_of self.now node }
     {
@@ -72,7 +72,7 @@ impl Chains {
     }
 
     /// How many nodes a stack has.
-    pub(crate) fn count(&self, stack: usize) -> usize
+    pub fn count(&self, stack: usize) -> usize
         requires { stack < stacks self.now }
         ensures { result ≡ count self.now stack }
     {
@@ -80,7 +80,7 @@ impl Chains {
     }
 
     /// The number of the top node of a stack.
-    pub(crate) fn top(&self, stack: usize) -> usize
+    pub fn top(&self, stack: usize) -> usize
         requires there { stack < stacks self.now }
         requires some { 0 < count self.now stack }
         ensures top { result ≡ place self.now stack (count self.now stack - 1) }
@@ -90,7 +90,7 @@ impl Chains {
     }
 
     /// The number of the node at a position of a stack.
-    pub(crate) fn at(&self, stack: usize, position: usize) -> usize
+    pub fn at(&self, stack: usize, position: usize) -> usize
         requires there { stack < stacks self.now }
         requires some { position < count self.now stack }
         ensures at { result ≡ place self.now stack position }
@@ -106,7 +106,7 @@ impl Chains {
 
     /// Moves the top node of a stack to the top of another.
     #[inline]
-    pub(crate) fn move_top(&mut self, from: usize, to: usize) -> usize
+    pub fn move_top(&mut self, from: usize, to: usize) -> usize
         requires from_there { from < stacks self.old }
         requires to_there { to < stacks self.old }
         requires apart { from ≢ to }
@@ -123,7 +123,7 @@ impl Chains {
     /// As `move_top`, where no node of the other stack is looked for by its position, as of a stack of free nodes: the second
     /// link is the one below too, which costs nothing to find.
     #[inline]
-    pub(crate) fn free_top(&mut self, from: usize, to: usize) -> usize
+    pub fn free_top(&mut self, from: usize, to: usize) -> usize
         requires from_there { from < stacks self.old }
         requires to_there { to < stacks self.old }
         requires apart { from ≢ to }

@@ -9,11 +9,18 @@ use crate::chains::Chains;
 use jk_model::OutOfMemory;
 use std::alloc::Global;
 
+/// Where what has a number stands: its domain, and its slot there.
+#[derive(Clone, Copy, PartialEq, Eq)]
+pub struct Place {
+    pub domain: u32,
+    pub slot: u32,
+}
+
 /// A key, and its place.
 #[derive(Clone, Copy)]
 pub(crate) struct Entry {
     pub(crate) number: u64,
-    pub(crate) place: usize,
+    pub(crate) place: Place,
 }
 
 /// The places of keys.
@@ -58,7 +65,7 @@ impl EntryTable {
     }
 
     /// The place of this key.
-    pub(crate) fn get(&self, number: u64) -> Option<usize>
+    pub(crate) fn get(&self, number: u64) -> Option<Place>
         ensures { result ≡ place_in self.now number }
     {
         if self.buckets == 0 {
@@ -82,7 +89,7 @@ impl EntryTable {
     }
 
     /// Enters a key.
-    pub(crate) fn insert(&mut self, number: u64, place: usize)
+    pub(crate) fn insert(&mut self, number: u64, place: Place)
         requires new { place_in self.old number ≡ None }
         requires room { 0 < room self.old }
         ensures { Inserts self.old self.new number place }
@@ -181,7 +188,7 @@ fn no_entries(alloc: Global, count: usize) -> Result<Vec<Entry>, OutOfMemory>
     for _ in 0..count {
         entries.push_reserved(Entry {
             number: 0,
-            place: 0,
+            place: Place { domain: 0, slot: 0 },
         });
     }
     Ok(entries)

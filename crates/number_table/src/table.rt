@@ -1,9 +1,9 @@
 //! The table.
 
-ghost use Rattle.std.specs.Prelude.{◌≡◌, ◌<◌, ◌≤◌, None, IsSome, IfOk, OnOk, OnErr};
+ghost use Rattle.std.specs.Prelude.{◌≡◌, ◌<◌, ◌≤◌, ◌^◌, None, IsSome, IfOk, OnOk, OnErr};
 ghost use Rattle.number_table.specs.NumberPlaces.{place_of, HasSamePlaces, Inserts, IsEmpty, Removes};
 
-use crate::entry_table::EntryTable;
+use crate::entry_table::{EntryTable, Place};
 use jk_model::OutOfMemory;
 use std::alloc::Global;
 use std::marker::Model;
@@ -25,6 +25,15 @@ impl Model for NumberTable {
 }
 
 impl NumberTable {
+    /// A table without keys, and without room.
+    pub fn empty(alloc: Global) -> NumberTable
+        ensures empty { IsEmpty result }
+        ensures room { result.room ≡ 0 }
+    {
+        let table = EntryTable::empty(alloc);
+        NumberTable { table }
+    }
+
     /// A table without keys, and with room for so many.
     pub fn make(alloc: Global, room: usize) -> Result<NumberTable, OutOfMemory>
         ensures empty { IfOk result IsEmpty }
@@ -46,14 +55,14 @@ impl NumberTable {
     }
 
     /// The place of a key; none where it isn't there.
-    pub fn get(&self, key: u64) -> Option<usize>
+    pub fn get(&self, key: u64) -> Option<Place>
         ensures { result ≡ place_of self.now key }
     {
         self.table.get(key)
     }
 
     /// Enters a key that isn't there, where there is room.
-    pub fn insert(&mut self, key: u64, place: usize)
+    pub fn insert(&mut self, key: u64, place: Place)
         requires new { place_of self.old key ≡ None }
         requires room { 0 < self.old.room }
         ensures { Inserts self.old self.new key place }
@@ -64,7 +73,8 @@ impl NumberTable {
     /// Takes out a key that is there.
     pub fn remove(&mut self, key: u64)
         requires { IsSome (place_of self.old key) }
-        ensures { Removes self.old self.new key }
+        ensures removes { Removes self.old self.new key }
+        ensures few { self.new.room < 2 ^ 63 }
     {
         self.table.remove(key);
     }
@@ -76,6 +86,7 @@ impl NumberTable {
         ensures ok { OnOk result (more ≤ self.new.room) }
         ensures err { OnErr result (self.new.room ≡ self.old.room) }
         ensures at_least { self.old.room ≤ self.new.room }
+        ensures few { self.new.room < 2 ^ 63 }
     {
         self.table.reserve(alloc, more)
     }

@@ -1,6 +1,6 @@
 //! Tables of numbers: keys that share a bucket, keys that don't, and tables that grow.
 
-use number_table::NumberTable;
+use number_table::{NumberTable, Place};
 use std::process::Abort;
 use std::test::Fail;
 
@@ -16,19 +16,27 @@ const KEYS: [u64; 8] = [
     18_446_744_073_709_551_615,
 ];
 
+/// A slot of the domain that has the last number.
+fn at(slot: u32) -> Place {
+    Place {
+        domain: u32::MAX,
+        slot,
+    }
+}
+
 /// Enters a key that isn't there, and asserts that it is then, with its place.
-fn enter(rt: &impl Abort, table: &mut NumberTable, key: u64, place: usize) {
+fn enter(rt: &impl Abort, table: &mut NumberTable, key: u64, slot: u32) {
     let room = table.room();
     assert!(rt; room > 0);
     assert!(rt; table.get(key) == None, "{key} isn't there yet");
-    table.insert(key, place);
-    assert!(rt; table.get(key) == Some(place), "{key}");
+    table.insert(key, at(slot));
+    assert!(rt; table.get(key) == Some(at(slot)), "{key}");
     assert!(rt; table.room() == room - 1);
 }
 
 /// Takes out a key that is there with this place, and asserts that it isn't then.
-fn take_out(rt: &impl Abort, table: &mut NumberTable, key: u64, place: usize) {
-    assert!(rt; table.get(key) == Some(place), "{key}");
+fn take_out(rt: &impl Abort, table: &mut NumberTable, key: u64, slot: u32) {
+    assert!(rt; table.get(key) == Some(at(slot)), "{key}");
     table.remove(key);
     assert!(rt; table.get(key) == None, "{key} is out");
 }
@@ -36,9 +44,9 @@ fn take_out(rt: &impl Abort, table: &mut NumberTable, key: u64, place: usize) {
 #[test]
 fn keys_come_and_go(rt: HostRuntime) -> Result<(), Fail> {
     let mut table = NumberTable::make(rt.alloc(), 8)?;
-    for (i, key) in KEYS.iter().enumerate() {
-        assert!(rt; table.room() == 8 - i);
-        enter(&rt, &mut table, *key, i);
+    for (key, slot) in KEYS.iter().zip(0..8) {
+        assert!(rt; table.room() == 8 - slot as usize);
+        enter(&rt, &mut table, *key, slot);
     }
     assert!(rt; table.get(2) == None);
     assert!(rt; table.get(40) == None);
@@ -47,18 +55,18 @@ fn keys_come_and_go(rt: HostRuntime) -> Result<(), Fail> {
     take_out(&rt, &mut table, 8, 0);
     take_out(&rt, &mut table, 4_294_967_304, 6);
     assert!(rt; table.room() == 3);
-    for (i, key) in [
+    for (slot, key) in [
         (1, 16),
         (3, 32),
         (4, 1),
         (5, 3),
         (7, 18_446_744_073_709_551_615),
     ] {
-        assert!(rt; table.get(key) == Some(i), "{key}");
+        assert!(rt; table.get(key) == Some(at(slot)), "{key}");
     }
     // A key comes again, with another place.
     enter(&rt, &mut table, 8, 77);
-    assert!(rt; table.get(16) == Some(1));
+    assert!(rt; table.get(16) == Some(at(1)));
     Ok(())
 }
 
@@ -78,10 +86,10 @@ fn tables_grow(rt: HostRuntime) -> Result<(), Fail> {
         enter(&rt, &mut table, key, 2);
     }
     for (key, place) in [
-        (5, Some(50)),
+        (5, Some(at(50))),
         (6, None),
-        (8, Some(2)),
-        (107, Some(2)),
+        (8, Some(at(2))),
+        (107, Some(at(2))),
         (108, None),
     ] {
         assert!(rt; table.get(key) == place, "{key}");

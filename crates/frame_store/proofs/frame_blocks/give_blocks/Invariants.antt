@@ -1,5 +1,5 @@
 -- Some blocks are given back.
-use Rattle.frame_store.specs.ChainMoves.{count}
+use Rattle.number_table.specs.ChainMoves.{count}
 use Rattle.frame_store.proofs.BlocksAreGiven.{GivesSome}
 use Rattle.frame_store.proofs.frame_blocks.give_blocks.Given as goal
 

@@ -1,6 +1,6 @@
 -- One block more is taken.
 use Rattle.std.proofs.Common.{◌∙◌, arith, ap, sym}
-use Rattle.frame_store.specs.ChainMoves.{place}
+use Rattle.number_table.specs.ChainMoves.{place}
 use Rattle.frame_store.proofs.FrameValues.{none_taken, one_taken, lowest_stays}
 use Rattle.frame_store.proofs.frame_blocks.take_blocks.Goals as goal
 

@@ -1,6 +1,6 @@
 -- So many blocks are taken, and so many locals are left to be unset; the lowest block stays the lowest.
 use Rattle.std.proofs.Common.{◌≡◌, ◌-◌, ◌*◌}
-use Rattle.frame_store.specs.ChainMoves.{place}
+use Rattle.number_table.specs.ChainMoves.{place}
 use Rattle.frame_store.specs.FrameBlocks.{TakesBlocks}
 use Rattle.frame_store.proofs.frame_blocks.take_blocks.Given as goal
 

@@ -1,7 +1,7 @@
 -- The frame is added, given its arguments, and then they are off the caller.
 use Rattle.std.proofs.Common.{◌+◌, ◌*◌, ◌∙◌, ap, sym}
-use Rattle.frame_store.specs.declared.chains.Chains.{Chains}
-use Rattle.frame_store.specs.ChainMoves.{place}
+use Rattle.number_table.specs.declared.chains.Chains.{Chains}
+use Rattle.number_table.specs.ChainMoves.{place}
 use Rattle.frame_store.specs.DomainMoves.{CallsOn}
 use Rattle.frame_store.proofs.FramesCalled.{called, caller_has, caller_number, frame_last, may_give, number_last, off_at}
 use Rattle.frame_store.proofs.TopIsWritten.{is_top_frame}

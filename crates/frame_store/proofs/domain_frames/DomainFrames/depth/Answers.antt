@@ -1,9 +1,9 @@
 -- A segment's frames are as many as numbers are on its stack.
 use Rattle.std.proofs.Common.{◌<◌, ◌∙◌, arith, sym}
-use Rattle.frame_store.specs.ChainMoves.{place, stacks}
+use Rattle.number_table.specs.ChainMoves.{place, stacks}
 use Rattle.frame_store.specs.DomainMoves.{depth_of, value_at}
 use Rattle.frame_store.specs.Builds.{length-build}
-use Rattle.frame_store.proofs.MovesKeepChains.{count_le}
+use Rattle.number_table.proofs.MovesKeepChains.{count_le}
 use Rattle.frame_store.proofs.domain_frames.DomainFrames.depth.Goals as goal
 
 pub overflow_cast-result : goal.overflow_cast-result

@@ -2,7 +2,7 @@
 use Rattle.std.proofs.Common.{◌≡◌, ◌<◌, ◌-◌, ℕ, List, length, ap, arith}
 use Rattle.jk_model_frames.specs.Frames.{FrameState}
 use Rattle.frame_store.specs.declared.domain_frames.DomainFrames.{DomainFrames}
-use Rattle.frame_store.specs.ChainMoves.{place}
+use Rattle.number_table.specs.ChainMoves.{place}
 use Rattle.frame_store.specs.DomainMoves.{depth_of, frames_of, lower_of, value_at}
 use Rattle.frame_store.specs.Builds.{length-build}
 use Rattle.frame_store.proofs.TopIsWritten.{top_cost_le}

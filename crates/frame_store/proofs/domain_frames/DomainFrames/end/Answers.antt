@@ -1,7 +1,7 @@
 -- The emptied segment goes.
 use Rattle.std.proofs.Common.{◌≡◌, ◌∙◌, List, length, sym, ap}
 use Rattle.jk_model_frames.specs.Frames.{FrameState}
-use Rattle.frame_store.specs.ChainMoves.{place}
+use Rattle.number_table.specs.ChainMoves.{place}
 use Rattle.frame_store.specs.DomainMoves.{depth_of, value_at}
 use Rattle.frame_store.specs.Builds.{length-build}
 use Rattle.frame_store.proofs.DomainIsKept.{ended_domain}

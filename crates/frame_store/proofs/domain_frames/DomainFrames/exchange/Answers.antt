@@ -3,7 +3,7 @@ use Rattle.std.proofs.Common.{◌≡◌, ◌≢◌, ◌<◌, ◌≤◌, ◌+◌,
 use Rattle.std.proofs.lemmas.List.{get_or_read, length-set}
 use Rattle.jk_model_frames.specs.Frames.{head_chunks}
 use Rattle.frame_store.specs.declared.frame_blocks.FrameRecord.{FrameRecord}
-use Rattle.frame_store.specs.ChainMoves.{count}
+use Rattle.number_table.specs.ChainMoves.{count}
 use Rattle.frame_store.specs.FrameBlocks.{no_record, record_at, index_of, value_of, frame_of, lowest_in}
 use Rattle.frame_store.specs.DomainMoves.{depth_of, lower_of, value_at, IsFrameNumber}
 use Rattle.frame_store.proofs.EntriesDropped.{kept}

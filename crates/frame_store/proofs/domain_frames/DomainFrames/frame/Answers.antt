@@ -1,6 +1,6 @@
 -- The number at a depth is that of the frame there.
 use Rattle.std.proofs.Common.{◌∙◌, Some, sym, ap}
-use Rattle.frame_store.specs.ChainMoves.{place}
+use Rattle.number_table.specs.ChainMoves.{place}
 use Rattle.frame_store.specs.DomainMoves.{depth_of, value_at}
 use Rattle.frame_store.specs.Builds.{get-build}
 use Rattle.frame_store.proofs.domain_frames.DomainFrames.frame.Goals as goal

@@ -3,7 +3,7 @@ use Rattle.std.proofs.Common.{◌-◌, ◌∙◌, ℕ, refl, sym, ap, subst, ari
 use Rattle.jk_model_frames.specs.Frames.{head_chunks}
 use Rattle.frame_store.specs.FrameBlocks.{record_at, IsDomain}
 use Rattle.frame_store.proofs.FrameIsOff.{blocks_are, off_keeps, off_top, off_others}
-use Rattle.frame_store.proofs.MovesKeepChains.{count_le}
+use Rattle.number_table.proofs.MovesKeepChains.{count_le}
 use Rattle.frame_store.proofs.TopIsWritten.{in_stacks, is_top_frame}
 use Rattle.frame_store.proofs.domain_frames.DomainFrames.pop.Goals as goal
 

@@ -1,6 +1,6 @@
 -- The local alone is written.
 use Rattle.std.proofs.Common.{◌≡◌, ◌≢◌, ◌<◌, ◌*◌, ◌∙◌, ◌++◌, ◌∷◌, [], ℕ, set, refl, sym, ap, subst, arith}
-use Rattle.frame_store.specs.ChainMoves.{count}
+use Rattle.number_table.specs.ChainMoves.{count}
 use Rattle.frame_store.specs.FrameBlocks.{record_at, index_of, value_of, lowest_in}
 use Rattle.frame_store.specs.DomainMoves.{depth_of, lower_of, value_at, IsFrameNumber}
 use Rattle.frame_store.proofs.TopIsWritten.{in_blocks, write_top, write_others, other_value}

@@ -1,7 +1,7 @@
 -- The segment is found in its domain.
 use Rattle.std.proofs.Common.{◌≡◌, ◌∙◌, Some, ap, slice_get, sym, subst}
 use Rattle.frame_store.specs.declared.domain_frames.DomainFrames.{DomainFrames}
-use Rattle.frame_store.specs.declared.segment_table.Place.{Place}
+use Rattle.number_table.specs.declared.entry_table.Place.{Place}
 use Rattle.frame_store.specs.DomainMoves.{HasTop}
 use Rattle.frame_store.specs.StoreContents.{IsFound}
 use Rattle.frame_store.proofs.CursorIsKept.{aimed_right}

@@ -2,7 +2,7 @@
 use Rattle.std.proofs.Common.{◌∙◌, refl, slice_get, ap, arith}
 use Rattle.list_lemmas.proofs.FoundItems.{on_err}
 use Rattle.indexmap.specs.IndexMap.{with_value_at}
-use Rattle.frame_store.specs.TableMoves.{place_in}
+use Rattle.number_table.specs.NumberPlaces.{place_of}
 use Rattle.frame_store.specs.StoreContents.{IsFound}
 use Rattle.frame_store.proofs.CursorIsKept.{aimed_cursor}
 use Rattle.frame_store.proofs.CursorPoints.{right_nowhere, set_here}
@@ -25,7 +25,7 @@ invariant_of-self c =
     let wrote = written_at m c.args.d.0 at stands y c.pair_mut-x.ensures.unique in
     record {
       ok = same_store _ _ c.args.d.0 x y is wrote c.in_err-slot.ensures.err st.places st.owed st.ok;
-      at = right_nowhere _ _ _ _ (no_place m st.places st.owed st.ok c.args.s.0 (place_in st.places c.args.s.0) refl c.requires.new);
+      at = right_nowhere _ _ _ _ (no_place m st.places st.owed st.ok c.args.s.0 (place_of st.places c.args.s.0) refl c.requires.new);
     }
 
 pub returns-in_err-slot-clause-err : goal.returns-in_err-slot-clause-err
@@ -43,7 +43,7 @@ returns-in_err-slot-clause-err c =
 pub insert-requires-clause-new : goal.insert-requires-clause-new
 insert-requires-clause-new c =
     let st = c.args.self.now in
-    no_place st.domains st.places st.owed st.ok c.args.s.0 (place_in st.places c.args.s.0) refl c.requires.new
+    no_place st.domains st.places st.owed st.ok c.args.s.0 (place_of st.places c.args.s.0) refl c.requires.new
 
 pub insert-requires-clause-room : goal.insert-requires-clause-room
 insert-requires-clause-room c =

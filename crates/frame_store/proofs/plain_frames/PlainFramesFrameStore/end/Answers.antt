@@ -3,7 +3,6 @@ use Rattle.std.proofs.Common.{sym, arith}
 use Rattle.frame_store.specs.StoreContents.{IsFound}
 use Rattle.frame_store.proofs.CursorPoints.{right_nowhere}
 use Rattle.frame_store.proofs.StoreChanges.{found_slot}
-use Rattle.frame_store.proofs.SegmentBegins.{room_small, owed_small}
 use Rattle.frame_store.proofs.SegmentGoes.{gone_kept, gone_ends}
 use Rattle.frame_store.proofs.plain_frames.PlainFramesFrameStore.end.Goals as goal
 
@@ -19,8 +18,7 @@ end-requires c =
 pub overflow_add-self : goal.overflow_add-self
 overflow_add-self c =
     let st = c.args.self.now in
-    let small = owed_small st.owed _ st.ok.enough (room_small st.places) in
-    omega (arith, small)
+    omega (arith, st.ok.few)
 
 pub invariant_of-self : goal.invariant_of-self
 invariant_of-self c =
@@ -32,8 +30,8 @@ invariant_of-self c =
     let y = c.end.new.self in
     let wrote = c.get_mut.follows.holds y in
     record {
-      ok = gone_kept _ _ st.places c.remove.new.self st.owed c.args.s p x y st.ok c.place-p.ensures is wrote c.end.ensures c.remove.ensures;
-      at = right_nowhere _ _ _ _ c.remove.ensures.is_out;
+      ok = gone_kept _ _ st.places c.remove.new.self st.owed c.args.s p x y st.ok c.place-p.ensures is wrote c.end.ensures c.remove.ensures.removes c.remove.ensures.few;
+      at = right_nowhere _ _ _ _ c.remove.ensures.removes.is_out;
     }
 
 pub returns-in-Some : goal.returns-in-Some
@@ -45,4 +43,4 @@ returns-in-Some c =
     let found : IsFound st.domains st.places c.args.s.0 x p.slot = record { domain = p.domain; at = c.place-p.ensures; is = is } in
     let y = c.end.new.self in
     let wrote = c.get_mut.follows.holds y in
-    gone_ends _ _ st.places c.remove.new.self st.owed c.args.s p x y st.ok c.place-p.ensures is wrote c.end.ensures c.remove.ensures
+    gone_ends _ _ st.places c.remove.new.self st.owed c.args.s p x y st.ok c.place-p.ensures is wrote c.end.ensures c.remove.ensures.removes

@@ -1,9 +1,0 @@
--- So many stacks are made.
-use Rattle.std.proofs.Common.{◌≡◌, ◌+◌, ◌<◌, ℕ, length, vec_capacity}
-use Rattle.frame_store.specs.Chains.{stack_at, no_stack}
-use Rattle.frame_store.proofs.chains.one_stack.Given as goal
-
-abbrev pub invariant-loop : goal.invariant-loop
-invariant-loop l =
-    (length l.stacks.items ≡ l.counter) × ((i : ℕ) → i < l.counter → stack_at l.stacks.items i ≡ no_stack)
-    × (vec_capacity l.stacks ≡ l.last + 1)
