@@ -1,11 +1,13 @@
 -- A method's code has a first instruction, and there its frame stands once it is on top.
-use Rattle.std.proofs.Common.{◌≡◌, ℕ, List, [], ◌∷◌, ◌++◌, length, Some, slice_get, refl, sym, ap, subst, append_assoc, arith}
+use Rattle.std.proofs.Common.{◌≡◌, ℕ, List, [], ◌∷◌, ◌++◌, length, Some, slice_get, refl, sym, ap, subst, ◌∙◌, append_assoc, arith}
 use Rattle.std.proofs.lemmas.Option.{slice_get_within}
 use Rattle.jk_model.specs.declared.frames.FrameHead.{FrameHead}
 use Rattle.jk_model.specs.declared.identifiers.MemberId.{MemberId}
 use Rattle.jk_model.specs.declared.identifiers.SegmentNo.{SegmentNo}
 use Rattle.jk_model.specs.declared.instructions.Instr.{Instr}
 use Rattle.jk_model_classes.specs.declared.records.ClassRecord.{ClassRecord}
+use Rattle.jk_model_classes.specs.declared.records.MethodRecord.{MethodRecord}
+use Rattle.class_lemmas.proofs.OneRecord.{one_method}
 use Rattle.jk_model_frames.specs.Frames.{FrameState, called_frame}
 use Rattle.jk_model_heaps.specs.CalledFrames.{call_head}
 use Rattle.jk_model_typing.specs.Scopes.{CodeScope, IsScopeOf}
@@ -15,7 +17,7 @@ use Rattle.step_contents.specs.Conditions.{MayDo}
 use Rattle.step_contents.specs.Contents.{Contents, Here}
 use Rattle.step_contents.specs.PlacesInCode.{PlaceInCode}
 use Rattle.step_contents.specs.StandingTops.{StandsThere}
-use Rattle.call_ops.specs.FramesRun.{HasFirst}
+use Rattle.call_ops.specs.FramesRun.{HasFirst, HasParams}
 
 -- the typing of the code has a first frame, and as many frames as there are instructions
 pub has_first : {old : Contents} {here : Here} {at : PlaceInCode} (may : MayDo old here at) (t : List ClassRecord) (same : t ≡ here.world.classes)
@@ -53,3 +55,9 @@ stands_first classes old new s m given scope is head begins (f, top, below, valu
         stands = subst (λ (k : ℕ). slice_get scope.code.instrs k ≡ Some instr) (sym (ap (λ (h : FrameHead). h.at) begins)) there;
       };
     }
+
+-- how many parameters a method has is told by the scope of its code
+pub params_counted : (classes : List ClassRecord) (m : MemberId) (n : ℕ) → HasParams classes m n → (scope : CodeScope) → IsScopeOf classes m scope
+    → n ≡ length scope.method.params
+params_counted classes m n (method, is_method, count) scope is =
+    count ∙ ap (λ (r : MethodRecord). length r.params) (one_method classes m method scope.method is_method (is.class, is.class_is, is.method))

@@ -7,6 +7,8 @@ use Rattle.jk_model.specs.declared.steps.After.TheVariants as Next
 use Rattle.jk_model.specs.declared.steps.Raise.TheVariants as Raised
 use Rattle.jk_model.specs.declared.steps.Standing.TheVariants as Stands
 use Rattle.jk_model_classes.specs.declared.records.ClassRecord.{ClassRecord}
+use Rattle.jk_model_classes.specs.declared.records.MethodRecord.{MethodRecord}
+use Rattle.jk_model_classes.specs.Lookups.{MethodIs}
 use Rattle.jk_model_typing.specs.Scopes.{CodeScope, IsScopeOf}
 use Rattle.jk_model_heaps.specs.CalledFrames.{call_head}
 use Rattle.frame_store.specs.FrameContents.{FrameContent, Calls, HasArguments, HasRoomFor, IsSame}
@@ -14,6 +16,10 @@ use Rattle.frame_store.specs.FrameContents.{FrameContent, Calls, HasArguments, H
 -- where the method has code, the top frame has so much to give it
 abbrev pub MayRun : List ClassRecord → FrameContent → SegmentNo → MemberId → ℕ → Type 0
 MayRun classes c s m given = (scope : CodeScope) → IsScopeOf classes m scope → HasArguments c s (call_head m scope.code) given
+
+-- the method has so many parameters
+abbrev pub HasParams : List ClassRecord → MemberId → ℕ → Type 0
+HasParams classes m n = (method : MethodRecord) × MethodIs classes m method × (n ≡ length method.params)
 
 -- where the method has code, that has a first instruction
 abbrev pub HasFirst : List ClassRecord → MemberId → Type 0

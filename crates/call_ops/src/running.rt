@@ -1,11 +1,13 @@
 //! The frame of a method that is called.
 
-ghost use Rattle.std.specs.Prelude.{◌≡◌, ◌≢◌, ℕ};
+ghost use Rattle.std.specs.Prelude.{◌≡◌, ◌≢◌, ◌≤◌, ℕ};
 ghost use Rattle.jk_model.specs.declared.steps.After.TheVariants as Next;
 ghost use Rattle.jk_model_heaps.specs.CalledFrames.{call_head};
+ghost use Rattle.jk_model_typing.specs.Scopes.{IsScopeOf};
 ghost use Rattle.step_contents.specs.StandingFrames.{place_of};
 ghost use Rattle.step_contents.specs.StandingTops.{StandsThere};
-ghost use Rattle.call_ops.specs.FramesRun.{HasFirst, MayRun, Ran};
+ghost use Rattle.type_rows.specs.CodeViews.{scope_of};
+ghost use Rattle.call_ops.specs.FramesRun.{HasFirst, HasParams, MayRun, Ran};
 
 use class_table::ClassTable;
 use frame_store::SegmentFrames;
@@ -46,19 +48,62 @@ pub(crate) fn run<'a, F: SegmentFrames>(
     ensures stays { ((n : ℕ) → result ≢ Next.Goto n) → at.new ≡ at.old }
 {
     match CodeView::of(t, m) {
+        Some(code) => begin(frames, t, s, m, code, given, at),
+        None => After::Call(m),
+    }
+}
+
+/// Runs a static method on as many of the topmost entries of the stack as it has parameters. As `run`.
+#[inline(always)]
+pub(crate) fn run_static<'a, F: SegmentFrames>(
+    frames: &mut F,
+    t: &'a ClassTable,
+    s: SegmentNo,
+    m: MemberId,
+    at: &mut StandsAt<'a>,
+) -> After
+    requires may { (n : ℕ) × HasParams t.now m n × (n ≤ 255) × MayRun t.now (F.content frames.old) s m n }
+    requires first { HasFirst t.now m }
+    ensures ran { (n : ℕ) → HasParams t.now m n → Ran t.now (F.content frames.old) (F.content frames.new) s m n result }
+    ensures stands { (n : ℕ) → result ≡ Next.Goto n → StandsThere (F.content frames.new) t.now s (place_of at.new) }
+    ensures stays { ((n : ℕ) → result ≢ Next.Goto n) → at.new ≡ at.old }
+{
+    match CodeView::of(t, m) {
         Some(code) => {
-            let head = call_head(m, code.code);
-            match frames.call(s, head, given) {
-                Ok(()) => match code.code.instrs.get(0) {
-                    Some(instr) => {
-                        *at = StandsAt { head, code, instr };
-                        After::Goto(0)
-                    }
-                    None => unreachable!(),
-                },
-                Err(NoChunks) => After::Raise(Raise::Standing(Standing::StackOverflowError)),
-            }
+            let given = code.method.params.get().len() as u16;
+            begin(frames, t, s, m, code, given, at)
         }
         None => After::Call(m),
+    }
+}
+
+/// Puts the frame of a method with this code on top, if its chunks fit, and says where it stands.
+#[inline(always)]
+fn begin<'a, F: SegmentFrames>(
+    frames: &mut F,
+    t: &'a ClassTable,
+    s: SegmentNo,
+    m: MemberId,
+    code: CodeView<'a>,
+    given: u16,
+    at: &mut StandsAt<'a>,
+) -> After
+    requires scope { IsScopeOf t.now m (scope_of code) }
+    requires may { MayRun t.now (F.content frames.old) s m given }
+    requires first { HasFirst t.now m }
+    ensures ran { Ran t.now (F.content frames.old) (F.content frames.new) s m given result }
+    ensures stands { (n : ℕ) → result ≡ Next.Goto n → StandsThere (F.content frames.new) t.now s (place_of at.new) }
+    ensures stays { ((n : ℕ) → result ≢ Next.Goto n) → at.new ≡ at.old }
+{
+    let head = call_head(m, code.code);
+    match frames.call(s, head, given) {
+        Ok(()) => match code.code.instrs.get(0) {
+            Some(instr) => {
+                *at = StandsAt { head, code, instr };
+                After::Goto(0)
+            }
+            None => unreachable!(),
+        },
+        Err(NoChunks) => After::Raise(Raise::Standing(Standing::StackOverflowError)),
     }
 }

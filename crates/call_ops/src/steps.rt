@@ -11,7 +11,7 @@ ghost use Rattle.step_contents.specs.StandingFrames.{place_of};
 ghost use Rattle.step_contents.specs.StandingTops.{StandsThere};
 ghost use Rattle.call_ops.specs.CallSteps.{CallDone};
 
-use crate::running::run;
+use crate::running::{run, run_static};
 use crate::targets::{Target, target_at};
 use domain_resolver::World;
 use frame_store::SegmentFrames;
@@ -49,14 +49,14 @@ pub fn step<'a, H: ObjectStore, F: SegmentFrames>(
 {
     let t = w.classes();
     let named = method_of(at);
+    if at.instr.op == INVOKESTATIC {
+        return run_static(frames, t, s, named, at);
+    }
     let method = match method_record(t, named) {
         Some(method) => method,
         None => unreachable!(),
     };
     let arguments = method.params.get().len() as u16;
-    if at.instr.op == INVOKESTATIC {
-        return run(frames, t, s, named, arguments, at);
-    }
     let receiver = frames.peek(s, arguments);
     match target_at(heap, t, d, at, named, method, receiver) {
         Target::Runs(m) => run(frames, t, s, m, arguments + 1, at),

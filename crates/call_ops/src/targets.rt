@@ -36,6 +36,7 @@ pub(crate) enum Target {
 }
 
 /// What a call of the named method at a receiver comes to, for the instructions of call that have one.
+#[inline(always)]
 pub(crate) fn target_at<H: ObjectStore>(
     heap: &H,
     t: &ClassTable,
@@ -63,6 +64,7 @@ pub(crate) fn target_at<H: ObjectStore>(
 }
 
 /// The method that is selected from a class upwards.
+#[inline(always)]
 fn selected(t: &ClassTable, class: ClassId, named: MemberId) -> Target
     ensures { SelectedTarget t.now class named (target_of named result) }
 {
@@ -109,6 +111,7 @@ fn runs_as_named(t: &ClassTable, running: ClassId, named: MemberId, method: &Met
 }
 
 /// `invokeinterface`. A method of an interface is called through a capability; one of java/lang/Object never is.
+#[inline(always)]
 fn interface_target<H: ObjectStore>(
     heap: &H,
     t: &ClassTable,
@@ -133,6 +136,7 @@ fn interface_target<H: ObjectStore>(
 
 /// `invokeinterface` in the caller's own domain. The interface that it asks for is the one that declares the method; a method of
 /// java/lang/Object asks for none.
+#[inline(always)]
 fn local_target<H: ObjectStore>(
     heap: &H,
     t: &ClassTable,
@@ -152,6 +156,7 @@ fn local_target<H: ObjectStore>(
 }
 
 /// The method that is selected from a class upwards, which must be public.
+#[inline(always)]
 fn public_target(t: &ClassTable, class: ClassId, named: MemberId) -> Target
     ensures { PublicTarget t.now class named (target_of named result) }
 {

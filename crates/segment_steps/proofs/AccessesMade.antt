@@ -1,5 +1,6 @@
 -- Accesses at a top frame whose place is stored: that they may be made, and what they leave.
-use Rattle.std.proofs.Common.{inl, inr, ◌≡◌, ℕ, ◌+◌, ◌^◌, ◌<◌, Option, Some, None, slice_get, refl}
+use Rattle.std.proofs.Common.{inl, inr, ◌≡◌, ℕ, ◌+◌, ◌^◌, ◌<◌, length, Option, Some, None, slice_get, refl}
+use Rattle.std.proofs.lemmas.Option.{slice_get_cases}
 use Rattle.std.specs.Prelude.{IfNone, IfSome}
 use Rattle.jk_model.specs.declared.identifiers.DomainId.{DomainId}
 use Rattle.jk_model.specs.declared.identifiers.SegmentNo.{SegmentNo}
@@ -77,6 +78,15 @@ is_there rows old_heap heap old new world d s at place begins may n (inl (same, 
 is_there rows old_heap heap old new world d s at place begins may n (inr did) =
     let acts = may.2 did.mid did.stores in
     there_after old_heap did.mid may.0 world may.1 d s at did.access acts.0 acts.1 rows heap new n (did.does may.0 may.1)
+
+pub is_within : HeapRowsKeep → (old_heap heap : HeapContent) (old new : FrameContent) (world : WorldRecord) (d : DomainId) (s : SegmentNo) (at : PlaceInCode)
+    → IsPlaceIn world.classes at → IsReadyAt old world.classes s at → MayActOnceStored old_heap old world d s at → (n : ℕ)
+    → TakesTurn old_heap heap old new world d s at n → n < length at.scope.code.instrs
+is_within rows old_heap heap old new world d s at place begins may n did =
+    elim (slice_get_cases at.scope.code.instrs n).1 [
+      | inl there ↦ there.1
+      | inr past ↦ absurd (is_there rows old_heap heap old new world d s at place begins may n did past.1)
+    ]
 
 -- ---- What is answered of either of them.
 

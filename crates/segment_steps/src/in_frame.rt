@@ -107,10 +107,11 @@ fn next_in_frame<'a, H: ObjectStore, F: SegmentFrames>(
     let Some(n) = take_turn(w, heap, frames, d, s, here) else {
         return None;
     };
-    match here.code.code.instrs.get(n as usize) {
-        Some(instr) => Some(NextInstr { at: n, instr }),
-        None => unreachable!(),
-    }
+    let instrs = here.code.code.instrs.as_slice();
+    Some(NextInstr {
+        at: n,
+        instr: &instrs[n as usize],
+    })
 }
 
 /// As `next_in_frame`: the answer is the place where the frame goes on.
@@ -132,15 +133,17 @@ fn take_turn<H: ObjectStore, F: SegmentFrames>(
     ensures some { IfSome result (λ n. TakesTurn (H.content heap.old) (H.content heap.new) (F.content frames.old) (F.content frames.new) w.now d s
         (place_of here.now) n) }
 {
-    if is_access(here.instr.op) {
+    if stays_in_frame(here) {
+        compute_in_frame(w, frames, s, here)
+    } else if is_access(here.instr.op) {
         access_in_frame(w, heap, frames, d, s, here)
     } else {
-        compute_in_frame(w, frames, s, here)
+        None
     }
 }
 
-/// Does the instruction at which the top frame stands, where it computes or jumps within the frame, and answers where the frame goes on.
-/// None, and nothing changed, where it is another one or raises something.
+/// Does the instruction at which the top frame stands, which computes or jumps within the frame, and answers where the frame goes on.
+/// None, and nothing changed, where it raises something.
 #[inline(always)]
 fn compute_in_frame<F: SegmentFrames>(
     w: &World,
@@ -148,14 +151,11 @@ fn compute_in_frame<F: SegmentFrames>(
     s: SegmentNo,
     here: &StandsAt<'_>,
 ) -> Option<u32>
-    requires row { HasRow (place_of here.now) }
+    requires stays { IsInFrame (place_of here.now) }
     requires ready { IsReadyAt (F.content frames.old) w.now.classes s (place_of here.now) }
     ensures none { IfNone result (StaysAsItIs (F.content frames.old) (F.content frames.new) s) }
     ensures some { IfSome result (λ n. GoesOnInFrame (F.content frames.old) (F.content frames.new) w.now.classes s (place_of here.now) n) }
 {
-    if !stays_in_frame(here) {
-        return None;
-    }
     match number_ops::step(frames, w, s, &here.head, here.instr) {
         After::Goto(n) => Some(n),
         _ => None,

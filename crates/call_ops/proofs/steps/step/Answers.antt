@@ -31,14 +31,21 @@ overflow_cast-arguments g c =
           c.in-Some.method.now c.in-Some.ensures.some,
     )
 
-pub run-requires-clause-may : goal.run-requires-clause-may
-run-requires-clause-may g c =
-    static_may_run c.requires.may.2 c.requires.kind c.classes-t.result.now c.classes-t.ensures c.method_of-named.result c.method_of-named.ensures
-    c.in-Some.method.now c.in-Some.ensures.some c.len-arguments.result (c.len-arguments.ensures ∙ ap length c.get.ensures)
-    c.if-at.true
+pub run_static-requires-clause-may : goal.run_static-requires-clause-may
+run_static-requires-clause-may g c =
+    let there =
+    has_method c.requires.may.2 c.requires.kind c.classes-t.result.now c.classes-t.ensures c.method_of-named.result c.method_of-named.ensures in
+    let few = few_params c.requires.may.2 c.requires.kind c.classes-t.result.now c.classes-t.ensures c.method_of-named.result c.method_of-named.ensures
+    there.0 there.1 in (
+      length there.0.params,
+      (there.0, there.1, refl),
+      few,
+      static_may_run c.requires.may.2 c.requires.kind c.classes-t.result.now c.classes-t.ensures c.method_of-named.result c.method_of-named.ensures
+          there.0 there.1 (length there.0.params) refl c.if-at.true,
+    )
 
-pub run-requires-clause-first : goal.run-requires-clause-first
-run-requires-clause-first g c = has_first c.requires.may.2 c.classes-t.result.now c.classes-t.ensures c.method_of-named.result
+pub run_static-requires-clause-first : goal.run_static-requires-clause-first
+run_static-requires-clause-first g c = has_first c.requires.may.2 c.classes-t.result.now c.classes-t.ensures c.method_of-named.result
 
 pub peek-receiver-requires : goal.peek-receiver-requires
 peek-receiver-requires g c =
@@ -66,39 +73,40 @@ overflow_add-arguments g c =
           c.in-Some.method.now c.in-Some.ensures.some,
     )
 
-pub run-requires-in-Runs-clause-may : goal.run-requires-in-Runs-clause-may
-run-requires-in-Runs-clause-may g c =
+pub run-requires-clause-may : goal.run-requires-clause-may
+run-requires-clause-may g c =
     may_run_at c.requires.may.2 c.requires.kind c.classes-t.result.now c.classes-t.ensures c.method_of-named.result c.method_of-named.ensures
     c.in-Some.method.now c.in-Some.ensures.some c.len-arguments.result (c.len-arguments.ensures ∙ ap length c.get.ensures)
     c.if-at.false c.peek-receiver.result c.peek-receiver.ensures (Runs c.in-Runs.m) c.in-Runs.ensures c.in-Runs.m refl
 
-pub run-requires-in-Runs-clause-first : goal.run-requires-in-Runs-clause-first
-run-requires-in-Runs-clause-first g c = has_first c.requires.may.2 c.classes-t.result.now c.classes-t.ensures c.in-Runs.m
+pub run-requires-clause-first : goal.run-requires-clause-first
+run-requires-clause-first g c = has_first c.requires.may.2 c.classes-t.result.now c.classes-t.ensures c.in-Runs.m
 
 -- ---- What it does.
 
 pub returns-then-at-clause-call : goal.returns-then-at-clause-call
 returns-then-at-clause-call g c = λ own shared x may is.
+    let there = has_method may c.requires.kind c.classes-t.result.now c.classes-t.ensures c.method_of-named.result c.method_of-named.ensures in
     static_ran may c.requires.kind c.classes-t.result.now c.classes-t.ensures c.method_of-named.result c.method_of-named.ensures
-    c.in-Some.method.now c.in-Some.ensures.some c.len-arguments.result (c.len-arguments.ensures ∙ ap length c.get.ensures)
-    c.if-at.true x is (g.F.SegmentFrames.content c.run.new.frames) c.run.result c.run.ensures.ran
+    there.0 there.1 (length there.0.params) refl c.if-at.true x is (g.F.SegmentFrames.content c.run_static.new.frames) c.run_static.result
+    (c.run_static.ensures.ran (length there.0.params) (there.0, there.1, refl))
 
 pub returns-then-at-clause-stands : goal.returns-then-at-clause-stands
 returns-then-at-clause-stands g c = λ n is.
-    subst (λ (l : List ClassRecord). StandsThere (g.F.SegmentFrames.content c.run.new.frames) l c.args.s (place_of c.run.new.at)) c.classes-t.ensures
-    (c.run.ensures.stands n is)
+    subst (λ (l : List ClassRecord). StandsThere (g.F.SegmentFrames.content c.run_static.new.frames) l c.args.s (place_of c.run_static.new.at))
+    c.classes-t.ensures (c.run_static.ensures.stands n is)
 
 pub returns-in-Runs-clause-call : goal.returns-in-Runs-clause-call
 returns-in-Runs-clause-call g c = λ own shared x may is.
     ran_at may c.requires.kind c.classes-t.result.now c.classes-t.ensures c.method_of-named.result c.method_of-named.ensures
     c.in-Some.method.now c.in-Some.ensures.some c.len-arguments.result (c.len-arguments.ensures ∙ ap length c.get.ensures)
     c.if-at.false c.peek-receiver.result c.peek-receiver.ensures (Runs c.in-Runs.m) c.in-Runs.ensures c.in-Runs.m refl
-    x is (g.F.SegmentFrames.content c.run-in-Runs.new.frames) c.run-in-Runs.result c.run-in-Runs.ensures.ran
+    x is (g.F.SegmentFrames.content c.run.new.frames) c.run.result c.run.ensures.ran
 
 pub returns-in-Runs-clause-stands : goal.returns-in-Runs-clause-stands
 returns-in-Runs-clause-stands g c = λ n is.
-    subst (λ (l : List ClassRecord). StandsThere (g.F.SegmentFrames.content c.run-in-Runs.new.frames) l c.args.s (place_of c.run-in-Runs.new.at))
-    c.classes-t.ensures (c.run-in-Runs.ensures.stands n is)
+    subst (λ (l : List ClassRecord). StandsThere (g.F.SegmentFrames.content c.run.new.frames) l c.args.s (place_of c.run.new.at))
+    c.classes-t.ensures (c.run.ensures.stands n is)
 
 pub returns-in-Fails-clause-call : goal.returns-in-Fails-clause-call
 returns-in-Fails-clause-call g c = λ own shared x may is.
