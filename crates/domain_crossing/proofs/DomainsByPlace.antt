@@ -1,31 +1,19 @@
 -- A domain whose own state is kept lives in the machine, and what the three lists have at its number stands there.
-use Rattle.std.proofs.Common.{◌≡◌, ℕ, zero, suc, ◌==◌, Bool, true, false, List, [], ◌∷◌, length, map, slice_get, Option, Some, None, refl, sym, ap, ◌∙◌, arith, eq-eqb}
+use Rattle.std.proofs.Common.{◌≡◌, ℕ, ◌==◌, Bool, true, false, slice_get, Option, Some, None, sym, ap, ◌∙◌, arith, eq-eqb}
 use Rattle.std.proofs.lemmas.Bool.{eqb-true}
-use Rattle.std.proofs.lemmas.Option.{same_Some, slice_get_within}
+use Rattle.std.proofs.lemmas.Option.{slice_get_within}
 use Rattle.jk_model.specs.declared.identifiers.DomainId.{DomainId}
 use Rattle.jk_model_classes.specs.Worlds.{DomainRecord}
 use Rattle.jk_model_domains.specs.OwnStates.{OwnState}
 use Rattle.jk_model_sharing.specs.SharedStates.{SharedDomain, domain_numbered}
-use Rattle.jk_model_machine_state.specs.Machines.{DomainState, caps_of}
+use Rattle.jk_model_machine_state.specs.Machines.{caps_of}
 use Rattle.jk_model_machine_state.specs.Places.{LiveDomain}
 use Rattle.jk_model_sharing.specs.SharedStates.{caps_of as shared_caps}
 use Rattle.list_lemmas.proofs.FoundItems.{Finds, finds}
 use Rattle.list_lemmas.proofs.ItemsByPlace.{item_there}
-use Rattle.object_store.specs.HeapContents.{HeapContent}
-use Rattle.frame_store.specs.FrameContents.{FrameContent}
 use Rattle.machine_parts.specs.FittingParts.{HaveOneList}
-use Rattle.machine_parts.specs.MachineParts.{MachineParts, domain_state, domain_states, inside_of, machine_of}
-use Rattle.machine_parts.proofs.DomainsOfParts.{live_domain_is_of_parts}
-
-states_at : (heap : HeapContent) (frames : FrameContent) (world : List DomainRecord) (shared : List SharedDomain) (owns : List (Option OwnState))
-    (i : ℕ) (names : DomainRecord) (s : SharedDomain) (own : Option OwnState) → slice_get world i ≡ Some names → slice_get shared i ≡ Some s
-    → slice_get owns i ≡ Some own → slice_get (domain_states heap frames world shared owns) i ≡ Some (domain_state heap frames names s own)
-states_at heap frames (n ∷ world) (x ∷ shared) (o ∷ owns) zero names s own a b c =
-    λ i. Some (domain_state heap frames (same_Some n names a i) (same_Some x s b i) (same_Some o own c i))
-states_at heap frames (n ∷ world) (x ∷ shared) (o ∷ owns) (suc i) names s own a b c = states_at heap frames world shared owns i names s own a b c
-states_at heap frames [] shared owns i names s own a b c = absurd cc
-states_at heap frames (n ∷ world) [] owns i names s own a b c = absurd cc
-states_at heap frames (n ∷ world) (x ∷ shared) [] i names s own a b c = absurd cc
+use Rattle.machine_parts.specs.MachineParts.{MachineParts, domain_state, inside_of, machine_of}
+use Rattle.machine_parts.proofs.DomainsOfParts.{live_domain_is_of_parts, same_ranges, state_at}
 
 module _ (p : MachineParts) (one : HaveOneList p) where
   -- ---- What is shared of a domain stands at its number.
@@ -80,7 +68,7 @@ module _ (p : MachineParts) (one : HaveOneList p) where
 
     pub stands_there : slice_get (machine_of p).domains d.0 ≡ Some (domain_state p.heap p.frames names_there.0 shared_there.0 (Some own))
     stands_there =
-        states_at p.heap p.frames p.world.domains p.shared.domains p.owns d.0 names_there.0 shared_there.0 (Some own) names_there.1
+        state_at p.heap p.frames p.world.domains p.shared.domains p.owns d.0 names_there.0 shared_there.0 (Some own) names_there.1
         shared_there.1 is_own
 
     abbrev pub home_of : LiveDomain (machine_of p) d
@@ -98,15 +86,5 @@ module _ (p : MachineParts) (one : HaveOneList p) where
 
   -- ---- Capabilities.
 
-  caps_same : (heap : HeapContent) (frames : FrameContent) (world : List DomainRecord) (shared : List SharedDomain) (owns : List (Option OwnState))
-      → length shared ≡ length world → length owns ≡ length world
-      → map (λ (d : DomainState). d.caps) (domain_states heap frames world shared owns) ≡ map (λ (e : SharedDomain). e.caps) shared
-  caps_same heap frames (n ∷ world) (s ∷ shared) (o ∷ owns) a b =
-      λ i. s.caps ∷ caps_same heap frames world shared owns (omega (arith, a)) (omega (arith, b)) i
-  caps_same heap frames [] [] owns a b = refl
-  caps_same heap frames [] (s ∷ shared) owns a b = absurd (omega (arith, a))
-  caps_same heap frames (n ∷ world) [] owns a b = absurd (omega (arith, a))
-  caps_same heap frames (n ∷ world) (s ∷ shared) [] a b = absurd (omega (arith, b))
-
   pub caps_are_shared : caps_of (machine_of p) ≡ shared_caps p.shared
-  caps_are_shared = caps_same p.heap p.frames p.world.domains p.shared.domains p.owns one.shared one.owns
+  caps_are_shared = same_ranges p.heap p.frames p.world.domains p.shared.domains p.owns one.shared one.owns

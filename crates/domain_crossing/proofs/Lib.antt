@@ -1,5 +1,6 @@
 -- The derivations of the laws, and lemmas on which the calls stand.
 pub mod AnswersGoDown
+pub mod ArgumentsCarried
 pub mod CalleesMet
 pub mod CallsAsked
 pub mod CallsEnter

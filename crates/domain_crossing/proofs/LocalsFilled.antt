@@ -1,5 +1,5 @@
--- Arguments come into the locals of a frame that begins, one after the other.
-use Rattle.std.proofs.Common.{◌≡◌, ℕ, ℤ, zero, suc, ◌-◌, ◌≤◌, List, [], ◌∷◌, ◌++◌, drop, length, replicate, set, take, slice_get, Option, Some, refl, sym, ap, subst, ◌∙◌, arith}
+-- A value comes into the locals of a frame that begins.
+use Rattle.std.proofs.Common.{◌≡◌, ℕ, ℤ, ◌-◌, ◌≤◌, List, [], ◌∷◌, ◌++◌, length, replicate, set, Option, Some, refl, subst, ◌∙◌, arith}
 use Rattle.std.proofs.lemmas.List.{length-append, length-replicate}
 use Rattle.jk_model.specs.declared.frames.FrameHead.{FrameHead}
 use Rattle.jk_model.specs.declared.identifiers.DomainId.{DomainId}
@@ -7,11 +7,9 @@ use Rattle.jk_model.specs.declared.identifiers.SegmentNo.{SegmentNo}
 use Rattle.jk_model.specs.declared.values.Value.{Value}
 use Rattle.jk_model.specs.declared.values.Value.TheVariants as Held
 use Rattle.jk_model_frames.specs.Frames.{FrameState, as_locals, called_frame, locals_of, new_frame}
-use Rattle.list_lemmas.proofs.ItemsByPlace.{drop_next}
-use Rattle.list_lemmas.proofs.LastItems.{take_next}
 use Rattle.frame_store.specs.FrameContents.{Changes, FrameContent, HasLocal, SetsTop, StoredSegment, TopFrame}
-use Rattle.frame_store.proofs.ArgumentsInLocals.{locals_fit, locals_length, none_given, one_given, takes_local}
-use Rattle.number_ops.proofs.TopFrames.{both_keep, stays, then_sets, top_after}
+use Rattle.frame_store.proofs.ArgumentsInLocals.{locals_length, none_given, one_given, takes_local}
+use Rattle.number_ops.proofs.TopFrames.{both_keep}
 use Rattle.domain_crossing.specs.MovedArguments.{BeginsWith, FitsLocals}
 use Rattle.domain_crossing.proofs.TopsTakenOff.{set_so}
 
@@ -50,65 +48,6 @@ one_local Held.Null not = refl
 one_local (Held.Obj a) not = refl
 one_local (Held.Cap c) not = refl
 one_local Held.Unset not = refl
-
--- ---- The arguments, of which so many are there.
-
-module _ (head : FrameHead) (a : ℕ) (values : List Value) where
-  abbrev pub so_far : ℕ → List Value
-  so_far i = Held.Obj a ∷ take i values
-
-  take_drop : (vs : List Value) (i : ℕ) → take i vs ++ drop i vs ≡ vs
-  take_drop vs zero = refl
-  take_drop [] (suc i) = refl
-  take_drop (v ∷ vs) (suc i) = ap (λ (x : List Value). v ∷ x) (take_drop vs i)
-
-  split_at : (i : ℕ) (v : Value) → slice_get values i ≡ Some v → so_far i ++ v ∷ drop (suc i) values ≡ Held.Obj a ∷ values
-  split_at i v at =
-      ap (λ (vs : List Value). Held.Obj a ∷ vs)
-      (ap (λ (vs : List Value). take i values ++ vs) (sym (drop_next values i v at)) ∙ take_drop values i)
-
-  pub next_so_far : (i : ℕ) (v : Value) → slice_get values i ≡ Some v → so_far i ++ v ∷ [] ≡ so_far (suc i)
-  next_so_far i v at = ap (λ (vs : List Value). Held.Obj a ∷ vs) (sym (take_next values i v at))
-
-  pub next_fits : (i : ℕ) (v : Value) → slice_get values i ≡ Some v → FitsLocals head (Held.Obj a ∷ values) → FitsLocals head (so_far i ++ v ∷ [])
-  next_fits i v at fits =
-      omega (
-        arith,
-        fits,
-        locals_fit (so_far i) v (drop (suc i) values),
-        locals_length (so_far i) v,
-        ap (λ (vs : List Value). length (locals_of vs)) (split_at i v at),
-      )
-
-  -- So many are in the locals of the segment's top frame, and the place of the next is this.
-  pub record IsFilled (first now : FrameContent) (n : SegmentNo) (i at : ℕ) : Type 0 where
-    pub place : at ≡ length (locals_of (so_far i))
-    pub sets : SetsTop first now n (called_frame head (so_far i))
-
-  pub nothing_filled : (c : FrameContent) (n : SegmentNo) → BeginsWith c n head (Held.Obj a ∷ []) → IsFilled c c n 0 1
-  nothing_filled c n top = record { place = refl; sets = stays c n (called_frame head (Held.Obj a ∷ [])) top }
-
-  pub begins_so_far : (first now : FrameContent) (n : SegmentNo) (i at : ℕ) → IsFilled first now n i at → BeginsWith now n head (so_far i)
-  begins_so_far first now n i at filled = top_after first now n (called_frame head (so_far i)) filled.sets
-
-  pub one_filled : (first now next : FrameContent) (n : SegmentNo) (i at then : ℕ) (v : Value) → slice_get values i ≡ Some v
-      → IsFilled first now n i at → SetsTop now next n (called_frame head (so_far i ++ v ∷ [])) → then ≡ length (locals_of (so_far i ++ v ∷ []))
-      → IsFilled first next n (suc i) then
-  one_filled first now next n i at then v is filled sets place = record {
-    place = place ∙ ap (λ (vs : List Value). length (locals_of vs)) (next_so_far i v is);
-    sets = subst (λ (vs : List Value). SetsTop first next n (called_frame head vs)) (next_so_far i v is)
-        (then_sets first now next n (called_frame head (so_far i)) (called_frame head (so_far i ++ v ∷ [])) filled.sets sets);
-  }
-
-  pub all_filled : (first now : FrameContent) (n : SegmentNo) (i at : ℕ) → i ≡ length values → IsFilled first now n i at
-      → SetsTop first now n (called_frame head (Held.Obj a ∷ values))
-  all_filled first now n i at is filled =
-      subst (λ (vs : List Value). SetsTop first now n (called_frame head (Held.Obj a ∷ vs)))
-      (ap (λ (k : ℕ). take k values) is ∙ take_all values) filled.sets
-    where
-      take_all : (vs : List Value) → take (length vs) vs ≡ vs
-      take_all [] = refl
-      take_all (v ∷ vs) = ap (λ (x : List Value). v ∷ x) (take_all vs)
 
 -- ---- The frame begins.
 

@@ -10,6 +10,7 @@ use Rattle.jk_model_sharing.specs.Segments.{SharedSegment, SharedThread, is_numb
 use Rattle.list_lemmas.proofs.FoundItems.{Finds, finds, maps_nothing}
 use Rattle.list_lemmas.proofs.ItemsByPlace.{slice_get-last, slice_get-longer}
 use Rattle.list_lemmas.proofs.TestsAndOrders.{mapped_option}
+use Rattle.machine_parts.proofs.TopsOfThreads.{split_top}
 use Rattle.thread_segments.specs.Answers.{number_of}
 use Rattle.domain_crossing.specs.TakenSegments.{AreApart, TopStands}
 
@@ -41,11 +42,6 @@ pub top_of-last : (segments : List SharedSegment) (s : SharedSegment) → top_of
 top_of-last [] s = refl
 top_of-last (a ∷ []) s = refl
 top_of-last (a ∷ b ∷ segments) s = top_of-last (b ∷ segments) s
-
-pub split_top : (segments : List SharedSegment) (s : SharedSegment) → top_of segments ≡ Some s → segments ≡ without_top segments ++ s ∷ []
-split_top [] s is = absurd cc
-split_top (x ∷ []) s is = ap (λ (y : SharedSegment). y ∷ []) (same_Some x s is)
-split_top (x ∷ above ∷ more) s is = ap (λ (xs : List SharedSegment). x ∷ xs) (split_top (above ∷ more) s is)
 
 pub none_on_top : (segments : List SharedSegment) → top_of segments ≡ None → segments ≡ []
 none_on_top [] is = refl

@@ -1,12 +1,12 @@
 -- A segment with one frame comes on top of a thread: the store has the frames of all segments then, and counts what they cost.
-use Rattle.std.proofs.Common.{◌≡◌, ◌≢◌, ℕ, ◌+◌, ◌<◌, ◌≤◌, ◌==◌, inl, inr, Bool, true, false, cond, List, [], ◌∷◌, ◌++◌, filter, length, map, set, sum_by, slice_get, Contains, Some, refl, sym, ap, subst, ◌∙◌, arith, eq-eqb}
+use Rattle.std.proofs.Common.{◌≡◌, ◌≢◌, ℕ, ◌+◌, ◌<◌, ◌≤◌, ◌==◌, inl, inr, Bool, true, false, cond, List, [], ◌∷◌, ◌++◌, length, map, set, sum_by, slice_get, Contains, Some, refl, sym, ap, subst, ◌∙◌, arith, eq-eqb}
 use Rattle.std.proofs.lemmas.Bool.{cases_eq, eqb-true}
-use Rattle.std.proofs.lemmas.List.Sums.{sum_by-cons, sum_by_push}
+use Rattle.std.proofs.lemmas.List.Sums.{sum_by_push}
 use Rattle.jk_model.specs.declared.identifiers.DomainId.{DomainId}
 use Rattle.jk_model.specs.declared.identifiers.SegmentNo.{SegmentNo}
 use Rattle.jk_model.specs.declared.identifiers.ThreadNo.{ThreadNo}
 use Rattle.jk_model_frames.specs.Frames.{FrameState, frames_chunks, head_chunks}
-use Rattle.jk_model_sharing.specs.Segments.{SharedSegment, SharedThread, count_segments_of, is_of, shared_form, with_segments}
+use Rattle.jk_model_sharing.specs.Segments.{SharedSegment, SharedThread, count_segments_of, with_segments}
 use Rattle.jk_model_sharing.specs.SharedStates.{drawn_segment, pushed}
 use Rattle.jk_model_machine_state.specs.Machines.{Machine, Segment, Thread, chunks_of, chunks_used}
 use Rattle.jk_model_machine_state.specs.Places.{first_segment}
@@ -16,7 +16,8 @@ use Rattle.frame_store.specs.FrameContents.{Changes, FrameContent, StoredSegment
 use Rattle.heap_laws.proofs.MappedLists.{mapped, mapped_from}
 use Rattle.machine_laws.proofs.ChangedItems.{one_changed, sum_changed}
 use Rattle.machine_laws.proofs.DomainsAfterRuns.{costs_elsewhere, costs_here}
-use Rattle.machine_parts.specs.MachineParts.{MachineParts, frames_in, machine_of, segment_with_frames, thread_with_frames}
+use Rattle.machine_parts.specs.MachineParts.{MachineParts, frames_in, machine_of}
+use Rattle.machine_parts.proofs.ChunksOfSegments.{segments_within}
 use Rattle.domain_crossing.specs.TakenSegments.{AreApart, TopStands}
 use Rattle.domain_crossing.proofs.FramesOfParts.{HaveFrames, stored_so, stored_still, thread_there}
 use Rattle.domain_crossing.proofs.SegmentsFound.{place}
@@ -24,36 +25,8 @@ use Rattle.domain_crossing.proofs.SegmentsFound.{place}
 -- ---- Sums over the segments of all threads.
 
 -- a segment of a domain costs a chunk at least
-counted : (c : FrameContent) (d : DomainId) (segments : List SharedSegment)
-    → length (filter (is_of shared_form d) segments) ≤ sum_by (chunks_of d) (map (segment_with_frames c) segments)
-counted c d [] = omega arith
-counted c d (s ∷ segments) = by (s.domain.0 == d.0) refl (counted c d segments)
-  where
-    by : (b : Bool) → (s.domain.0 == d.0) ≡ b → length (filter (is_of shared_form d) segments) ≤ sum_by (chunks_of d) (map (segment_with_frames c) segments)
-        → length (cond b (s ∷ filter (is_of shared_form d) segments) (filter (is_of shared_form d) segments))
-        ≤ sum_by (chunks_of d) (map (segment_with_frames c) (s ∷ segments))
-    by true same rest =
-        let cost = costs_here d (segment_with_frames c s) (eqb-true s.domain.0 d.0 same) in
-        let all = sum_by-cons (chunks_of d) (segment_with_frames c s) (map (segment_with_frames c) segments) in
-        omega (arith, cost, all, rest)
-    by false differs rest =
-        let all = sum_by-cons (chunks_of d) (segment_with_frames c s) (map (segment_with_frames c) segments) in
-        omega (arith, all, rest)
-
-all_counted : (c : FrameContent) (d : DomainId) (threads : List SharedThread) → count_segments_of threads d
-    ≤ sum_by (λ (thread : Thread). sum_by (chunks_of d) thread.segments) (map (thread_with_frames c) threads)
-all_counted c d [] = omega arith
-all_counted c d (e ∷ threads) =
-    let f : SharedThread → ℕ = λ (t : SharedThread). length (filter (is_of shared_form d) t.segments) in
-    let g : Thread → ℕ = λ (thread : Thread). sum_by (chunks_of d) thread.segments in
-    let one = sum_by-cons f e threads in
-    let other = sum_by-cons g (thread_with_frames c e) (map (thread_with_frames c) threads) in
-    let here = counted c d e.segments in
-    let rest = all_counted c d threads in
-    omega (arith, one, other, here, rest)
-
 pub segments_cost : (p : MachineParts) (d : DomainId) → count_segments_of p.shared.threads d ≤ chunks_used (machine_of p) d
-segments_cost p d = all_counted p.frames d p.shared.threads
+segments_cost p d = segments_within p.frames d p.shared.threads
 
 -- ---- Another segment on a thread's stack.
 

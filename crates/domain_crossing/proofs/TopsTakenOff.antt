@@ -30,13 +30,13 @@ use Rattle.machine_parts.specs.SharedInMachines.{HaveAllSegments}
 use Rattle.machine_parts.proofs.RunningChanged.{flags_alone, inside_stays}
 use Rattle.machine_parts.proofs.SharedChanged.{flags_change_machines}
 use Rattle.machine_parts.proofs.TopsGone.{higher_goes_off, lowest_goes_off}
-use Rattle.machine_parts.proofs.TopsOfThreads.{stands_on_top}
+use Rattle.machine_parts.proofs.TopsOfThreads.{split_top, stands_on_top}
 use Rattle.domain_crossing.specs.AskedOfCrossings.{MayCross}
 use Rattle.domain_crossing.specs.TakenSegments.{AreApart, TopStands}
 use Rattle.domain_crossing.proofs.FramesOfParts.{HaveFrames, changes_running, frames_flagged, frames_set, higher_taken, lower_there, lowest_taken, stored, thread_there as shared_thread_there}
 use Rattle.domain_crossing.proofs.PartsEntered.{sealed_apart}
 use Rattle.domain_crossing.proofs.PartsLeft.{apart_below}
-use Rattle.domain_crossing.proofs.SegmentsFound.{lower_numbered, none_on_top, split_top}
+use Rattle.domain_crossing.proofs.SegmentsFound.{lower_numbered, none_on_top}
 
 -- ---- What stands on top.
 

@@ -1,5 +1,5 @@
 -- The arguments of a call through a capability: on the caller's operand stack, and in the locals of the frame that begins.
-use Rattle.std.specs.Prelude.{◌≡◌, ◌+◌, ◌≤◌, List, [], ◌∷◌, ◌++◌, length, Option, Some, None}
+use Rattle.std.specs.Prelude.{◌≡◌, ℕ, ◌+◌, ◌<◌, ◌≤◌, ⊤, List, [], ◌∷◌, ◌++◌, length, Option, Some, None, slice_get}
 use denote.Ref.{Bor}
 use Rattle.jk_model.specs.declared.frames.FrameHead.{FrameHead}
 use Rattle.jk_model.specs.declared.identifiers.DomainId.{DomainId}
@@ -15,10 +15,21 @@ pub record HasOnTop (c : FrameContent) (s : SegmentNo) (values : List Value) : T
   pub below : List Value
   pub stack : frame.stack ≡ below ++ values
 
--- The arguments are copies, where there are some, and else the entries on top.
-abbrev pub AreGiven : FrameContent → SegmentNo → Option (Bor (List Value)) → List Value → Type 0
-AreGiven c s None values = HasOnTop c s values
-AreGiven c s (Some copies) values = copies.now ≡ values
+-- There is a copy at the place, where there are copies.
+abbrev pub CopiesReach : Option (Bor (List Value)) → ℕ → Type 0
+CopiesReach None i = ⊤
+CopiesReach (Some copies) i = i < length copies.now
+
+-- The value is the copy at the place, where there are copies, and else the argument.
+abbrev pub IsHanded : Option (Bor (List Value)) → ℕ → Value → Value → Type 0
+IsHanded None i argument v = v ≡ argument
+IsHanded (Some copies) i argument v = slice_get copies.now i ≡ Some v
+
+-- So many arguments are handed over as these values.
+pub record Carries (given : List Value) (copies : Option (Bor (List Value))) (count : ℕ) (values : List Value) : Type 0 where
+  pub many : length given ≡ count
+  pub as_many : length values ≡ count
+  pub each : (i : ℕ) (a v : Value) → slice_get given i ≡ Some a → slice_get values i ≡ Some v → IsHanded copies i a v
 
 -- ---- A frame that begins.
 

@@ -1,13 +1,13 @@
 //! The arguments of a call through a capability: they are read from the caller's operand stack, come into the locals of a new frame, and
 //! leave the stack.
 
-ghost use Rattle.std.specs.Prelude.{◌≡◌, ◌≢◌, ◌+◌, ◌<◌, ◌≤◌, ◌^◌, ◌∷◌, ◌++◌, [], false, length, List, None, Some, slice_get, ℕ};
+ghost use Rattle.std.specs.Prelude.{◌≡◌, ◌+◌, ◌<◌, ◌≤◌, ◌^◌, ◌∷◌, ◌++◌, [], false, length, List, None, Some};
 ghost use Rattle.jk_model.specs.declared.frames.FrameHead.{FrameHead as AHead};
 ghost use Rattle.jk_model.specs.declared.values.Value.{Value as AValue};
 ghost use Rattle.jk_model.specs.declared.values.Value.TheVariants as Held;
-ghost use Rattle.jk_model_frames.specs.Frames.{FrameState as AFrame, called_frame, head_chunks, locals_of};
-ghost use Rattle.frame_store.specs.FrameContents.{Changes, IsAdmitted, SetsTop, TopFrame, free_chunks};
-ghost use Rattle.domain_crossing.specs.MovedArguments.{AreGiven, BeginsWith, FitsLocals, HasOnTop};
+ghost use Rattle.jk_model_frames.specs.Frames.{called_frame, head_chunks, locals_of};
+ghost use Rattle.frame_store.specs.FrameContents.{Changes, IsAdmitted, SetsTop, free_chunks};
+ghost use Rattle.domain_crossing.specs.MovedArguments.{BeginsWith, Carries, CopiesReach, FitsLocals, HasArrived, HasOnTop, IsHanded, StandsToCall};
 ghost use Rattle.domain_crossing.specs.NoObjects.{NameNoObject};
 
 use crate::callees::Callee;
@@ -39,25 +39,6 @@ pub(crate) fn entries<F: FrameStore>(frames: &F, s: SegmentNo, count: u16) -> Ar
         values.put(frames.peek(s, count - 1 - i));
     }
     values
-}
-
-/// The argument at a place, counted from 0.
-fn argument<F: FrameStore>(
-    frames: &F,
-    s: SegmentNo,
-    count: u16,
-    i: u16,
-    copies: Option<&Args>,
-) -> Value
-    requires at { i < count }
-    requires given { (values : List AValue) × AreGiven (F.content frames.now) s copies values × (length values ≡ count) }
-    ensures { (values : List AValue) → AreGiven (F.content frames.now) s copies.entry values → length values ≡ count
-        → slice_get values i ≡ Some result }
-{
-    match copies {
-        Some(values) => values.get(usize::from(i)),
-        None => frames.peek(s, count - 1 - i),
-    }
 }
 
 /// Begins a segment of the callee's owner, whose frame has the target in its first local. There are chunks enough.
@@ -93,38 +74,44 @@ fn put<F: FrameStore>(frames: &mut F, n: SegmentNo, at: u16, v: Value) -> u16
     }
 }
 
-/// Puts the arguments into the locals behind the receiver, which takes one.
-pub(crate) fn fill<F: FrameStore>(
+/// Takes the capability and so many arguments above it off a segment's operand stack, and begins a segment of the callee's owner, whose frame
+/// has the target and the arguments, or copies of them where there are some, in its locals. It answers which local is next. The arguments are
+/// held while the one segment is left for the other, so that each is looked up once.
+pub(crate) fn carry<F: FrameStore>(
     frames: &mut F,
     s: SegmentNo,
     n: SegmentNo,
+    callee: &Callee,
     count: u16,
     copies: Option<&Args>,
-)
-    requires apart { s ≢ n }
-    requires fits { (head : AHead) × (a : ℕ) × (values : List AValue) × BeginsWith (F.content frames.old) n head (Held.Obj a ∷ [])
-        × AreGiven (F.content frames.old) s copies values × (length values ≡ count) × FitsLocals head (Held.Obj a ∷ values)
-        × (head.max_locals < 2 ^ 16) }
-    ensures { (head : AHead) (a : ℕ) (values : List AValue) → BeginsWith (F.content frames.old) n head (Held.Obj a ∷ [])
-        → AreGiven (F.content frames.old) s copies.entry values → length values ≡ count → FitsLocals head (Held.Obj a ∷ values)
-        → SetsTop (F.content frames.old) (F.content frames.new) n (called_frame head (Held.Obj a ∷ values)) }
+) -> u16
+    requires admitted { IsAdmitted (F.content frames.old) callee.now.owner }
+    requires new { (F.content frames.old).segment n ≡ None }
+    requires chunks { 1 + head_chunks callee.now.head ≤ free_chunks (F.content frames.old) callee.now.owner }
+    requires few_locals { callee.now.head.max_locals < 2 ^ 16 }
+    requires carries { (call : StandsToCall (F.content frames.old) s) × (values : List AValue) × Carries call.given copies count values
+        × FitsLocals callee.now.head (Held.Obj callee.now.target ∷ values) }
+    ensures { (call : StandsToCall (F.content frames.old) s) (values : List AValue) → Carries call.given copies.entry count values
+        → FitsLocals callee.now.head (Held.Obj callee.now.target ∷ values)
+        → HasArrived call n callee.now.owner (called_frame callee.now.head (Held.Obj callee.now.target ∷ values)) (F.content frames.new)
+        × (result ≡ length (locals_of (Held.Obj callee.now.target ∷ values))) }
 {
-    let mut at = 1;
-    for i in 0..count {
-        let v = argument(frames, s, count, i, copies);
-        at = put(frames, n, at, v);
+    let taken = frames.pop_value(s);
+    if count == 0 {
+        begin(frames, n, callee);
+        return 1;
     }
+    let at = carry(frames, s, n, callee, count - 1, copies);
+    put(frames, n, at, handed(copies, count - 1, taken))
 }
 
-/// Takes so many entries off a segment's operand stack.
-pub(crate) fn drop_entries<F: FrameStore>(frames: &mut F, s: SegmentNo, count: u16)
-    requires { (values : List AValue) × HasOnTop (F.content frames.old) s values × (length values ≡ count) }
-    ensures { (f : AFrame) (below values : List AValue) → TopFrame (F.content frames.old) s f → f.stack ≡ below ++ values
-        → length values ≡ count → SetsTop (F.content frames.old) (F.content frames.new) s (record f { stack = below }) }
+/// What is handed over at a place: the copy that stands there, where there are copies, and else this argument.
+fn handed(copies: Option<&Args>, i: u16, argument: Value) -> Value
+    requires { CopiesReach copies i }
+    ensures { IsHanded copies.entry i argument result }
 {
-    let mut left = count;
-    while left > 0 {
-        let _ = frames.pop_value(s);
-        left -= 1;
+    match copies {
+        Some(values) => values.get(usize::from(i)),
+        None => argument,
     }
 }

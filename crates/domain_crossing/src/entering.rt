@@ -18,11 +18,11 @@ ghost use Rattle.machine_parts.specs.MachineParts.{machine_of};
 ghost use Rattle.domain_crossing.specs.AskedOfCrossings.{MayEnter};
 ghost use Rattle.domain_crossing.specs.Crossings.{CrossesSo};
 ghost use Rattle.domain_crossing.specs.EnteringCalls.{CopiesFitLocals, EntersSo, MayArriveAt, chunks_for, next_segment};
-ghost use Rattle.domain_crossing.specs.MovedArguments.{AreGiven, FitsLocals, HasArrived, StandsToCall};
+ghost use Rattle.domain_crossing.specs.MovedArguments.{Carries, FitsLocals, HasArrived, StandsToCall};
 ghost use Rattle.domain_crossing.specs.TakenSegments.{AreApart, TopStands};
 
 use crate::answers::Crossed;
-use crate::arguments::{begin, drop_entries, entries, fill, names_object};
+use crate::arguments::{carry, entries, names_object};
 use crate::callees::{Callee, find_callee};
 use domain_resolver::World;
 use frame_store::FrameStore;
@@ -247,18 +247,14 @@ fn arrive<F: FrameStore>(
     requires few { caller.now.given ≤ 255 }
     requires chunks { chunks_for callee.now ≤ free_chunks (F.content frames.old) callee.now.owner }
     requires few_locals { callee.now.head.max_locals < 2 ^ 16 }
-    requires fits { (call : StandsToCall (F.content frames.old) caller.now.segment) × (values : List AValue) × (length call.given ≡ caller.now.given)
-        × AreGiven (F.content frames.old) caller.now.segment copies values × (length values ≡ caller.now.given)
-        × FitsLocals callee.now.head (Held.Obj callee.now.target ∷ values) }
+    requires fits { (call : StandsToCall (F.content frames.old) caller.now.segment) × (values : List AValue)
+        × Carries call.given copies caller.now.given values × FitsLocals callee.now.head (Held.Obj callee.now.target ∷ values) }
     ensures shared { shared.new ≡ pushed t callee.now.owner shared.old }
-    ensures frames { (call : StandsToCall (F.content frames.old) caller.now.segment) (values : List AValue) → length call.given ≡ caller.now.given
-        → AreGiven (F.content frames.old) caller.now.segment copies.entry values → length values ≡ caller.now.given
-        → FitsLocals callee.now.head (Held.Obj callee.now.target ∷ values)
+    ensures frames { (call : StandsToCall (F.content frames.old) caller.now.segment) (values : List AValue)
+        → Carries call.given copies.entry caller.now.given values → FitsLocals callee.now.head (Held.Obj callee.now.target ∷ values)
         → HasArrived call (next_segment shared.old) callee.now.owner (called_frame callee.now.head (Held.Obj callee.now.target ∷ values))
         (F.content frames.new) }
 {
     let n = shared.push(t, callee.owner);
-    begin(frames, n, callee);
-    fill(frames, caller.segment, n, caller.given, copies);
-    drop_entries(frames, caller.segment, caller.given + 1);
+    carry(frames, caller.segment, n, callee, caller.given, copies);
 }

@@ -4,6 +4,7 @@ mod ChainsFilled
 pub mod ChainsForgotten
 mod CopiesMade
 pub mod FieldsByPlace
+mod KindsKnown
 mod MarkedObjects
 mod NamesShared
 mod ObjectsFinished

@@ -8,6 +8,7 @@ pub mod Filled
 pub mod Finished
 pub mod FoundSoFar
 pub mod Judged
+pub mod Kinds
 pub mod Laid
 pub mod MetObjects
 pub mod Places

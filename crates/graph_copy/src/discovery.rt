@@ -8,17 +8,18 @@ ghost use Rattle.object_store.specs.HeapContents.{IsLive};
 ghost use Rattle.graph_copy.specs.AskedOfCopies.{MayCopy};
 ghost use Rattle.graph_copy.specs.Discovered.{Discovers, walk_of};
 ghost use Rattle.graph_copy.specs.Finished.{Finishes, HasQueues};
+ghost use Rattle.graph_copy.specs.Kinds.{IsKindOf};
 ghost use Rattle.graph_copy.specs.Places.{IsWalked};
 ghost use Rattle.graph_copy.specs.Visited.{Visits};
 
-use crate::judge::may_pass;
+use crate::judge::passes;
+use crate::kinds::{Kind, kind_of};
 use crate::marks::{link, next_of};
 use crate::meeting::{meet_given, meet_places};
 use class_table::ClassTable;
 use domain_resolver::World;
 use jk_model::{Args, DomainId};
 use jk_model_heaps::Shape;
-use object_costs::shape_words;
 use object_store::ObjectStore;
 
 /// Puts the object at the head of the first queue at the head of the second, and answers what stood behind it.
@@ -31,7 +32,7 @@ fn finish<H: ObjectStore>(store: &mut H, d: DomainId, a: u32, done: Option<u32>)
     rest
 }
 
-/// Goes over the object at the head of the first queue, whose shape this is: it is done then, and what it leads to is met. The answer is
+/// Goes over the object at the head of the first queue, whose shape and kind these are: it is done then, and what it leads to is met. The answer is
 /// the head of the first queue.
 pub(crate) fn visit<H: ObjectStore>(
     store: &mut H,
@@ -39,15 +40,17 @@ pub(crate) fn visit<H: ObjectStore>(
     d: DomainId,
     a: u32,
     shape: &Shape,
+    kind: &Kind,
     done: Option<u32>,
 ) -> Option<u32>
     requires queues { HasQueues (H.content store.old) d (Some a) done }
     requires walked { IsWalked (H.content store.old) t.now d a shape.now }
+    requires kind { IsKindOf t.now shape.now kind.now }
     ensures { (object : AnObject) → IsLive (H.content store.old) d a object
         → Visits (H.content store.old) (H.content store.new) d a (followed t.now object) done result }
 {
     let rest = finish(store, d, a, done);
-    meet_places(store, t, d, a, shape, rest)
+    meet_places(store, t, d, a, shape, kind, rest)
 }
 
 /// What was found. Each object that was met is on one of the two queues, and each other object has the mark 0.
@@ -79,9 +82,10 @@ pub(crate) fn discover<H: ObjectStore>(
     let mut todo = meet_given(store, from, values);
     let mut done = None;
     let mut sum = 0u64;
+    let mut last = None;
     while let Some(a) = todo {
         let shape = store.shape(from, a);
-        if !may_pass(w, from, to, &shape) {
+        if !passes(w, from, to, &shape, &last) {
             return Found {
                 done,
                 todo,
@@ -89,9 +93,10 @@ pub(crate) fn discover<H: ObjectStore>(
                 refused: Some(a),
             };
         }
-        todo = visit(store, t, from, a, &shape, done);
+        let kind = kind_of(t, &shape, &mut last);
+        todo = visit(store, t, from, a, &shape, &kind, done);
         done = Some(a);
-        sum += shape_words(t, &shape);
+        sum += kind.words;
     }
     Found {
         done,

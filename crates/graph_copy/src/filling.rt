@@ -5,9 +5,10 @@ ghost use Rattle.jk_model_domains.specs.Objects.{Object as AnObject};
 ghost use Rattle.object_store.specs.HeapContents.{IsLive, WritesObject};
 ghost use Rattle.graph_copy.specs.Chains.{IsChain, first_source};
 ghost use Rattle.graph_copy.specs.Filled.{Fills, HaveImages, MayFill, MayFillOne, copied_object, image_of};
+ghost use Rattle.graph_copy.specs.Kinds.{IsKnown};
 
+use crate::kinds::{KnownClass, is_kept, kind_of};
 use crate::marks::{copy_of, next_of};
-use crate::places::{is_kept, places};
 use class_table::ClassTable;
 use jk_model::{Args, DomainId, Value};
 use object_store::ObjectStore;
@@ -23,7 +24,7 @@ fn image<H: ObjectStore>(store: &H, from: DomainId, v: Value) -> Value
     }
 }
 
-/// Fills the copy of an object. It takes one step for each place.
+/// Fills the copy of an object. It takes one step for each place, and as `kind_of`.
 fn fill_one<H: ObjectStore>(
     store: &mut H,
     t: &ClassTable,
@@ -31,14 +32,18 @@ fn fill_one<H: ObjectStore>(
     to: DomainId,
     a: u32,
     b: u32,
+    last: &mut Option<KnownClass>,
 )
-    requires { MayFillOne (H.content store.old) t.now from to a b }
-    ensures { (object : AnObject) → IsLive (H.content store.old) from a object
+    requires may { MayFillOne (H.content store.old) t.now from to a b }
+    requires known { IsKnown t.now last.old }
+    ensures known { IsKnown t.now last.new }
+    ensures written { (object : AnObject) → IsLive (H.content store.old) from a object
         → WritesObject (H.content store.old) (H.content store.new) to b (copied_object t.now ((H.content store.old).mark from) object) }
 {
     let shape = store.shape(from, a);
-    for i in 0..places(t, &shape) {
-        if !is_kept(t, &shape, i) {
+    let kind = kind_of(t, &shape, last);
+    for i in 0..kind.places {
+        if !is_kept(t, &shape, &kind, i) {
             continue;
         }
         let v = image(store, from, store.read(t, from, a, i));
@@ -58,10 +63,11 @@ pub(crate) fn fill<H: ObjectStore>(
     ensures { (pairs : List (ℕ × ℕ)) → IsChain (H.content store.old) from to pairs → first ≡ first_source pairs
         → Fills (H.content store.old) (H.content store.new) t.now from to pairs }
 {
+    let mut last = None;
     let mut next = first;
     while let Some(a) = next {
         let b = copy_of(store, from, a);
-        fill_one(store, t, from, to, a, b);
+        fill_one(store, t, from, to, a, b, &mut last);
         next = next_of(store.mark(to, b));
     }
 }

@@ -1,12 +1,15 @@
 //! Which objects may be copied from one domain to another.
 
-ghost use Rattle.std.specs.Prelude.{◌≡◌, ◌⊎◌, ◌↔◌, IsTrue};
+ghost use Rattle.std.specs.Prelude.{◌≡◌, ◌⊎◌, ◌↔◌, IsTrue, Some};
 ghost use Rattle.jk_model_classes.specs.Classes.{Implements};
 ghost use Rattle.jk_model_graphs.specs.Copiable.{AreSharing, AreSharingBase, is_marked_copiable};
+ghost use Rattle.jk_model_heaps.specs.declared.shapes.Shape.TheVariants as Of;
 ghost use Rattle.jk_model_heaps.specs.SystemClasses.{SERIALIZABLE as THE_SERIALIZABLE};
 ghost use Rattle.graph_copy.specs.AskedOfCopies.{AgreeOnNames, HasDomain, table_of};
+ghost use Rattle.graph_copy.specs.declared.kinds.KnownClass.{KnownClass as AKnownClass};
 ghost use Rattle.graph_copy.specs.Judged.{MayPass};
 
+use crate::kinds::{KnownClass, known_kind};
 use domain_resolver::{NameTable, World};
 use jk_model::{ClassId, DomainId};
 use jk_model_classes::BaseRef;
@@ -14,10 +17,29 @@ use jk_model_heaps::Shape;
 use jk_model_heaps::system_classes::SERIALIZABLE;
 use system_table::{count, system_class};
 
+/// Whether an object of this shape may be copied, as `may_pass`. Objects of the class that is known may be.
+pub(crate) fn passes(
+    w: &World,
+    from: DomainId,
+    to: DomainId,
+    shape: &Shape,
+    last: &Option<KnownClass>,
+) -> bool
+    requires domains { HasDomain w.now from × HasDomain w.now to }
+    requires names { AgreeOnNames (table_of w.now from) (table_of w.now to) }
+    requires judged { (k : AKnownClass) → last.now ≡ Some k → MayPass w.now.classes (table_of w.now from) (table_of w.now to) (Of.Plain k.class) }
+    ensures { IsTrue result ↔ MayPass w.now.classes (table_of w.now from) (table_of w.now to) shape.now }
+{
+    match known_kind(shape, last) {
+        Some(_) => true,
+        None => may_pass(w, from, to, shape),
+    }
+}
+
 /// Whether an object of this shape may be copied: one whose class is a system class so marked, or one that both domains know by its
 /// name and that implements java/io/Serializable; an array whose base is a whole number or a class that both know; every text, and no
 /// Task.
-pub(crate) fn may_pass(w: &World, from: DomainId, to: DomainId, shape: &Shape) -> bool
+fn may_pass(w: &World, from: DomainId, to: DomainId, shape: &Shape) -> bool
     requires domains { HasDomain w.now from × HasDomain w.now to }
     requires names { AgreeOnNames (table_of w.now from) (table_of w.now to) }
     ensures { IsTrue result ↔ MayPass w.now.classes (table_of w.now from) (table_of w.now to) shape.now }

@@ -9,6 +9,7 @@ mod copying;
 mod discovery;
 mod filling;
 mod judge;
+mod kinds;
 mod laying;
 mod marks;
 mod meeting;

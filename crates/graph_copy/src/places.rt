@@ -45,7 +45,7 @@ pub(crate) fn reference_places(t: &ClassTable, shape: &Shape) -> u32
 }
 
 /// Whether a copy keeps what stands at a place: it leaves a transient field empty.
-pub(crate) fn is_kept(t: &ClassTable, shape: &Shape, i: u32) -> bool
+pub(crate) fn is_place_kept(t: &ClassTable, shape: &Shape, i: u32) -> bool
     requires classes { HasShapeClasses t.now shape.now }
     requires place { i < place_count t.now shape.now }
     ensures { result ≡ is_kept_at t.now shape.now i }

@@ -1,8 +1,7 @@
 -- What a change of one heap makes of the content of the store.
-use Rattle.std.proofs.Common.{inl, inr, ◌≡◌, ◌≢◌, ℕ, ◌+◌, ◌-◌, ◌≤◌, List, [], ◌∷◌, ◌++◌, Option, Some, None, IsSome, Result, Ok, Err, OnErr, nat_eq, slice_get, refl, sym, ap, subst, ◌∙◌, arith}
+use Rattle.std.proofs.Common.{inl, inr, ◌≡◌, ◌≢◌, ℕ, ◌+◌, ◌-◌, ◌≤◌, List, [], ◌∷◌, ◌++◌, Option, Some, None, IsSome, Result, Ok, Err, OnErr, slice_get, refl, sym, ap, subst, ◌∙◌, arith}
 use Rattle.std.specs.Option.{option_map, option_map_or}
 use Rattle.std.proofs.lemmas.Bool.{cases_eq}
-use Rattle.indexmap.specs.IndexMap.{IndexMap, get}
 use Rattle.list_lemmas.proofs.ItemsByPlace.{item_there}
 use Rattle.jk_model.specs.declared.identifiers.DomainId.{DomainId}
 use Rattle.jk_model.specs.declared.values.Value.{Value}
@@ -15,7 +14,7 @@ use Rattle.plain_store.specs.declared.domain_heap.Header.{Header}
 use Rattle.plain_store.specs.Headers.{object_of}
 use Rattle.plain_store.specs.HeapMoves.{Becomes, HasItemAt, IsFresh, IsNamed, IsNextIn, IsObject, MakesIn, MarksIn, TakesItemAt, mark_of, next_place, objects_of}
 use Rattle.plain_store.specs.NumberedObjects.{heap_of}
-use Rattle.plain_store.specs.StoreContents.{Enters, IsUnentered, content_of}
+use Rattle.plain_store.specs.StoreContents.{Enters, content_of, heap_at}
 use Rattle.plain_store.specs.StoredObjects.{object_there}
 use Rattle.plain_store.proofs.ItemsOfObjects.{name_within}
 
@@ -54,23 +53,23 @@ err_map (Err e) f h = f h
 
 -- ---- What is asked of a store is asked of the heap.
 
-module _ {S : Type 0} (m : IndexMap ℕ DomainHeap S) (d : DomainId) where
-  pub admitted : IsSome ((content_of m).quota d) → IsSome (get nat_eq m d.0)
-  admitted h = some_by (get nat_eq m d.0) h
+module _ (m : List (Option DomainHeap)) (d : DomainId) where
+  pub admitted : IsSome ((content_of m).quota d) → IsSome (heap_at m d.0)
+  admitted h = some_by (heap_at m d.0) h
 
-  pub not_admitted : (content_of m).quota d ≡ None → get nat_eq m d.0 ≡ None
-  not_admitted e = no_words (get nat_eq m d.0) e
+  pub not_admitted : (content_of m).quota d ≡ None → heap_at m d.0 ≡ None
+  not_admitted e = no_words (heap_at m d.0) e
 
-  pub there_by_name : (a : ℕ) → IsName (content_of m) d a → IsSome (get nat_eq m d.0)
-  there_by_name a has = named_by (get nat_eq m d.0) a has.0 has.1
+  pub there_by_name : (a : ℕ) → IsName (content_of m) d a → IsSome (heap_at m d.0)
+  there_by_name a has = named_by (heap_at m d.0) a has.0 has.1
 
-  pub there_by_item : (classes : List ClassRecord) (a i : ℕ) → HasItem (content_of m) classes d a i → IsSome (get nat_eq m d.0)
-  there_by_item classes a i has = named_by (get nat_eq m d.0) a has.object has.live
+  pub there_by_item : (classes : List ClassRecord) (a i : ℕ) → HasItem (content_of m) classes d a i → IsSome (heap_at m d.0)
+  there_by_item classes a i has = named_by (heap_at m d.0) a has.object has.live
 
-  pub there_by_taken : (classes : List ClassRecord) (a i : ℕ) (v : Value) → TakesItem (content_of m) classes d a i v → IsSome (get nat_eq m d.0)
-  there_by_taken classes a i v takes = named_by (get nat_eq m d.0) a takes.object takes.live
+  pub there_by_taken : (classes : List ClassRecord) (a i : ℕ) (v : Value) → TakesItem (content_of m) classes d a i v → IsSome (heap_at m d.0)
+  there_by_taken classes a i v takes = named_by (heap_at m d.0) a takes.object takes.live
 
-  module _ (x : DomainHeap) (is : get nat_eq m d.0 ≡ Some x) where
+  module _ (x : DomainHeap) (is : heap_at m d.0 ≡ Some x) where
     pub live_in : (a : ℕ) (object : Object) → IsLive (content_of m) d a object → IsObject x a object
     live_in a object live = sym (ap (λ (o : Option DomainHeap). object_named (objects_in o) a) is) ∙ live
 
@@ -119,11 +118,11 @@ module _ {S : Type 0} (m : IndexMap ℕ DomainHeap S) (d : DomainId) where
 same_number : (e d : DomainId) → e ≢ d → e.0 ≢ d.0
 same_number e d ne same = ne (ap (λ (k : ℕ). let z : DomainId = record { 0 = k } in z) same)
 
-module _ {S : Type 0} (m n : IndexMap ℕ DomainHeap S) (d : DomainId) (x y : DomainHeap) (was : get nat_eq m d.0 ≡ Some x) (enters : Enters m n d.0 y) where
+module _ (m n : List (Option DomainHeap)) (d : DomainId) (x y : DomainHeap) (was : heap_at m d.0 ≡ Some x) (enters : Enters m n d.0 y) where
   -- what is the same of both heaps is the same of all
-  same_by : {A : Type 0} (F : Option DomainHeap → A) → F (Some y) ≡ F (Some x) → (e : ℕ) → F (get nat_eq n e) ≡ F (get nat_eq m e)
+  same_by : {A : Type 0} (F : Option DomainHeap → A) → F (Some y) ≡ F (Some x) → (e : ℕ) → F (heap_at n e) ≡ F (heap_at m e)
   same_by F same e = elim (cases_eq e d.0) [
-    | inl here ↦ ap (λ k. F (get nat_eq n k)) here ∙ ap F enters.is ∙ same ∙ sym (ap F was) ∙ sym (ap (λ k. F (get nat_eq m k)) here)
+    | inl here ↦ ap (λ k. F (heap_at n k)) here ∙ ap F enters.is ∙ same ∙ sym (ap F was) ∙ sym (ap (λ k. F (heap_at m k)) here)
     | inr ne ↦ ap F (enters.others e ne)
   ]
 
@@ -191,8 +190,8 @@ module _ {S : Type 0} (m n : IndexMap ℕ DomainHeap S) (d : DomainId) (x y : Do
 
 -- ---- A heap comes or goes.
 
-module _ {S : Type 0} (m n : IndexMap ℕ DomainHeap S) (d : DomainId) where
-  others_kept : ((e : ℕ) → e ≢ d.0 → get nat_eq n e ≡ get nat_eq m e) → KeepsOthers (content_of m) (content_of n) d
+module _ (m n : List (Option DomainHeap)) (d : DomainId) where
+  others_kept : ((e : ℕ) → e ≢ d.0 → heap_at n e ≡ heap_at m e) → KeepsOthers (content_of m) (content_of n) d
   others_kept others =
       record {
         quota = λ e ne. ap words_in (others e.0 (same_number e d ne));
@@ -219,7 +218,7 @@ module _ {S : Type 0} (m n : IndexMap ℕ DomainHeap S) (d : DomainId) where
         others = others_kept enters.others;
       }
 
-  pub closes : get nat_eq n d.0 ≡ None → ((e : ℕ) → e ≢ d.0 → get nat_eq n e ≡ get nat_eq m e) → Closes (content_of m) (content_of n) d
+  pub closes : heap_at n d.0 ≡ None → ((e : ℕ) → e ≢ d.0 → heap_at n e ≡ heap_at m e) → Closes (content_of m) (content_of n) d
   closes gone others =
       record {
         pages = refl;
@@ -234,11 +233,11 @@ module _ {S : Type 0} (m n : IndexMap ℕ DomainHeap S) (d : DomainId) where
         others = others_kept others;
       }
 
-  pub unentered : IsUnentered m n → IsSame (content_of m) (content_of n)
+  pub unentered : n ≡ m → IsSame (content_of m) (content_of n)
   unentered same =
       record {
-        domains = record { pages = refl; took_all = refl; quota = λ e. ap words_in (same e.0); first_page = λ e. refl };
-        used = λ e. ap used_in (same e.0);
-        heap = λ e. ap objects_in (same e.0);
-        mark = λ e a. ap (mark_in a) (same e.0);
+        domains = record { pages = refl; took_all = refl; quota = λ e. ap (λ hs. words_in (heap_at hs e.0)) same; first_page = λ e. refl };
+        used = λ e. ap (λ hs. used_in (heap_at hs e.0)) same;
+        heap = λ e. ap (λ hs. objects_in (heap_at hs e.0)) same;
+        mark = λ e a. ap (λ hs. mark_in a (heap_at hs e.0)) same;
       }

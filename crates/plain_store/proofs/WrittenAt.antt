@@ -1,32 +1,52 @@
--- What is written at a place of the map of heaps is written at the number that stands there.
-use Rattle.std.proofs.Common.{inl, inr, ◌≡◌, ◌≢◌, ℕ, ◌<◌, cond, length, Option, Some, nat_eq, slice_get, sym, ap, ◌∙◌}
-use Rattle.std.specs.Cmp.{nat_eq_equiv}
-use Rattle.std.specs.Option.{option_map}
-use Rattle.std.proofs.lemmas.Bool.Decides.{eqb_tells}
+-- The heap that stands at a number is that of the number, and what is written there is that of the number afterwards.
+use Rattle.std.proofs.Common.{◌≡◌, ◌≢◌, ℕ, zero, suc, ◌+◌, ◌<◌, List, [], ◌∷◌, ◌++◌, length, replicate, set, Option, Some, None, IsSome, slice_get, refl, sym, ap, ◌∙◌, length-append, arith}
+use Rattle.std.proofs.lemmas.List.{length-replicate}
+use Rattle.std.specs.Option.{option_map_or}
 use Rattle.std.proofs.lemmas.Option.{slice_get_within}
-use Rattle.indexmap.specs.IndexMap.{IndexMap, IsUnique, get, with_value_at}
-use Rattle.indexmap.proofs.CallerLemmas.{updates-with_value_at}
+use Rattle.list_lemmas.proofs.ItemsByPlace.{slice_get-set_other, slice_get-set_same}
 use Rattle.plain_store.specs.declared.domain_heap.DomainHeap.{DomainHeap}
-use Rattle.plain_store.specs.StoreContents.{Enters, StandsAt}
+use Rattle.plain_store.specs.StoreContents.{Enters, heap_at}
 
-pub others_by_updates : {S : Type 0} (m n : IndexMap ℕ DomainHeap S) (d : ℕ) (o : Option DomainHeap)
-    → ((q : ℕ) → get nat_eq n q ≡ cond (nat_eq d q) o (get nat_eq m q)) → (e : ℕ) → e ≢ d → get nat_eq n e ≡ get nat_eq m e
-others_by_updates m n d o h e ne =
-    elim (eqb_tells d e) [
-      | inl same ↦ absurd (ne (sym same.1))
-      | inr other ↦ h e ∙ ap (λ b. cond b o (get nat_eq m e)) other.0
-    ]
+abbrev heap_in : Option (Option DomainHeap) → Option DomainHeap
+heap_in p = option_map_or (λ (o : Option DomainHeap). o) p None
 
-module _ {S : Type 0} (m : IndexMap ℕ DomainHeap S) (d i : ℕ) (at : StandsAt m d i) where
-  pub within_map : i < length m.entries
-  within_map = slice_get_within m.entries i (d, at.heap) at.entry
+-- what stands at the number of a domain
+stands_by : (p : Option (Option DomainHeap)) → IsSome (heap_in p) → (x : DomainHeap) × (p ≡ Some (Some x))
+stands_by None has = absurd cc
+stands_by (Some None) has = absurd cc
+stands_by (Some (Some x)) has = (x, refl)
 
-  -- what stands there, read with its number
-  pub read_pair : (k : ℕ) (x : DomainHeap) → slice_get m.entries i ≡ Some (k, x) → get nat_eq m d ≡ Some x
-  read_pair k x e = at.is ∙ ap (option_map (λ (p : ℕ × DomainHeap). p.1)) (sym at.entry ∙ e)
+pub within_heaps : (heaps : List (Option DomainHeap)) (d : ℕ) → IsSome (heap_at heaps d) → d < length heaps
+within_heaps heaps d has = let x = stands_by (slice_get heaps d) has in slice_get_within heaps d (Some x.0) x.1
 
-  -- as if the number were looked up
-  pub written_at : (y : DomainHeap) → IsUnique nat_eq m → Enters m (with_value_at m i y) d y
-  written_at y unique =
-      let updates = updates-with_value_at m i y nat_eq_equiv unique d at.heap at.entry in
-      record { is = updates.1; others = others_by_updates m (with_value_at m i y) d (Some y) updates.0 }
+-- as it was read
+pub read_at : (heaps : List (Option DomainHeap)) (d : ℕ) (o : Option DomainHeap) → slice_get heaps d ≡ Some o → heap_at heaps d ≡ o
+read_at heaps d o at = ap heap_in at
+
+pub written_at : (heaps : List (Option DomainHeap)) (d : ℕ) (x : DomainHeap) → d < length heaps → Enters heaps (set heaps d (Some x)) d x
+written_at heaps d x within = record {
+  is = ap heap_in (slice_get-set_same heaps d (Some x) within);
+  others = λ e ne. ap heap_in (slice_get-set_other heaps d e (Some x) (λ same. ne (sym same)));
+}
+
+pub closed_at : (heaps : List (Option DomainHeap)) (d : ℕ) → d < length heaps → heap_at (set heaps d None) d ≡ None
+closed_at heaps d within = ap heap_in (slice_get-set_same heaps d None within)
+
+pub others_at : (heaps : List (Option DomainHeap)) (d : ℕ) (o : Option DomainHeap) (e : ℕ) → e ≢ d → heap_at (set heaps d o) e ≡ heap_at heaps e
+others_at heaps d o e ne = ap heap_in (slice_get-set_other heaps d e o (λ same. ne (sym same)))
+
+-- numbers without a domain are added
+padded : (heaps : List (Option DomainHeap)) (n e : ℕ) → heap_at (heaps ++ replicate n None) e ≡ heap_at heaps e
+padded [] zero e = refl
+padded [] (suc n) zero = refl
+padded [] (suc n) (suc e) = padded [] n e
+padded (x ∷ heaps) n zero = refl
+padded (x ∷ heaps) n (suc e) = padded heaps n e
+
+pub entered_at : (heaps : List (Option DomainHeap)) (n d : ℕ) (x : DomainHeap) → d < length heaps + n
+    → Enters heaps (set (heaps ++ replicate n None) d (Some x)) d x
+entered_at heaps n d x within =
+    let there : d < length (heaps ++ replicate n None) =
+    omega (arith, within, length-append heaps (replicate n None), length-replicate {A = Option DomainHeap} n None) in
+    let written = written_at (heaps ++ replicate n None) d x there in
+    record { is = written.is; others = λ e ne. written.others e ne ∙ padded heaps n e }

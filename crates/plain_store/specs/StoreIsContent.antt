@@ -1,12 +1,11 @@
 -- What holds of each content holds of a store's.
-use Rattle.std.proofs.Common.{inl, ◌≡◌, ℕ, ◌^◌, ◌<◌, ◌≤◌, ◌+◌, [], Option, Some, None, nat_eq, slice_get, refl, sym, ◌∙◌, arith}
+use Rattle.std.proofs.Common.{inl, ◌≡◌, ℕ, ◌^◌, ◌<◌, ◌≤◌, ◌+◌, List, [], Option, Some, None, slice_get, refl, sym, ◌∙◌, arith}
 use Rattle.std.specs.Option.{option_map, option_map_or}
-use Rattle.indexmap.specs.IndexMap.{IndexMap, get}
 use Rattle.jk_model_domains.specs.Objects.{NamedObject, Object, object_named}
 use Rattle.object_store.specs.HeapContents.{IsHeapContent, IsStored, size_of}
 use Rattle.plain_store.specs.declared.domain_heap.DomainHeap.{DomainHeap}
 use Rattle.plain_store.specs.HeapMoves.{mark_of, objects_of}
-use Rattle.plain_store.specs.StoreContents.{content_of}
+use Rattle.plain_store.specs.StoreContents.{content_of, heap_at}
 use Rattle.plain_store.specs.StoredObjects.{object_by_place, object_sized, object_small, object_stored, object_unmarked}
 
 -- ---- Of a domain, which has a heap or none.
@@ -48,20 +47,20 @@ stored_by (Some x) a object is = object_stored x a object is
 
 -- ---- Of a store.
 
-pub store_holds : {S : Type 0} (heaps : IndexMap ℕ DomainHeap S) → IsHeapContent (content_of heaps)
+pub store_holds : (heaps : List (Option DomainHeap)) → IsHeapContent (content_of heaps)
 store_holds heaps =
     record {
-      within = λ d q e. within_by (get nat_eq heaps d.0) q e;
+      within = λ d q e. within_by (heap_at heaps d.0) q e;
       unused =
           λ d e.
-          let none = none_by (get nat_eq heaps d.0) e in
+          let none = none_by (heap_at heaps d.0) e in
           (record { unused = none.0; heap = none.1; mark = none.2 }, refl);
-      unmarked = λ d a e. unmarked_by (get nat_eq heaps d.0) a e;
+      unmarked = λ d a e. unmarked_by (heap_at heaps d.0) a e;
       differ =
           λ d i j a b at bt same.
-          sym (name_by (get nat_eq heaps d.0) i a at) ∙ same ∙ name_by (get nat_eq heaps d.0) j b bt;
-      small = λ d a object live. small_by (get nat_eq heaps d.0) a object live;
-      sized = λ d a object live. sized_by (get nat_eq heaps d.0) a object live;
-      stored = λ d a object live. stored_by (get nat_eq heaps d.0) a object live;
+          sym (name_by (heap_at heaps d.0) i a at) ∙ same ∙ name_by (heap_at heaps d.0) j b bt;
+      small = λ d a object live. small_by (heap_at heaps d.0) a object live;
+      sized = λ d a object live. sized_by (heap_at heaps d.0) a object live;
+      stored = λ d a object live. stored_by (heap_at heaps d.0) a object live;
       placed = λ d q e. inl (refl, refl);
     }

@@ -1,8 +1,9 @@
 //! A store of objects over vectors.
 
+ghost use Rattle.std.specs.Prelude.{◌≡◌, ◌+◌, ◌≤◌, ◌++◌, None, OnOk, replicate, vec_capacity, vec_len};
+
 use crate::domain_heap::DomainHeap;
 use class_table::ClassTable;
-use indexmap::IndexMap;
 use jk_model::{AdmitError, DomainId, NoRoom, OutOfMemory, Value};
 use jk_model_heaps::Shape;
 use object_store::ObjectStore;
@@ -13,87 +14,69 @@ use std::alloc::Global;
 #[derive(Drop)]
 pub struct PlainStore {
     alloc: Global,
-    /// The heaps, by the numbers of their domains.
-    heaps: IndexMap<u32, DomainHeap>,
+    /// The heap of each domain at the domain's number, so that a look-up takes no search. None at a number without a domain.
+    heaps: Vec<Option<DomainHeap>>,
 }
 
 impl PlainStore {
-    ghost use Rattle.std.specs.Prelude.{◌≡◌, IsSome, Some, None, OnOk, OnErr, false, nat_eq};
-    ghost use Rattle.indexmap.specs.IndexMap.{get};
+    ghost use Rattle.std.specs.Prelude.{◌≡◌, IsSome, Some, None, OnOk, OnErr, false};
     ghost use Rattle.jk_model.specs.declared.identifiers.DomainId.{DomainId};
-    ghost use Rattle.plain_store.specs.StoreContents.{Enters, IsUnentered, StandsAt, content_of};
+    ghost use Rattle.plain_store.specs.StoreContents.{Enters, content_of, heap_at};
 
     /// A store without domains.
     pub fn new(alloc: Global) -> PlainStore
-        ensures pages { (content_of result.heaps).pages ≡ None }
-        ensures took_all { (content_of result.heaps).took_all ≡ false }
-        ensures domains { (d : DomainId) → (content_of result.heaps).quota d ≡ None }
+        ensures pages { (content_of result.heaps.items).pages ≡ None }
+        ensures took_all { (content_of result.heaps.items).took_all ≡ false }
+        ensures domains { (d : DomainId) → (content_of result.heaps.items).quota d ≡ None }
     {
         PlainStore {
             alloc,
-            heaps: IndexMap::new(alloc),
+            heaps: Vec::new(alloc),
         }
     }
 
-    /// The heap of a domain. It stands at the domain's own number where none was closed before it, so that most look-ups want no
-    /// hash.
+    /// The heap of a domain.
     #[inline(always)]
     fn heap(&self, d: u32) -> &DomainHeap
-        requires { IsSome (get nat_eq self.now.heaps d) }
-        ensures { get nat_eq self.now.heaps d ≡ Some result.now }
+        requires { IsSome (heap_at self.now.heaps.items d) }
+        ensures { heap_at self.now.heaps.items d ≡ Some result.now }
     {
-        if let Some((number, heap)) = self.heaps.get_index(d as usize) {
-            if *number == d {
-                return heap;
-            }
-        }
-        self.far_heap(d)
-    }
-
-    /// As `heap`, where it stands elsewhere.
-    #[cold]
-    #[inline(never)]
-    fn far_heap(&self, d: u32) -> &DomainHeap
-        requires { IsSome (get nat_eq self.now.heaps d) }
-        ensures { get nat_eq self.now.heaps d ≡ Some result.now }
-    {
-        self.heaps.get(&d).unwrap()
-    }
-
-    /// Where the heap of a domain stands in the map.
-    #[inline(always)]
-    fn place_of(&self, d: u32) -> usize
-        requires { IsSome (get nat_eq self.now.heaps d) }
-        ensures { StandsAt self.now.heaps d result }
-    {
-        if let Some((number, _)) = self.heaps.get_index(d as usize) {
-            if *number == d {
-                return d as usize;
-            }
-        }
-        self.far_place_of(d)
-    }
-
-    /// As `place_of`, where it stands elsewhere.
-    #[cold]
-    #[inline(never)]
-    fn far_place_of(&self, d: u32) -> usize
-        requires { IsSome (get nat_eq self.now.heaps d) }
-        ensures { StandsAt self.now.heaps d result }
-    {
-        match self.heaps.get_full(&d) {
-            Some((place, _, _)) => place,
+        match &self.heaps[d as usize] {
+            Some(heap) => heap,
             None => unreachable!(),
         }
     }
 
     /// Enters the heap of a domain. After an error all is as before.
     fn enter(&mut self, d: u32, heap: DomainHeap) -> Result<(), OutOfMemory>
-        ensures ok { OnOk result (Enters self.old.heaps self.new.heaps d heap) }
-        ensures err { OnErr result (IsUnentered self.old.heaps self.new.heaps) }
+        ensures ok { OnOk result (Enters self.old.heaps.items self.new.heaps.items d heap) }
+        ensures err { OnErr result (self.new.heaps.items ≡ self.old.heaps.items) }
     {
-        self.heaps.insert(d, heap)?;
+        let place = d as usize;
+        let lacking = (place + 1).saturating_sub(self.heaps.len());
+        reserve(&mut self.heaps, lacking)?;
+        add_places(&mut self.heaps, lacking);
+        self.heaps[place] = Some(heap);
         Ok(())
+    }
+}
+
+/// Makes room for the heaps of so many more numbers.
+fn reserve(heaps: &mut Vec<Option<DomainHeap>>, more: usize) -> Result<(), OutOfMemory>
+    ensures same { heaps.new.items ≡ heaps.old.items }
+    ensures room { OnOk result (vec_len heaps.new + more ≤ vec_capacity heaps.new) }
+{
+    heaps.reserve(more)?;
+    Ok(())
+}
+
+/// Adds so many numbers without a domain, for which there is room.
+fn add_places(heaps: &mut Vec<Option<DomainHeap>>, count: usize)
+    requires { vec_len heaps.old + count ≤ vec_capacity heaps.old }
+    ensures { heaps.new.items ≡ heaps.old.items ++ replicate count None }
+{
+    for _ in 0..count {
+        heaps.push_reserved(None);
     }
 }
 
@@ -101,7 +84,7 @@ impl ObjectStore for PlainStore {
     ghost use Rattle.plain_store.specs.StoreContents.{content_of};
     ghost use Rattle.plain_store.specs.StoreIsContent.{store_holds};
 
-    ghost content = { λ x. content_of x.heaps };
+    ghost content = { λ x. content_of x.heaps.items };
 
     fn admit(&mut self, d: DomainId, words: u32) -> Result<(), AdmitError> {
         let heap = DomainHeap::new(self.alloc, words)?;
@@ -114,9 +97,10 @@ impl ObjectStore for PlainStore {
     }
 
     fn make(&mut self, t: &ClassTable, d: DomainId, shape: Shape) -> Result<u32, NoRoom> {
-        let place = self.place_of(d.0);
-        let (_, heap) = self.heaps.pair_mut(place);
-        heap.make(t, shape)
+        match &mut self.heaps[d.0 as usize] {
+            Some(heap) => heap.make(t, shape),
+            None => unreachable!(),
+        }
     }
 
     #[inline(always)]
@@ -131,23 +115,27 @@ impl ObjectStore for PlainStore {
 
     #[inline(always)]
     fn write(&mut self, _t: &ClassTable, d: DomainId, a: u32, i: u32, v: Value) {
-        let place = self.place_of(d.0);
-        let (_, heap) = self.heaps.pair_mut(place);
-        heap.write(a, i, v);
+        match &mut self.heaps[d.0 as usize] {
+            Some(heap) => heap.write(a, i, v),
+            None => unreachable!(),
+        }
     }
 
+    #[inline(always)]
     fn mark(&self, d: DomainId, a: u32) -> u32 {
         self.heap(d.0).mark(a)
     }
 
+    #[inline(always)]
     fn set_mark(&mut self, d: DomainId, a: u32, m: u32) {
-        let place = self.place_of(d.0);
-        let (_, heap) = self.heaps.pair_mut(place);
-        heap.set_mark(a, m);
+        match &mut self.heaps[d.0 as usize] {
+            Some(heap) => heap.set_mark(a, m),
+            None => unreachable!(),
+        }
     }
 
     fn close(&mut self, d: DomainId) {
-        let _heap = self.heaps.swap_remove(&d.0);
+        self.heaps[d.0 as usize] = None;
     }
 
     fn pool_words(&self) -> Option<u32> {
@@ -162,5 +150,5 @@ impl ObjectStore for PlainStore {
         self.heap(d.0).next_name(above)
     }
 
-    ghost holds = { λ x. store_holds x.heaps };
+    ghost holds = { λ x. store_holds x.heaps.items };
 }

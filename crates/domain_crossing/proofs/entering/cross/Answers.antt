@@ -1,5 +1,6 @@
 -- By the arguments and the owner's chunks.
-use Rattle.std.proofs.Common.{refl, sym, subst}
+use Rattle.std.proofs.Common.{refl, sym, subst, ◌∙◌}
+use Rattle.std.proofs.lemmas.Option.{same_Some}
 use Rattle.jk_model_sharing.specs.SharedStates.{SharedState}
 use Rattle.domain_crossing.specs.declared.answers.Crossed.TheVariants as Called
 use Rattle.domain_crossing.specs.EnteringCalls.{EntersSo}
@@ -24,9 +25,7 @@ arrive-requires-clause-fits g c =
     let none = c.if-names_object.ensures call.given on many refl in (
       call,
       call.given,
-      many,
-      on,
-      many,
+      record { many = many; as_many = many; each = λ i a v at there. same_Some v a (sym there ∙ at) },
       c.requires.may.3 heap call.given (nothing_refused heap c.args.w.now from to call.given none)
           (nothing_copied heap c.args.w.now from to call.given none),
     )
@@ -54,4 +53,5 @@ returns g c = λ call many fit.
     subst (λ (s : SharedState). EntersSo x c.args.shared.now call c.args.t c.args.callee.now Called.Entered heap s after) (sym c.arrive.ensures.shared)
     (EntersSo.enters call.given heap after answer copied
     (enough_left old c.args.callee.now (λ few. let both = c.if-lacks_chunks.ensures.lacks.1 few in cc))
-    (c.arrive.ensures.frames call call.given many on many (fit heap call.given answer copied)))
+    (c.arrive.ensures.frames call call.given
+    (record { many = many; as_many = many; each = λ i a v at there. same_Some v a (sym there ∙ at) }) (fit heap call.given answer copied)))

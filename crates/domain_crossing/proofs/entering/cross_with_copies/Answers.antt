@@ -80,9 +80,11 @@ arrive-requires-clause-fits g c =
     (c.in-Copied.ensures.copied c.if-lacks.false refl) in (
       call,
       values,
-      many,
-      refl,
-      AllZip-long (Corresponds copied.pairs) call.given values copied.is_copy.values ∙ many,
+      record {
+        many = many;
+        as_many = AllZip-long (Corresponds copied.pairs) call.given values copied.is_copy.values ∙ many;
+        each = λ i a v at there. there;
+      },
       c.requires.may.3 new values answer copied,
     )
 
@@ -104,5 +106,10 @@ returns g c = λ call many fit.
     subst (λ (s : SharedState). EntersSo x c.args.shared.now call c.args.t c.args.callee.now Called.Entered new s after) (sym c.arrive.ensures.shared)
     (EntersSo.enters values new after answer copied
     (enough_left old c.args.callee.now (λ few. let both = c.if-lacks.ensures.lacks.1 few in cc))
-    (c.arrive.ensures.frames call values many refl (AllZip-long (Corresponds copied.pairs) call.given values copied.is_copy.values ∙ many)
+    (c.arrive.ensures.frames call values
+    (record {
+      many = many;
+      as_many = AllZip-long (Corresponds copied.pairs) call.given values copied.is_copy.values ∙ many;
+      each = λ i a v at there. there;
+    })
     (fit new values answer copied)))

@@ -5,13 +5,8 @@ use Rattle.jk_model_domains.specs.Objects.{NamedObject, object_named}
 use Rattle.graph_copy.specs.MetObjects.{Meets}
 use Rattle.graph_copy.specs.Places.{followed_at, followed_before, reference_count}
 use Rattle.graph_copy.proofs.ObjectsMet.{has_met_still, meets_both, meets_none}
-use Rattle.graph_copy.proofs.PlacesWalked.{all_met, few_places, more_met, no_names_before, walked_still}
+use Rattle.graph_copy.proofs.PlacesWalked.{all_met, more_met, no_names_before, walked_still}
 use Rattle.graph_copy.proofs.meeting.meet_places.Goals as goal
-
-pub reference_places-i-end-requires-clause-few : goal.reference_places-i-end-requires-clause-few
-reference_places-i-end-requires-clause-few g c =
-    few_places (g.H.ObjectStore.content c.args.store.now) c.args.t.now c.args.d c.args.a c.args.shape.now
-    (g.met.H.ObjectStore.holds c.args.store.now) c.requires.walked
 
 pub loop-i-init : goal.loop-i-init
 loop-i-init g c = λ object live.
@@ -31,14 +26,14 @@ meet_place-next-requires-clause-walked g c =
 
 pub meet_place-next-requires-clause-place : goal.meet_place-next-requires-clause-place
 meet_place-next-requires-clause-place g c =
-    let count : c.reference_places-i-end.result ≡ reference_count c.args.t.now c.args.shape.now = c.reference_places-i-end.ensures in
+    let count : c.args.kind.now.references ≡ reference_count c.args.t.now c.args.shape.now = c.requires.kind.references in
     let within = c.loop-i-test.true in
     omega (arith, count, within)
 
 pub loop-i-preserved : goal.loop-i-preserved
 loop-i-preserved g c = λ object live.
     let within : c.loop-i.i < reference_count c.args.t.now c.args.shape.now =
-    let count : c.reference_places-i-end.result ≡ reference_count c.args.t.now c.args.shape.now = c.reference_places-i-end.ensures in
+    let count : c.args.kind.now.references ≡ reference_count c.args.t.now c.args.shape.now = c.requires.kind.references in
     let test = c.loop-i-test.true in
     omega (arith, count, test) in
     let before = c.loop-i.invariant object live in
@@ -55,7 +50,7 @@ loop-i-preserved g c = λ object live.
 
 pub returns : goal.returns
 returns g c = λ object live.
-    let end : c.loop-i.i ≡ c.reference_places-i-end.result = omega (arith, c.loop-i-test.false, c.loop-i.auto.i-end) in
+    let end : c.loop-i.i ≡ c.args.kind.now.references = omega (arith, c.loop-i-test.false, c.loop-i.auto.i-end) in
     all_met (g.H.ObjectStore.content c.args.store.now) (g.H.ObjectStore.content c.loop-i.store) c.args.t.now c.args.d c.args.a c.loop-i.i
     c.args.shape.now c.args.head c.loop-i.next object (g.met.H.ObjectStore.holds c.args.store.now) c.requires.walked
-    (end ∙ c.reference_places-i-end.ensures) live (c.loop-i.invariant object live)
+    (end ∙ c.requires.kind.references) live (c.loop-i.invariant object live)

@@ -1,29 +1,39 @@
 -- The object is marked in its domain's heap.
-use Rattle.indexmap.specs.IndexMap.{with_value_at}
+use Rattle.std.proofs.Common.{◌∙◌, IsSome, Some, set, subst, Option, arith}
+use Rattle.plain_store.specs.declared.domain_heap.DomainHeap.{DomainHeap}
 use Rattle.plain_store.proofs.StoreChanges.{marks, name_in, there_by_name}
-use Rattle.plain_store.proofs.WrittenAt.{read_pair, within_map, written_at}
+use Rattle.list_lemmas.proofs.ItemsByPlace.{item_read}
+use Rattle.plain_store.proofs.WrittenAt.{read_at, within_heaps, written_at}
 use Rattle.plain_store.proofs.store.PlainStoreObjectStore.set_mark.Goals as goal
 
-pub place_of-place-requires : goal.place_of-place-requires
-place_of-place-requires c = there_by_name c.args.self.now.heaps c.args.d c.args.a c.requires
+pub index_mut-requires : goal.index_mut-requires
+index_mut-requires c =
+    let within = within_heaps c.args.self.now.heaps.items c.args.d.0 (there_by_name c.args.self.now.heaps.items c.args.d c.args.a c.requires) in
+    omega (arith, within, c.args.self.now.heaps.ok.0)
 
-pub pair_mut-heap-requires : goal.pair_mut-heap-requires
-pair_mut-heap-requires c = within_map c.args.self.now.heaps c.args.d.0 c.place_of-place.result c.place_of-place.ensures
+pub unreachable-requires : goal.unreachable-requires
+unreachable-requires c =
+    let m = c.args.self.now.heaps.items in
+    let has = there_by_name c.args.self.now.heaps.items c.args.d c.args.a c.requires in
+    let is = read_at m c.args.d.0 c.index_mut.result.now
+    (item_read m c.args.d.0 c.index_mut.result.now (within_heaps m c.args.d.0 has) c.index_mut.ensures.value) in
+    let wrong = subst (λ (o : Option DomainHeap). IsSome o) (is ∙ c.in-None.is) has in
+    cc
 
 pub set_mark-requires : goal.set_mark-requires
 set_mark-requires c =
-    let m = c.args.self.now.heaps in
-    let x = c.pair_mut-heap.result.1.now in
-    let is = read_pair m c.args.d.0 c.place_of-place.result c.place_of-place.ensures c.pair_mut-heap.result.0.now x c.pair_mut-heap.ensures.value in
+    let m = c.args.self.now.heaps.items in
+    let x = c.in-Some.heap in
+    let within = within_heaps m c.args.d.0 (there_by_name c.args.self.now.heaps.items c.args.d c.args.a c.requires) in
+    let is = read_at m c.args.d.0 c.index_mut.result.now (item_read m c.args.d.0 c.index_mut.result.now within c.index_mut.ensures.value) ∙ c.in-Some.is in
     name_in m c.args.d x is c.args.a c.requires
 
 pub returns : goal.returns
 returns c =
-    let m = c.args.self.now.heaps in
-    let i = c.place_of-place.result in
-    let at = c.place_of-place.ensures in
-    let x = c.pair_mut-heap.result.1.now in
+    let m = c.args.self.now.heaps.items in
+    let x = c.in-Some.heap in
+    let within = within_heaps m c.args.d.0 (there_by_name c.args.self.now.heaps.items c.args.d c.args.a c.requires) in
     let y = c.set_mark.new.self in
-    let is = read_pair m c.args.d.0 i at c.pair_mut-heap.result.0.now x c.pair_mut-heap.ensures.value in
-    let enters = written_at m c.args.d.0 i at y c.pair_mut-heap.ensures.unique in
-    marks m (with_value_at m i y) c.args.d x y is enters c.args.a c.args.m c.set_mark.ensures
+    let is = read_at m c.args.d.0 c.index_mut.result.now (item_read m c.args.d.0 c.index_mut.result.now within c.index_mut.ensures.value) ∙ c.in-Some.is in
+    let enters = written_at m c.args.d.0 y within in
+    marks m (set m c.args.d.0 (Some y)) c.args.d x y is enters c.args.a c.args.m c.set_mark.ensures

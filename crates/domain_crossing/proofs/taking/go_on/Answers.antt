@@ -1,0 +1,39 @@
+-- By the value.
+use Rattle.std.proofs.Common.{length, sym, ap, subst, arith, Option}
+use Rattle.jk_model.specs.declared.frames.FrameHead.{FrameHead}
+use Rattle.jk_model.specs.declared.values.Value.{Value}
+use Rattle.jk_model_frames.specs.Frames.{FrameState}
+use Rattle.jk_model_heaps.specs.CalledFrames.{as_entries, resumed}
+use Rattle.frame_store.specs.FrameContents.{SetsTop}
+use Rattle.number_ops.proofs.TopFrames.{top_after}
+use Rattle.domain_crossing.proofs.FramesGoOn.{goes_on_with, goes_on_with_none}
+use Rattle.domain_crossing.proofs.taking.go_on.Goals as goal
+
+pub overflow_add-head : goal.overflow_add-head
+overflow_add-head g c =
+    let same = ap (λ (h : FrameHead). h.at) (c.head-head.ensures c.requires.0 c.requires.1) in
+    omega (arith, same, c.requires.2.place)
+
+pub push_value-requires : goal.push_value-requires
+push_value-requires g c =
+    let f : FrameState = c.requires.0 in
+    let many = ap (λ (o : Option Value). length (as_entries o)) c.in-Some.is in (
+      _,
+      top_after (g.T.SegmentFrames.content c.args.frames.now) (g.T.SegmentFrames.content c.go.new.self) c.args.s _ (c.go.ensures f c.requires.1),
+      omega (arith, c.requires.2.room, many),
+    )
+
+pub returns-in-Some : goal.returns-in-Some
+returns-in-Some g c = λ f top none.
+    let old = g.T.SegmentFrames.content c.args.frames.now in
+    let mid = g.T.SegmentFrames.content c.go.new.self in
+    let new = g.T.SegmentFrames.content c.push_value.new.self in
+    subst (λ (o : Option Value). SetsTop old new c.args.s (resumed o f)) (sym c.in-Some.is)
+    (goes_on_with old mid c.args.s f c.head-head.result (c.head-head.ensures f top) none (c.go.ensures f top) new c.in-Some.v c.push_value.ensures)
+
+pub returns-in_default : goal.returns-in_default
+returns-in_default g c = λ f top none.
+    let old = g.T.SegmentFrames.content c.args.frames.now in
+    let mid = g.T.SegmentFrames.content c.go.new.self in
+    subst (λ (o : Option Value). SetsTop old mid c.args.s (resumed o f)) (sym c.in_default.is)
+    (goes_on_with_none old mid c.args.s f c.head-head.result (c.head-head.ensures f top) none (c.go.ensures f top))
