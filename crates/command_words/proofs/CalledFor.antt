@@ -19,7 +19,7 @@ pub record AreGiven (words : List Text) (demo root script : Option Text) : Type 
   pub root_is : root ≡ value_of (codes "ROOT") words
   pub script_is : script ≡ value_of (codes "SCRIPT") words
 
-same_some : {X : Type 0} (a b : X) → Some a ≡ Some b → a ≡ b
+pub same_some : {X : Type 0} (a b : X) → Some a ≡ Some b → a ≡ b
 same_some a b e = cc
 
 -- ---- A call is one for which the words call.

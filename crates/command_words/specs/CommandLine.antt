@@ -1,7 +1,7 @@
 -- What the words after the program's name call for. They are words of a simple command of `clap`, whose own definition says which those are and
 -- what value each gives: an option `demo` with a value, and two words ROOT and SCRIPT, each of which may be left out. There is no help and no
 -- version. Then a script of a folder of folders is called for by ROOT and SCRIPT without a seed, and the demo by a seed alone.
-use Rattle.std.specs.Prelude.{◌≡◌, ⊤, ℕ, List, [], Option, Some, None, true, codes}
+use Rattle.std.specs.Prelude.{◌≡◌, ⊤, ℕ, ◌==◌, Bool, true, false, List, [], ◌∷◌, Option, Some, None, codes}
 use Rattle.clap.specs.Walk.{Rule, Text, first_of}
 use Rattle.clap.specs.Simple.{App, Shape, matches_of, new_app, new_rule, on_top, with_rule}
 use Rattle.clap.specs.Faults.{fault_of}
@@ -73,3 +73,14 @@ pub record IsNoCall (words : List Text) : Type 0 where
 abbrev pub IsForScript : Call → Text → Text → Type 0
 IsForScript (Script r s) root script = (r.now ≡ root) × (s.now ≡ script)
 IsForScript (Demo seed) root script = ⊥
+
+-- ---- Two words that say a script without more ado.
+
+-- a word that begins with `-`
+abbrev pub is_option : Text → Bool
+is_option [] = false
+is_option (b ∷ bs) = b == 45
+
+-- The words are ROOT and SCRIPT, and neither begins with `-`.
+abbrev pub ArePlainWords : List Text → Text → Text → Type 0
+ArePlainWords words root script = (words ≡ root ∷ script ∷ []) × (is_option root ≡ false) × (is_option script ≡ false)

@@ -3,7 +3,7 @@
 ghost use Rattle.std.specs.Prelude.{◌≡◌, ◌≢◌, ◌⊎◌, ℕ, List, [], map, string_bytes, option_map, IfOk, MatchOption, MatchResult, Err};
 ghost use Rattle.std.specs.Prelude.{codes};
 ghost use Rattle.clap.specs.Faults.{fault_of};
-ghost use Rattle.command_words.specs.CommandLine.{AreValuesOf, CallsDemo, CallsFor, CallsScript, HasCall, IsForScript, IsNoCall, command_app, value_of};
+ghost use Rattle.command_words.specs.CommandLine.{ArePlainWords, AreValuesOf, CallsDemo, CallsFor, CallsScript, HasCall, IsForScript, IsNoCall, command_app, is_option, value_of};
 
 use crate::command::jkernel_command;
 use crate::error::CallError;
@@ -73,8 +73,36 @@ fn call_with<'a>(values: &Values<'a>) -> Option<Call<'a>>
     }
 }
 
+/// Whether a word begins with `-`.
+fn begins_with_dash(word: &str) -> bool
+    ensures { result ≡ is_option word.now }
+{
+    match word.as_bytes() {
+        [] => false,
+        [first, ..] => *first == b'-',
+    }
+}
+
+/// ROOT and SCRIPT, where the words are these two and neither begins with `-`.
+fn plain_words(words: &[String]) -> Option<(&str, &str)>
+    ensures { MatchOption result
+        ((root script : List ℕ) → ArePlainWords (map string_bytes words.now) root script → ⊥)
+        (λ call. ArePlainWords (map string_bytes words.now) call.0.now call.1.now) }
+{
+    match words {
+        [root, script] => {
+            if begins_with_dash(root.as_str()) || begins_with_dash(script.as_str()) {
+                None
+            } else {
+                Some((root.as_str(), script.as_str()))
+            }
+        }
+        _ => None,
+    }
+}
+
 /// What the words after the program's name call for: `ROOT SCRIPT`, or `--demo SEED`. As with any command of `clap`,
-/// `--` ends the options, and `--demo=SEED` is the same.
+/// `--` ends the options, and `--demo=SEED` is the same. Two words that don't begin with `-` take no memory.
 pub fn call_of<'a>(alloc: Global, words: &'a [String]) -> Result<Call<'a>, CallError>
     ensures call { IfOk result (CallsFor (map string_bytes words.entry.now)) }
     // Words that call for something are taken so, unless memory runs out.
@@ -83,7 +111,13 @@ pub fn call_of<'a>(alloc: Global, words: &'a [String]) -> Result<Call<'a>, CallE
     ensures demo { (seed : ℕ) → CallsDemo (map string_bytes words.entry.now) seed
         → MatchResult result (λ call. call ≡ Call.Demo seed) (λ e. e ≡ CallError.OutOfMemory) }
     ensures usage { result ≡ Err CallError.Usage → IsNoCall (map string_bytes words.entry.now) }
+    // Two words that don't begin with `-` are the call of a script, even where no memory is left.
+    ensures plain { (root script : List ℕ) → ArePlainWords (map string_bytes words.entry.now) root script
+        → MatchResult result (λ call. IsForScript call root script) (λ e. ⊥) }
 {
+    if let Some((root, script)) = plain_words(words) {
+        return Ok(Call::Script { root, script });
+    }
     let values = values_of(alloc, words)?;
     call_with(&values).ok_or(CallError::Usage)
 }

@@ -15,12 +15,12 @@ use Rattle.jkernel_runs.specs.declared.ends.End.TheVariants.{Done, Usage, Refuse
 use Rattle.jkernel_runs.specs.declared.status.Status.TheVariants as statuses
 use Rattle.jkernel_runs.specs.declared.stop.Stop.{Stop}
 use Rattle.jkernel_runs.specs.declared.stop.Stop.TheVariants.{ReadFault, WriteFault, OutOfMemory}
-use Rattle.jkernel_runs.specs.Calls.{IsCall}
-use Rattle.jkernel_runs.specs.Ends.{end_of, EndsSo, EndsRefused, HasText, IsMissing, ScriptEnds, AnswersFault, status_of}
+use Rattle.command_words.specs.CommandLine.{CallsScript, IsNoCall}
+use Rattle.jkernel_runs.specs.Ends.{end_of, EndsDemo, EndsSo, EndsRefused, HasText, IsMissing, ScriptEnds, AnswersFault, status_of}
 use Rattle.jkernel_runs.specs.Asked.{ask_for_script}
 use Rattle.jkernel_runs.specs.Events.{AskedUpToFolder, Moment, RunEnds, RunAsks, RunsWhole, StopsAtDomain, StopsInLines}
 use Rattle.jkernel_runs.specs.Scripts.{IsScript, IsAtFault}
-use Rattle.jkernel_runs.specs.Statuses.{EndsInLines, HasEvents, LacksScript, IsDone, IsStoppedAtDomain, IsStoppedInLines, Asks, asked_script}
+use Rattle.jkernel_runs.specs.Statuses.{EndsDone, EndsInLines, HasEvents, LacksScript, ScriptDone, ScriptStopsAtDomain, ScriptStopsInLines, Asks, asked_script}
 use Rattle.kernel_events.specs.PrintedLines.{Prints, SinkState}
 
 -- ---- the script
@@ -52,12 +52,6 @@ pub fault_is : (e : ScriptError) (a b : ScriptFault) → e ≡ errors.Fault a �
 fault_is e a b is (inl f) = cc
 fault_is e a b is (inr m) = absurd cc
 
--- ---- the words
-
-pub same_script : (words : List (List ℕ)) (root script root' script' : List ℕ) → IsCall words root script → IsCall words root' script' → script' ≡ script
-same_script words root script root' script' a b =
-    let p = a.0 in let q = b.0 in cc
-
 -- ---- ends
 
 pub refused_so : (f : ScriptFault) (files files' : ℕ) (end : End) → AnswersFault f files files' (Err end) → EndsRefused f files files' end
@@ -87,13 +81,43 @@ ends_in_lines t words a b (Stopped ReadFault) h is = absurd cc
 ends_in_lines t words a b (Stopped WriteFault) h is = h.1
 ends_in_lines t words a b (Stopped OutOfMemory) h is = absurd cc
 
-abbrev has_events : (t : Option Tree) (words : List (List ℕ)) (root script : List ℕ) (events : List Event) → IsCall words root script
+-- a run whose status is that of a whole run was one
+pub ends_done : (t : Option Tree) (words : List (List ℕ)) (a b : Moment) (end : End) → EndsSo t words a b end → status_of end ≡ statuses.Done
+    → EndsDone t words a b
+ends_done t words a b Done h is = h
+ends_done t words a b Usage h is = absurd cc
+ends_done t words a b (Refused found) h is = absurd cc
+ends_done t words a b (Stopped ReadFault) h is = absurd cc
+ends_done t words a b (Stopped WriteFault) h is = absurd cc
+ends_done t words a b (Stopped OutOfMemory) h is = absurd cc
+
+-- and one whose status is that of words that are no call had such words
+pub ends_no_call : (t : Option Tree) (words : List (List ℕ)) (a b : Moment) (end : End) → EndsSo t words a b end → status_of end ≡ statuses.Usage
+    → IsNoCall words
+ends_no_call t words a b Done h is = absurd cc
+ends_no_call t words a b Usage h is = h.0
+ends_no_call t words a b (Refused found) h is = absurd cc
+ends_no_call t words a b (Stopped ReadFault) h is = absurd cc
+ends_no_call t words a b (Stopped WriteFault) h is = absurd cc
+ends_no_call t words a b (Stopped OutOfMemory) h is = absurd cc
+
+-- where the output doesn't fail, the demo is run to its end, unless memory runs out
+pub demo_status : (faults faults' : ℕ) (end : End) → EndsDemo faults faults' end → (HasRisen faults faults' → ⊥)
+    → (status_of end ≡ statuses.Done) ⊎ (status_of end ≡ statuses.OutOfMemory)
+demo_status faults faults' Done h calm = inl refl
+demo_status faults faults' Usage h calm = absurd h
+demo_status faults faults' (Refused found) h calm = absurd h
+demo_status faults faults' (Stopped ReadFault) h calm = absurd h
+demo_status faults faults' (Stopped WriteFault) h calm = absurd (calm h)
+demo_status faults faults' (Stopped OutOfMemory) h calm = inr refl
+
+abbrev has_events : (t : Option Tree) (words : List (List ℕ)) (root script : List ℕ) (events : List Event) → CallsScript words root script
     → (text : List ℕ) × FileIs t script text × IsScript text events → HasEvents t words root events
 has_events t words root script events call found =
     record { script = script; call = call; text = found.0; file = found.1; is_script = found.2 }
 
 -- The run of a script's events: what was known before the script was read, after that, and at the end.
-module _ (t : Option Tree) (words : List (List ℕ)) (root script : List ℕ) (events : List Event) (a b c : Moment) (call : IsCall words root script)
+module _ (t : Option Tree) (words : List (List ℕ)) (root script : List ℕ) (events : List Event) (a b c : Moment) (call : CallsScript words root script)
     (found : (text : List ℕ) × FileIs t script text × IsScript text events) (read : b.asked ≡ asked_script a.asked script)
     (files : NeverFalls a.files_faults b.files_faults) (out : b.out ≡ a.out) where
   abbrev has : HasEvents t words root events
@@ -115,10 +139,10 @@ module _ (t : Option Tree) (words : List (List ℕ)) (root script : List ℕ) (e
     printed = subst (λ (o : SinkState). Prints {E = Stop} o out' (Ok tt) h.lines) out h.printed;
   }
 
-  abbrev done : RunsWhole (OpensFolder t root) events (length events) b.out c.out → IsDone t words a.out c.out
+  abbrev done : RunsWhole (OpensFolder t root) events (length events) b.out c.out → ScriptDone t words a.out c.out
   done h = record { root = root; events = events; has = has; runs = from_first (length events) c.out h }
 
-  abbrev in_lines : StopsInLines (OpensFolder t root) events b.out c.out → IsStoppedInLines t words a.out c.out
+  abbrev in_lines : StopsInLines (OpensFolder t root) events b.out c.out → ScriptStopsInLines t words a.out c.out
   in_lines h = record {
     root = root;
     events = events;
@@ -133,7 +157,7 @@ module _ (t : Option Tree) (words : List (List ℕ)) (root script : List ℕ) (e
     };
   }
 
-  abbrev at_domain : StopsAtDomain (OpensFolder t root) events b.out c.out → IsStoppedAtDomain t words a.out c.out
+  abbrev at_domain : StopsAtDomain (OpensFolder t root) events b.out c.out → ScriptStopsAtDomain t words a.out c.out
   at_domain h = record {
     root = root;
     events = events;
@@ -159,7 +183,7 @@ module _ (t : Option Tree) (words : List (List ℕ)) (root script : List ℕ) (e
   }
 
   pub run_ends : (r : Result (Unit {0}) Stop) → RunEnds t root (OpensFolder t root) events b c r → EndsSo t words a c (end_of r)
-  run_ends (Ok x) (r, (asks, asked, is)) = (done r, (asks, asked, script_first asks is))
+  run_ends (Ok x) (r, (asks, asked, is)) = (inl (done r), (asks, asked, script_first asks is))
   run_ends (Err ReadFault) (risen, (p, q, something)) = (
     inl (HasRisen-after a.files_faults b.files_faults c.files_faults files risen),
     inr (at_domain p, folder_asked p q, something),
@@ -167,7 +191,7 @@ module _ (t : Option Tree) (words : List (List ℕ)) (root script : List ℕ) (e
   run_ends (Err WriteFault) (risen, (p, q)) = (
     subst (λ (o : SinkState). HasRisen o.faults c.out.faults) out risen,
     (
-      in_lines p,
+      inl (in_lines p),
       record {
         before = q.before;
         asked_before = q.asked_before;
@@ -178,8 +202,8 @@ module _ (t : Option Tree) (words : List (List ℕ)) (root script : List ℕ) (e
     ),
   )
   run_ends (Err OutOfMemory) (inl (quiet, none)) =
-      inl (record { root = root; script = script; call = call; quiet = quiet ∙ out; asks = none ∙ read })
-  run_ends (Err OutOfMemory) (inr (p, q)) = inr (at_domain p, folder_asked p q)
+      inr (inl (record { root = root; script = script; call = call; quiet = quiet ∙ out; asks = none ∙ read }))
+  run_ends (Err OutOfMemory) (inr (p, q)) = inr (inr (inl (at_domain p), folder_asked p q))
 
   pub run_asks : RunAsks t root events b.asked c.asked → Asks t words a.asked c.asked
   run_asks h = inr (record {
@@ -194,7 +218,7 @@ module _ (t : Option Tree) (words : List (List ℕ)) (root script : List ℕ) (e
   })
 
 -- A script that gave no events was asked for, and nothing else.
-pub script_asks : (t : Option Tree) (words : List (List ℕ)) (root script : List ℕ) (old new : List Ask) → IsCall words root script
+pub script_asks : (t : Option Tree) (words : List (List ℕ)) (root script : List ℕ) (old new : List Ask) → CallsScript words root script
     → new ≡ asked_script old script → Asks t words old new
 script_asks t words root script old new call asked = inr (record {
   root = root;
@@ -208,7 +232,7 @@ script_asks t words root script old new call asked = inr (record {
 })
 
 -- How a run ends whose script gave no events.
-pub script_ends : (t : Option Tree) (words : List (List ℕ)) (root script : List ℕ) (a b : Moment) (end : End) → IsCall words root script → b.out ≡ a.out
+pub script_ends : (t : Option Tree) (words : List (List ℕ)) (root script : List ℕ) (a b : Moment) (end : End) → CallsScript words root script → b.out ≡ a.out
     → b.asked ≡ asked_script a.asked script → ScriptEnds t script a.files_faults b.files_faults (Err end) → EndsSo t words a b end
 script_ends t words root script a b Done call quiet asked h = absurd h
 script_ends t words root script a b Usage call quiet asked h = absurd h
@@ -225,4 +249,4 @@ script_ends t words root script a b (Stopped ReadFault) call quiet asked h =
     lacks (Some tree) (inr missing) = inr (root, script, call, missing)
 script_ends t words root script a b (Stopped WriteFault) call quiet asked h = absurd h
 script_ends t words root script a b (Stopped OutOfMemory) call quiet asked h =
-    inl (record { root = root; script = script; call = call; quiet = quiet; asks = asked })
+    inr (inl (record { root = root; script = script; call = call; quiet = quiet; asks = asked }))

@@ -3,7 +3,9 @@ use Rattle.std.specs.Prelude.{◌≡◌, ℕ, ◌⊎◌, ⊤, List, [], Option, 
 use Rattle.jk_model.specs.declared.script.Event.{Event}
 use Rattle.jk_model.specs.declared.script.ScriptFault.{ScriptFault}
 use Rattle.jk_model.specs.Outside.{Tree, FileIs, HasRisen}
-use Rattle.jkernel_runs.specs.Calls.{IsCall}
+use Rattle.command_words.specs.CommandLine.{IsNoCall}
+use Rattle.command_words.specs.declared.error.CallError.{CallError}
+use Rattle.command_words.specs.declared.error.CallError.TheVariants.{Usage as NoCall, OutOfMemory as NoMemory}
 use Rattle.jkernel_runs.specs.Messages.{usage_text, fault_text, read_text, write_text, memory_text}
 use Rattle.jkernel_runs.specs.Events.{Moment}
 use Rattle.jkernel_runs.specs.Scripts.{IsScript, IsAtFault}
@@ -14,10 +16,6 @@ use Rattle.jkernel_runs.specs.declared.status.Status.{Status}
 use Rattle.jkernel_runs.specs.declared.status.Status.TheVariants as statuses
 use Rattle.jkernel_runs.specs.declared.stop.Stop.{Stop}
 use Rattle.jkernel_runs.specs.declared.stop.Stop.TheVariants.{ReadFault, WriteFault, OutOfMemory}
-
--- the words are no call
-abbrev pub IsNoCall : List (List ℕ) → Type 0
-IsNoCall words = (root : List ℕ) (script : List ℕ) → IsCall words root script → ⊥
 
 -- What an end says of the words, the tree, the output and what was asked.
 abbrev pub EndsSo : Option Tree → List (List ℕ) → Moment → Moment → End → Type 0
@@ -32,6 +30,11 @@ EndsSo tree words a b (Stopped OutOfMemory) = EndsForMemory tree words a b
 abbrev pub end_of : Result (Unit {0}) Stop → End
 end_of (Ok x) = Done
 end_of (Err stop) = Stopped stop
+
+-- the end of a run whose words were not taken
+abbrev pub end_untaken : CallError → End
+end_untaken NoCall = Usage
+end_untaken NoMemory = Stopped OutOfMemory
 
 -- the status of an end
 abbrev pub status_of : End → Status
@@ -92,6 +95,13 @@ EndsWell files files' faults faults' (Stopped ReadFault) = HasRisen files files'
 EndsWell files files' faults faults' (Stopped WriteFault) = HasRisen faults faults'
 EndsWell files files' faults faults' (Stopped OutOfMemory) = ⊤
 EndsWell files files' faults faults' _ = ⊥
+
+-- an end of a run of the demo
+abbrev pub EndsDemo : ℕ → ℕ → End → Type 0
+EndsDemo faults faults' Done = ⊤
+EndsDemo faults faults' (Stopped WriteFault) = HasRisen faults faults'
+EndsDemo faults faults' (Stopped OutOfMemory) = ⊤
+EndsDemo faults faults' _ = ⊥
 
 -- an end of a run whose script has this fault
 abbrev pub EndsRefused : ScriptFault → ℕ → ℕ → End → Type 0

@@ -1,5 +1,4 @@
 pub mod Asked
-pub mod Calls
 pub mod Codes
 pub mod DomainEvents
 pub mod DrawnNumbers

@@ -2,7 +2,7 @@
 use Rattle.std.specs.Prelude.{ℕ, List, ◌∷◌, [], ◌++◌, codes, decimal}
 use Rattle.jk_model.specs.declared.script.ScriptFault.{ScriptFault}
 use Rattle.jk_model.specs.declared.script.FaultKind.{FaultKind}
-use Rattle.jk_model.specs.declared.script.FaultKind.TheVariants.{BadByte, UnknownWord, BadName, BadNumber, TooLong, Extra, Missing, NotYet}
+use Rattle.jk_model.specs.declared.script.FaultKind.TheVariants.{BadByte, UnknownWord, BadName, BadNumber, TooLong, Extra, Missing}
 
 abbrev pub kind_text : FaultKind → List ℕ
 kind_text BadByte = codes "BadByte"
@@ -12,7 +12,6 @@ kind_text BadNumber = codes "BadNumber"
 kind_text TooLong = codes "TooLong"
 kind_text Extra = codes "Extra"
 kind_text Missing = codes "Missing"
-kind_text NotYet = codes "NotYet"
 
 abbrev pub usage_text : List ℕ
 usage_text = codes "usage: jkernel [--pool WORDS] ROOT SCRIPT" ++ 10 ∷ []

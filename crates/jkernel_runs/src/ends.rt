@@ -48,7 +48,6 @@ fn kind_name(kind: FaultKind) -> &'static [u8]
         FaultKind::TooLong => b"TooLong",
         FaultKind::Extra => b"Extra",
         FaultKind::Missing => b"Missing",
-        FaultKind::NotYet => b"NotYet",
     }
 }
 

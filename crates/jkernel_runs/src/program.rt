@@ -5,47 +5,48 @@ ghost use Rattle.jk_model.specs.Outside.{HasNoFile, HasLongFile, HasRisen};
 ghost use Rattle.jk_model.specs.Script.{MAX_BYTES};
 ghost use Rattle.jk_model.specs.declared.script.FaultKind.TheVariants.{TooLong};
 ghost use Rattle.kernel_events.specs.PrintedLines.{sink};
-ghost use Rattle.jkernel_runs.specs.Calls.{IsCall};
-ghost use Rattle.jkernel_runs.specs.declared.stop.Stop.TheVariants.{ReadFault, WriteFault};
-ghost use Rattle.jkernel_runs.specs.Ends.{EndsSo, EndsWell, EndsRefused, HasText, IsNoCall};
+ghost use Rattle.command_words.specs.CommandLine.{ArePlainWords, CallsDemo, CallsFor, CallsScript, IsForScript, IsNoCall};
+ghost use Rattle.jkernel_runs.specs.declared.stop.Stop.TheVariants.{OutOfMemory, ReadFault, WriteFault};
+ghost use Rattle.jkernel_runs.specs.Ends.{EndsDemo, EndsSo, EndsWell, EndsRefused, HasText, end_untaken};
 ghost use Rattle.jkernel_runs.specs.Events.{moment};
 ghost use Rattle.jkernel_runs.specs.Scripts.{IsScript, IsAtFault};
 ghost use Rattle.jkernel_runs.specs.Statuses.{HasFault, LacksScript, EndsDone, EndsForFiles, EndsForMemory, EndsInLines, IsUnread, Asks, Says, BeginsToSay};
 
-use crate::calls::call_of;
+use crate::demo::run_demo;
 use crate::ends::{End, report};
 use crate::events::run_events;
 use crate::scripts::script_at;
 use crate::status::Status;
+use crate::stop::Stop;
+use command_words::{Call, CallError, call_of};
 use jk_model::{Event, ScriptFault};
 use jk_outside::{Files, Sink};
 use std::alloc::Global;
 
-/// Runs what the words say, and says nothing of it.
-fn run<F: Files, S: Sink>(alloc: Global, words: &[String], files: &mut F, out: &mut S) -> End
-    ensures ends { EndsSo (F.tree files.old) (map string_bytes words.now)
+/// Runs a script over a tree of folders, and says nothing of it. What holds of it holds for all words that call for this script.
+fn run_script<F: Files, S: Sink>(
+    alloc: Global,
+    root: &str,
+    script: &str,
+    files: &mut F,
+    out: &mut S,
+) -> End
+    ensures ends { (words : List (List ℕ)) → CallsScript words root.now script.now → EndsSo (F.tree files.old) words
         (moment (sink (S.bytes out.old) (S.pieces out.old) (S.faults out.old)) (F.asked files.old) (F.faults files.old))
         (moment (sink (S.bytes out.new) (S.pieces out.new) (S.faults out.new)) (F.asked files.new) (F.faults files.new)) result }
-    ensures asks { Asks (F.tree files.old) (map string_bytes words.now) (F.asked files.old) (F.asked files.new) }
+    ensures asks { (words : List (List ℕ)) → CallsScript words root.now script.now
+        → Asks (F.tree files.old) words (F.asked files.old) (F.asked files.new) }
     ensures calm { (result ≡ End.Stopped ReadFault → ⊥) → IsSome (F.tree files.old)
         → F.faults files.new ≡ F.faults files.old }
     ensures calm_out { (result ≡ End.Stopped WriteFault → ⊥) → S.faults out.new ≡ S.faults out.old }
-    ensures no_call { IsNoCall (map string_bytes words.now) → result ≡ End.Usage }
-    ensures missing { (root script : List ℕ) → IsCall (map string_bytes words.now) root script
-        → HasNoFile (F.tree files.old) script → result ≡ End.Stopped ReadFault }
-    ensures over { (root script : List ℕ) → IsCall (map string_bytes words.now) root script
-        → HasLongFile (F.tree files.old) script MAX_BYTES
+    ensures missing { HasNoFile (F.tree files.old) script.now → result ≡ End.Stopped ReadFault }
+    ensures over { HasLongFile (F.tree files.old) script.now MAX_BYTES
         → (result ≡ End.Refused (record { line = 0; kind = TooLong })) ⊎ (result ≡ End.Stopped ReadFault) }
-    ensures script { (root script text : List ℕ) (events : List Event) → IsCall (map string_bytes words.now) root script
-        → HasText (F.tree files.old) script text → IsScript text events
+    ensures script { (text : List ℕ) (events : List Event) → HasText (F.tree files.old) script.now text → IsScript text events
         → EndsWell (F.faults files.old) (F.faults files.new) (S.faults out.old) (S.faults out.new) result }
-    ensures fault { (root script text : List ℕ) (f : ScriptFault) → IsCall (map string_bytes words.now) root script
-        → HasText (F.tree files.old) script text → IsAtFault text f
+    ensures fault { (text : List ℕ) (f : ScriptFault) → HasText (F.tree files.old) script.now text → IsAtFault text f
         → EndsRefused f (F.faults files.old) (F.faults files.new) result }
 {
-    let Some((root, script)) = call_of(words) else {
-        return End::Usage;
-    };
     let events = match script_at(alloc, files, script) {
         Ok(events) => events,
         Err(end) => return end,
@@ -56,8 +57,82 @@ fn run<F: Files, S: Sink>(alloc: Global, words: &[String], files: &mut F, out: &
     }
 }
 
-/// Runs a script over a tree of folders, as the words ROOT and SCRIPT say: what the programs print and
-/// what the kernel decides goes to `out`, and why a run stopped to `err`.
+/// Runs what is called for, and says nothing of it. What holds of it holds for all words that call for this.
+fn run_call<F: Files, S: Sink>(alloc: Global, call: Call<'_>, files: &mut F, out: &mut S) -> End
+    ensures ends { (words : List (List ℕ)) → CallsFor words call.entry → EndsSo (F.tree files.old) words
+        (moment (sink (S.bytes out.old) (S.pieces out.old) (S.faults out.old)) (F.asked files.old) (F.faults files.old))
+        (moment (sink (S.bytes out.new) (S.pieces out.new) (S.faults out.new)) (F.asked files.new) (F.faults files.new)) result }
+    ensures asks { (words : List (List ℕ)) → CallsFor words call.entry
+        → Asks (F.tree files.old) words (F.asked files.old) (F.asked files.new) }
+    ensures calm { (result ≡ End.Stopped ReadFault → ⊥) → IsSome (F.tree files.old)
+        → F.faults files.new ≡ F.faults files.old }
+    ensures calm_out { (result ≡ End.Stopped WriteFault → ⊥) → S.faults out.new ≡ S.faults out.old }
+    ensures missing { (root script : List ℕ) → IsForScript call.entry root script → HasNoFile (F.tree files.old) script
+        → result ≡ End.Stopped ReadFault }
+    ensures over { (root script : List ℕ) → IsForScript call.entry root script → HasLongFile (F.tree files.old) script MAX_BYTES
+        → (result ≡ End.Refused (record { line = 0; kind = TooLong })) ⊎ (result ≡ End.Stopped ReadFault) }
+    ensures script { (root script text : List ℕ) (events : List Event) → IsForScript call.entry root script
+        → HasText (F.tree files.old) script text → IsScript text events
+        → EndsWell (F.faults files.old) (F.faults files.new) (S.faults out.old) (S.faults out.new) result }
+    ensures fault { (root script text : List ℕ) (f : ScriptFault) → IsForScript call.entry root script
+        → HasText (F.tree files.old) script text → IsAtFault text f
+        → EndsRefused f (F.faults files.old) (F.faults files.new) result }
+    ensures demo { (seed : ℕ) → call.entry ≡ Call.Demo seed → EndsDemo (S.faults out.old) (S.faults out.new) result }
+{
+    match call {
+        Call::Script { root, script } => run_script(alloc, root, script, files, out),
+        Call::Demo { seed } => run_demo(alloc, seed, out),
+    }
+}
+
+/// How a run ends whose words were not taken.
+fn untaken(error: CallError) -> End
+    ensures { result ≡ end_untaken error }
+{
+    match error {
+        CallError::Usage => End::Usage,
+        CallError::OutOfMemory => End::Stopped(Stop::OutOfMemory),
+    }
+}
+
+/// Runs what the words say, and says nothing of it.
+fn run<F: Files, S: Sink>(alloc: Global, words: &[String], files: &mut F, out: &mut S) -> End
+    ensures ends { EndsSo (F.tree files.old) (map string_bytes words.now)
+        (moment (sink (S.bytes out.old) (S.pieces out.old) (S.faults out.old)) (F.asked files.old) (F.faults files.old))
+        (moment (sink (S.bytes out.new) (S.pieces out.new) (S.faults out.new)) (F.asked files.new) (F.faults files.new)) result }
+    ensures asks { Asks (F.tree files.old) (map string_bytes words.now) (F.asked files.old) (F.asked files.new) }
+    ensures calm { (result ≡ End.Stopped ReadFault → ⊥) → IsSome (F.tree files.old)
+        → F.faults files.new ≡ F.faults files.old }
+    ensures calm_out { (result ≡ End.Stopped WriteFault → ⊥) → S.faults out.new ≡ S.faults out.old }
+    ensures no_call { IsNoCall (map string_bytes words.now) → (result ≡ End.Usage) ⊎ (result ≡ End.Stopped OutOfMemory) }
+    ensures missing { (root script : List ℕ) → CallsScript (map string_bytes words.now) root script
+        → HasNoFile (F.tree files.old) script → (result ≡ End.Stopped ReadFault) ⊎ (result ≡ End.Stopped OutOfMemory) }
+    ensures missing_plain { (root script : List ℕ) → ArePlainWords (map string_bytes words.now) root script
+        → HasNoFile (F.tree files.old) script → result ≡ End.Stopped ReadFault }
+    ensures over { (root script : List ℕ) → CallsScript (map string_bytes words.now) root script
+        → HasLongFile (F.tree files.old) script MAX_BYTES
+        → (result ≡ End.Refused (record { line = 0; kind = TooLong }))
+        ⊎ ((result ≡ End.Stopped ReadFault) ⊎ (result ≡ End.Stopped OutOfMemory)) }
+    ensures over_plain { (root script : List ℕ) → ArePlainWords (map string_bytes words.now) root script
+        → HasLongFile (F.tree files.old) script MAX_BYTES
+        → (result ≡ End.Refused (record { line = 0; kind = TooLong })) ⊎ (result ≡ End.Stopped ReadFault) }
+    ensures script { (root script text : List ℕ) (events : List Event) → CallsScript (map string_bytes words.now) root script
+        → HasText (F.tree files.old) script text → IsScript text events
+        → EndsWell (F.faults files.old) (F.faults files.new) (S.faults out.old) (S.faults out.new) result }
+    ensures fault { (root script text : List ℕ) (f : ScriptFault) → CallsScript (map string_bytes words.now) root script
+        → HasText (F.tree files.old) script text → IsAtFault text f
+        → EndsRefused f (F.faults files.old) (F.faults files.new) result }
+    ensures demo { (seed : ℕ) → CallsDemo (map string_bytes words.now) seed
+        → EndsDemo (S.faults out.old) (S.faults out.new) result }
+{
+    match call_of(alloc, words) {
+        Ok(call) => run_call(alloc, call, files, out),
+        Err(error) => untaken(error),
+    }
+}
+
+/// Runs a script over a tree of folders, as the words ROOT and SCRIPT say, or the demo of a seed, as the words `--demo SEED` say: what the
+/// programs print and what the kernel decides goes to `out`, and why a run stopped to `err`.
 pub fn jkernel<F: Files, S: Sink, E: Sink>(
     alloc: Global,
     words: &[String],
@@ -65,7 +140,7 @@ pub fn jkernel<F: Files, S: Sink, E: Sink>(
     out: &mut S,
     err: &mut E,
 ) -> Status
-    // All events of the script were run, their lines went out, and the files were asked for the script and for what its events need.
+    // All events were run, their lines went out, and the files were asked for the script and for what its events need; for the demo nothing.
     ensures done { result ≡ Status.Done → EndsDone (F.tree files.old) (map string_bytes words.now)
         (moment (sink (S.bytes out.old) (S.pieces out.old) (S.faults out.old)) (F.asked files.old) (F.faults files.old))
         (moment (sink (S.bytes out.new) (S.pieces out.new) (S.faults out.new)) (F.asked files.new) (F.faults files.new)) }
@@ -99,16 +174,22 @@ pub fn jkernel<F: Files, S: Sink, E: Sink>(
 
     // Each status other than the good one has its cause.
     ensures causes_usage { result ≡ Status.Usage → IsNoCall (map string_bytes words.now) }
-    ensures causes_no_call { IsNoCall (map string_bytes words.now) → result ≡ Status.Usage }
+    ensures causes_no_call { IsNoCall (map string_bytes words.now) → (result ≡ Status.Usage) ⊎ (result ≡ Status.OutOfMemory) }
     ensures causes_script { result ≡ Status.ScriptRefused
         → (fault : ScriptFault) × HasFault (F.tree files.old) (map string_bytes words.now) fault }
-    ensures causes_fault { (root script text : List ℕ) (fault : ScriptFault) → IsCall (map string_bytes words.now) root script
+    ensures causes_fault { (root script text : List ℕ) (fault : ScriptFault) → CallsScript (map string_bytes words.now) root script
         → HasText (F.tree files.old) script text → IsAtFault text fault → (HasRisen (F.faults files.old) (F.faults files.new) → ⊥)
         → (result ≡ Status.ScriptRefused) ⊎ (result ≡ Status.OutOfMemory) }
-    // Of a missing script, and of one that has too many bytes, it is said even where no memory is left.
-    ensures causes_missing { (root script : List ℕ) → IsCall (map string_bytes words.now) root script
+    ensures causes_missing { (root script : List ℕ) → CallsScript (map string_bytes words.now) root script
+        → HasNoFile (F.tree files.old) script → (result ≡ Status.ReadFault) ⊎ (result ≡ Status.OutOfMemory) }
+    ensures causes_over { (root script : List ℕ) → CallsScript (map string_bytes words.now) root script
+        → HasLongFile (F.tree files.old) script MAX_BYTES
+        → (result ≡ Status.ScriptRefused) ⊎ ((result ≡ Status.ReadFault) ⊎ (result ≡ Status.OutOfMemory)) }
+    // Where the words are two, neither with `-` in front, it is said of a missing script, and of one that has too many bytes, even where no memory
+    // is left.
+    ensures causes_missing_plain { (root script : List ℕ) → ArePlainWords (map string_bytes words.now) root script
         → HasNoFile (F.tree files.old) script → result ≡ Status.ReadFault }
-    ensures causes_over { (root script : List ℕ) → IsCall (map string_bytes words.now) root script
+    ensures causes_over_plain { (root script : List ℕ) → ArePlainWords (map string_bytes words.now) root script
         → HasLongFile (F.tree files.old) script MAX_BYTES
         → (result ≡ Status.ScriptRefused) ⊎ (result ≡ Status.ReadFault) }
     ensures causes_read { result ≡ Status.ReadFault
@@ -116,9 +197,13 @@ pub fn jkernel<F: Files, S: Sink, E: Sink>(
     ensures causes_write { result ≡ Status.WriteFault → HasRisen (S.faults out.old) (S.faults out.new) }
 
     // A told tree with a script without fault is run to its end, unless memory, the files or the output fail.
-    ensures complete { (root script text : List ℕ) (events : List Event) → IsCall (map string_bytes words.now) root script
+    ensures complete { (root script text : List ℕ) (events : List Event) → CallsScript (map string_bytes words.now) root script
         → HasText (F.tree files.old) script text → IsScript text events
         → (HasRisen (F.faults files.old) (F.faults files.new) → ⊥) → (HasRisen (S.faults out.old) (S.faults out.new) → ⊥)
+        → (result ≡ Status.Done) ⊎ (result ≡ Status.OutOfMemory) }
+    // And so is the demo, unless memory or the output fail.
+    ensures complete_demo { (seed : ℕ) → CallsDemo (map string_bytes words.now) seed
+        → (HasRisen (S.faults out.old) (S.faults out.new) → ⊥)
         → (result ≡ Status.Done) ⊎ (result ≡ Status.OutOfMemory) }
 
     // What is said of the run, unless the error sink fails.

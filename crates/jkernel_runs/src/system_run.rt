@@ -5,7 +5,7 @@ ghost use Rattle.std.specs.IoError.{error_kind};
 ghost use Rattle.std.specs.declared.io.ErrorKind.TheVariants.{OutOfMemory as NoMemory};
 ghost use Rattle.jk_model.specs.Outside.{HasRisen};
 ghost use Rattle.kernel_events.specs.PrintedLines.{sink};
-ghost use Rattle.jkernel_runs.specs.Statuses.{IsDone, IsStoppedAtDomain, IsStoppedInLines, Says, BeginsToSay};
+ghost use Rattle.jkernel_runs.specs.Statuses.{IsDone, IsStoppedAtDomain, IsStoppedInLines, Says, ScriptStopsAtDomain, BeginsToSay};
 
 use crate::ends::{End, report};
 use crate::program::jkernel;
@@ -41,14 +41,14 @@ fn not_read<E: Sink>(error: &io::Error, err: &mut E) -> Status
     end.status()
 }
 
-/// Runs a script over a tree of folders, as the words after the program's name say, on the files of the system. Which words
+/// Runs a script over a tree of folders, or the demo, as the words after the program's name say, on the files of the system. Which words
 /// these are isn't told, nor what stands on the disk: what is said holds for some words, and for files that tell no tree.
 pub fn run_on<R: Env + rt::Files + AllocGlobal + Clone + Drop, S: Sink, E: Sink>(
     rt: R,
     out: &mut S,
     err: &mut E,
 ) -> Status
-    // All events of a script were run, and their lines went out.
+    // All events of a script, or of the demo, were run, and their lines went out.
     ensures done { result ≡ Status.Done → (words : List (List ℕ)) × IsDone None words
         (sink (S.bytes out.old) (S.pieces out.old) (S.faults out.old))
         (sink (S.bytes out.new) (S.pieces out.new) (S.faults out.new)) }
@@ -66,7 +66,7 @@ pub fn run_on<R: Env + rt::Files + AllocGlobal + Clone + Drop, S: Sink, E: Sink>
         (sink (S.bytes out.new) (S.pieces out.new) (S.faults out.new))) }
     ensures early_read { result ≡ Status.ReadFault
         → (sink (S.bytes out.new) (S.pieces out.new) (S.faults out.new) ≡ sink (S.bytes out.old) (S.pieces out.old) (S.faults out.old))
-        ⊎ ((words : List (List ℕ)) × IsStoppedAtDomain None words
+        ⊎ ((words : List (List ℕ)) × ScriptStopsAtDomain None words
         (sink (S.bytes out.old) (S.pieces out.old) (S.faults out.old))
         (sink (S.bytes out.new) (S.pieces out.new) (S.faults out.new))) }
     ensures early_none { (result ≡ Status.Usage) ⊎ (result ≡ Status.ScriptRefused)

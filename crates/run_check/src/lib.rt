@@ -3,6 +3,8 @@
 #![tactic(auto)]
 
 #[cfg(test)]
+mod demo_tests;
+#[cfg(test)]
 mod kernel_tests;
 #[cfg(test)]
 mod run_tests;

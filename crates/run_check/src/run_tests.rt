@@ -550,20 +550,52 @@ fn words_and_scripts_are_refused(rt: HostRuntime) -> Result<(), Fail> {
     Ok(())
 }
 
+/// A script over the folder of the first runs, the write that fails, and what went out before it.
+type FailedWrite<'a> = (&'a [u8], u32, &'a [u8]);
+
+/// A kill of a domain with two threads, and what its first lines are.
+const KILLS: &[u8] = b"domain hello\nstart hello Hello\nstart hello Hello\nkill hello\n";
+
+/// A line that doesn't go out ends the run, and no line after it goes out.
+const FAILED_WRITES: [FailedWrite<'static>; 4] = [
+    (
+        b"domain hello\nstart hello Hello\nround 1 100\n",
+        2,
+        b"* domain hello loaded\n",
+    ),
+    (
+        KILLS,
+        4,
+        b"* domain hello loaded\n* thread 1 started in hello\n* thread 2 started in hello\n",
+    ),
+    (
+        KILLS,
+        5,
+        b"* domain hello loaded\n* thread 1 started in hello\n* thread 2 started in hello\n* domain hello killed\n",
+    ),
+    (
+        KILLS,
+        6,
+        b"* domain hello loaded\n* thread 1 started in hello\n* thread 2 started in hello\n* domain hello killed\n* thread 1 ended by kill\n",
+    ),
+];
+
 #[test]
-fn second_write_fails(rt: HostRuntime) -> Result<(), Fail> {
-    let script = b"domain hello\nstart hello Hello\nround 1 100\n";
-    let end = run_words(
-        &rt,
-        rt.alloc(),
-        &["root", "script"],
-        &[("root/hello/Hello.class", Bytes(&HELLO))],
-        script,
-        &[2],
-    )?;
-    assert!(rt; end.status == Status::WriteFault);
-    assert!(rt; end.out.bytes() == b"* domain hello loaded\n".as_slice());
-    assert!(rt; end.err.bytes() == b"jkernel: cannot write\n".as_slice());
+fn a_write_fails(rt: HostRuntime) -> Result<(), Fail> {
+    for (script, write, wanted) in FAILED_WRITES {
+        let tree = [("root/hello/Hello.class", Bytes(&HELLO))];
+        let end = run_words(
+            &rt,
+            rt.alloc(),
+            &["root", "script"],
+            &tree,
+            script,
+            &[write],
+        )?;
+        assert!(rt; end.status == Status::WriteFault, "write {write}");
+        assert!(rt; end.out.bytes() == wanted, "write {write}");
+        assert!(rt; end.err.bytes() == b"jkernel: cannot write\n".as_slice());
+    }
     Ok(())
 }
 

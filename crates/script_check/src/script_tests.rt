@@ -8,7 +8,7 @@ use std::str::from_utf8;
 use std::test::Fail;
 
 /// An event as text.
-fn told(alloc: Global, event: &Event) -> Result<String, Fail> {
+pub(crate) fn told(alloc: Global, event: &Event) -> Result<String, Fail> {
     let text = match event {
         Event::Domain { name, quotas } => {
             let name = from_utf8(name.as_slice())?;

@@ -1,0 +1,5 @@
+-- Lemmas on the demo's events and on its files.
+pub mod EventsInOrder
+pub mod NeverFails
+pub mod NewPaths
+pub mod RingNames
