@@ -7,4 +7,3 @@ pub mod LoadsAgree
 pub mod OneMadeByName
 pub mod RowsAgree
 pub mod RowsOfTables
-pub mod SlotsOnTop

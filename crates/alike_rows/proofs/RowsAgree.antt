@@ -16,12 +16,14 @@ use Rattle.jk_model_classes.specs.declared.records.Link.TheVariants as To
 use Rattle.jk_model_typing.specs.Scopes.{CodeScope, LeadsToLink}
 use Rattle.jk_model_frames.specs.Frames.{FrameState}
 use Rattle.jk_model_domains.specs.NumberRows.{HasRow, NumberRow, compared, comparisons, copies, drops, int_divisions, int_operations, is_null, is_same_reference, long_divisions, long_operations, long_shifts, place_after, switch_target, value_slots, values_slots, with_value}
+use Rattle.typing_lemmas.proofs.OneScope.{one_link}
+use Rattle.number_laws.proofs.FrameParts.{same_index}
+use Rattle.number_laws.proofs.SlotsOfValues.{same_length}
 use Rattle.alike_rows.proofs.ConversionsAgree.{one_conversion}
 use Rattle.alike_rows.proofs.DoneByKind.{Decided, Divided, Done, Exchanged, Refused, row_done}
 use Rattle.alike_rows.proofs.FramesReplaced.{on_top, replaced_agree, same_top}
 use Rattle.alike_rows.proofs.InstructionKinds.{Kind, NoEntry, NullEntry, IntEntry, LongEntry, IntLink, LongLink, Dropping, Copying, Swapping, OfInts, IntQuotient, OfLongs, LongQuotient, Shifting, Comparing, Converting, Loading, Storing, Counting, JumpOnInt, JumpOnInts, JumpIfSame, JumpIfDifferent, JumpIfNull, JumpIfNoNull, Jumping, Switching, ReturnOfValue, ReturnOfNone, Other, kind_of}
 use Rattle.alike_rows.proofs.RowsOfTables.{one_row}
-use Rattle.alike_rows.proofs.SlotsOnTop.{as_many_by_slots}
 
 -- ---- Equal entries have equal contents.
 
@@ -43,15 +45,6 @@ same_long m n e = cc
 -- one function of equal arguments
 applied : {X Y Z : Type 0} (f g : X → Y → Z) (a b : X) (c d : Y) → f ≡ g → a ≡ b → c ≡ d → f a c ≡ g b d
 applied f g a b c d e p q = λ j. e j (p j) (q j)
-
-same_index : (a : ℤ) (m n : ℕ) → a ≡ pos m → a ≡ pos n → m ≡ n
-same_index a m n e p = cc
-
--- an operand leads to one link
-one_link : (s : CodeScope) (i : Instr) (a b : Link) → LeadsToLink s i a → LeadsToLink s i b → a ≡ b
-one_link s i a b h k =
-    let place : h.0 ≡ k.0 = same_index i.a h.0 k.0 h.1 k.1 in
-    same_Some a b (sym h.2 ∙ ap (slice_get s.links) place ∙ k.2)
 
 same_int_link : (m n : ℤ) → To.Int m ≡ To.Int n → m ≡ n
 same_int_link m n e = cc
@@ -160,7 +153,7 @@ module _ (s : CodeScope) (place : ℕ) (i : Instr) (f g h : FrameState) (a b : A
       (same_long_link p.1.0 q.1.0 (one_link s i (To.Long p.1.0) (To.Long q.1.0) p.1.1 q.1.1)) ∙ sym q.1.2)
   agree Dropping p q =
       exchanged p q
-      (λ ts ps us qs p q below lower e. as_many_by_slots below ts lower us e (p.2 ∙ one_row drops i.op p.0 q.0 refl p.1 q.1 ∙ sym q.2))
+      (λ ts ps us qs p q below lower e. same_length below ts lower us e (p.2 ∙ one_row drops i.op p.0 q.0 refl p.1 q.1 ∙ sym q.2))
       (λ ts ps us qs p q e. p.3 ∙ sym q.3)
   agree Copying p q =
       exchanged p q
@@ -170,12 +163,12 @@ module _ (s : CodeScope) (place : ℕ) (i : Instr) (f g h : FrameState) (a b : A
       let high : p.1 ≡ q.1 = same_right (p.0, p.1) (q.0, q.1) same in
       let first : values_slots ts ≡ values_slots p.2 + values_slots p.3 = ap values_slots p.7 ∙ sum_by-append value_slots p.2 p.3 in
       let second : values_slots us ≡ values_slots q.2 + values_slots q.3 = ap values_slots q.7 ∙ sum_by-append value_slots q.2 q.3 in
-      as_many_by_slots below ts lower us e (omega (arith, first, second, low, high, p.5, p.6, q.5, q.6)))
+      same_length below ts lower us e (omega (arith, first, second, low, high, p.5, p.6, q.5, q.6)))
       (λ ts ps us qs p q e.
       let same = one_row copies i.op (p.0, p.1) (q.0, q.1) refl p.4 q.4 in
       let slots : values_slots p.3 ≡ values_slots q.3 = p.6 ∙ same_right (p.0, p.1) (q.0, q.1) same ∙ sym q.6 in
       let whole : p.2 ++ p.3 ≡ q.2 ++ q.3 = sym p.7 ∙ e ∙ q.7 in
-      let split = one_split p.2 q.2 p.3 q.3 whole (as_many_by_slots p.2 p.3 q.2 q.3 whole slots) in
+      let split = one_split p.2 q.2 p.3 q.3 whole (same_length p.2 p.3 q.2 q.3 whole slots) in
       p.8 ∙ twice p.2 p.3 q.2 q.3 split.0 split.1 ∙ sym q.8)
   agree Swapping p q =
       exchanged p q

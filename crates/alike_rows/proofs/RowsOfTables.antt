@@ -1,5 +1,6 @@
 -- A table with different opcodes has one row of an opcode.
 use Rattle.std.proofs.Common.{◌≡◌, ◌⊎◌, ℕ, ◌==◌, ◌||◌, ◌&&◌, not, Bool, true, false, IsTrue, List, [], ◌∷◌, inl, inr, refl, sym, ap, ◌∙◌, arith}
+use Rattle.std.proofs.lemmas.Bool.{or_right}
 use Rattle.std.proofs.lemmas.Grind.{common_steps}
 use Rattle.list_lemmas.proofs.ItemsOfLists.{Contains-cases, Contains-none}
 use Rattle.jk_model_domains.specs.NumberRows.{HasRow}
@@ -16,10 +17,6 @@ are_different (r ∷ rows) = not (is_opcode_of rows r.0) && are_different rows
 at_first : (k op : ℕ) (b : Bool) → k ≡ op → (k == op || b) ≡ true
 at_first k op b e = grind (arith, common_steps)
 
-at_later : (a b : Bool) → b ≡ true → (a || b) ≡ true
-at_later true b e = refl
-at_later false b e = e
-
 first_of : (a b : Bool) → (not a && b) ≡ true → a ≡ true → ⊥
 first_of true b e t = absurd cc
 first_of false b e t = absurd cc
@@ -33,7 +30,7 @@ module _ {X : Type 0} where
   has_opcode [] op x h = absurd (Contains-none (op, x) h)
   has_opcode (r ∷ rows) op x h = elim (Contains-cases (op, x) r rows h) [
     | inl first ↦ at_first r.0 op (is_opcode_of rows op) (ap (λ (p : ℕ × X). p.0) first)
-    | inr later ↦ at_later (r.0 == op) (is_opcode_of rows op) (has_opcode rows op x later)
+    | inr later ↦ or_right (r.0 == op) (is_opcode_of rows op) (has_opcode rows op x later)
   ]
 
   -- the first row's opcode is in none of the rows after it

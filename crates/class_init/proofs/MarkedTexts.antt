@@ -120,11 +120,6 @@ none_marked [] n = refl
 none_marked (t ∷ texts) zero = refl
 none_marked (t ∷ texts) (suc n) = none_marked texts n
 
-pub no_mark : (n place : ℕ) → slice_get (replicate n false) place ≡ Some true → ⊥
-no_mark zero place on = cc
-no_mark (suc n) zero on = cc
-no_mark (suc n) (suc place) on = no_mark n place on
-
 pub no_mark_left : (n : ℕ) (marks : List Bool) → length marks ≡ n → ((place : ℕ) → slice_get marks place ≡ Some true → ⊥) → marks ≡ replicate n false
 no_mark_left zero [] e h = refl
 no_mark_left zero (m ∷ marks) e h = absurd (omega (arith, e))

@@ -5,6 +5,7 @@ use Rattle.std.specs.Map.{keys_of, lookup}
 use Rattle.std.proofs.lemmas.List.Elements.{Contains-append_left, Contains-append_right, Contains-push_cases}
 use Rattle.std.proofs.lemmas.Option.{same_Some}
 use Rattle.list_lemmas.proofs.ItemsOfLists.{Contains-at, Contains-cases, Contains-here, Contains-none, place_of}
+use Rattle.list_lemmas.proofs.ItemsRead.{none_marked}
 use Rattle.jk_model_classes.specs.declared.records.FieldRecord.{FieldRecord}
 use Rattle.jk_model_classes.specs.declared.records.Link.{Link}
 use Rattle.jk_model_classes.specs.declared.records.Link.TheVariants as To
@@ -12,7 +13,7 @@ use Rattle.jk_model_domains.specs.OwnStates.{OwnState, literal_named}
 use Rattle.class_init.specs.Literals.{literal_of}
 use Rattle.class_init.specs.MissingTexts.{AreMissing, HasTextConstant, IsCostOfMissing, IsMissing, IsMissingAt, IsMissingOfSome, IsMissingPlace, marked, text_words}
 use Rattle.class_init.proofs.LiteralsByPlace.{named_by_place}
-use Rattle.class_init.proofs.MarkedTexts.{Differ, is_marked, marked_at, marked_differ, marked_then, no_mark}
+use Rattle.class_init.proofs.MarkedTexts.{Differ, is_marked, marked_at, marked_differ, marked_then}
 
 abbrev Within : List (List ℕ) → List (ℕ × ℕ) → Type 0
 Within texts names = (place : ℕ) → Contains (keys_of names) place → place < length texts
@@ -96,7 +97,7 @@ abbrev pub AreOf : List (List ℕ) → List (ℕ × ℕ) → List FieldRecord �
 AreOf texts names fields marks = (place : ℕ) → (slice_get marks place ≡ Some true) ↔ IsMissingOfSome texts names fields place
 
 pub of_no_fields : (texts : List (List ℕ)) (names : List (ℕ × ℕ)) (n : ℕ) → AreOf texts names [] (replicate n false)
-of_no_fields texts names n place = (λ on. absurd (no_mark n place on), λ h. absurd (Contains-none h.0 h.1))
+of_no_fields texts names n place = (λ on. absurd (none_marked n place on), λ h. absurd (Contains-none h.0 h.1))
 
 pub of_one_more : (texts : List (List ℕ)) (names : List (ℕ × ℕ)) (fs : List FieldRecord) (f : FieldRecord) (old new : List Bool)
     → AreOf texts names fs old

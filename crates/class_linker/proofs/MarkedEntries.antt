@@ -11,43 +11,10 @@ use Rattle.jk_model.specs.declared.class_file.PoolEntry.TheVariants.{NameAndType
 use Rattle.jk_model_classes.specs.Items.{HasItem, HasItemBefore}
 use Rattle.jk_model_classes.specs.References.{IsDescriptorEntry}
 use Rattle.class_lemmas.proofs.SomeItem.{none_yet}
-use Rattle.class_linker.specs.KnownReferences.{AreMarked, Marks}
-use Rattle.class_linker.proofs.NumbersAdded.{all_before, before_new, before_old, before_split, some_before}
-
--- nothing more is marked
-pub marks_none : (P : ℕ → Type 0) (a : List Bool) → ((i : ℕ) → P i → ⊥) → Marks P a a
-marks_none P a never = record {
-  as_many = refl;
-  at = λ i below. (λ t. inl t, λ u. elim u [ inl t ↦ t | inr p ↦ absurd (never i p) ]);
-}
-
-pub marks_as : (P Q : ℕ → Type 0) (a b : List Bool) → ((i : ℕ) → P i → Q i) → ((i : ℕ) → Q i → P i) → Marks P a b → Marks Q a b
-marks_as P Q a b to from h = record {
-  as_many = h.as_many;
-  at = λ i below. (
-    λ t. elim ((h.at i below).0 t) [ inl was ↦ inl was | inr p ↦ inr (to i p) ],
-    λ u. (h.at i below).1 (elim u [ inl was ↦ inl was | inr q ↦ inr (from i q) ]),
-  );
-}
-
-pub marks_then : (P Q R : ℕ → Type 0) (a b c : List Bool) → ((i : ℕ) → P i → R i) → ((i : ℕ) → Q i → R i) → ((i : ℕ) → R i → P i ⊎ Q i)
-    → Marks P a b → Marks Q b c → Marks R a c
-marks_then P Q R a b c from_p from_q split first second = record {
-  as_many = second.as_many ∙ first.as_many;
-  at = λ i below.
-      let one = first.at i below in
-      let within : i < length b = omega (arith, first.as_many) in
-      let two = second.at i within in (
-        λ t. elim (two.0 t) [
-          | inl was ↦ elim (one.0 was) [ inl old ↦ inl old | inr p ↦ inr (from_p i p) ]
-          | inr q ↦ inr (from_q i q)
-        ],
-        λ u. elim u [
-          | inl old ↦ two.1 (inl (one.1 (inl old)))
-          | inr r ↦ elim (split i r) [ inl p ↦ two.1 (inl (one.1 (inr p))) | inr q ↦ two.1 (inr q) ]
-        ],
-      );
-}
+use Rattle.class_linker.specs.KnownReferences.{AreMarked}
+use Rattle.name_rules.specs.Marks.{Marks}
+use Rattle.name_rules.proofs.ItemsSoFar.{all_before, before_new, before_old, before_split, some_before}
+use Rattle.name_rules.proofs.MarksInTurn.{marks_as, marks_nothing, marks_then}
 
 -- what was marked where nothing was before
 pub just_marked : (P : ℕ → Type 0) (pool : List PoolEntry) (before after : List Bool) → before ≡ replicate (length pool) false → Marks P before after
@@ -68,7 +35,7 @@ just_marked P pool before after clear h = record {
 
 module _ {X : Type 0} (P : ℕ → X → Type 0) (items : List X) where
   pub marks_start : (a : List Bool) → Marks (λ i. HasItemBefore 0 (P i) items) a a
-  marks_start a = marks_none (λ i. HasItemBefore 0 (P i) items) a (λ i. none_yet (P i) items)
+  marks_start a = marks_nothing (λ i. HasItemBefore 0 (P i) items) a (λ i. none_yet (P i) items)
 
   -- what one more item marks
   pub marks_more : (k : ℕ) (x : X) (a b c : List Bool) → k < length items → x ≡ get_or items k x → Marks (λ i. HasItemBefore k (P i) items) a b

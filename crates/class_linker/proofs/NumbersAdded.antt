@@ -66,31 +66,6 @@ module _ (m : Meaning) (By : ℕ → List ℕ → Type 0) where
       adds_as m (λ name. (j : ℕ) × (j < k) × By j name) (λ name. (j : ℕ) × By j name) a b (λ name (j, below, by). (j, by))
       (λ name (j, by). (j, within j name by, by)) h
 
--- ---- Items so far.
-
-pub before_split : {X : Type 0} (P : X → Type 0) (xs : List X) (k : ℕ) (x : X) → slice_get xs k ≡ Some x → HasItemBefore (k + 1) P xs
-    → HasItemBefore k P xs ⊎ P x
-before_split P xs k x at (i, y, below, found, p) =
-    elim (cases_lt i k) [
-      | inl less ↦ inl (i, y, less, found, p)
-      | inr least ↦
-          let place : i ≡ k = omega arith in
-          let one : y ≡ x = same_Some y x (sym found ∙ subst (λ n. slice_get xs n ≡ Some x) (sym place) at) in
-          inr (subst P one p)
-    ]
-
-pub before_old : {X : Type 0} (P : X → Type 0) (xs : List X) (k : ℕ) → HasItemBefore k P xs → HasItemBefore (k + 1) P xs
-before_old P xs k (i, y, below, found, p) = (i, y, omega arith, found, p)
-
-pub before_new : {X : Type 0} (P : X → Type 0) (xs : List X) (k : ℕ) (x : X) → slice_get xs k ≡ Some x → P x → HasItemBefore (k + 1) P xs
-before_new P xs k x at p = (k, x, omega arith, at, p)
-
-pub all_before : {X : Type 0} (P : X → Type 0) (xs : List X) (k : ℕ) → length xs ≤ k → HasItem P xs → HasItemBefore k P xs
-all_before P xs k all (i, y, found, p) = let within = slice_get_within xs i y found in (i, y, omega arith, found, p)
-
-pub some_before : {X : Type 0} (P : X → Type 0) (xs : List X) (k : ℕ) → HasItemBefore k P xs → HasItem P xs
-some_before P xs k (i, y, below, found, p) = (i, y, found, p)
-
 -- ---- Classes in descriptors.
 
 pub result_names : (name : List ℕ) (of : Option FieldType) (t : FieldType) → of ≡ Some t → IsResultOfClass name of → t.base ≡ Class name

@@ -14,11 +14,6 @@ use Rattle.class_linker.specs.KnownTypes.{Meaning}
 
 -- ---- Which texts are names of Class entries, and which are descriptors.
 
--- what is so is marked too, as far as there are marks
-pub record Marks (Marked : ℕ → Type 0) (before after : List Bool) : Type 0 where
-  pub as_many : length after ≡ length before
-  pub at : (i : ℕ) → i < length before → (slice_get after i ≡ Some true) ↔ ((slice_get before i ≡ Some true) ⊎ Marked i)
-
 -- just the entries of a pool that are so are marked
 pub record AreMarked (IsSo : ℕ → Type 0) (pool : List PoolEntry) (marks : List Bool) : Type 0 where
   pub as_many : length marks ≡ length pool

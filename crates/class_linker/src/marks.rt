@@ -7,7 +7,8 @@ ghost use Rattle.jk_model.specs.declared.class_file.PoolEntry.{PoolEntry};
 ghost use Rattle.jk_model.specs.declared.class_file.PoolEntry.TheVariants.{Class, NameAndType};
 ghost use Rattle.jk_model_classes.specs.Items.{HasItem};
 ghost use Rattle.jk_model_classes.specs.References.{IsDescriptorEntry};
-ghost use Rattle.class_linker.specs.KnownReferences.{AreMarked, IsNameEntry, Marks};
+ghost use Rattle.class_linker.specs.KnownReferences.{AreMarked, IsNameEntry};
+ghost use Rattle.name_rules.specs.Marks.{Marks};
 
 use jk_model::{ClassFile, MemberInfo, OutOfMemory, PoolEntry};
 use std::alloc::Global;

@@ -7,21 +7,11 @@ use Rattle.jk_model.specs.declared.identifiers.DomainId.{DomainId}
 use Rattle.jk_model.specs.declared.identifiers.SegmentNo.{SegmentNo}
 use Rattle.jk_model_frames.specs.Frames.{FrameState, head_chunks}
 use Rattle.frame_store.specs.FrameContents.{Changes, FrameContent, IsContent, Pops, SetsTop, StoredSegment, TopFrame}
-use Rattle.number_ops.proofs.TopFrames.{both_keep}
+pub use Rattle.frame_store.proofs.ChangesInTurn.{then_changes}
 use Rattle.step_contents.specs.Contents.{Contents, FramesBecome, HasFrames, Here}
 
 abbrev pub segment_of : DomainId → List FrameState → StoredSegment
 segment_of d frames = record { domain = d; frames = frames }
-
-pub then_changes : (a b c : FrameContent) (s : SegmentNo) (d : DomainId) (first second : Option StoredSegment) (m n : ℕ)
-    → Changes a b s d first m → Changes b c s d second n → Changes a c s d second n
-then_changes a b c s d first second m n g h = record {
-  domains = both_keep a b c g.domains h.domains;
-  becomes = h.becomes;
-  others = λ r differ. h.others r differ ∙ g.others r differ;
-  uses = h.uses;
-  other_domains = λ e differ. h.other_domains e differ ∙ g.other_domains e differ;
-}
 
 module _ (c : FrameContent) (s : SegmentNo) (d : DomainId) (below : List FrameState) (f : FrameState)
     (there : c.segment s ≡ Some (segment_of d (below ++ f ∷ []))) where

@@ -9,30 +9,13 @@ use Rattle.jk_model.specs.declared.identifiers.DomainId.{DomainId}
 use Rattle.jk_model.specs.declared.identifiers.SegmentNo.{SegmentNo}
 use Rattle.jk_model.specs.declared.values.Value.TheVariants as Held
 use Rattle.jk_model_frames.specs.Frames.{FrameState, called_frame, head_chunks, new_frame, segment_chunks}
-use Rattle.frame_store.specs.FrameContents.{Begins, Changes, FrameContent, HasLocal, KeepsDomains, SetsTop, StoredSegment, TopFrame}
+use Rattle.frame_store.specs.FrameContents.{Begins, Changes, FrameContent, HasLocal, SetsTop, StoredSegment, TopFrame}
 use Rattle.frame_store.proofs.ArgumentsInLocals.{one_given}
+use Rattle.frame_store.proofs.ChangesInTurn.{then_changes}
 use Rattle.kernel_openings.specs.FirstFrames.{BeginsSegment}
 
 abbrev stored : DomainId → FrameState → StoredSegment
 stored d f = record { domain = d; frames = f ∷ [] }
-
-both_keep : (a b c : FrameContent) → KeepsDomains a b → KeepsDomains b c → KeepsDomains a c
-both_keep a b c first second = record {
-  pages = second.pages ∙ first.pages;
-  took_all = second.took_all ∙ first.took_all;
-  quota = λ d. second.quota d ∙ first.quota d;
-  first_page = λ d. second.first_page d ∙ first.first_page d;
-}
-
-changes_on : (a b c : FrameContent) (s : SegmentNo) (d : DomainId) (x y : Option StoredSegment) (m n : ℕ) → Changes a b s d x m → Changes b c s d y n
-    → Changes a c s d y n
-changes_on a b c s d x y m n first second = record {
-  domains = both_keep a b c first.domains second.domains;
-  becomes = second.becomes;
-  others = λ r differ. second.others r differ ∙ first.others r differ;
-  uses = second.uses;
-  other_domains = λ e differ. second.other_domains e differ ∙ first.other_domains e differ;
-}
 
 -- ---- The one frame of a segment is set.
 
@@ -78,7 +61,7 @@ module _ (old mid : FrameContent) (s : SegmentNo) (d : DomainId) (head : FrameHe
         → BeginsSegment old new d s head (Held.Obj a)
     first_begun new sets =
         let second = one_set mid new s d (new_frame head) (with_first (new_frame head)) begins.becomes (sets (new_frame head) top) in
-        let both = changes_on old mid new s d (Some (stored d (new_frame head))) (Some (stored d (with_first (new_frame head))))
+        let both = then_changes old mid new s d (Some (stored d (new_frame head))) (Some (stored d (with_first (new_frame head))))
         (old.used d + 1 + head_chunks head) (mid.used d) begins second in
         let used : mid.used d ≡ old.used d + segment_chunks (called_frame head (Held.Obj a ∷ []) ∷ []) = begins.uses ∙ costs in
         subst (λ (n : ℕ). Changes old new s d (Some (stored d (called_frame head (Held.Obj a ∷ [])))) n) used

@@ -1,8 +1,6 @@
 -- Domains and threads of a machine, by what stands in the parts.
-use Rattle.std.proofs.Common.{◌≡◌, ◌≢◌, ℕ, ◌+◌, ◌≤◌, ◌==◌, ◌⊎◌, inl, inr, Bool, true, false, cond, filter, List, [], ◌∷◌, length, map, slice_get, Contains, Option, Some, None, refl, sym, ap, ◌∙◌, arith}
-use Rattle.std.specs.Prelude.{sum_by}
+use Rattle.std.proofs.Common.{◌≡◌, ◌≢◌, ℕ, ◌==◌, ◌⊎◌, inl, inr, Bool, true, false, cond, filter, List, [], ◌∷◌, length, map, slice_get, Contains, Option, Some, None, refl, sym, ap, ◌∙◌, arith}
 use Rattle.std.proofs.lemmas.Bool.{eqb-false, eqb-true}
-use Rattle.std.proofs.lemmas.List.Sums.{sum_by-cons}
 use Rattle.std.proofs.lemmas.Option.{slice_get_within}
 use Rattle.list_lemmas.proofs.ItemsByPlace.{comes_from, item_there}
 use Rattle.list_lemmas.proofs.ItemsOfLists.{Contains-at, place_of}
@@ -10,10 +8,9 @@ use Rattle.jk_model.specs.declared.identifiers.DomainId.{DomainId}
 use Rattle.jk_model.specs.declared.identifiers.SegmentNo.{SegmentNo}
 use Rattle.jk_model_classes.specs.Worlds.{DomainRecord}
 use Rattle.jk_model_domains.specs.OwnStates.{OwnState}
-use Rattle.jk_model_frames.specs.Frames.{FrameState, segment_chunks}
-use Rattle.jk_model_sharing.specs.Segments.{SharedSegment, SharedThread, count_segments_of, count_started_in, is_of, shared_form}
+use Rattle.jk_model_sharing.specs.Segments.{SharedSegment, SharedThread, count_started_in, is_of}
 use Rattle.jk_model_sharing.specs.SharedStates.{SharedDomain}
-use Rattle.jk_model_machine_state.specs.Machines.{Segment, Thread, chunks_of}
+use Rattle.jk_model_machine_state.specs.Machines.{Segment, Thread}
 use Rattle.jk_model_machine_state.specs.Places.{LiveDomain}
 use Rattle.frame_store.specs.FrameContents.{FrameContent}
 use Rattle.machine_parts.specs.ChangedParts.{StandsInParts}
@@ -108,32 +105,3 @@ started_same c d (t ∷ threads) =
     step_started (t.domain.0 == d.0) (thread_with_frames c t) 0 0
     (filter (λ (x : Thread). x.domain.0 == d.0) (map (thread_with_frames c) threads)) (filter (λ (x : SharedThread). x.domain.0 == d.0) threads) t
     (started_same c d threads)
-
--- Each segment costs a chunk at least.
-step_chunks : (b : Bool) (s : SharedSegment) (segments : List SharedSegment) (frames : List FrameState) (rest : ℕ) → length segments ≤ rest
-    → length (cond b (s ∷ segments) segments) ≤ cond b (segment_chunks frames) 0 + rest
-step_chunks true s segments frames rest fewer = omega (arith, fewer)
-step_chunks false s segments frames rest fewer = omega (arith, fewer)
-
-segments_cost : (c : FrameContent) (d : DomainId) (segments : List SharedSegment)
-    → length (filter (is_of shared_form d) segments) ≤ sum_by (chunks_of d) (map (segment_with_frames c) segments)
-segments_cost c d [] = omega arith
-segments_cost c d (s ∷ segments) =
-    let rest = sum_by (chunks_of d) (map (segment_with_frames c) segments) in
-    let here = step_chunks (s.domain.0 == d.0) s (filter (is_of shared_form d) segments) (segment_with_frames c s).frames rest (segments_cost c d segments) in
-    let sum = sum_by-cons (chunks_of d) (segment_with_frames c s) (map (segment_with_frames c) segments) in
-    omega (arith, here, sum)
-
-abbrev chunks_on : DomainId → Thread → ℕ
-chunks_on d t = sum_by (chunks_of d) t.segments
-
-abbrev segments_on : DomainId → SharedThread → ℕ
-segments_on d t = length (filter (is_of shared_form d) t.segments)
-
-pub segments_within : (c : FrameContent) (d : DomainId) (threads : List SharedThread)
-    → count_segments_of threads d ≤ sum_by (chunks_on d) (map (thread_with_frames c) threads)
-segments_within c d [] = omega arith
-segments_within c d (t ∷ threads) =
-    let first = sum_by-cons (segments_on d) t threads in
-    let second = sum_by-cons (chunks_on d) (thread_with_frames c t) (map (thread_with_frames c) threads) in
-    omega (arith, first, second, segments_cost c d t.segments, segments_within c d threads)

@@ -35,11 +35,12 @@ use Rattle.thread_segments.specs.SoundStates.{AreNumbered, AreSound}
 use Rattle.machine_parts.specs.ChangedParts.{StandsInParts}
 use Rattle.machine_parts.specs.MachineParts.{MachineParts, domain_state, inside_of}
 use Rattle.machine_parts.proofs.DomainsOfParts.{live_domain_is_of_parts}
+use Rattle.machine_parts.proofs.ChunksOfSegments.{segments_within}
 use Rattle.machine_laws.specs.SoundMachines.{HasSoundClasses}
 use Rattle.kernel_parts.specs.SoundKernels.{AreKernelParts, KernelContent, kernel_machine, parts_of}
 use Rattle.kernel_openings.specs.FirstFrames.{BeginsSegment, MakesStartWords, MayStart, first_head, words_array}
 use Rattle.kernel_openings.proofs.MainOfAClass.{main-room}
-use Rattle.kernel_openings.proofs.PartsByPlace.{segments_within, started_same}
+use Rattle.kernel_openings.proofs.PartsByPlace.{started_same}
 use Rattle.kernel_openings.proofs.StartedMachines.{machine_after, next_segment}
 use Rattle.kernel_openings.proofs.StartedParts.{parts_after}
 

@@ -47,7 +47,7 @@ pub fn add_domain<H: ObjectStore + Drop, F: FrameStore + Drop, R: Files>(
     ensures ok { let o : Opening = record { tree = R.tree files.old; root = root.now; name = name.now; quotas = quotas } in
         OnOk result (AddsDomain o k.old (Says.Loaded name.now ∷ []) k.new) }
     ensures opened { OnOk result (OpensAccepted k.old name.now quotas k.new) }
-    // Each error has its cause, and none but the last two leaves the folder unjudged.
+    // Each error has its cause.
     ensures cause { let o : Opening = record { tree = R.tree files.old; root = root.now; name = name.now; quotas = quotas } in
         IfErr result (IsCauseOf o k.old) }
     // A folder of a told tree that breaks a rule is refused by exactly this rule, there, unless the files fail or memory runs out.

@@ -19,7 +19,6 @@ mod RaisesAlike
 mod RaisingSteps
 mod RanParts
 mod ReadyThreads
-mod RemoteClasses
 mod RequestsAsked
 mod RequestsOverParts
 mod RestingThreads

@@ -59,7 +59,7 @@ use Rattle.row_laws.specs.KeptRuns.{KeepsRun}
 use Rattle.step_contents.specs.Contents.{Becomes, LeftBehind, with_frame}
 use Rattle.segment_steps.specs.RaisingHere.{went_of}
 use Rattle.segment_steps.specs.declared.went.Went.TheVariants as Goes
-use Rattle.kernel_turns.proofs.RemoteClasses.{remote_alone}
+use Rattle.system_calls.proofs.RemoteClasses.{remote_alone}
 use Rattle.domain_crossing.proofs.FitsAgain.{fits_again, same_owns, same_shared}
 use Rattle.domain_ends.specs.TidyParts.{AreTidyParts}
 use Rattle.kernel_parts.specs.SoundKernels.{AreKernelParts, KernelContent, kernel_machine, parts_of}

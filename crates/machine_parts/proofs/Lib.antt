@@ -1,3 +1,4 @@
+pub mod ChunksOfSegments
 pub mod DomainEnded
 pub mod DomainOpened
 pub mod DomainsChanged

@@ -1,7 +1,7 @@
 -- The segment of the running one's number is the running one, and a domain that is set to what it has is as it was.
 use Rattle.std.proofs.Common.{◌≡◌, ℕ, ◌==◌, Bool, true, false, cond, List, [], ◌∷◌, ◌++◌, length, map, slice_get, Contains, Some, refl, sym, ap, ◌∙◌, arith}
 use Rattle.std.proofs.lemmas.Bool.{eqb-false, eqb-true}
-use Rattle.std.proofs.lemmas.List.{map-append}
+use Rattle.std.proofs.lemmas.List.{map-append, map-id}
 use Rattle.std.proofs.lemmas.Option.{same_Some}
 use Rattle.jk_model.specs.declared.identifiers.DomainId.{DomainId}
 use Rattle.jk_model.specs.declared.identifiers.SegmentNo.{SegmentNo}
@@ -23,10 +23,6 @@ use Rattle.machine_parts.proofs.DomainsOfParts.{at_place}
 use Rattle.machine_parts.proofs.SegmentsChanged.{frames_change_machines, running_frames_change, thread_at}
 use Rattle.machine_parts.proofs.SharedChanged.{flags_change_machines}
 
-map_itself : {X : Type 0} (xs : List X) → map (λ (x : X). x) xs ≡ xs
-map_itself [] = refl
-map_itself (x ∷ xs) = λ i. x ∷ map_itself xs i
-
 -- ---- What a domain has.
 
 abbrev Numbered : List DomainState → Type 0
@@ -38,7 +34,7 @@ set_step true d inside e is has = λ i. record e { inside = sym (has (eqb-true e
 set_step false d inside e is has = refl
 
 pub inside_stays : (m : Machine) (d : DomainId) (l : LiveDomain m d) → Numbered m.domains → with_inside d l.inside m ≡ m
-inside_stays m d l numbered = ap (λ (ds : List DomainState). record m { domains = ds }) (all ∙ map_itself m.domains)
+inside_stays m d l numbered = ap (λ (ds : List DomainState). record m { domains = ds }) (all ∙ map-id m.domains)
   where
     has : (e : DomainState) → Contains m.domains e → e.number.0 ≡ d.0 → e.inside ≡ Some l.inside
     has e there same =
@@ -75,7 +71,7 @@ module _ (n : SegmentNo) (change : Segment → Segment) where
       → map changed_at segments ≡ segments
   none_changes segments apart =
       map_same changed_at (λ (s : Segment). s) segments (λ s there. stays_by (s.shared.number.0 == n.0) s refl (apart s there))
-      ∙ map_itself segments
+      ∙ map-id segments
 
   top_changes : (lower : List Segment) (top : Segment) → ((s : Segment) → Contains lower s → s.shared.number.0 ≡ n.0 → ⊥)
       → top.shared.number.0 ≡ n.0 → map changed_at (lower ++ top ∷ []) ≡ lower ++ change top ∷ []

@@ -1,7 +1,7 @@
 -- A change of one segment's frames in the store changes that segment of the machine, and nothing else.
 use Rattle.std.proofs.Common.{◌≡◌, ◌≢◌, ℕ, ◌==◌, Bool, true, false, cond, find, List, [], ◌∷◌, ◌++◌, length, map, slice_get, Contains, Option, Some, None, option_map, refl, sym, ap, subst, ◌∙◌, arith}
 use Rattle.std.proofs.lemmas.Bool.{eqb-false, eqb-true}
-use Rattle.std.proofs.lemmas.List.{map-append}
+use Rattle.std.proofs.lemmas.List.{map-append, map-id}
 use Rattle.std.proofs.lemmas.Option.{same_Some}
 use Rattle.jk_model.specs.declared.identifiers.DomainId.{DomainId}
 use Rattle.jk_model.specs.declared.identifiers.SegmentNo.{SegmentNo}
@@ -97,11 +97,7 @@ pub none_changes : (n : SegmentNo) (frames : List FrameState) (segments : List S
     → ((s : Segment) → Contains segments s → s.shared.number.0 ≡ n.0 → ⊥) → map (with_frames_in n frames) segments ≡ segments
 none_changes n frames segments apart =
     map_same (with_frames_in n frames) (λ (s : Segment). s) segments
-    (λ s there. stays_by (s.shared.number.0 == n.0) n frames s refl (apart s there)) ∙ map_itself segments
-  where
-    map_itself : (segments : List Segment) → map (λ (s : Segment). s) segments ≡ segments
-    map_itself [] = refl
-    map_itself (s ∷ segments) = ap (λ (xs : List Segment). s ∷ xs) (map_itself segments)
+    (λ s there. stays_by (s.shared.number.0 == n.0) n frames s refl (apart s there)) ∙ map-id segments
 
 top_changes : (n : SegmentNo) (frames : List FrameState) (lower : List Segment) (top : Segment)
     → ((s : Segment) → Contains lower s → s.shared.number.0 ≡ n.0 → ⊥) → top.shared.number.0 ≡ n.0

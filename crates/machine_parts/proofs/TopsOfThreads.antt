@@ -65,7 +65,7 @@ tops_are c (s ∷ above ∷ more) (x ∷ lower) top is =
     let later = tops_are c (above ∷ more) lower top rest in
     (later.0, later.1, later.2, λ i. sym first i ∷ later.3 i)
 
-split_top : (segments : List SharedSegment) (s : SharedSegment) → top_of segments ≡ Some s → segments ≡ without_top segments ++ s ∷ []
+pub split_top : (segments : List SharedSegment) (s : SharedSegment) → top_of segments ≡ Some s → segments ≡ without_top segments ++ s ∷ []
 split_top [] s is = absurd cc
 split_top (x ∷ []) s is = ap (λ (y : SharedSegment). y ∷ []) (same_Some x s is)
 split_top (x ∷ above ∷ more) s is = ap (λ (xs : List SharedSegment). x ∷ xs) (split_top (above ∷ more) s is)

@@ -1,5 +1,5 @@
 -- The marks of the files that a class file extends or lists, as they are set.
-use Rattle.std.proofs.Common.{◌≡◌, ℕ, ◌+◌, ◌<◌, ◌≤◌, inl, inr, Bool, List, [], ◌∷◌, ◌++◌, length, Some, slice_get, refl, sym, ◌∙◌, subst, arith}
+use Rattle.std.proofs.Common.{◌≡◌, ℕ, ◌+◌, ◌<◌, ◌≤◌, inl, inr, Bool, List, [], ◌∷◌, ◌++◌, length, Some, slice_get, sym, ◌∙◌, subst, arith}
 use Rattle.std.specs.Global.{Vec}
 use Rattle.std.proofs.lemmas.Bool.{cases_lt}
 use Rattle.std.proofs.lemmas.Option.{same_Some, slice_get_within}
@@ -16,13 +16,7 @@ use Rattle.name_rules.specs.Graphs.{Rows}
 use Rattle.name_rules.specs.Marks.{Marks, MarksOf}
 use Rattle.class_files.specs.declared.folder_class.FolderClass.{FolderClass}
 use Rattle.name_rules.proofs.FolderGraph.{as_many_files, file_at}
-use Rattle.name_rules.proofs.MarksInTurn.{marks_as, marks_then}
-
-marks_nothing : (P : ℕ → Type 0) (a : List Bool) → ((i : ℕ) → P i → ⊥) → Marks P a a
-marks_nothing P a never = record {
-  as_many = refl;
-  at = λ i below. (λ m. inl m, λ h. elim h [ inl old ↦ old | inr p ↦ absurd (never i p) ]);
-}
+use Rattle.name_rules.proofs.MarksInTurn.{marks_as, marks_nothing, marks_then}
 
 pub parent_marks : (c : ClassFile) (own : List NamedClass) (units name : List ℕ) (entries : List PoolEntry) (a b : List Bool) → entries ≡ c.pool
     → ClassAt entries c.super_class name → units ≡ name → Marks (MeansPlace own units) a b → Marks (ExtendsPlace c own) a b

@@ -4,8 +4,8 @@ mod EdgesMarked
 mod EdgesOfRows
 pub mod FolderGraph
 mod HeightsRise
-mod ItemsSoFar
-mod MarksInTurn
+pub mod ItemsSoFar
+pub mod MarksInTurn
 mod NamesLacking
 mod PathsThroughPlaces
 mod PlacesInOrder

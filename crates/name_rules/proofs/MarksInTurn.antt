@@ -1,9 +1,10 @@
 -- Marks that are set in turn.
-use Rattle.std.proofs.Common.{◌≡◌, ℕ, zero, suc, ◌+◌, ◌<◌, ◌≤◌, ◌⊎◌, inl, inr, Bool, true, false, List, length, replicate, get_or, Some, slice_get, refl, sym, ◌∙◌, ap, subst, arith}
+use Rattle.std.proofs.Common.{◌≡◌, ℕ, ◌+◌, ◌<◌, ◌≤◌, ◌⊎◌, inl, inr, Bool, true, false, List, length, replicate, get_or, Some, slice_get, refl, sym, ◌∙◌, ap, subst, arith}
 use Rattle.std.specs.Global.{Vec}
 use Rattle.std.specs.Vec.{with_items}
-use Rattle.std.proofs.lemmas.List.{with_items_is}
+use Rattle.std.proofs.lemmas.List.{length-replicate, with_items_is}
 use Rattle.std.proofs.lemmas.Option.{get_or_from_slice_get}
+use Rattle.list_lemmas.proofs.ItemsRead.{none_marked}
 use Rattle.jk_model_classes.specs.Items.{HasItem, HasItemBefore}
 use Rattle.class_lemmas.proofs.SomeItem.{none_yet}
 use Rattle.name_rules.specs.Marks.{IsMarked, Marks, MarksOf}
@@ -29,6 +30,13 @@ marks_then P Q R a b c from_p from_q split first second = record {
       ]
     ],
   );
+}
+
+-- nothing more is marked
+pub marks_nothing : (P : ℕ → Type 0) (a : List Bool) → ((i : ℕ) → P i → ⊥) → Marks P a a
+marks_nothing P a never = record {
+  as_many = refl;
+  at = λ i below. (λ m. inl m, λ h. elim h [ inl old ↦ old | inr p ↦ absurd (never i p) ]);
 }
 
 pub marks_as : (P R : ℕ → Type 0) (a b : List Bool) → ((i : ℕ) → P i → R i) → ((i : ℕ) → R i → P i) → Marks P a b → Marks R a b
@@ -68,23 +76,14 @@ module _ {X : Type 0} (P : ℕ → X → Type 0) (xs : List X) where
 
 -- ---- Marks from none.
 
-no_mark : (n i : ℕ) → IsMarked (replicate n false) i → ⊥
-no_mark zero i m = absurd cc
-no_mark (suc n) zero m = absurd cc
-no_mark (suc n) (suc i) m = no_mark n i m
-
-many_marks : (n : ℕ) → length {A = Bool} (replicate n false) ≡ n
-many_marks zero = refl
-many_marks (suc n) = ap (λ (k : ℕ). suc k) (many_marks n)
-
 pub marks_of : (n : ℕ) (P : ℕ → Type 0) (a b : List Bool) → a ≡ replicate n false → Marks P a b → MarksOf n P b
 marks_of n P a b bare h =
-    let long : length a ≡ n = ap (λ (m : List Bool). length m) bare ∙ many_marks n in
+    let long : length a ≡ n = ap (λ (m : List Bool). length m) bare ∙ length-replicate n false in
     record {
       as_many = h.as_many ∙ long;
       at = λ i below. (
         λ m. elim ((h.at i (omega (arith, long))).0 m) [
-          | inl old ↦ absurd (no_mark n i (subst (λ (w : List Bool). IsMarked w i) bare old))
+          | inl old ↦ absurd (none_marked n i (subst (λ (w : List Bool). IsMarked w i) bare old))
           | inr p ↦ p
         ],
         λ p. (h.at i (omega (arith, long))).1 (inr p),

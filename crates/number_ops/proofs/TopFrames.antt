@@ -4,8 +4,9 @@ use Rattle.std.proofs.lemmas.Option.{same_Some}
 use Rattle.list_lemmas.proofs.LastItems.{one_last}
 use Rattle.jk_model.specs.declared.identifiers.SegmentNo.{SegmentNo}
 use Rattle.jk_model_frames.specs.Frames.{FrameState}
-use Rattle.frame_store.specs.FrameContents.{Changes, FrameContent, KeepsDomains, SetsTop, StoredSegment, TopFrame}
+use Rattle.frame_store.specs.FrameContents.{Changes, FrameContent, SetsTop, StoredSegment, TopFrame}
 use Rattle.number_ops.specs.TopChanges.{Becomes}
+pub use Rattle.frame_store.proofs.ChangesInTurn.{both_keep}
 
 pub same_top : (c : FrameContent) (s : SegmentNo) (f g : FrameState) → TopFrame c s f → TopFrame c s g → f ≡ g
 same_top c s f g a b =
@@ -19,14 +20,6 @@ top_after old new s g h = record {
   is_there = h.2.becomes;
   lower = h.1.lower;
   frames = refl;
-}
-
-pub both_keep : (a b c : FrameContent) → KeepsDomains a b → KeepsDomains b c → KeepsDomains a c
-both_keep a b c first second = record {
-  pages = second.pages ∙ first.pages;
-  took_all = second.took_all ∙ first.took_all;
-  quota = λ d. second.quota d ∙ first.quota d;
-  first_page = λ d. second.first_page d ∙ first.first_page d;
 }
 
 pub then_sets : (a b c : FrameContent) (s : SegmentNo) (g h : FrameState) → SetsTop a b s g → SetsTop b c s h → SetsTop a c s h

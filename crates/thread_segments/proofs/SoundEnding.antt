@@ -20,7 +20,8 @@ use Rattle.thread_segments.proofs.SoundDomains.{IsSoundDomain, Refits, found_map
 use Rattle.thread_segments.proofs.SoundGrowth.{found_domain}
 use Rattle.thread_segments.proofs.SoundNames.{sound_without}
 use Rattle.thread_stacks.specs.StackAnswers.{segments_in}
-use Rattle.thread_segments.proofs.SoundThreads.{Lessens, SameSegment, SameThread, live_have_segments, live_segments, segments_lessened, thread_is, threads_changed}
+use Rattle.thread_stacks.proofs.CountedAlive.{live_segments}
+use Rattle.thread_segments.proofs.SoundThreads.{Lessens, SameSegment, SameThread, live_have_segments, segments_lessened, thread_is, threads_changed}
 
 -- ---- Segments of a domain go.
 

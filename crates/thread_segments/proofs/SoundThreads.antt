@@ -11,6 +11,7 @@ use Rattle.jk_model_sharing.specs.Segments.{SharedSegment, SharedThread, count_s
 use Rattle.jk_model_sharing.specs.SharedStates.{SharedDomain, SharedState, popped, with_flags}
 use Rattle.list_lemmas.proofs.ItemsOfLists.{Contains-cases, Contains-here, Contains-none, Contains-there}
 use Rattle.thread_stacks.specs.StackAnswers.{segments_in}
+use Rattle.thread_stacks.proofs.CountedAlive.{live_segments}
 use Rattle.thread_segments.specs.Asked.{IsAdmitted, IsLiveDomain}
 use Rattle.thread_segments.specs.SoundStates.{AreSound, AreSoundSegments, AreSoundThreads, all_segments}
 use Rattle.thread_segments.proofs.Remaining.{Remains, all_remain, changed_remain, filtered_remain, goes, no_more_pass, nothing, remain_further, remain_together, remained, stays, still_differ, still_rise}
@@ -124,20 +125,6 @@ pub segments_lessened : (f : SharedThread → SharedThread) → Lessens f → (t
 segments_lessened f h [] = nothing
 segments_lessened f h (t ∷ threads) =
     remain_together SameSegment t.segments (f t).segments (segments_in threads) (segments_in (map f threads)) (h.less t) (segments_lessened f h threads)
-
--- threads without segments have none
-pub live_segments : (threads : List SharedThread) → segments_in (live_threads threads) ≡ segments_in threads
-live_segments [] = refl
-live_segments (t ∷ threads) = by_segments t.segments refl (live_segments threads)
-  where
-    by_segments : (xs : List SharedSegment) → t.segments ≡ xs → segments_in (live_threads threads) ≡ segments_in threads
-        → segments_in (live_threads (t ∷ threads)) ≡ segments_in (t ∷ threads)
-    by_segments [] is rest =
-        let none : has_segments t ≡ false = rw is refl in
-        rw (none, is) rest
-    by_segments (s ∷ xs) is rest =
-        let some : has_segments t ≡ true = rw is refl in
-        rw some (ap (λ ys. t.segments ++ ys) rest)
 
 pub live_have_segments : (threads : List SharedThread) (t : SharedThread) → Contains (live_threads threads) t → t.segments ≢ []
 live_have_segments [] t there none = absurd (Contains-none t there)

@@ -149,7 +149,7 @@ count_started slots (e ∷ es) d h =
 -- ---- Segments.
 
 -- threads without segments have none
-live_segments : (threads : List SharedThread) → segments_in (live_threads threads) ≡ segments_in threads
+pub live_segments : (threads : List SharedThread) → segments_in (live_threads threads) ≡ segments_in threads
 live_segments [] = refl
 live_segments (t ∷ threads) = by_segments t.segments refl (live_segments threads)
   where

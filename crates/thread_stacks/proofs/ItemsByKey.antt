@@ -1,5 +1,6 @@
 -- In a list whose items have numbers that rise, a search by a number finds the one item that has it.
 use Rattle.std.proofs.Common.{◌≡◌, ℕ, zero, suc, ◌+◌, ◌<◌, ◌≤◌, ◌⊎◌, inl, inr, false, List, [], ◌∷◌, ◌++◌, length, set, find, refl, sym, ◌∙◌, ap, arith, Some, None, Result, Ok, Err, slice_get, get_or, nat_lt, eqb}
+use Rattle.std.specs.Cmp.{nat_cmp_is}
 use Rattle.std.specs.Result.{result_ok}
 use Rattle.std.specs.Ordering.{nat_cmp, ordering_index, is_lt}
 use Rattle.std.specs.declared.cmp.Ordering.TheVariants.{Less, Equal, Greater}
@@ -12,12 +13,6 @@ use Rattle.std.proofs.lemmas.Map.Lookups.{exact_unsigned}
 use Rattle.std.proofs.lemmas.Option.{slice_get_within, slice_get-get_or, get_or_from_slice_get, same_Some}
 use Rattle.list_lemmas.proofs.ItemsByPlace.{item_there, old_or_last, slice_get-set_cases}
 use Rattle.thread_stacks.specs.Places.{AreRisingBy, IsOnlyAt, IsPlaceOf, has_key}
-
-not_below : (m n : ℕ) → n < m → is_lt (nat_cmp m n) ≡ false
-not_below m n h =
-    let miss : nat_lt m n ≡ false = grind (arith, nat_tests) in
-    let other : eqb m n ≡ false = grind (arith, nat_tests) in
-    rw (miss, other) refl
 
 module _ {X : Type 0} (key : X → ℕ) where
   -- no item has the number
@@ -49,7 +44,8 @@ module _ {X : Type 0} (key : X → ℕ) where
   in_order xs h = λ k d low high.
       let one : slice_get xs k ≡ Some (get_or xs k d) = slice_get-get_or xs k d (omega (arith, high)) in
       let two : slice_get xs (k + 1) ≡ Some (get_or xs (k + 1) d) = slice_get-get_or xs (k + 1) d high in
-      not_below (key (get_or xs (k + 1) d)) (key (get_or xs k d)) (h k (k + 1) (get_or xs k d) (get_or xs (k + 1) d) one two (omega arith))
+      let less = h k (k + 1) (get_or xs k d) (get_or xs (k + 1) d) one two (omega arith) in
+      ap is_lt (sym (nat_cmp_is (key (get_or xs (k + 1) d)) (key (get_or xs k d)) Greater less))
 
   pub says_place : (xs : List X) (k : ℕ) (r : Result ℕ ℕ) → AreRisingBy key xs → IsSearchInRange r (length xs)
       → IsBinarySearchResult (λ (x : X). nat_cmp (key x) k) xs r

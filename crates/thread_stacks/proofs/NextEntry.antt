@@ -1,8 +1,7 @@
 -- The first entry that passes a test, behind those of numbers up to one, is that of the least number above it.
 use Rattle.std.proofs.Common.{◌≡◌, ℕ, zero, suc, ◌+◌, ◌-◌, ◌<◌, ◌≤◌, inl, inr, Bool, true, false, List, [], ◌∷◌, length, drop, find, take, Option, Some, None, slice_get, get_or, option_map, nat_le, refl, sym, ap, ◌∙◌, arith}
 use Rattle.std.specs.List.{AllWithin}
-use Rattle.std.proofs.lemmas.Bool.{cases_Bool, cases_lt}
-use Rattle.std.proofs.lemmas.Bool.Decides.{nat_tests}
+use Rattle.std.proofs.lemmas.Bool.{cases_Bool, cases_lt, leb-false, leb-true}
 use Rattle.std.proofs.lemmas.Option.{same_Some, slice_get_within, get_or_from_slice_get}
 use Rattle.list_lemmas.proofs.ItemsOfLists.{Contains-at, place_of}
 use Rattle.thread_stacks.specs.declared.entries.ThreadEntry.{ThreadEntry}
@@ -14,12 +13,6 @@ use Rattle.thread_stacks.proofs.FoundInStacks.{find_hit, find_miss, head_fails}
 
 -- ---- Where the greater numbers begin.
 
-above_by : (n above : ℕ) → nat_le n above ≡ false → above < n
-above_by n above h = grind (arith, nat_tests)
-
-below_by : (n above : ℕ) → nat_le n above ≡ true → n ≤ above
-below_by n above h = grind (arith, nat_tests)
-
 pub starts : (es : List ThreadEntry) (above start : ℕ) → start ≤ length es → AllWithin (λ (e : ThreadEntry). nat_le e.number above ≡ true) es 0 start
     → AllWithin (λ (e : ThreadEntry). nat_le e.number above ≡ false) es start (length es) → IsStart es above start
 starts es above start within low high = record { within = within; low = low_at; high = high_at }
@@ -28,14 +21,14 @@ starts es above start within low high = record { within = within; low = low_at; 
     low_at k e at lt =
         let here : get_or es k e ≡ e = get_or_from_slice_get es k e e at in
         let test : nat_le e.number above ≡ true = ap (λ (x : ThreadEntry). nat_le x.number above) (sym here) ∙ low k e (omega arith) lt in
-        below_by e.number above test
+        leb-true e.number above test
 
     high_at : (k : ℕ) (e : ThreadEntry) → slice_get es k ≡ Some e → start ≤ k → above < e.number
     high_at k e at le =
         let here : get_or es k e ≡ e = get_or_from_slice_get es k e e at in
         let test : nat_le e.number above ≡ false =
         ap (λ (x : ThreadEntry). nat_le x.number above) (sym here) ∙ high k e le (slice_get_within es k e at) in
-        above_by e.number above test
+        leb-false e.number above test
 
 -- ---- The first that passes.
 

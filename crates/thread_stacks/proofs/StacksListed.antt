@@ -3,6 +3,7 @@ use Rattle.std.proofs.Common.{◌≡◌, ℕ, ◌+◌, zero, suc, add-one, true,
 use Rattle.std.proofs.lemmas.List.{map-append, reverse-append}
 use Rattle.std.proofs.lemmas.List.Elements.{filter-append}
 use Rattle.std.proofs.lemmas.Option.{same_Some}
+use Rattle.list_lemmas.proofs.LastItems.{take_next}
 use Rattle.jk_model.specs.declared.identifiers.SegmentNo.{SegmentNo}
 use Rattle.jk_model_sharing.specs.Segments.{SharedThread, has_segments, live_threads}
 use Rattle.thread_stacks.specs.declared.entries.ThreadEntry.{ThreadEntry}
@@ -56,11 +57,6 @@ listing_goes_on slots t n rising parts more l s is belows becomes = record {
 
 -- ---- Threads.
 
-taken_more : {X : Type 0} (xs : List X) (k : ℕ) (x : X) → slice_get xs k ≡ Some x → take (suc k) xs ≡ take k xs ++ x ∷ []
-taken_more [] k x at = absurd cc
-taken_more (y ∷ xs) zero x at = ap (λ z. z ∷ []) (same_Some y x at)
-taken_more (y ∷ xs) (suc k) x at = ap (λ zs. y ∷ zs) (taken_more xs k x at)
-
 threads_more : (slots : List Slot) (es : List ThreadEntry) (e : ThreadEntry)
     → threads_of slots (es ++ e ∷ []) ≡ threads_of slots es ++ live_threads (thread_of slots e ∷ [])
 threads_more slots es e =
@@ -71,14 +67,14 @@ module _ (slots : List Slot) (es : List ThreadEntry) (k : ℕ) (e : ThreadEntry)
   -- the thread isn't live
   passed_over : is_running e ≡ false → threads_of slots (take (suc k) es) ≡ threads_of slots (take k es)
   passed_over off =
-      ap (λ (xs : List ThreadEntry). threads_of slots xs) (taken_more es k e at) ∙ threads_more slots (take k es) e
+      ap (λ (xs : List ThreadEntry). threads_of slots xs) (take_next es k e at) ∙ threads_more slots (take k es) e
       ∙ ap (λ (ts : List SharedThread). threads_of slots (take k es) ++ ts) (filter_miss has_segments (thread_of slots e) [] (runs slots e top ∙ off))
       ∙ append-nil (threads_of slots (take k es))
 
   -- it is
   passed : is_running e ≡ true → threads_of slots (take (suc k) es) ≡ threads_of slots (take k es) ++ thread_of slots e ∷ []
   passed on =
-      ap (λ (xs : List ThreadEntry). threads_of slots xs) (taken_more es k e at) ∙ threads_more slots (take k es) e
+      ap (λ (xs : List ThreadEntry). threads_of slots xs) (take_next es k e at) ∙ threads_more slots (take k es) e
       ∙ ap (λ (ts : List SharedThread). threads_of slots (take k es) ++ ts) (filter_hit has_segments (thread_of slots e) [] (runs slots e top ∙ on))
 
   listed_more : is_running e ≡ true → (parts : List ThreadPart) → parts ≡ map thread_part (threads_of slots (take k es))

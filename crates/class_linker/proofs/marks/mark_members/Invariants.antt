@@ -2,7 +2,7 @@
 use Rattle.std.proofs.Common.{◌≡◌}
 use Rattle.jk_model.specs.declared.class_file.MemberInfo.{MemberInfo}
 use Rattle.jk_model_classes.specs.Items.{HasItemBefore}
-use Rattle.class_linker.specs.KnownReferences.{Marks}
+use Rattle.name_rules.specs.Marks.{Marks}
 use Rattle.class_linker.proofs.marks.mark_members.Given as goal
 
 abbrev pub invariant-loop-m : goal.invariant-loop-m

@@ -3,7 +3,7 @@ use Rattle.std.proofs.Common.{◌≡◌, ℕ}
 use Rattle.jk_model.specs.declared.class_file.PoolEntry.{PoolEntry}
 use Rattle.jk_model.specs.declared.class_file.PoolEntry.TheVariants.{NameAndType}
 use Rattle.jk_model_classes.specs.Items.{HasItemBefore}
-use Rattle.class_linker.specs.KnownReferences.{Marks}
+use Rattle.name_rules.specs.Marks.{Marks}
 use Rattle.class_linker.proofs.marks.mark_pairs.Given as goal
 
 abbrev pub invariant-loop-entry : goal.invariant-loop-entry

@@ -4,7 +4,8 @@ use Rattle.std.proofs.lemmas.Option.{slice_get_read}
 use Rattle.jk_model_classes.specs.Items.{HasItem, HasItemBefore}
 use Rattle.jk_model_classes.specs.References.{IsOfClass}
 use Rattle.jk_model_classes.specs.Worlds.{class_named}
-use Rattle.class_linker.proofs.NumbersAdded.{adds_as, adds_then, all_before, before_new, before_old, before_split, some_before}
+use Rattle.class_linker.proofs.NumbersAdded.{adds_as, adds_then}
+use Rattle.name_rules.proofs.ItemsSoFar.{all_before, before_new, before_old, before_split, some_before}
 use Rattle.class_linker.proofs.references.add_types.Goals as goal
 
 pub loop-t-preserved : goal.loop-t-preserved
