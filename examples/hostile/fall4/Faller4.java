@@ -1,0 +1,15 @@
+import jk.Capability;
+import jk.RemoteException;
+import jk.Repository;
+
+/** One of six: it calls the next, and the last one throws. */
+public class Faller4 implements Turn {
+    public int turn(int n) throws RemoteException {
+        Turn next = (Turn) Repository.lookup("fall5");
+        return next.turn(n);
+    }
+
+    public static void main(String[] args) {
+        Repository.bind("fall4", Capability.create(new Faller4()));
+    }
+}

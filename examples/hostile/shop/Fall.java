@@ -1,0 +1,3 @@
+public class Fall extends RuntimeException {
+    public Object what;
+}

@@ -1,0 +1,6 @@
+import jk.Remote;
+import jk.RemoteException;
+
+public interface Turn extends Remote {
+    int turn(int n) throws RemoteException;
+}
