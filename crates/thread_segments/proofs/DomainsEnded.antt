@@ -84,6 +84,7 @@ module _ (old new : List DomainEntry) (alike : map uncounted new ≡ map uncount
           most,
         );
     homes = omega (arith, h.homes, as_long, domains);
+    few = omega (arith, h.few, as_long);
   }
 
 -- ---- What is seen of the domains.

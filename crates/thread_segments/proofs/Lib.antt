@@ -6,6 +6,7 @@ pub mod DomainsByNumber
 pub mod DomainsEnded
 pub mod EndOfDomain
 pub mod InterfacesShown
+pub mod MadeInRange
 pub mod NamesAreCounted
 pub mod NamesByPlace
 pub mod NamesOfStates
@@ -15,7 +16,12 @@ pub mod PartsByNumber
 pub mod PartsOfDomains
 pub mod RangesWithClasses
 pub mod Remaining
+pub mod Restorable
+pub mod RestoredCounts
+pub mod RestoredRanges
+pub mod RestoredState
 pub mod RevokedInRange
+pub mod RoomAsked
 pub mod SameInstances
 pub mod SegmentRoom
 pub mod SoundAdmission

@@ -131,7 +131,7 @@ no_status s k (c, is) none =
 
 -- ---- A domain's range is put where it stands, or with a capability revoked.
 
-same_items : {X : Type 0} (f : X → X) (xs : List X) → ((x : X) → Contains xs x → f x ≡ x) → map f xs ≡ xs
+pub same_items : {X : Type 0} (f : X → X) (xs : List X) → ((x : X) → Contains xs x → f x ≡ x) → map f xs ≡ xs
 same_items f [] same = refl
 same_items f (x ∷ xs) same =
     rw (same x (Contains-here x xs), same_items f xs (λ y there. same y (Contains-there y x xs there))) refl

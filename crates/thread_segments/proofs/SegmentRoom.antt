@@ -1,6 +1,6 @@
 -- There is room for all segments that domains may have: all of them are of domains that were admitted, and of each domain there are no more than
 -- it has chunks. And what is counted of domains stays right where a segment is pushed, or taken off a thread that goes on.
-use Rattle.std.proofs.Common.{length-append, ◌≡◌, ℕ, zero, suc, ◌+◌, ◌<◌, ◌≤◌, inl, inr, Bool, true, false, List, [], ◌∷◌, ◌++◌, length, set, filter, sum_by, Contains, Some, slice_get, refl, sym, ap, subst, ◌∙◌, arith}
+use Rattle.std.proofs.Common.{length-append, ◌≡◌, ℕ, zero, suc, ◌+◌, ◌<◌, ◌^◌, ◌≤◌, inl, inr, Bool, true, false, List, [], ◌∷◌, ◌++◌, length, set, filter, sum_by, Contains, Some, slice_get, refl, sym, ap, subst, ◌∙◌, arith}
 use Rattle.std.specs.Prelude.{◌==◌}
 use Rattle.std.proofs.lemmas.Bool.{cases_Bool, cases_eq, cases_lt, eq-eqb, ne_eqb}
 use Rattle.std.proofs.lemmas.List.{length-map, length-set}
@@ -39,6 +39,7 @@ room_entry es t new i e other h at quotas live most domains =
     record {
       room = omega (arith, h.room, part_set chunks_of es i e other at, same, most);
       homes = omega (arith, h.homes, length-set es i other, domains);
+      few = omega (arith, h.few, length-set es i other);
     }
 
 chunks_few : (e : DomainEntry) → chunks_of e ≤ e.quotas.chunks
@@ -55,14 +56,16 @@ room_ended es t new i e h at most domains =
     record {
       room = omega (arith, h.room, part_set chunks_of es i e (record e { live = false; names = 0 }) at, none, most);
       homes = omega (arith, h.homes, length-set es i (record e { live = false; names = 0 }), domains);
+      few = omega (arith, h.few, length-set es i (record e { live = false; names = 0 }));
     }
 
-pub room_admitted : (es : List DomainEntry) (t new : ThreadList) (e : DomainEntry) → HasSegmentRoom es t
+pub room_admitted : (es : List DomainEntry) (t new : ThreadList) (e : DomainEntry) → HasSegmentRoom es t → length es < 2 ^ 32
     → new.most_segments ≡ t.most_segments + e.quotas.chunks → new.domains ≡ suc t.domains → HasSegmentRoom (es ++ e ∷ []) new
-room_admitted es t new e h most domains =
+room_admitted es t new e h low most domains =
     record {
       room = omega (arith, h.room, sum_by-append chunks_of es (e ∷ []), sum_by-cons chunks_of e [], chunks_few e, most);
       homes = omega (arith, h.homes, length-append es (e ∷ []), domains);
+      few = omega (arith, low, length-append es (e ∷ []));
     }
 
 -- ---- Segments by their domains.

@@ -1,5 +1,5 @@
 -- Domains as a list of entries and the list of their ranges of capabilities keep them.
-use Rattle.std.specs.Prelude.{◌≡◌, ℕ, suc, ◌+◌, ◌-◌, ◌<◌, ◌≤◌, List, [], ◌∷◌, length, sum_by, Some, slice_get, if◌then◌else◌}
+use Rattle.std.specs.Prelude.{◌≡◌, ℕ, suc, ◌+◌, ◌-◌, ◌<◌, ◌≤◌, ◌^◌, List, [], ◌∷◌, length, sum_by, Some, slice_get, if◌then◌else◌}
 use Rattle.std.specs.List.{AllByRecursion}
 use Rattle.jk_model_classes.specs.declared.sharing.Stub.{Stub}
 use Rattle.jk_model_heaps.specs.Capabilities.{CapRange}
@@ -38,10 +38,11 @@ pub record AreCounted (entries : List DomainEntry) (ranges : List CapRange) (t :
 abbrev pub chunks_of : DomainEntry → ℕ
 chunks_of e = if e.live then e.quotas.chunks else 0
 
--- There is room for a segment for each chunk that a domain may have, and for all domains.
+-- There is room for a segment for each chunk that a domain may have, and for all domains, whose numbers have 32 bits.
 pub record HasSegmentRoom (entries : List DomainEntry) (t : ThreadList) : Type 0 where
   pub room : sum_by chunks_of entries ≤ t.most_segments
   pub homes : length entries ≤ t.domains
+  pub few : length entries ≤ 2 ^ 32
 
 -- how many more names may be bound: none after the domain's end
 abbrev pub spare_names : DomainEntry → ℕ

@@ -6,6 +6,8 @@ pub mod DomainEntries
 pub mod DomainsEnding
 pub mod KnownStubs
 pub mod NameEntries
+pub mod RestoredParts
+pub mod RestoredStates
 pub mod SoundLaws
 pub mod SoundStates
 pub mod StateParts

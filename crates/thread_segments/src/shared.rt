@@ -10,9 +10,10 @@ ghost use Rattle.jk_model_sharing.specs.BoundNames.{BoundName as Name, LooksUp, 
 ghost use Rattle.jk_model_sharing.specs.CapabilityCalls.{LacksNumbers};
 ghost use Rattle.jk_model_sharing.specs.KnownStubs.{AreRising};
 ghost use Rattle.jk_model_sharing.specs.Segments.{with_revoked, with_stop};
-ghost use Rattle.jk_model_sharing.specs.SharedStates.{Drops, MayBegin, Resumes, SharedDomain as Domain, Stops, Suspends, admitted, caps_of, domain_numbered, first_state, popped, pushed, spent, stub_of, with_flags};
+ghost use Rattle.jk_model_sharing.specs.SharedStates.{SharedState as State, Drops, MayBegin, Resumes, SharedDomain as Domain, Stops, Suspends, admitted, caps_of, domain_numbered, first_state, popped, pushed, spent, stub_of, with_flags};
 ghost use Rattle.thread_segments.specs.Answers.{Begins, BindsFor, CreatesFor, EndsWith, IsLeastAbove, IsLiveNumber, RevokesFor, UnbindsFor, count_numbers_left, known_status, number_below, quotas_of, segment_info, spent_steps, steps_left_of, thread_number, top_number};
 ghost use Rattle.thread_segments.specs.Asked.{AreWithin, HasRoomForSegment, IsAdmitted, IsLiveDomain, IsLiveThread, IsNext, IsThere, MayDrawSegment, MayDrawThread, MaySpend, MaySpendSteps};
+ghost use Rattle.thread_segments.specs.RestoredStates.{IsRestorable, IsStateOf};
 ghost use Rattle.thread_segments.specs.SoundStates.{AreSound};
 ghost use Rattle.thread_segments.specs.StateParts.{ArePartsOf};
 
@@ -21,6 +22,9 @@ use crate::domains::{DomainEntry, count_end, domain_parts, end_entry};
 use crate::endings::take_out_all;
 use crate::names::{MOST_UNITS, Names};
 use crate::parts::SharedParts;
+use crate::restoring::{
+    restored_caps, restored_entries, restored_names, restored_stubs, restored_threads,
+};
 use crate::stub_index::StubIndex;
 use capability_table::CapsError;
 use class_table::ClassTable;
@@ -37,7 +41,7 @@ use std::marker::Model;
 use thread_stacks::{Flag, SegmentInfo, Threads};
 
 /// The threads and their segments, the capabilities with their stubs, the repository, and what is counted of each domain. The
-/// memory for all that a domain may have is taken when it is admitted, and no other call but `parts` takes any.
+/// memory for all that a domain may have is taken when it is admitted or made anew, and no other call but `parts` takes any.
 #[derive(Drop)]
 pub struct Shared {
     domains: Vec<DomainEntry>,
@@ -77,6 +81,27 @@ impl Shared {
         })
     }
 
+    /// The state of these parts, with these stubs, among which is one of each capability's class: so what `parts` told is made anew. It takes
+    /// the memory for all that live domains may have, in time in proportion to the parts and stubs, to the quotas of capabilities, and on
+    /// average to the other quotas of live domains, with a logarithm for each segment.
+    pub fn from_parts(
+        alloc: Global,
+        parts: SharedParts,
+        stubs: List<Stub>,
+    ) -> Result<Shared, OutOfMemory>
+        requires state { (s : State) × IsStateOf s parts stubs }
+        ensures parts { IfOk result (λ shared. IsStateOf shared parts stubs) }
+        ensures same { IfOk result (λ shared. (s : State) → IsStateOf s parts stubs → shared ≡ s) }
+    {
+        Ok(Shared {
+            domains: restored_entries(alloc, &parts)?,
+            caps: restored_caps(alloc, &parts)?,
+            stubs: restored_stubs(alloc, stubs)?,
+            names: restored_names(alloc, &parts)?,
+            threads: restored_threads(alloc, &parts)?,
+        })
+    }
+
     /// Admits the next domain, with the stubs of its folder's classes. `Numbers` comes exactly where the ranges of capability
     /// numbers would together pass 16,777,215. It takes the memory for all that the domain may have, in time in proportion to its
     /// capabilities and stubs, and on average to its other quotas. After an error all is as before.
@@ -111,6 +136,14 @@ impl Shared {
     pub fn is_sound(&self)
         ensures { AreSound self.now }
     {
+        let _ = &self.domains;
+    }
+
+    /// Whatever the calls did, what domains share can be made anew of its parts and stubs. It does nothing.
+    pub fn is_restorable(&self)
+        ensures { IsRestorable self.now }
+    {
+        self.threads.segments_rise();
         let _ = &self.domains;
     }
 

@@ -1,12 +1,11 @@
 -- In a list whose items have numbers that rise, a search by a number finds the one item that has it.
-use Rattle.std.proofs.Common.{◌≡◌, ℕ, zero, suc, ◌+◌, ◌<◌, ◌≤◌, ◌⊎◌, inl, inr, false, List, [], ◌∷◌, ◌++◌, length, set, find, refl, sym, ◌∙◌, ap, arith, Some, None, Result, Ok, Err, slice_get, get_or, nat_lt, eqb}
+use Rattle.std.proofs.Common.{◌≡◌, ℕ, zero, suc, ◌+◌, ◌<◌, ◌≤◌, ◌⊎◌, inl, inr, false, List, [], ◌∷◌, ◌++◌, length, set, find, refl, sym, ◌∙◌, ap, arith, Some, None, Result, Ok, Err, slice_get, get_or}
 use Rattle.std.specs.Cmp.{nat_cmp_is}
 use Rattle.std.specs.Result.{result_ok}
 use Rattle.std.specs.Ordering.{nat_cmp, ordering_index, is_lt}
 use Rattle.std.specs.declared.cmp.Ordering.TheVariants.{Less, Equal, Greater}
 use Rattle.std.specs.List.Sorted.{IsSortedByKey, IsNonDecreasingBy, IsBinarySearchResult, IsSearchInRange}
 use Rattle.std.proofs.lemmas.Bool.{cases_lt, eq-eqb, ne_eqb}
-use Rattle.std.proofs.lemmas.Bool.Decides.{nat_tests}
 use Rattle.std.proofs.lemmas.Cmp.{nat_cmp_total, tied_itself}
 use Rattle.std.proofs.lemmas.List.Sorted.{searchable_from_sorted}
 use Rattle.std.proofs.lemmas.Map.Lookups.{exact_unsigned}

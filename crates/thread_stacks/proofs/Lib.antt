@@ -2,6 +2,7 @@
 pub mod Chains
 pub mod CountedAlive
 pub mod EndingThreads
+pub mod FilteredByOwner
 pub mod Filtered
 pub mod FlagsOfSegments
 pub mod FoundInStacks
@@ -14,8 +15,12 @@ pub mod NextRunning
 pub mod OneFewerOfADomain
 pub mod Owned
 pub mod PushedAndPopped
+pub mod PutOnTop
+pub mod RestoredThreads
 pub mod Relinked
+pub mod SortedOnce
 pub mod StacksListed
+pub mod StacksRise
 pub mod StacksWalked
 pub mod StandsOnThreads
 pub mod TakenFromStacks

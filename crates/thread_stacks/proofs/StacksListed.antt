@@ -1,8 +1,7 @@
 -- Threads are listed: the segments of each are gone over from the top down, and the threads one after the other.
-use Rattle.std.proofs.Common.{◌≡◌, ℕ, ◌+◌, zero, suc, add-one, true, false, List, [], ◌∷◌, ◌++◌, map, take, reverse, find, Option, Some, None, slice_get, refl, sym, ap, ◌∙◌, append-nil}
+use Rattle.std.proofs.Common.{◌≡◌, ℕ, ◌+◌, suc, add-one, true, false, List, [], ◌∷◌, ◌++◌, map, take, reverse, find, Option, Some, None, slice_get, refl, sym, ap, ◌∙◌, append-nil}
 use Rattle.std.proofs.lemmas.List.{map-append, reverse-append}
 use Rattle.std.proofs.lemmas.List.Elements.{filter-append}
-use Rattle.std.proofs.lemmas.Option.{same_Some}
 use Rattle.list_lemmas.proofs.LastItems.{take_next}
 use Rattle.jk_model.specs.declared.identifiers.SegmentNo.{SegmentNo}
 use Rattle.jk_model_sharing.specs.Segments.{SharedThread, has_segments, live_threads}

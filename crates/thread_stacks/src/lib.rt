@@ -4,6 +4,7 @@
 mod endings;
 mod entries;
 mod parts;
+mod restoring;
 mod segments;
 mod slots;
 mod threads;

@@ -1,16 +1,19 @@
 //! The live threads and their stacks of segments.
 
-ghost use Rattle.std.specs.Prelude.{◌≡◌, ◌+◌, ◌-◌, ◌^◌, ◌<◌, ◌≤◌, ◌∷◌, ◌++◌, [], List, suc, length, option_map, set, slice_get, vec_capacity, IfOk, OnOk, OnErr, IsTrue, map, None, Some};
+ghost use Rattle.std.specs.Prelude.{◌≡◌, ◌+◌, ◌-◌, ◌^◌, ◌<◌, ◌≤◌, ◌∷◌, ◌++◌, [], Contains, List, suc, length, option_map, set, slice_get, vec_capacity, IfOk, OnOk, OnErr, IsTrue, map, None, Some};
 ghost use Rattle.jk_model.specs.declared.identifiers.DomainId.{DomainId as Domain};
 ghost use Rattle.jk_model_sharing.specs.Segments.{SharedSegment, SharedThread, count_started_in, live_threads, new_segment, segment_below, segment_numbered, shared_form, thread_numbered, top_segment, with_segment, with_stack, with_stacks, without_top};
 ghost use Rattle.thread_stacks.specs.declared.segments.TakenOut.{TakenOut as Taken};
 ghost use Rattle.thread_stacks.specs.StackAnswers.{EndsWith, IsLeastAbove, IsLive, IsLiveNumber, count_ended, count_ended_in, info_of as told, number_of, segments_in, thread_number};
+ghost use Rattle.thread_stacks.specs.LiveStacks.{AreLiveParts, Restores, segment_key};
+ghost use Rattle.thread_stacks.specs.Places.{AreRisingBy};
 ghost use Rattle.thread_stacks.specs.StackParts.{thread_part};
 ghost use Rattle.thread_stacks.specs.StackChanges.{LeavesAll, TakesOut, flag_changed, newest_after};
 
 use crate::endings::next_ending;
 use crate::entries::{ThreadEntry, close_up_entries, entry_of, next_running, set_top};
 use crate::parts::{ThreadPart, all_parts};
+use crate::restoring::{enter_all, placed_in_order, put_all};
 use crate::segments::{Flag, SegmentInfo, TakenOut};
 use crate::slots::{
     Link, Slot, below_of, close_up_slots, info_of, new_slot, place_of_segment, relink,
@@ -299,6 +302,46 @@ impl Threads {
         all_parts(alloc, self.entries.as_slice(), self.slots.as_slice())
     }
 
+    /// The segments of each live thread rise by number, since what comes on top draws the next one. It does nothing.
+    pub fn segments_rise(&self)
+        ensures { (t : SharedThread) → Contains self.now.threads t → AreRisingBy segment_key t.segments }
+    {
+        let _ = &self.next_segment;
+    }
+
+    /// Puts threads together of parts, where none is live. It takes the memory for them beside that for as many more as before, in time in
+    /// proportion to them, with a logarithm for each segment.
+    pub fn restore(
+        &mut self,
+        parts: &[ThreadPart],
+        next_thread: u32,
+        next_segment: u64,
+    ) -> Result<(), OutOfMemory>
+        requires none { self.old.threads ≡ [] }
+        requires parts { AreLiveParts parts.now self.old.domains next_thread next_segment }
+        ensures { OnOk result (Restores self.old self.new parts.now next_thread next_segment) }
+    {
+        let placed = placed_in_order(*self.entries.allocator(), parts)?;
+        let most = self.most + parts.len();
+        let most_segments = self.most_segments + placed.len();
+        self.entries.reserve(2 * most - self.entries.len())?;
+        self.slots.reserve(2 * most_segments - self.slots.len())?;
+        enter_all(&mut self.entries, parts);
+        put_all(
+            &mut self.entries,
+            &mut self.slots,
+            &mut self.newest,
+            placed.as_slice(),
+        );
+        self.live = parts.len();
+        self.live_segments = placed.len();
+        self.most = most;
+        self.most_segments = most_segments;
+        self.next_thread = next_thread;
+        self.next_segment = next_segment;
+        Ok(())
+    }
+
     /// What is known of a segment. None exactly where it isn't there.
     pub fn segment(&self, s: SegmentNo) -> Option<SegmentInfo>
         ensures { result ≡ option_map told (segment_numbered self.now.threads s) }
@@ -328,7 +371,7 @@ fn has_nothing(newest: &[Option<SegmentNo>], d: DomainId) -> bool
 }
 
 /// Sets the newest segment of a domain, and answers the one that was.
-fn set_newest(
+pub(crate) fn set_newest(
     newest: &mut Vec<Option<SegmentNo>>,
     d: DomainId,
     s: Option<SegmentNo>,

@@ -1,5 +1,5 @@
 -- One more domain, whose range and stubs are behind the others.
-use Rattle.std.proofs.Common.{◌≡◌, ℕ, ◌+◌, ◌≤◌, inl, inr, ap, arith, refl, subst, sym}
+use Rattle.std.proofs.Common.{◌≡◌, ℕ, ◌+◌, ◌<◌, ◌≤◌, ◌^◌, length, inl, inr, ap, arith, refl, subst, sym}
 use Rattle.std.proofs.lemmas.Bool.{cases_lt}
 use Rattle.jk_model.specs.Capabilities.{last_number}
 use Rattle.jk_model_sharing.specs.BoundNames.{count_bound_by}
@@ -98,6 +98,7 @@ invariant_of-self-2 c =
     let P : SharedState → Type 0 = λ x. IsNext x c.args.d in
     let next = next_is s.domains.items s.caps s.stubs.stubs s.names s.threads c.self.invariant.counted c.args.d
     (subst P (sym c.self.view_is) c.requires.next) in
+    let low : length s.domains.items < 2 ^ 32 = omega (arith, next) in
     let V : SharedState → Type 0 = λ x. AreSound x in
     let L : SharedState → Type 0 = λ x. LacksNumbers (caps_of x) c.args.q.now.caps in
     let now = state_of s.domains.items s.caps s.stubs.stubs s.names s.threads in
@@ -119,7 +120,7 @@ invariant_of-self-2 c =
           (none_bound now c.args.d c.args.q.now c.args.stubs (subst P (sym c.self.view_is) c.requires.next) fits c.self.invariant.sound)) refl
           c.requires.quotas.names c.in_ok-reserve-4.ensures.ok;
       segments =
-          room_admitted s.domains.items s.threads c.reserve-3.new.self _ c.self.invariant.segments
+          room_admitted s.domains.items s.threads c.reserve-3.new.self _ c.self.invariant.segments low
           (ap (λ (t : ThreadList). t.most_segments) c.in_ok-reserve-3.ensures.ok) (ap (λ (t : ThreadList). t.domains) c.in_ok-reserve-3.ensures.ok);
       sound =
           rw (c.in_ok-reserve-3.ensures.ok, c.in_ok-reserve-4.ensures.ok)

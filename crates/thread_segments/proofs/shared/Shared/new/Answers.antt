@@ -22,7 +22,11 @@ invariant_of-result c =
       named =
           named_none c.new-domains.result.items c.new-names.result c.new-domains.ensures.items (ap (λ (n : NameList). n.names) c.new-names.ensures);
       segments =
-          record { room = rw c.new-domains.ensures.items (omega arith); homes = rw c.new-domains.ensures.items (omega arith) };
+          record {
+            room = rw c.new-domains.ensures.items (omega arith);
+            homes = rw c.new-domains.ensures.items (omega arith);
+            few = rw c.new-domains.ensures.items (omega arith);
+          };
       sound = subst V (sym first) sound_first;
     }
 

@@ -39,7 +39,11 @@ invariant_of-self c =
           (λ d. omega (arith, counted d)) (omega (arith, fewer)) (ap (λ (t : ThreadList). t.most) is);
       named = c.self.invariant.named;
       segments =
-          record { room = rw is c.self.invariant.segments.room; homes = rw is c.self.invariant.segments.homes };
+          record {
+            room = rw is c.self.invariant.segments.room;
+            homes = rw is c.self.invariant.segments.homes;
+            few = c.self.invariant.segments.few;
+          };
       sound = subst V (sym is) (sound_popped now c.self.invariant.sound c.args.t);
     }
 

@@ -51,7 +51,11 @@ invariant_of-self c =
           (ap (λ (t : ThreadList). t.most) is);
       named = c.self.invariant.named;
       segments =
-          record { room = rw is c.self.invariant.segments.room; homes = rw is c.self.invariant.segments.homes };
+          record {
+            room = rw is c.self.invariant.segments.room;
+            homes = rw is c.self.invariant.segments.homes;
+            few = c.self.invariant.segments.few;
+          };
       sound =
           subst V (sym is)
           (sound_pushed now c.args.t c.args.d (subst P (sym c.self.view_is) c.requires.live) (subst Q (sym c.self.view_is) c.requires.thread)

@@ -19,7 +19,11 @@ invariant_of-self c =
           (ap (λ (t : ThreadList). t.threads) c.set_flag.ensures) (ap (λ (t : ThreadList). t.most) c.set_flag.ensures);
       named = c.self.invariant.named;
       segments =
-          record { room = rw c.set_flag.ensures c.self.invariant.segments.room; homes = rw c.set_flag.ensures c.self.invariant.segments.homes };
+          record {
+            room = rw c.set_flag.ensures c.self.invariant.segments.room;
+            homes = rw c.set_flag.ensures c.self.invariant.segments.homes;
+            few = c.self.invariant.segments.few;
+          };
       sound = subst P (sym c.set_flag.ensures) (sound_flags now c.self.invariant.sound c.args.s (with_revoked c.args.on) (λ x. (refl, refl)));
     }
 
