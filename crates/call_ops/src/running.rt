@@ -96,14 +96,16 @@ fn begin<'a, F: SegmentFrames>(
     ensures stays { ((n : ℕ) → result ≢ Next.Goto n) → at.new ≡ at.old }
 {
     let head = call_head(m, code.code);
+    let instrs = code.code.instrs.as_slice();
     match frames.call(s, head, given) {
-        Ok(()) => match code.code.instrs.get(0) {
-            Some(instr) => {
-                *at = StandsAt { head, code, instr };
-                After::Goto(0)
-            }
-            None => unreachable!(),
-        },
+        Ok(()) => {
+            *at = StandsAt {
+                head,
+                code,
+                instr: &instrs[0],
+            };
+            After::Goto(0)
+        }
         Err(NoChunks) => After::Raise(Raise::Standing(Standing::StackOverflowError)),
     }
 }

@@ -181,6 +181,19 @@ module _ (heaps : HeapContent) (frames : FrameContent) (own : KeptState) (here :
           (frames.used here.domain - head_chunks w.frame.head)) (gone_resumed v below (may.resumes lower below none are).no_need)
           (gives (segment_of here.domain (callers ++ w.frame ∷ [])) may.holds.frames lower below w.frame split)
 
+      -- it is on top then, and has no need
+      pub below_on_top : (f : FrameState) × TopFrame new here.segment f × (f.head.need ≡ None)
+      below_on_top = (
+        resumed v below,
+        record {
+          segment = segment_of here.domain (lower ++ resumed v below ∷ []);
+          is_there = changes_there.becomes;
+          lower = lower;
+          frames = refl;
+        },
+        (may.resumes lower below none are).no_need,
+      )
+
       pub below_goes_on : (x : Setting) → HasReturned x old (contents_of heaps new own) here callers w v Goes.GoesOn
       below_goes_on x =
           let cost : FrameState → ℕ = λ (f : FrameState). head_chunks f.head in
@@ -223,9 +236,12 @@ module _ (heaps : HeapContent) (frames : FrameContent) (own : KeptState) (here :
     pub below : FrameState
     pub are : callers ≡ lower ++ below ∷ []
 
-  pub has_below : (n : ℕ) → HasDepth frames here.segment n → n ≢ 1 → HasBelow
-  has_below n is some = by callers refl
+  pub some_below : callers ≢ [] → HasBelow
+  some_below some = by callers refl
     where
       by : (fs : List FrameState) → callers ≡ fs → HasBelow
-      by [] e = absurd (some (many n is ∙ ap (λ (l : List FrameState). length l + 1) e))
+      by [] e = absurd (some e)
       by (f ∷ fs) e = let last = last_of f fs in record { lower = last.0; below = last.1; are = e ∙ last.2 }
+
+  pub has_below : (n : ℕ) → HasDepth frames here.segment n → n ≢ 1 → HasBelow
+  has_below n is some = some_below (λ none. some (many n is ∙ ap (λ (l : List FrameState). length l + 1) none))

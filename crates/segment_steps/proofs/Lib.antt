@@ -34,6 +34,7 @@ pub mod PaidFrames
 pub mod RaisedInSegments
 pub mod ReadyClasses
 pub mod ReframedStores
+pub mod ReturnsBegin
 pub mod SegmentsRaise
 pub mod StandingHere
 pub mod StandsAfterwards

@@ -1,5 +1,6 @@
 -- What follows an instruction on numbers: its frame goes on, returns, or divided by 0.
-use Rattle.std.proofs.Common.{◌≡◌, ◌≢◌, ℕ, [], ◌∷◌, ◌++◌, Option, None, refl, sym, subst, ◌∙◌}
+use Rattle.std.proofs.Common.{◌≡◌, ◌≢◌, ℕ, [], ◌∷◌, ◌++◌, Option, None, refl, sym, ap, ◌∙◌}
+use Rattle.jk_model.specs.declared.frames.FrameHead.{FrameHead}
 use Rattle.jk_model.specs.declared.steps.After.TheVariants as Next
 use Rattle.jk_model.specs.declared.steps.Raise.{Raise}
 use Rattle.jk_model.specs.declared.values.Value.{Value}
@@ -8,7 +9,7 @@ use Rattle.jk_model_frames.specs.Frames.{FrameState}
 use Rattle.jk_model_heaps.specs.Workings.{GoesOn, Raises, Returns, Setting, Working}
 use Rattle.jk_model_sharing.specs.SharedStates.{SharedState}
 use Rattle.class_init.specs.KeptStates.{KeptState}
-use Rattle.frame_store.specs.FrameContents.{FrameContent, SetsTop, TopFrame}
+use Rattle.frame_store.specs.FrameContents.{FrameContent, GivesBack, MayGiveBack, SetsTop, TopFrame}
 use Rattle.heap_laws.specs.RaisableObjects.{MayBeRaised}
 use Rattle.number_ops.specs.NumberSteps.{DoesNumbers}
 use Rattle.object_store.specs.HeapContents.{HeapContent}
@@ -24,9 +25,9 @@ use Rattle.segment_steps.specs.declared.meeting.Runs.{Runs}
 use Rattle.segment_steps.specs.declared.went.Went.{Went}
 use Rattle.segment_steps.specs.declared.went.Went.TheVariants as Goes
 use Rattle.segment_steps.proofs.FramesReturn.{may_return, returned}
+use Rattle.segment_steps.proofs.GivingBack.{HasBelow, below_goes_on, below_on_top, may_give_back, some_below}
 use Rattle.segment_steps.proofs.InstructionsLeave.{goes_at, may_raise, raisable, raised_at}
 use Rattle.segment_steps.proofs.NumbersDone.{becomes, executes, head_stays, kept, left, left_working}
-use Rattle.segment_steps.proofs.OnlyReturns.{went_on_below}
 use Rattle.segment_steps.proofs.PaidFrames.{paid_after}
 use Rattle.segment_steps.proofs.StandingHere.{here}
 
@@ -100,8 +101,24 @@ module _ (heaps : HeapContent) (frames mid : FrameContent) (own : KeptState) (wo
           (kept old world shared r at st mid (Next.Return v) did may x is (Returns v) refl).1 x is new went
           (executes old world shared r at st mid (Next.Return v) did may x is (Returns v) refl) back
 
-      -- where there are callers, the segment goes on
-      pub gone_below : (new : Contents) (went : Went) → st.top.lower ≢ [] → HasReturned x then new h st.top.lower w v went
-          → Stepped x r.thread may new Goes.GoesOn
-      gone_below new went some back =
-          subst (Stepped x r.thread may new) (went_on_below x then new h st.top.lower w v went some back) (given_back new went back)
+      -- ---- It initialised no class, and there are callers: it gives back to the frame below.
+
+      module _ (none : at.head.initialises ≡ None) (some : st.top.lower ≢ []) where
+        no_class : w.frame.head.initialises ≡ None
+        no_class = ap (λ (k : FrameHead). k.initialises) head_is ∙ none
+
+        caller : HasBelow heaps mid own h st.top.lower w v returning
+        caller = some_below heaps mid own h st.top.lower w v returning some
+
+        pub may_give_below : MayGiveBack mid r.segment v
+        may_give_below = may_give_back heaps mid own h st.top.lower w v returning caller.lower caller.below no_class caller.are
+
+        module _ (pays : PaysFrames frames r.segment) (new : FrameContent) (gives : GivesBack mid new r.segment v) where
+          pub gone_below : Stepped x r.thread may (contents_of heaps new own) Goes.GoesOn
+          gone_below =
+              given_back (contents_of heaps new own) Goes.GoesOn
+              (below_goes_on heaps mid own h st.top.lower w v returning caller.lower caller.below no_class caller.are (paid pays) new gives x)
+
+          pub caller_on_top : (f : FrameState) × TopFrame new r.segment f × (f.head.need ≡ None)
+          caller_on_top =
+              below_on_top heaps mid own h st.top.lower w v returning caller.lower caller.below no_class caller.are (paid pays) new gives

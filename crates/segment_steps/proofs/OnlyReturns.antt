@@ -1,4 +1,4 @@
--- An instruction on numbers whose opcode is in the range of returns returns; and a segment of two frames or more goes on after that.
+-- An instruction on numbers whose opcode is in the range of returns returns; and below the top one of two frames or more there are callers.
 use Rattle.std.proofs.Common.{inl, inr, ◌≡◌, ◌≢◌, ℕ, ◌<◌, ◌≤◌, ◌⊎◌, Bool, ℤ, List, [], ◌∷◌, ◌++◌, length, Option, option_map, refl, ap, ◌∙◌, lit<, arith}
 use Rattle.std.specs.List.{AllByRecursion}
 use Rattle.std.proofs.lemmas.Grind.{common_steps}
@@ -13,19 +13,8 @@ use Rattle.jk_model.specs.declared.values.Value.TheVariants as Held
 use Rattle.jk_model_typing.specs.Scopes.{CodeScope}
 use Rattle.jk_model_frames.specs.Frames.{FrameState}
 use Rattle.jk_model_domains.specs.NumberRows.{Calculates, Decides, DividesByZero, Exchanges, HasRow, IsConversion, Moves, NumberRow, Pushes, UsesLocal, comparisons, copies, divides_by_zero, drops, exchanges, int_divisions, int_operations, jumps, long_divisions, long_operations, long_shifts, returns, returns_nothing, switches, uses_local}
-use Rattle.jk_model_heaps.specs.CalledFrames.{resumed}
-use Rattle.jk_model_heaps.specs.Workings.{Outcome, Returns, Run, Setting, Working}
-use Rattle.jk_model_running.specs.LocalSteps.{Continues, ends, ends_initialiser}
-use Rattle.jk_model_running.specs.LocalSteps.{returns as gives}
-use Rattle.jk_model_running.specs.Ways.{Went as Way}
-use Rattle.frame_store.specs.FrameContents.{FrameContent, HasTop, StoredSegment, TopFrame}
-use Rattle.step_contents.specs.Contents.{Contents, Here}
-use Rattle.segment_steps.specs.Returning.{HasReturned}
-use Rattle.segment_steps.specs.StepsAlone.{IsWent}
-use Rattle.segment_steps.specs.declared.went.Went.{Went}
-use Rattle.segment_steps.specs.declared.went.Went.TheVariants as Goes
+use Rattle.frame_store.specs.FrameContents.{FrameContent, StoredSegment, TopFrame}
 use Rattle.segment_steps.proofs.GivingBack.{HasDepth}
-use Rattle.segment_steps.proofs.StandsAfterwards.{some_end, some_top}
 
 -- ---- No other row has such an opcode.
 
@@ -131,24 +120,3 @@ has_callers c s f top n depth many none =
     same_Some n (length top.segment.frames) (depth ∙ ap (option_map (λ (g : StoredSegment). length g.frames)) top.is_there) in
     let one : length top.segment.frames ≡ length (f ∷ []) = ap length (top.frames ∙ ap (λ (l : List FrameState). l ++ f ∷ []) none) in
     omega (arith, is, one, many)
-
--- ---- It goes on where there are callers.
-
-module _ (x : Setting) (callers : List FrameState) (w : Working) (v : Option Value) (some : callers ≢ []) where
-  continues_on : (o : Outcome) (run : Run) (way : Way) (went : Went) → Continues x callers w o run way → o ≡ Returns v → IsWent way went
-      → (went ≡ Goes.GoesOn) × (run.frames ≢ [])
-  continues_on o run way went (ends_initialiser u c is there not_lowest) e is_went = (is_went, some)
-  continues_on o run way went (ends u none empty) e is_went = absurd (some empty)
-  continues_on o run way went (gives u lower below none are) e is_went = (is_went, some_end lower (resumed u below) [])
-  continues_on o run way went does e is_went = absurd cc
-
-pub went_on_below : (x : Setting) (old new : Contents) (here : Here) (callers : List FrameState) (w : Working) (v : Option Value) (went : Went)
-    → callers ≢ [] → HasReturned x old new here callers w v went → went ≡ Goes.GoesOn
-went_on_below x old new here callers w v went some back =
-    (continues_on x callers w v some (Returns v) back.run back.way went back.continues refl back.is_went).0
-
-pub top_below : (x : Setting) (old new : Contents) (here : Here) (callers : List FrameState) (w : Working) (v : Option Value) (went : Went)
-    → callers ≢ [] → HasReturned x old new here callers w v went → HasTop new.frames here.segment
-top_below x old new here callers w v went some back =
-    some_top new.frames here.segment here.domain back.run.frames back.becomes.frames.changes.becomes
-    (continues_on x callers w v some (Returns v) back.run back.way went back.continues refl back.is_went).1

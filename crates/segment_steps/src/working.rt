@@ -1,10 +1,11 @@
 //! Instructions that a segment does alone, one after another: they ask nothing of what domains share, print nothing, and leave the
 //! segment with a frame. The frame and its code aren't looked up again where it goes on.
 
-ghost use Rattle.std.specs.Prelude.{◌≡◌, ◌≢◌, true};
+ghost use Rattle.std.specs.Prelude.{◌≡◌, ◌≢◌, None, true};
 ghost use Rattle.jk_model.specs.declared.identifiers.ClassId.{ClassId as AClassId};
 ghost use Rattle.jk_model_call_rows.specs.CallRows.{IsOfCalls};
-ghost use Rattle.jk_model_domains.specs.NumberRows.{IsOfNumbers};
+ghost use Rattle.jk_model_domains.specs.OwnStates.{OwnState as AOwnState};
+ghost use Rattle.jk_model_frames.specs.Frames.{FrameState as AFrame};
 ghost use Rattle.jk_model_heap_rows.specs.HeapRows.{IsOfHeaps};
 ghost use Rattle.jk_model_heaps.specs.RunningCode.{InstrNeeds};
 ghost use Rattle.jk_model_running.specs.Initialising.{IsReady};
@@ -12,7 +13,7 @@ ghost use Rattle.jk_model_sharing.specs.SharedStates.{SharedState};
 ghost use Rattle.heap_laws.specs.RaisableObjects.{MayBeRaised};
 ghost use Rattle.type_rows.specs.CodeViews.{scope_of};
 ghost use Rattle.class_init.specs.KeptStates.{KeptState};
-ghost use Rattle.frame_store.specs.FrameContents.{HasTop};
+ghost use Rattle.frame_store.specs.FrameContents.{TopFrame};
 ghost use Rattle.object_store.specs.HeapContents.{HeapContent};
 ghost use Rattle.step_contents.specs.Conditions.{MayRaise};
 ghost use Rattle.step_contents.specs.Contents.{contents_of, here_at};
@@ -26,9 +27,7 @@ ghost use Rattle.segment_steps.specs.StepsAlone.{StandsReady, Steps};
 ghost use Rattle.segment_steps.specs.declared.went.Went.TheVariants as Goes;
 ghost use Rattle.segment_steps.specs.declared.working.Worked.TheVariants as Work;
 
-use crate::in_frame::stand;
 use crate::meeting::Runs;
-use crate::returning::give_back;
 use class_init::{Own, look};
 use domain_resolver::World;
 use exception_unwind::catch_here;
@@ -39,7 +38,7 @@ use jk_model_domains::Look;
 use jk_model_heap_rows::laws::what_follows_is_determined;
 use object_store::ObjectStore;
 use row_laws::heap_rows::heap_rows_keep;
-use step_contents::{Kind, StandsAt, kind_of, needed_by};
+use step_contents::{Kind, StandsAt, kind_of, needed_by, stands_at};
 use thread_segments::Shared;
 
 /// What came of an instruction that was tried.
@@ -54,8 +53,9 @@ pub enum Worked {
 }
 
 /// Does the instruction at which the top frame of a segment stands, where the class that it needs is ready, and it works on objects, calls a
-/// method with code, returns to a frame below, or throws what its own frame catches, and raises nothing else; and says where the top frame
-/// stands then. It leaves all other instructions undone. It takes no memory, and time as the functions of the step crates say.
+/// method with code, returns to a frame below from one that initialises no class, or throws what its own frame catches, and raises nothing
+/// else; and says where the top frame stands then. It leaves all other instructions undone. It takes no memory, and time as the functions of
+/// the step crates say.
 #[inline(always)]
 pub fn work<'a, H: ObjectStore, F: SegmentFrames>(
     w: &'a World,
@@ -76,13 +76,16 @@ pub fn work<'a, H: ObjectStore, F: SegmentFrames>(
         (contents_of (H.content heap.new) (F.content frames.new) own.new) (here_at w.now shared.now r.domain r.segment) r.thread Goes.GoesOn }
     ensures stands { result ≡ Work.AtInstruction → StandsThere (F.content frames.new) w.now.classes r.segment (place_of at.new) }
 {
+    if IRETURN <= at.instr.op && at.instr.op <= RETURN {
+        return return_below(w, frames, r, at);
+    }
     if !is_ready(own, r.thread, at) {
         return Worked::Undone;
     }
     match kind_of(at) {
         Kind::Heap => work_on_heap(w, heap, frames, own, shared, r, at),
         Kind::Call => call(w, heap, frames, r, at),
-        Kind::Numbers => return_below(w, frames, own, r, at),
+        Kind::Numbers => Worked::Undone,
     }
 }
 
@@ -199,26 +202,29 @@ fn call<'a, H: ObjectStore, F: SegmentFrames>(
     }
 }
 
-/// A return to a frame below. All else is undone.
+/// A return to a frame below, which needs no class. From a frame that initialises a class it is undone, and so is one from the lowest frame,
+/// and whatever is no return.
 fn return_below<'a, F: SegmentFrames>(
     w: &'a World,
     frames: &mut F,
-    own: &mut Own,
     r: Runs,
     at: &mut StandsAt<'a>,
 ) -> Worked
-    requires may { (heaps : HeapContent) × (shared : SharedState)
-        × MayAct (contents_of heaps (F.content frames.old) own.old) (here_at w.now shared r.domain r.segment) }
-    requires stands { StandsReady (F.content frames.old) w.now.classes own.old.state r (place_of at.old) }
-    requires kind { IsOfNumbers (scope_of at.old.code) at.old.instr.now }
+    requires may { (heaps : HeapContent) × (own : KeptState) × (shared : SharedState)
+        × MayAct (contents_of heaps (F.content frames.old) own) (here_at w.now shared r.domain r.segment) }
+    requires stands { StandsThere (F.content frames.old) w.now.classes r.segment (place_of at.old) }
     requires paid { PaysFrames (F.content frames.old) r.segment }
-    ensures undone { result ≡ Work.Undone → (F.content frames.new ≡ F.content frames.old) × (own.new ≡ own.old) }
-    ensures steps { result ≢ Work.Undone → (heaps : HeapContent) (shared : SharedState)
-        → Steps (contents_of heaps (F.content frames.old) own.old) (contents_of heaps (F.content frames.new) own.new)
+    ensures undone { result ≡ Work.Undone → F.content frames.new ≡ F.content frames.old }
+    ensures free { result ≢ Work.Undone → (own : AOwnState) → WaitsForNone (F.content frames.old) w.now.classes r.segment own r.thread }
+    ensures steps { result ≢ Work.Undone → (heaps : HeapContent) (own : KeptState) (shared : SharedState)
+        → Steps (contents_of heaps (F.content frames.old) own) (contents_of heaps (F.content frames.new) own)
         (here_at w.now shared r.domain r.segment) r.thread Goes.GoesOn }
     ensures stands { result ≡ Work.AtInstruction → StandsThere (F.content frames.new) w.now.classes r.segment (place_of at.new) }
 {
     if at.instr.op < IRETURN || RETURN < at.instr.op {
+        return Worked::Undone;
+    }
+    if at.head.initialises.is_some() {
         return Worked::Undone;
     }
     if frames.depth(r.segment) < 2 {
@@ -226,14 +232,14 @@ fn return_below<'a, F: SegmentFrames>(
     }
     match number_ops::step(frames, w, r.segment, &at.head, at.instr) {
         After::Return(v) => {
-            let _went = give_back(own, frames, r.segment, &at.head, v);
+            frames.give_back(r.segment, v);
             stand_anew(w, frames, r.segment, at)
         }
         _ => unreachable!(),
     }
 }
 
-/// Looks up where the top frame stands.
+/// Looks up where the top frame, which has no need, stands.
 #[inline(always)]
 fn stand_anew<'a, F: SegmentFrames>(
     w: &'a World,
@@ -241,13 +247,15 @@ fn stand_anew<'a, F: SegmentFrames>(
     s: SegmentNo,
     at: &mut StandsAt<'a>,
 ) -> Worked
-    requires { HasTop (F.content frames.now) s }
+    requires { (f : AFrame) × TopFrame (F.content frames.now) s f × (f.head.need ≡ None) }
     ensures done { result ≢ Work.Undone }
     ensures stands { result ≡ Work.AtInstruction → StandsThere (F.content frames.now) w.now.classes s (place_of at.new) }
 {
-    match stand(w, frames, s) {
+    match stands_at(w.classes(), &frames.head(s)) {
         Some(there) => {
-            *at = there;
+            at.head = frames.head(s);
+            at.code = there.code;
+            at.instr = there.instr;
             Worked::AtInstruction
         }
         None => Worked::AtNeed,

@@ -1,14 +1,9 @@
 -- By the frame's head.
-use Rattle.std.proofs.Common.{◌≡◌, false, List, Option, Some, None, is_some, option_map, refl, sym, subst}
-use Rattle.jk_model.specs.declared.identifiers.ClassId.{ClassId}
+use Rattle.std.proofs.Common.{List, option_map, sym, subst}
 use Rattle.jk_model_classes.specs.declared.records.ClassRecord.{ClassRecord}
 use Rattle.step_contents.specs.StandingFrames.{IsPlaceOf, place_of}
-use Rattle.segment_steps.proofs.StandsAfterwards.{stood}
+use Rattle.segment_steps.proofs.StandsAfterwards.{none_there, stood}
 use Rattle.segment_steps.proofs.in_frame.stand.Goals as goal
-
-none_there : (o : Option ClassId) → is_some o ≡ false → o ≡ None
-none_there None e = refl
-none_there (Some c) e = absurd cc
 
 pub returns : goal.returns
 returns g c =
