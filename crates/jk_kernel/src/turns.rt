@@ -1,6 +1,6 @@
 //! Steps of one thread.
 
-ghost use Rattle.std.specs.Prelude.{◌≡◌, ◌≤◌, [], List, length, Ok, false, OnErr, OnOk};
+ghost use Rattle.std.specs.Prelude.{◌≡◌, ◌<◌, ◌≤◌, ◌↔◌, [], List, length, Ok, false, OnErr, OnOk};
 ghost use Rattle.jk_model.specs.declared.output.Line.{Line};
 ghost use Rattle.jk_model_runs.specs.Events.{Turns};
 ghost use Rattle.jk_model_runs.specs.Steps.{Steps};
@@ -8,6 +8,7 @@ ghost use Rattle.jk_outside.specs.SeveralLines.{PrintsLines};
 ghost use Rattle.kernel_events.specs.KernelCalls.{MayDraw};
 ghost use Rattle.kernel_events.specs.PrintedLines.{as_done, sink};
 ghost use Rattle.kernel_events.specs.StepsInTurn.{NumbersRise, Rests, StepsApart, StopsAt, TurnsApart, TurnsBefore};
+ghost use Rattle.kernel_turns.specs.RestingThreads.{IsResting};
 ghost use Rattle.jk_kernel.specs.SoundMachines.{IsSoundMachine};
 
 use crate::kernel::Kernel;
@@ -36,9 +37,10 @@ impl<H: ObjectStore + Drop, F: FrameStore + Drop> Kernel<H, F> {
         Ok(())
     }
 
-    /// So many steps of a thread. It answers false only where no step of the thread changes anything until another thread acts. It takes no
-    /// memory. Steps that change nothing cost nothing but the first. Where the sink fails, the step in whose lines it failed has happened
-    /// whole, and is the last one.
+    /// So many steps of a thread. Where they are one or more, it answers false exactly where the thread rests: it isn't live, is suspended,
+    /// waits for a class that another thread initialises, or its domain has no steps left. Then no step of the thread changes anything until
+    /// another thread acts. It takes no memory. Steps that change nothing cost nothing but the first. Where the sink fails, the step in whose
+    /// lines it failed has happened whole, and is the last one.
     pub fn turns<S: Sink>(
         &mut self,
         thread: u32,
@@ -55,6 +57,7 @@ impl<H: ObjectStore + Drop, F: FrameStore + Drop> Kernel<H, F> {
             self.old (sink (S.bytes out.old) (S.pieces out.old) (S.faults out.old)) (sink (S.bytes out.new) (S.pieces out.new) (S.faults out.new))
             self.new) }
         ensures rests { result ≡ Ok false → (self.new ≡ self.old) × Rests self.old (record { 0 = thread }) }
+        ensures resting { 0 < steps → (result ≡ Ok false ↔ IsResting self.old (record { 0 = thread })) }
         ensures counts { NumbersRise self.old steps self.new × (length self.new.domains ≡ length self.old.domains) }
     {
         numbers_rise();
@@ -76,7 +79,7 @@ impl<H: ObjectStore + Drop, F: FrameStore + Drop> Kernel<H, F> {
         Ok(true)
     }
 
-    /// One step of a thread, whose lines are printed. It answers false only where it changes nothing.
+    /// One step of a thread, whose lines are printed. It answers false exactly where the thread rests, and nothing changes then.
     fn step<S: Sink>(&mut self, t: ThreadNo, out: &mut S) -> Result<bool, SinkFailed>
         requires numbers { MayDraw self.old 1 }
         ensures event { (lines : List Line)
@@ -84,6 +87,7 @@ impl<H: ObjectStore + Drop, F: FrameStore + Drop> Kernel<H, F> {
             (as_done result) lines
             × Steps self.old t lines self.new }
         ensures rests { result ≡ Ok false → (self.new ≡ self.old) × Steps self.old t [] self.old }
+        ensures resting { result ≡ Ok false ↔ IsResting self.old t }
         ensures sound { IsSoundMachine self.old × IsSoundMachine self.new }
     {
         machines_stay_sound();
@@ -94,6 +98,7 @@ impl<H: ObjectStore + Drop, F: FrameStore + Drop> Kernel<H, F> {
     fn steps_alone(&mut self, t: ThreadNo, most: u32) -> u32
         ensures few { result ≤ most }
         ensures event { Turns result t self.old [] self.new }
+        ensures resting { IsResting self.old t → result ≡ 0 }
         ensures sound { IsSoundMachine self.old × IsSoundMachine self.new }
     {
         machines_stay_sound();

@@ -1,7 +1,6 @@
 -- The running segment of a machine has run, and waits; something has changed of what domains share; then its top frame goes on with an answer. That is
 -- the same as where the segment first goes on, and then that changes.
-use Rattle.std.proofs.Common.{◌≡◌, ℕ, ◌==◌, Bool, true, false, cond, List, [], ◌∷◌, ◌++◌, map, slice_get, Option, Some, option_map, refl, sym, ap, subst, ◌∙◌, eq-eqb}
-use Rattle.std.proofs.lemmas.Bool.{eqb-true}
+use Rattle.std.proofs.Common.{◌≡◌, ◌==◌, Bool, true, false, cond, List, [], ◌∷◌, ◌++◌, map, slice_get, Option, Some, option_map, refl, sym, ap, ◌∙◌}
 use Rattle.std.proofs.lemmas.List.{map-append}
 use Rattle.jk_model.specs.declared.identifiers.DomainId.{DomainId}
 use Rattle.jk_model.specs.declared.identifiers.SegmentNo.{SegmentNo}
@@ -10,16 +9,15 @@ use Rattle.jk_model.specs.declared.values.Value.{Value}
 use Rattle.jk_model_frames.specs.Frames.{FrameState}
 use Rattle.jk_model_heaps.specs.CalledFrames.{resumed}
 use Rattle.jk_model_heaps.specs.Capabilities.{CapRange}
-use Rattle.jk_model_heaps.specs.Workings.{Inside, Run}
+use Rattle.jk_model_heaps.specs.Workings.{Run}
 use Rattle.jk_model_sharing.specs.BoundNames.{BoundName}
 use Rattle.jk_model_sharing.specs.Segments.{SharedSegment, with_segment}
-use Rattle.jk_model_machine_state.specs.Machines.{DomainState, Machine, Segment, Thread, segment_form, thread_numbered, with_stacks}
-use Rattle.jk_model_machine_state.specs.Places.{RunningSegment, with_run, with_running}
+use Rattle.jk_model_machine_state.specs.Machines.{DomainState, Machine, Segment, Thread, segment_form, with_stacks}
+use Rattle.jk_model_machine_state.specs.Places.{RunningSegment, with_run}
 use Rattle.jk_model_crossings.specs.Answers.{Receives}
 use Rattle.jk_model_crossings.specs.Requests.{with_range}
 use Rattle.list_lemmas.proofs.ItemsByPlace.{mapped_at}
 use Rattle.machine_laws.proofs.InitialisersAfterRuns.{found_still}
-use Rattle.machine_laws.proofs.RunningSegmentsFit.{thread_place}
 use Rattle.machine_laws.proofs.RunsAgain.{insides_twice, running_then, runs_on, segments_twice, set_inside, set_segments}
 
 -- it receives the answer in that machine, which leads to this one

@@ -1,9 +1,6 @@
 -- Where a domain's capabilities or flags of a segment change in what domains share, the parts fit again.
-use Rattle.std.proofs.Common.{◌≡◌, ℕ, ◌-◌, ◌==◌, inl, inr, Bool, true, false, cond, List, [], ◌∷◌, ◌++◌, map, sum_by, slice_get, Contains, Option, Some, None, refl, sym, ap, subst, ◌∙◌, arith}
-use Rattle.std.proofs.lemmas.List.Elements.{Contains-append_cases}
+use Rattle.std.proofs.Common.{◌≡◌, ℕ, ◌-◌, ◌==◌, inl, inr, Bool, true, false, cond, List, [], ◌∷◌, map, sum_by, Contains, Some, refl, sym, ap, subst, ◌∙◌, arith}
 use Rattle.std.proofs.lemmas.List.Sums.{sum_by-cons}
-use Rattle.jk_model.specs.declared.identifiers.CapId.{CapId}
-use Rattle.jk_model.specs.declared.identifiers.ClassId.{ClassId}
 use Rattle.jk_model.specs.declared.identifiers.DomainId.{DomainId}
 use Rattle.jk_model.specs.declared.identifiers.SegmentNo.{SegmentNo}
 use Rattle.jk_model.specs.declared.script.Quotas.{Quotas}
@@ -11,14 +8,14 @@ use Rattle.jk_model_classes.specs.declared.sharing.Stub.{Stub}
 use Rattle.jk_model_frames.specs.Frames.{segment_chunks}
 use Rattle.jk_model_heaps.specs.Capabilities.{CapRange, Capability}
 use Rattle.jk_model_sharing.specs.CapabilityCalls.{revoked_at}
-use Rattle.jk_model_sharing.specs.Segments.{SharedSegment, SharedThread, shared_form, with_segment, with_segments}
+use Rattle.jk_model_sharing.specs.Segments.{SharedSegment, SharedThread, with_segments}
 use Rattle.jk_model_sharing.specs.SharedStates.{SharedDomain, stub_for, with_caps, with_flags}
 use Rattle.jk_model_machine_state.specs.Machines.{DomainState, Machine, Thread, chunks_of}
 use Rattle.jk_model_machine_state.specs.Places.{LiveDomain}
 use Rattle.jk_model_crossings.specs.Requests.{with_range}
-use Rattle.frame_store.specs.FrameContents.{FrameContent, StoredSegment}
+use Rattle.frame_store.specs.FrameContents.{StoredSegment}
 use Rattle.list_lemmas.proofs.ItemsByPlace.{comes_from, mapped_at}
-use Rattle.list_lemmas.proofs.ItemsOfLists.{Contains-at, Contains-cases, Contains-here, Contains-none, Contains-there, place_of}
+use Rattle.list_lemmas.proofs.ItemsOfLists.{Contains-cases, Contains-here, Contains-none, Contains-there}
 use Rattle.heap_laws.proofs.MappedLists.{mapped, mapped_from}
 use Rattle.machine_laws.proofs.ChangedItems.{as_many}
 use Rattle.machine_parts.specs.FittingParts.{AreFittingParts, HaveOneList}

@@ -1,4 +1,5 @@
 mod ActingSteps
+mod ActsNeverRest
 mod AnswersReceived
 mod EitherAnswer
 mod FitsRequested
@@ -22,6 +23,7 @@ mod ReadyThreads
 mod RequestsAsked
 mod RequestsOverParts
 mod RestingThreads
+pub mod RestsTold
 mod RunningFound
 mod RunsApart
 mod SegmentsApart

@@ -1,5 +1,5 @@
 -- Something is raised in the top segment of a thread, as code does it: where no frame catches it, it leaves the segment.
-use Rattle.std.proofs.Common.{◌≡◌, ◌⊎◌, inl, inr, arith, ℕ, zero, suc, ◌+◌, ◌<◌, List, [], slice_get, slice_set, Contains, Option, Some, None, refl, sym, ap, subst, ◌∙◌}
+use Rattle.std.proofs.Common.{◌≡◌, ◌⊎◌, inl, inr, arith, ℕ, suc, ◌+◌, ◌<◌, List, [], slice_get, slice_set, Contains, Option, Some, None, refl, sym, ap, subst, ◌∙◌}
 use Rattle.std.proofs.lemmas.Option.{same_Some}
 use Rattle.jk_model.specs.declared.identifiers.ThreadNo.{ThreadNo}
 use Rattle.jk_model.specs.declared.output.Line.{Line}
@@ -18,7 +18,6 @@ use Rattle.frame_store.specs.FrameContents.{FrameContent}
 use Rattle.heap_laws.specs.RaisableObjects.{MayBeRaised}
 use Rattle.machine_laws.proofs.ThrowablesSealed.{has_thrown, one_running}
 use Rattle.machine_parts.specs.FittingParts.{AreFittingParts}
-use Rattle.machine_parts.specs.MachineParts.{segment_with_frames}
 use Rattle.machine_parts.specs.RunningParts.{StandsOnTop}
 use Rattle.machine_parts.proofs.TopsOfThreads.{stands_on_top}
 use Rattle.step_contents.specs.Conditions.{MayRaise}

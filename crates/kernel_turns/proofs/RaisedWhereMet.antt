@@ -1,10 +1,7 @@
 -- What is known of the running segment of a machine where something may be raised in it.
-use Rattle.std.proofs.Common.{◌≡◌, ◌==◌, Bool, true, false, cond, List, Some, refl, sym, ap, subst, ◌∙◌}
+use Rattle.std.proofs.Common.{◌≡◌, ◌==◌, Bool, true, false, cond, Some, refl, sym, ap, subst}
 use Rattle.jk_model.specs.declared.identifiers.ThreadNo.{ThreadNo}
 use Rattle.jk_model.specs.declared.steps.Raise.{Raise}
-use Rattle.jk_model_classes.specs.Worlds.{NamedClass}
-use Rattle.jk_model_frames.specs.Frames.{FrameState}
-use Rattle.jk_model_heaps.specs.Capabilities.{CapRange}
 use Rattle.jk_model_heaps.specs.Workings.{Inside, Run}
 use Rattle.jk_model_sealing.specs.SealedInsides.{Surroundings}
 use Rattle.jk_model_sealing.specs.SealedRuns.{IsSealedRun}

@@ -10,7 +10,7 @@ use Rattle.jk_model_heaps.specs.declared.shapes.Unwound.{Unwound}
 use Rattle.jk_model_heaps.specs.declared.shapes.Unwound.TheVariants as Unwinding
 use Rattle.jk_model_heaps.specs.Throwables.{IsRaised}
 use Rattle.jk_model_heaps.specs.Workings.{Inside, Run, Setting}
-use Rattle.jk_model_unwinding.specs.Unwinding.{Catches, CatchesNot, LeavesFrames, Unwinds}
+use Rattle.jk_model_unwinding.specs.Unwinding.{Catches, LeavesFrames, Unwinds}
 use Rattle.jk_model_running.specs.Raising.{RaisesIn}
 
 module _ (x : Setting) (name : List ℕ) (segment : SegmentNo) (chunks : ℕ) where

@@ -1,6 +1,6 @@
 -- Where a thread's top segment has asked for something of package jk, and it was granted or denied over what domains share, that is a step of the machine,
 -- and the parts are sound after it.
-use Rattle.std.proofs.Common.{◌≡◌, ◌≢◌, ℕ, ◌<◌, ◌≤◌, ◌==◌, Bool, true, false, cond, List, [], ◌∷◌, ◌++◌, length, map, slice_get, Contains, inl, inr, ◌-◌, Option, Some, None, Result, Ok, Err, refl, sym, ap, subst, ◌∙◌, eq-eqb}
+use Rattle.std.proofs.Common.{◌≡◌, ℕ, ◌==◌, true, false, List, [], ◌∷◌, Contains, inl, inr, ◌-◌, Option, Some, None, Result, Ok, Err, refl, sym, ap, subst, ◌∙◌}
 use Rattle.std.proofs.lemmas.List.Elements.{Contains-append_cases}
 use Rattle.jk_model.specs.declared.identifiers.CapId.{CapId}
 use Rattle.jk_model.specs.declared.identifiers.ClassId.{ClassId}
@@ -32,7 +32,6 @@ use Rattle.jk_model_sharing.specs.Segments.{with_stop, with_suspended}
 use Rattle.jk_model_sharing.specs.SharedStates.{SharedDomain, SharedState, domain_numbered, stub_for}
 use Rattle.jk_model_machine_state.specs.Machines.{Machine, Segment}
 use Rattle.jk_model_machine_state.specs.Places.{RunningSegment, run_of, setting_of, with_run}
-use Rattle.jk_model_crossings.specs.Requests.{Grants}
 use Rattle.jk_model_crossings.specs.Throwing.{RaisesInThread, Throws}
 use Rattle.jk_model_crossings.specs.Throwing as Thrown
 use Rattle.jk_model_runs.specs.AnsweredCalls.{AreCallsAnswered}

@@ -11,7 +11,7 @@ use Rattle.jk_model_sharing.specs.Segments.{SharedSegment, SharedThread, thread_
 use Rattle.jk_model_sharing.specs.SharedStates.{SharedDomain, domain_numbered}
 use Rattle.jk_model_machine_state.specs.Places.{RunningSegment, run_of}
 use Rattle.jk_model_runs.specs.Sealed.{IsSealed, SegmentsFit}
-use Rattle.jk_model_runs.specs.Steps.{IsHeld, Rested, Steps, is_held, is_spent, not_live}
+use Rattle.jk_model_runs.specs.Steps.{IsHeld, is_held, is_spent, not_live}
 use Rattle.list_lemmas.proofs.FoundItems.{Finds, finds}
 use Rattle.list_lemmas.proofs.ItemsOfLists.{Contains-at}
 use Rattle.frame_store.specs.FrameContents.{StoredSegment}
@@ -21,6 +21,7 @@ use Rattle.machine_parts.specs.FittingParts.{AreFittingParts}
 use Rattle.machine_parts.specs.MachineParts.{frames_in, segment_with_frames, thread_with_frames}
 use Rattle.machine_parts.proofs.TopsOfThreads.{lives_in_both}
 use Rattle.kernel_parts.specs.SoundKernels.{KernelContent, kernel_machine, parts_of}
+use Rattle.kernel_turns.specs.RestingThreads.{IsResting}
 use Rattle.kernel_turns.specs.RunningPlaces.{RunsAt}
 use Rattle.domain_crossing.proofs.DomainsByPlace.{shared_found, shared_there}
 use Rattle.kernel_turns.proofs.PlacedThreads.{own_at, place, stored}
@@ -47,14 +48,12 @@ module _ (k : KernelContent) (t : ThreadNo) where
       (sealed.threads.segments (thread_with_frames k.frames x)
       (mapped (thread_with_frames k.frames) k.shared.threads x (Contains-at k.shared.threads h.0 x h.1))) top
 
-  pub dead_rests : IsSealed (kernel_machine k) → top_segment k.shared.threads t ≡ None → Steps (kernel_machine k) t [] (kernel_machine k)
-  dead_rests sealed none = (
-    Rested,
-    not_live
-        (λ live.
-        let found = lives_in_both (parts_of k) t live in
-        top_by sealed (thread_numbered k.shared.threads t) found.0 (finds has_number k.shared.threads) found.1 none),
-  )
+  pub dead_rests : IsSealed (kernel_machine k) → top_segment k.shared.threads t ≡ None → IsResting (kernel_machine k) t
+  dead_rests sealed none =
+      not_live
+      (λ live.
+      let found = lives_in_both (parts_of k) t live in
+      top_by sealed (thread_numbered k.shared.threads t) found.0 (finds has_number k.shared.threads) found.1 none)
 
 -- ---- It is held, or its domain has no step left.
 
@@ -62,10 +61,10 @@ module _ (k : KernelContent) (t : ThreadNo) (at : RunsAt k t) (fit : AreFittingP
   abbrev p : RunningSegment (kernel_machine k) t
   p = place k t at fit.domains
 
-  held_rests : IsHeld p → Steps (kernel_machine k) t [] (kernel_machine k)
-  held_rests held = (Rested, is_held p held)
+  held_rests : IsHeld p → IsResting (kernel_machine k) t
+  held_rests held = is_held p held
 
-  pub suspended_rests : at.segment.suspended ≡ true → Steps (kernel_machine k) t [] (kernel_machine k)
+  pub suspended_rests : at.segment.suspended ≡ true → IsResting (kernel_machine k) t
   suspended_rests on = held_rests (inl on)
 
   -- the top frame in the store is that of the run
@@ -77,16 +76,16 @@ module _ (k : KernelContent) (t : ThreadNo) (at : RunsAt k t) (fit : AreFittingP
       (record { callers = top.lower; frame = f; are_frames = ap (λ (g : StoredSegment). g.frames) (sym same) ∙ top.frames }, refl)
 
   pub waiting_rests : (f : FrameState) (c : ClassId) → StoredTop k.frames at.segment.number f → FrameNeeds k.world.classes f c
-      → IsInProgressElsewhere at.own.state t c → Steps (kernel_machine k) t [] (kernel_machine k)
+      → IsInProgressElsewhere at.own.state t c → IsResting (kernel_machine k) t
   waiting_rests f c top needs elsewhere =
       let run = top_of_run f top in
       held_rests (inr (run.0, c, subst (λ (g : FrameState). FrameNeeds k.world.classes g c) (sym run.1) needs, elsewhere))
 
   pub spent_rests : (IsHeld p → ⊥) → (s : SharedDomain) → domain_numbered k.shared at.segment.domain ≡ Some s → s.steps_left ≡ Some 0
-      → Steps (kernel_machine k) t [] (kernel_machine k)
+      → IsResting (kernel_machine k) t
   spent_rests not_held s is none =
       let own = own_at k t at fit.domains in
       let there = shared_there (parts_of k) fit.domains at.segment.domain at.own.state own in
       let same : there.0 ≡ s =
       same_Some there.0 s (sym (shared_found (parts_of k) fit.domains at.segment.domain there.0 there.1) ∙ is) in
-      (Rested, is_spent p not_held (ap (λ (e : SharedDomain). e.steps_left) same ∙ none))
+      is_spent p not_held (ap (λ (e : SharedDomain). e.steps_left) same ∙ none)

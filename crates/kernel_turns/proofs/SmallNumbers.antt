@@ -1,5 +1,5 @@
 -- Numbers of capabilities that were given out in a sealed machine fit 24 bits.
-use Rattle.std.proofs.Common.{◌≡◌, ℕ, zero, suc, ◌+◌, ◌<◌, ◌≤◌, ◌^◌, Bool, true, List, [], ◌∷◌, length, map, find, sum_by, take, slice_get, Option, Some, None, refl, sym, ap, subst, ◌∙◌, arith}
+use Rattle.std.proofs.Common.{◌≡◌, ℕ, zero, suc, ◌+◌, ◌<◌, ◌≤◌, ◌^◌, true, List, [], ◌∷◌, length, find, sum_by, take, slice_get, Option, Some, None, ap, ◌∙◌, arith}
 use Rattle.std.specs.Prelude.{nat_le, nat_lt, option_and_then}
 use Rattle.std.proofs.lemmas.Bool.{and_parts, ltb-true}
 use Rattle.std.proofs.lemmas.List.Sums.{sum_by-cons}
@@ -7,7 +7,7 @@ use Rattle.std.proofs.lemmas.Option.{same_Some}
 use Rattle.jk_model.specs.declared.identifiers.CapId.{CapId}
 use Rattle.jk_model_heaps.specs.Capabilities.{CapRange, OwnedCapability, capability_in, has_number}
 use Rattle.jk_model_machine_state.specs.Machines.{DomainState, Machine, caps_of}
-use Rattle.jk_model_runs.specs.Sealed.{IsSealed, numbers_before}
+use Rattle.jk_model_runs.specs.Sealed.{IsSealed}
 use Rattle.list_lemmas.proofs.FoundItems.{Finds, finds}
 use Rattle.list_lemmas.proofs.ItemsByPlace.{comes_from}
 use Rattle.heap_laws.specs.LaidOutObjects.{AreSmallNumbers}

@@ -28,7 +28,6 @@ use Rattle.object_store.specs.HeapContents.{HeapContent}
 use Rattle.machine_laws.specs.KnownMachines.{IsKnownMachine}
 use Rattle.machine_parts.specs.MachineParts.{frames_in}
 use Rattle.row_laws.specs.KeptRuns.{KeepsRun}
-use Rattle.row_laws.specs.LocalStepLaws.{LocalStepsKeep}
 use Rattle.step_contents.specs.Contents.{Becomes, Contents, Here, Holds, contents_of, inside_in, left_behind}
 use Rattle.step_contents.specs.Settings.{IsSetting}
 use Rattle.segment_steps.specs.ActingSegments.{goes_on}
@@ -38,15 +37,17 @@ use Rattle.segment_steps.proofs.ContentsStay.{StaySame, contents_stay}
 use Rattle.segment_steps.proofs.ReframedStores.{reframed, reframed_others, reframed_there}
 use Rattle.kernel_parts.specs.SoundKernels.{AreKernelParts, KernelContent, kernel_machine}
 use Rattle.kernel_turns.specs.PaidSteps.{HasSteps}
+use Rattle.kernel_turns.specs.RestingThreads.{IsResting}
 use Rattle.kernel_turns.specs.RunningPlaces.{HasNothingPending, RunsAt, contents_at, here_in, paying}
 use Rattle.kernel_turns.specs.SteppedParts.{MayStep}
 use Rattle.kernel_turns.specs.WorkingSegments.{worked}
+use Rattle.kernel_turns.proofs.ActsNeverRest.{OthersPay}
 use Rattle.kernel_turns.proofs.PaidTimes.{caps_spent, may_spend, one_paid}
 use Rattle.kernel_turns.proofs.SegmentsMayAct.{acts as acts_well, knows}
 use Rattle.kernel_turns.proofs.SettingsOfPlaces.{is_setting}
 use Rattle.kernel_turns.proofs.SmallNumbers.{small_numbers}
 use Rattle.kernel_turns.proofs.StepsOfActs.{is_step}
-use Rattle.kernel_turns.proofs.StepsPaid.{StepLaws, at_paid, fit_paid, known_paid, place_paid, tidy_paid, tidy_so}
+use Rattle.kernel_turns.proofs.StepsPaid.{StepLaws, at_paid, fit_paid, known_paid, never_rests, place_paid, tidy_paid, tidy_so}
 
 abbrev domain_of_number : ℕ → DomainId
 domain_of_number n = record { 0 = n }
@@ -336,6 +337,14 @@ module _ (laws : StepLaws) (t : ThreadNo) where
         };
       };
     }
+
+  -- ---- Where there is one, the thread doesn't rest.
+
+  pub none_at_rest : OthersPay → (n : ℕ) (k : KernelContent) (at : RunsAt k t) (x : Setting) (start last : Run) → Stands k at x start
+      → HasSteps n at.segment.domain k.shared → StepsInTurn t at.own.rooms n x start last → IsResting (kernel_machine k) t → n ≡ 0
+  none_at_rest pay zero k at x start last stands has (none _ _) rests = refl
+  none_at_rest pay (suc n) k at x start last stands has (one_more _ _ _ mid _ waits step rooms fits more) rests =
+      absurd (never_rests k t at (ms k at x n start mid stands has waits step rooms fits) pay rests)
 
   -- ---- So many of them.
 

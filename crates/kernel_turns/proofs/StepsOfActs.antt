@@ -2,7 +2,6 @@
 -- machine, and the parts are sound after it.
 use Rattle.std.proofs.Common.{◌≡◌, ℕ, List, [], ◌∷◌, ◌++◌, Option, refl, sym, ap, subst, ◌∙◌, arith}
 use Rattle.jk_model.specs.declared.identifiers.CapId.{CapId}
-use Rattle.jk_model.specs.declared.identifiers.DomainId.{DomainId}
 use Rattle.jk_model.specs.declared.identifiers.MemberId.{MemberId}
 use Rattle.jk_model.specs.declared.identifiers.ThreadNo.{ThreadNo}
 use Rattle.jk_model.specs.declared.output.Line.{Line}
@@ -13,9 +12,7 @@ use Rattle.jk_model_heaps.specs.Workings.{Inside, Run}
 use Rattle.jk_model_running.specs.LocalSteps.{LocalStep}
 use Rattle.jk_model_running.specs.Ways as Way
 use Rattle.jk_model_sharing.specs.SharedStates.{SharedState}
-use Rattle.jk_model_crossings.specs.Answers.{Returns}
 use Rattle.jk_model_crossings.specs.RemoteCalls.{RemoteCall}
-use Rattle.jk_model_crossings.specs.Throwing.{Throws}
 use Rattle.jk_model_machine_state.specs.Machines.{Machine, Segment, caps_of}
 use Rattle.jk_model_machine_state.specs.Places.{RunningSegment, run_of, setting_of, with_run}
 use Rattle.jk_model_runs.specs.Sealed.{IsSealed, surroundings}
@@ -29,7 +26,6 @@ use Rattle.machine_laws.proofs.RunsAgain.{inside_there, running_then, runs_there
 use Rattle.machine_laws.proofs.SealedAfterRuns.{goes_on as on_sealed, left_sealed, sealed_after}
 use Rattle.machine_laws.proofs.StepsKnown.{caps_same, sound as sound_after_run, taken}
 use Rattle.machine_laws.proofs.StepsThatCross.{crosses_at, stands_at}
-use Rattle.machine_laws.proofs.ThrowablesSealed.{HasThrown}
 use Rattle.machine_laws.specs.CallsAndAnswers.{IsTaken, StandsAtCall}
 use Rattle.machine_laws.specs.SoundMachines.{HasSoundClasses}
 use Rattle.row_laws.specs.KeptRuns.{KeepsRun}
@@ -45,7 +41,7 @@ use Rattle.kernel_turns.specs.RunningPlaces.{HasNothingPending, RunsAt, contents
 use Rattle.kernel_turns.specs.SteppedParts.{ActsAs, Follows, HasRoomsForLiterals, MayFollow, MayStep, with_left}
 use Rattle.kernel_turns.proofs.KeptParts.{kept_tidy}
 use Rattle.kernel_turns.proofs.RaisedOnce.{is_thrown}
-use Rattle.kernel_turns.proofs.RequestsAsked.{AsksSo, asks_so}
+use Rattle.kernel_turns.proofs.RequestsAsked.{asks_so}
 use Rattle.kernel_turns.proofs.SegmentsMayAct.{acts as acts_well, may_act}
 use Rattle.kernel_turns.proofs.SegmentsThatRan.{fit_ran, is_ran, place_ran, ran, same_name}
 use Rattle.kernel_turns.proofs.SettingsOfPlaces.{is_setting}

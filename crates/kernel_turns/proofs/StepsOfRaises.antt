@@ -1,6 +1,6 @@
 -- Where something was pending for a thread's top segment and was raised over the contents of the stores, and what follows of the thread is done, that
 -- is a step of the machine, and the parts are sound after it.
-use Rattle.std.proofs.Common.{◌≡◌, ◌⊎◌, ℕ, inl, inr, false, Bool, List, [], refl, sym, ap, subst, ◌∙◌}
+use Rattle.std.proofs.Common.{◌≡◌, ◌⊎◌, ℕ, inl, inr, false, Bool, List, [], refl, sym, subst}
 use Rattle.jk_model.specs.declared.identifiers.ThreadNo.{ThreadNo}
 use Rattle.jk_model.specs.declared.output.Line.{Line}
 use Rattle.jk_model.specs.declared.steps.Raise.{Raise}
@@ -16,7 +16,7 @@ use Rattle.jk_model_runs.specs.Steps as Ran
 use Rattle.machine_laws.proofs.RaisesWhereMet.{meets_at}
 use Rattle.machine_laws.specs.SealedSteps.{StepsStayKnown}
 use Rattle.step_contents.specs.Conditions.{MayRaise}
-use Rattle.step_contents.specs.Contents.{Contents, LeftBehind}
+use Rattle.step_contents.specs.Contents.{LeftBehind}
 use Rattle.segment_steps.specs.RaisingHere.{RaisedHere}
 use Rattle.segment_steps.specs.declared.went.Went.{Went}
 use Rattle.segment_steps.specs.declared.went.Went.TheVariants as Goes

@@ -17,8 +17,10 @@ use Rattle.row_laws.specs.LocalStepLaws.{LocalStepsKeep}
 use Rattle.domain_crossing.proofs.DomainsByPlace.{shared_found, shared_there}
 use Rattle.domain_ends.specs.TidyParts.{AreTidyParts}
 use Rattle.kernel_parts.specs.SoundKernels.{AreKernelParts, AreSoundParts, KernelContent, kernel_machine, parts_of}
+use Rattle.kernel_turns.specs.RestingThreads.{IsResting}
 use Rattle.kernel_turns.specs.RunningPlaces.{RunsAt, paying}
 use Rattle.kernel_turns.specs.SteppedParts.{MayStep}
+use Rattle.kernel_turns.proofs.ActsNeverRest.{OthersPay, no_rest}
 use Rattle.kernel_turns.proofs.KeptParts.{tidy_known}
 use Rattle.kernel_turns.proofs.PaidParts.{is_paid, known_after, parts_paid}
 use Rattle.kernel_turns.proofs.PlacedThreads.{own_at, place, stored}
@@ -105,6 +107,10 @@ module _ (k : KernelContent) (t : ThreadNo) (at : RunsAt k t) (ms : MayStep k at
       let one = ms.parts.sound.fitting.domains in
       let s = shared_there (parts_of k) one at.segment.domain at.own.state (own_at k t at one) in
       ms.ahead.budget s.0 (shared_found (parts_of k) one at.segment.domain s.0 s.1)
+
+  -- so it doesn't rest
+  pub never_rests : OthersPay → IsResting (kernel_machine k) t → ⊥
+  never_rests pay = no_rest pay (kernel_machine k) t first not_held has_steps
 
   -- what it does where the step is paid is its step
   pub steps_by : (deed : Deed) (lines : List Line) (new : Machine) → Acts (kernel_machine (paying at.segment.domain k)) t deed lines new

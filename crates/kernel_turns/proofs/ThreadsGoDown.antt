@@ -1,9 +1,8 @@
 -- What has come of a thread, segment after segment, is a part of what comes of it.
-use Rattle.std.proofs.Common.{◌≡◌, ℕ, zero, suc, ◌+◌, ◌<◌, List, [], refl, sym, ap, subst, ◌∙◌, arith}
+use Rattle.std.proofs.Common.{◌≡◌, ℕ, suc, ◌+◌, ◌<◌, List, refl, subst, arith}
 use Rattle.jk_model.specs.declared.identifiers.ThreadNo.{ThreadNo}
 use Rattle.jk_model.specs.declared.output.Line.{Line}
 use Rattle.jk_model.specs.declared.steps.Raise.{Raise}
-use Rattle.jk_model_classes.specs.declared.records.ClassRecord.{ClassRecord}
 use Rattle.jk_model_machine_state.specs.Machines.{Machine}
 use Rattle.jk_model_crossings.specs.Throwing.{RaisesInThread}
 use Rattle.domain_crossing.specs.PrintedOfThreads.{PrintedOf}

@@ -20,7 +20,7 @@ use Rattle.jk_model_sealing.specs.AnsweringFrames.{FramesAnswer}
 use Rattle.jk_model_sharing.specs.Segments.{SharedSegment, SharedThread, top_of, top_segment}
 use Rattle.jk_model_sharing.specs.SharedStates.{SharedDomain, domain_numbered}
 use Rattle.jk_model_runs.specs.AnsweredCalls.{SegmentsAnswer}
-use Rattle.jk_model_runs.specs.Steps.{IsHeld, Steps}
+use Rattle.jk_model_runs.specs.Steps.{IsHeld}
 use Rattle.frame_store.specs.FrameContents.{HasTop, StoredSegment}
 use Rattle.frame_store.specs.FrameContents.{TopFrame as StoredTop}
 use Rattle.heap_laws.proofs.MappedLists.{mapped}
@@ -35,6 +35,7 @@ use Rattle.thread_segments.specs.Answers.{steps_left_of}
 use Rattle.segment_steps.proofs.FramesInTurn.{top_of as top_frame}
 use Rattle.kernel_turns.specs.declared.running.Running.{Running}
 use Rattle.kernel_turns.specs.LiveThreads.{IsRunning}
+use Rattle.kernel_turns.specs.RestingThreads.{IsResting}
 use Rattle.kernel_turns.specs.RunningPlaces.{RunsAt, runs}
 use Rattle.kernel_turns.specs.SteppedParts.{MayStep}
 use Rattle.kernel_turns.specs.StepsOfThreads.{IsReady}
@@ -75,7 +76,7 @@ waits_not classes own t f (Some d) look free needs looks c need (by, is, other) 
 
 module _ (k : KernelContent) (t : ThreadNo) (parts : AreKernelParts k) (known : IsKnownMachine (kernel_machine k)) where
   -- a thread that isn't live does nothing
-  pub none_steps : top_segment k.shared.threads t ≡ None → Steps (kernel_machine k) t [] (kernel_machine k)
+  pub none_steps : top_segment k.shared.threads t ≡ None → IsResting (kernel_machine k) t
   none_steps none = dead_rests k t known.0.0 none
 
   top_by : (s : SharedSegment) (segments : List SharedSegment) → top_of segments ≡ Some s
@@ -172,7 +173,7 @@ module _ (k : KernelContent) (t : ThreadNo) (parts : AreKernelParts k) (known : 
 
       pub rests_so : (x.info.suspended ≡ true) ⊎ (met.look ≡ Sees.Waits)
           ⊎ ((x.info.suspended ≡ false) × (met.look ≢ Sees.Waits) × (steps_left_of k.shared x.runs.domain ≡ Some 0))
-          → Steps (kernel_machine k) t [] (kernel_machine k)
+          → IsResting (kernel_machine k) t
       unfolding runs_at
       rests_so (inl on) = suspended_rests k t at parts.sound.fitting (sym is.suspended ∙ on)
       rests_so (inr (inl waits)) =

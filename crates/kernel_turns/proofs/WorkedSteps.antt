@@ -4,7 +4,6 @@ use Rattle.jk_model.specs.declared.identifiers.ThreadNo.{ThreadNo}
 use Rattle.jk_model_machine_state.specs.Places.{run_of, setting_of}
 use Rattle.class_init.specs.KeptStates.{KeptState}
 use Rattle.frame_store.specs.FrameContents.{HasTop, IsContent}
-use Rattle.row_laws.specs.LocalStepLaws.{LocalStepsKeep}
 use Rattle.step_contents.specs.Contents.{Contents, Here, contents_of, here_at}
 use Rattle.segment_steps.specs.StepsInTurn.{StepsLead}
 use Rattle.segment_steps.specs.declared.meeting.Runs.{Runs}
@@ -15,12 +14,13 @@ use Rattle.kernel_turns.specs.ActingAlone.{IsActing}
 use Rattle.kernel_turns.specs.PaidSteps.{HasSteps}
 use Rattle.kernel_turns.specs.RunningPlaces.{contents_at, here_in, runs}
 use Rattle.kernel_turns.specs.WorkingSegments.{MayWork, WorksOn, worked}
+use Rattle.kernel_turns.proofs.ActsNeverRest.{OthersPay}
 use Rattle.kernel_turns.proofs.PlacedThreads.{home, place}
 use Rattle.kernel_turns.proofs.SegmentsMayAct.{acts, holds, may_act}
 use Rattle.kernel_turns.proofs.SettingsOfPlaces.{is_setting}
 use Rattle.kernel_turns.proofs.SmallNumbers.{small_numbers}
 use Rattle.kernel_turns.proofs.StepsPaid.{StepLaws, tidy_so}
-use Rattle.kernel_turns.proofs.StepsAsTurns.{steps_are_turns}
+use Rattle.kernel_turns.proofs.StepsAsTurns.{Stands, none_at_rest, steps_are_turns}
 
 -- the segment that acts has a top frame
 pub has_top : (old : Contents) (here : Here) (t : ThreadNo) → IsActing old here t → HasTop old.frames here.segment
@@ -63,7 +63,7 @@ module _ (k : KernelContent) (r : Runs) (own : KeptState) (may : MayWork k r own
 
   -- ---- The steps are turns.
 
-  module _ (laws : StepLaws) (n : ℕ) (has : HasSteps n r.domain k.shared) (final : Contents) where
+  module _ (laws : StepLaws) (pay : OthersPay) (n : ℕ) (has : HasSteps n r.domain k.shared) (final : Contents) where
     works_there : StepsLead (contents_at may.at) final (here_in k may.at.segment) r.thread n → HasSteps n may.at.segment.domain k.shared
         → WorksOn k (runs r.thread may.at.segment) n (worked n may.at.segment.domain final.own final.heaps final.frames k)
     works_there lead has_here =
@@ -72,8 +72,7 @@ module _ (k : KernelContent) (r : Runs) (own : KeptState) (may : MayWork k r own
         let run = run_of (place k r.thread may.at fit.domains) in
         let set = is_setting k r.thread may.at fit may.parts.stubs in
         let led = lead x (may_act k r.thread may.at (tidy_so k may.parts) may.known may.calm.1) set in
-        let done = steps_are_turns laws r.thread n k may.at x run led.0 final
-        (record {
+        let stands : Stands k may.at x run = record {
           parts = may.parts;
           known = may.known;
           awake = may.awake;
@@ -86,9 +85,13 @@ module _ (k : KernelContent) (r : Runs) (own : KeptState) (may : MayWork k r own
           quota = acting_at.quota;
           has_quota = acting_at.has_quota;
           within = acting_at.within;
-        })
-        has_here led.1 led.2 in
-        record { turns = done.0; parts = done.1 }
+        } in
+        let done = steps_are_turns laws r.thread n k may.at x run led.0 final stands has_here led.1 led.2 in
+        record {
+          turns = done.0;
+          parts = done.1;
+          none = none_at_rest laws r.thread pay n k may.at x run led.0 stands has_here led.1;
+        }
 
     pub works_on : StepsLead (contents_of k.heap k.frames own) final (here_at k.world k.shared r.domain r.segment) r.thread n
         → WorksOn k r n (worked n r.domain final.own final.heaps final.frames k)

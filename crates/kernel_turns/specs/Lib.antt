@@ -3,6 +3,7 @@ pub mod ActingAlone
 pub mod GoingDown
 pub mod LiveThreads
 pub mod PaidSteps
+pub mod RestingThreads
 pub mod RunningPlaces
 pub mod SteppedParts
 pub mod StepsOfThreads

@@ -9,6 +9,7 @@ use Rattle.machine_laws.specs.KnownMachines.{IsKnownMachine}
 use Rattle.segment_steps.specs.declared.meeting.Runs.{Runs}
 use Rattle.kernel_parts.specs.SoundKernels.{AreKernelParts, KernelContent, kernel_machine}
 use Rattle.kernel_turns.specs.PaidSteps.{spent_times}
+use Rattle.kernel_turns.specs.RestingThreads.{IsResting}
 use Rattle.kernel_turns.specs.RunningPlaces.{HasNothingPending, RunsAt, runs}
 
 -- the parts where a domain's own state and the stores are these, and so many steps of the domain are paid
@@ -34,3 +35,5 @@ pub record MayWork (k : KernelContent) (r : Runs) (own : KeptState) : Type 0 whe
 pub record WorksOn (k : KernelContent) (r : Runs) (n : ℕ) (new : KernelContent) : Type 0 where
   pub turns : Turns n r.thread (kernel_machine k) [] (kernel_machine new)
   pub parts : AreKernelParts new
+  -- a thread that rests takes none
+  pub none : IsResting (kernel_machine k) r.thread → n ≡ 0

@@ -11,6 +11,7 @@ ghost use Rattle.segment_steps.specs.StepsInTurn.{StepsLead};
 ghost use Rattle.machine_laws.specs.KnownMachines.{IsKnownMachine};
 ghost use Rattle.kernel_turns.specs.ActingAlone.{IsActing};
 ghost use Rattle.kernel_turns.specs.PaidSteps.{HasSteps, spent_times};
+ghost use Rattle.kernel_turns.specs.RestingThreads.{IsResting};
 ghost use Rattle.kernel_turns.specs.StepsOfThreads.{content_of};
 ghost use Rattle.kernel_turns.specs.WorkingSegments.{MayWork, WorksOn};
 
@@ -19,6 +20,7 @@ use class_init::Own;
 use domain_resolver::World;
 use frame_store::{FrameStore, OnSegment, SegmentFrames};
 use jk_model::{DomainId, ThreadNo};
+use jk_model_runs::laws::first_rule_of_a_step_applies;
 use kernel_parts::KernelParts;
 use machine_laws::machines::steps_stay_known;
 use object_store::ObjectStore;
@@ -28,9 +30,9 @@ use segment_steps::{Runs, Worked, run_in_frame, stand, work};
 use thread_segments::Shared;
 
 /// At most so many steps of a thread, as long as its top segment does each alone: it computes, jumps, works on objects, calls a method with
-/// code, returns from one or throws what its frame catches, needs no class that isn't ready, and raises nothing else and prints nothing. It
-/// answers how many they were. It stops before each other step, and where the domain has no step left. Where the thread runs is looked up once.
-/// It takes no memory.
+/// code, returns from one that is no class's initialiser, or throws what its frame catches, needs no class that isn't ready, and raises nothing
+/// else and prints nothing. It answers how many they were. It stops before each other step, and where the domain has no step left. Where the
+/// thread runs is looked up once. It takes no memory.
 pub fn steps_alone<H: ObjectStore + Drop, F: FrameStore + Drop>(
     k: &mut KernelParts<H, F>,
     t: ThreadNo,
@@ -39,6 +41,8 @@ pub fn steps_alone<H: ObjectStore + Drop, F: FrameStore + Drop>(
     requires known { IsKnownMachine k.old }
     ensures few { result ≤ most }
     ensures event { Turns result t k.old [] k.new }
+    // A thread that rests takes none.
+    ensures resting { IsResting k.old t → result ≡ 0 }
 {
     let Some(running) = run_of(&k.shared, t) else {
         return 0;
@@ -101,6 +105,7 @@ fn work_in_domain<H: ObjectStore, F: FrameStore>(
     local_steps_keep();
     heap_rows_keep();
     steps_stay_known();
+    first_rule_of_a_step_applies();
     match &mut owns[r.domain.0 as usize] {
         Some(own) => {
             let mut steps = Steps {

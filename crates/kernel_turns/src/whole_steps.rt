@@ -1,6 +1,6 @@
 //! One whole step of one thread over the parts of a kernel.
 
-ghost use Rattle.std.specs.Prelude.{◌≡◌, ◌≢◌, ◌⊎◌, [], List as AList, Ok, Some, false, slice_get, true};
+ghost use Rattle.std.specs.Prelude.{◌≡◌, ◌≢◌, ◌⊎◌, ◌↔◌, [], List as AList, Ok, Some, false, slice_get, true};
 ghost use Rattle.jk_model.specs.declared.descriptors.MethodType.{MethodType};
 ghost use Rattle.jk_model.specs.declared.output.Line.{Line};
 ghost use Rattle.jk_model_domains.specs.declared.states.Look.TheVariants as Sees;
@@ -15,6 +15,7 @@ ghost use Rattle.machine_laws.specs.KnownMachines.{IsKnownMachine};
 ghost use Rattle.segment_steps.specs.Meetings.{Meets};
 ghost use Rattle.thread_segments.specs.Asked.{IsLiveDomain};
 ghost use Rattle.thread_segments.specs.Answers.{steps_left_of};
+ghost use Rattle.kernel_turns.specs.RestingThreads.{IsResting};
 
 use crate::following::finish;
 use crate::own_states::meet_in;
@@ -25,14 +26,15 @@ use domain_resolver::World;
 use frame_store::FrameStore;
 use jk_model::{DomainId, ThreadNo};
 use jk_model_domains::Look;
+use jk_model_runs::laws::first_rule_of_a_step_applies;
 use jk_outside::{Sink, SinkFailed};
 use kernel_parts::KernelParts;
 use object_store::ObjectStore;
 use segment_steps::Meeting;
 use thread_segments::Shared;
 
-/// One step of a thread, whose lines are printed. It answers false only where the step changes nothing: the thread isn't live or is held, or its
-/// domain has no step left. It takes no memory but the words of copies. Where the sink fails, the step has happened whole.
+/// One step of a thread, whose lines are printed. It answers false exactly where the thread rests, and the step changes nothing: it isn't live
+/// or is held, or its domain has no step left. It takes no memory but the words of copies. Where the sink fails, the step has happened whole.
 pub fn step<H: ObjectStore + Drop, F: FrameStore + Drop, S: Sink>(
     k: &mut KernelParts<H, F>,
     t: ThreadNo,
@@ -45,7 +47,9 @@ pub fn step<H: ObjectStore + Drop, F: FrameStore + Drop, S: Sink>(
         (as_done result) lines
         × Steps k.old t lines k.new }
     ensures rests { result ≡ Ok false → (k.new ≡ k.old) × Steps k.old t [] k.old }
+    ensures resting { result ≡ Ok false ↔ IsResting k.old t }
 {
+    first_rule_of_a_step_applies();
     let Some(running) = run_of(&k.shared, t) else {
         return Ok(false);
     };

@@ -76,7 +76,8 @@ returns-clause-event g c = λ own main is may.
     let heap = g.H.ObjectStore.content c.with_segment.new.a in
     let frames = g.F.SegmentFrames.content c.with_segment.new.self in
     let went = works_on k c.args.r c.in-Some.own (subst (MayWork k c.args.r) same may) (g.met.F.FrameStore.holds c.args.frames.now)
-    (record { rows = c.heap_rows_keep.ensures; keep = c.local_steps_keep.ensures; stay = c.steps_stay_known.ensures }) c.with_segment.new.work.count
+    (record { rows = c.heap_rows_keep.ensures; keep = c.local_steps_keep.ensures; stay = c.steps_stay_known.ensures })
+    c.first_rule_of_a_step_applies.ensures.pays c.with_segment.new.work.count
     (has_fewer c.with_segment.new.work.count c.args.most c.args.r.domain c.args.shared.now done.0 c.requires.budget)
     (contents_of heap frames c.with_segment.new.b) done.1 in
     subst

@@ -1,5 +1,4 @@
 -- What has come of the thread so far is a part of what comes of it, and so many segments have been left.
-use Rattle.std.proofs.Common.{◌+◌, ℕ, List}
 use Rattle.jk_model.specs.declared.descriptors.MethodType.{MethodType}
 use Rattle.kernel_turns.specs.GoingDown.{height}
 use Rattle.kernel_turns.specs.StepsOfThreads.{content_of}

@@ -1,5 +1,5 @@
 -- The flag falls, and its throwable is raised.
-use Rattle.std.proofs.Common.{[], sym, subst}
+use Rattle.std.proofs.Common.{sym, subst}
 use Rattle.jk_model_sharing.specs.SharedStates.{SharedState}
 use Rattle.thread_segments.specs.Asked.{IsThere}
 use Rattle.kernel_parts.specs.SoundKernels.{KernelContent}

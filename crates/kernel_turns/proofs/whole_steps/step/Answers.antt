@@ -3,16 +3,19 @@ use Rattle.std.proofs.Common.{Bool, Result, [], ◌++◌, refl, sym, subst}
 use Rattle.std.proofs.lemmas.Result.{err_from_is_err_and}
 use Rattle.jk_model.specs.declared.identifiers.ThreadNo.{ThreadNo}
 use Rattle.jk_model_machine_state.specs.Machines.{Machine}
-use Rattle.jk_model_runs.specs.Steps.{Steps}
+use Rattle.jk_model_runs.specs.Steps.{Rested, Steps}
 use Rattle.jk_outside.specs.declared.sinks.SinkFailed.{SinkFailed}
 use Rattle.kernel_events.specs.KernelCalls.{MayDraw}
 use Rattle.kernel_events.specs.PrintedLines.{Prints, SinkState, as_done}
 use Rattle.kernel_parts.specs.SoundKernels.{KernelContent, kernel_machine, parts_of}
 use Rattle.machine_laws.specs.KnownMachines.{IsKnownMachine}
+use Rattle.kernel_turns.specs.RestingThreads.{IsResting}
 use Rattle.kernel_turns.proofs.FramesOfThreads.{lives, runs_at}
 use Rattle.kernel_turns.proofs.SegmentsApart.{apart_in_shared, sealed_apart}
 use Rattle.domain_ends.proofs.PrintedLines.{printed_none}
 use Rattle.kernel_turns.proofs.PrintedSteps.{failed_as}
+use Rattle.kernel_turns.proofs.RestsTold.{sink_failed, step_taken}
+use Rattle.kernel_turns.proofs.StepsPaid.{never_rests}
 use Rattle.kernel_turns.proofs.WholeSteps.{none_steps, own_there, ready_so, rests_so, running_there, same_thread, top_there}
 use Rattle.kernel_turns.proofs.whole_steps.step.Goals as goal
 
@@ -41,9 +44,8 @@ returns-in_default-clause-event g c =
     let known : IsKnownMachine (kernel_machine k) = subst IsKnownMachine (sym c.k.view_is) c.requires.known in
     let a : SinkState = record { bytes = g.S.Sink.bytes c.args.out.now; pieces = g.S.Sink.pieces c.args.out.now; faults = g.S.Sink.faults c.args.out.now } in
     let rests = none_steps k c.args.t c.k.invariant known (c.in_default.ensures.none) in
-    let there : Steps c.args.k.now c.args.t [] c.args.k.now =
-    subst (λ (m : Machine). Steps m c.args.t [] m) c.k.view_is rests in
-    ([], printed_none a (g.met.S.Sink.faults_fit c.args.out.now), there)
+    let there : IsResting c.args.k.now c.args.t = subst (λ (m : Machine). IsResting m c.args.t) c.k.view_is rests in
+    ([], printed_none a (g.met.S.Sink.faults_fit c.args.out.now), (Rested, there))
 
 pub returns-in_default-clause-rests : goal.returns-in_default-clause-rests
 returns-in_default-clause-rests g c =
@@ -57,9 +59,23 @@ returns-in_default-clause-rests g c =
     } in
     let known : IsKnownMachine (kernel_machine k) = subst IsKnownMachine (sym c.k.view_is) c.requires.known in
     let rests = none_steps k c.args.t c.k.invariant known (c.in_default.ensures.none) in
-    let there : Steps c.args.k.now c.args.t [] c.args.k.now =
-    subst (λ (m : Machine). Steps m c.args.t [] m) c.k.view_is rests in
-    λ _. (refl, there)
+    let there : IsResting c.args.k.now c.args.t = subst (λ (m : Machine). IsResting m c.args.t) c.k.view_is rests in
+    λ _. (refl, (Rested, there))
+
+pub returns-in_default-clause-resting : goal.returns-in_default-clause-resting
+returns-in_default-clause-resting g c =
+    let k : KernelContent = record {
+      world = c.k.inside.world;
+      owns = c.k.inside.owns.items;
+      shared = c.k.inside.shared;
+      heap = g.H.ObjectStore.content c.k.inside.heap;
+      frames = g.F.SegmentFrames.content c.k.inside.frames;
+      main_kind = c.k.inside.main_kind;
+    } in
+    let known : IsKnownMachine (kernel_machine k) = subst IsKnownMachine (sym c.k.view_is) c.requires.known in
+    let rests = none_steps k c.args.t c.k.invariant known (c.in_default.ensures.none) in
+    let there : IsResting c.args.k.now c.args.t = subst (λ (m : Machine). IsResting m c.args.t) c.k.view_is rests in
+    (λ _. there, λ _. refl)
 
 pub meet_in-met-requires-clause-own : goal.meet_in-met-requires-clause-own
 meet_in-met-requires-clause-own g c =
@@ -124,9 +140,8 @@ returns-then-rests-clause-event g c =
     let own = own_there k c.args.t c.k.invariant known x is in
     let meets = c.meet_in-met.ensures (runs_at k c.args.t c.k.invariant known is.segment is.is_top).own own top.0 top.1 in
     let rests = rests_so k c.args.t c.k.invariant known x is top.0 c.meet_in-met.result top.1 meets (c.rests.ensures.yes c.if-rests.true) in
-    let there : Steps c.args.k.now c.args.t [] c.args.k.now =
-    subst (λ (m : Machine). Steps m c.args.t [] m) c.k.view_is rests in
-    ([], printed_none a (g.met.S.Sink.faults_fit c.args.out.now), there)
+    let there : IsResting c.args.k.now c.args.t = subst (λ (m : Machine). IsResting m c.args.t) c.k.view_is rests in
+    ([], printed_none a (g.met.S.Sink.faults_fit c.args.out.now), (Rested, there))
 
 pub returns-then-rests-clause-rests : goal.returns-then-rests-clause-rests
 returns-then-rests-clause-rests g c =
@@ -145,9 +160,28 @@ returns-then-rests-clause-rests g c =
     let own = own_there k c.args.t c.k.invariant known x is in
     let meets = c.meet_in-met.ensures (runs_at k c.args.t c.k.invariant known is.segment is.is_top).own own top.0 top.1 in
     let rests = rests_so k c.args.t c.k.invariant known x is top.0 c.meet_in-met.result top.1 meets (c.rests.ensures.yes c.if-rests.true) in
-    let there : Steps c.args.k.now c.args.t [] c.args.k.now =
-    subst (λ (m : Machine). Steps m c.args.t [] m) c.k.view_is rests in
-    λ _. (refl, there)
+    let there : IsResting c.args.k.now c.args.t = subst (λ (m : Machine). IsResting m c.args.t) c.k.view_is rests in
+    λ _. (refl, (Rested, there))
+
+pub returns-then-rests-clause-resting : goal.returns-then-rests-clause-resting
+returns-then-rests-clause-resting g c =
+    let k : KernelContent = record {
+      world = c.k.inside.world;
+      owns = c.k.inside.owns.items;
+      shared = c.k.inside.shared;
+      heap = g.H.ObjectStore.content c.k.inside.heap;
+      frames = g.F.SegmentFrames.content c.k.inside.frames;
+      main_kind = c.k.inside.main_kind;
+    } in
+    let known : IsKnownMachine (kernel_machine k) = subst IsKnownMachine (sym c.k.view_is) c.requires.known in
+    let x = c.in-Some.running in
+    let is = c.in-Some.ensures.some in
+    let top = top_there k c.args.t c.k.invariant known x is in
+    let own = own_there k c.args.t c.k.invariant known x is in
+    let meets = c.meet_in-met.ensures (runs_at k c.args.t c.k.invariant known is.segment is.is_top).own own top.0 top.1 in
+    let rests = rests_so k c.args.t c.k.invariant known x is top.0 c.meet_in-met.result top.1 meets (c.rests.ensures.yes c.if-rests.true) in
+    let there : IsResting c.args.k.now c.args.t = subst (λ (m : Machine). IsResting m c.args.t) c.k.view_is rests in
+    (λ _. there, λ _. refl)
 
 pub begin-went-requires-clause-ready : goal.begin-went-requires-clause-ready
 begin-went-requires-clause-ready g c =
@@ -168,7 +202,8 @@ begin-went-requires-clause-ready g c =
     let own = own_there k u c.k.invariant known x here in
     let meets = c.meet_in-met.ensures (runs_at k u c.k.invariant known here.segment here.is_top).own own top.0 top.1 in
     let no = c.rests.ensures.no c.if-rests.false in
-    let ready = ready_so k x c.k.invariant known here top.0 c.meet_in-met.result top.1 meets no.0 no.1 no.2 (subst (λ (m : Machine). MayDraw m 1) (sym c.k.view_is) c.requires.numbers) in
+    let ready = ready_so k x c.k.invariant known here top.0 c.meet_in-met.result top.1 meets no.0 no.1 no.2
+    (subst (λ (m : Machine). MayDraw m 1) (sym c.k.view_is) c.requires.numbers) in
     (c.k.inside.main_kind, ready)
 
 pub begin-went-requires-clause-met : goal.begin-went-requires-clause-met
@@ -190,7 +225,8 @@ begin-went-requires-clause-met g c =
     let own = own_there k u c.k.invariant known x here in
     let meets = c.meet_in-met.ensures (runs_at k u c.k.invariant known here.segment here.is_top).own own top.0 top.1 in
     let no = c.rests.ensures.no c.if-rests.false in
-    let ready = ready_so k x c.k.invariant known here top.0 c.meet_in-met.result top.1 meets no.0 no.1 no.2 (subst (λ (m : Machine). MayDraw m 1) (sym c.k.view_is) c.requires.numbers) in
+    let ready = ready_so k x c.k.invariant known here top.0 c.meet_in-met.result top.1 meets no.0 no.1 no.2
+    (subst (λ (m : Machine). MayDraw m 1) (sym c.k.view_is) c.requires.numbers) in
     ((runs_at k u c.k.invariant known here.segment here.is_top).own, own, (top.0, top.1, meets))
 
 pub finish-requires : goal.finish-requires
@@ -212,7 +248,8 @@ finish-requires g c =
     let own = own_there k u c.k.invariant known x here in
     let meets = c.meet_in-met.ensures (runs_at k u c.k.invariant known here.segment here.is_top).own own top.0 top.1 in
     let no = c.rests.ensures.no c.if-rests.false in
-    let ready = ready_so k x c.k.invariant known here top.0 c.meet_in-met.result top.1 meets no.0 no.1 no.2 (subst (λ (m : Machine). MayDraw m 1) (sym c.k.view_is) c.requires.numbers) in
+    let ready = ready_so k x c.k.invariant known here top.0 c.meet_in-met.result top.1 meets no.0 no.1 no.2
+    (subst (λ (m : Machine). MayDraw m 1) (sym c.k.view_is) c.requires.numbers) in
     let started = c.begin-went.ensures c.k.inside.main_kind ready in
     record { may = (c.k.inside.main_kind, started.2.may) }
 
@@ -235,7 +272,8 @@ invariant_of-k g c =
     let own = own_there k u c.k.invariant known x here in
     let meets = c.meet_in-met.ensures (runs_at k u c.k.invariant known here.segment here.is_top).own own top.0 top.1 in
     let no = c.rests.ensures.no c.if-rests.false in
-    let ready = ready_so k x c.k.invariant known here top.0 c.meet_in-met.result top.1 meets no.0 no.1 no.2 (subst (λ (m : Machine). MayDraw m 1) (sym c.k.view_is) c.requires.numbers) in
+    let ready = ready_so k x c.k.invariant known here top.0 c.meet_in-met.result top.1 meets no.0 no.1 no.2
+    (subst (λ (m : Machine). MayDraw m 1) (sym c.k.view_is) c.requires.numbers) in
     let n : KernelContent = record {
       world = c.finish.new.w;
       owns = c.finish.new.owns.items;
@@ -268,7 +306,8 @@ returns-in_err-finish-clause-event g c =
     let own = own_there k u c.k.invariant known x here in
     let meets = c.meet_in-met.ensures (runs_at k u c.k.invariant known here.segment here.is_top).own own top.0 top.1 in
     let no = c.rests.ensures.no c.if-rests.false in
-    let ready = ready_so k x c.k.invariant known here top.0 c.meet_in-met.result top.1 meets no.0 no.1 no.2 (subst (λ (m : Machine). MayDraw m 1) (sym c.k.view_is) c.requires.numbers) in
+    let ready = ready_so k x c.k.invariant known here top.0 c.meet_in-met.result top.1 meets no.0 no.1 no.2
+    (subst (λ (m : Machine). MayDraw m 1) (sym c.k.view_is) c.requires.numbers) in
     let n : KernelContent = record {
       world = c.finish.new.w;
       owns = c.finish.new.owns.items;
@@ -293,6 +332,35 @@ returns-in_err-finish-clause-event g c =
     (failed_as a b (started.0 ++ on.0) c.in_err-finish.field-0.0 failed.0 (on.1 a started.0 started.1)) in
     ((started.0 ++ on.0), prints, there)
 
+pub returns-in_err-finish-clause-resting : goal.returns-in_err-finish-clause-resting
+returns-in_err-finish-clause-resting g c =
+    let k : KernelContent = record {
+      world = c.k.inside.world;
+      owns = c.k.inside.owns.items;
+      shared = c.k.inside.shared;
+      heap = g.H.ObjectStore.content c.k.inside.heap;
+      frames = g.F.SegmentFrames.content c.k.inside.frames;
+      main_kind = c.k.inside.main_kind;
+    } in
+    let known : IsKnownMachine (kernel_machine k) = subst IsKnownMachine (sym c.k.view_is) c.requires.known in
+    let x = c.in-Some.running in
+    let is = c.in-Some.ensures.some in
+    let here = running_there k c.args.t x is in
+    let u = x.runs.thread in
+    let top = top_there k u c.k.invariant known x here in
+    let own = own_there k u c.k.invariant known x here in
+    let meets = c.meet_in-met.ensures (runs_at k u c.k.invariant known here.segment here.is_top).own own top.0 top.1 in
+    let no = c.rests.ensures.no c.if-rests.false in
+    let ready = ready_so k x c.k.invariant known here top.0 c.meet_in-met.result top.1 meets no.0 no.1 no.2
+    (subst (λ (m : Machine). MayDraw m 1) (sym c.k.view_is) c.requires.numbers) in
+    let never : IsResting c.args.k.now c.args.t → ⊥ =
+    λ rests.
+    never_rests k u ready.at ready.may c.first_rule_of_a_step_applies.ensures.pays
+    (subst (λ (v : ThreadNo). IsResting (kernel_machine k) v) (sym (same_thread k c.args.t c.k.invariant known x is))
+    (subst (λ (m : Machine). IsResting m c.args.t) (sym c.k.view_is) rests)) in
+    let failed = err_from_is_err_and c.from_residual.result c.from_residual.ensures.1 in
+    sink_failed (IsResting c.args.k.now c.args.t) c.from_residual.result failed.0 failed.1 never
+
 pub invariant_of-k-2 : goal.invariant_of-k-2
 invariant_of-k-2 g c =
     let k : KernelContent = record {
@@ -312,7 +380,8 @@ invariant_of-k-2 g c =
     let own = own_there k u c.k.invariant known x here in
     let meets = c.meet_in-met.ensures (runs_at k u c.k.invariant known here.segment here.is_top).own own top.0 top.1 in
     let no = c.rests.ensures.no c.if-rests.false in
-    let ready = ready_so k x c.k.invariant known here top.0 c.meet_in-met.result top.1 meets no.0 no.1 no.2 (subst (λ (m : Machine). MayDraw m 1) (sym c.k.view_is) c.requires.numbers) in
+    let ready = ready_so k x c.k.invariant known here top.0 c.meet_in-met.result top.1 meets no.0 no.1 no.2
+    (subst (λ (m : Machine). MayDraw m 1) (sym c.k.view_is) c.requires.numbers) in
     let n : KernelContent = record {
       world = c.finish.new.w;
       owns = c.finish.new.owns.items;
@@ -345,7 +414,8 @@ returns-clause-event g c =
     let own = own_there k u c.k.invariant known x here in
     let meets = c.meet_in-met.ensures (runs_at k u c.k.invariant known here.segment here.is_top).own own top.0 top.1 in
     let no = c.rests.ensures.no c.if-rests.false in
-    let ready = ready_so k x c.k.invariant known here top.0 c.meet_in-met.result top.1 meets no.0 no.1 no.2 (subst (λ (m : Machine). MayDraw m 1) (sym c.k.view_is) c.requires.numbers) in
+    let ready = ready_so k x c.k.invariant known here top.0 c.meet_in-met.result top.1 meets no.0 no.1 no.2
+    (subst (λ (m : Machine). MayDraw m 1) (sym c.k.view_is) c.requires.numbers) in
     let n : KernelContent = record {
       world = c.finish.new.w;
       owns = c.finish.new.owns.items;
@@ -363,3 +433,31 @@ returns-clause-event g c =
     let there : Steps c.args.k.now c.args.t (started.0 ++ on.0) (kernel_machine n) =
     subst (λ (m : Machine). Steps m c.args.t (started.0 ++ on.0) (kernel_machine n)) c.k.view_is by_thread in
     ((started.0 ++ on.0), (on.1 a started.0 started.1), there)
+
+pub returns-clause-resting : goal.returns-clause-resting
+returns-clause-resting g c =
+    let k : KernelContent = record {
+      world = c.k.inside.world;
+      owns = c.k.inside.owns.items;
+      shared = c.k.inside.shared;
+      heap = g.H.ObjectStore.content c.k.inside.heap;
+      frames = g.F.SegmentFrames.content c.k.inside.frames;
+      main_kind = c.k.inside.main_kind;
+    } in
+    let known : IsKnownMachine (kernel_machine k) = subst IsKnownMachine (sym c.k.view_is) c.requires.known in
+    let x = c.in-Some.running in
+    let is = c.in-Some.ensures.some in
+    let here = running_there k c.args.t x is in
+    let u = x.runs.thread in
+    let top = top_there k u c.k.invariant known x here in
+    let own = own_there k u c.k.invariant known x here in
+    let meets = c.meet_in-met.ensures (runs_at k u c.k.invariant known here.segment here.is_top).own own top.0 top.1 in
+    let no = c.rests.ensures.no c.if-rests.false in
+    let ready = ready_so k x c.k.invariant known here top.0 c.meet_in-met.result top.1 meets no.0 no.1 no.2
+    (subst (λ (m : Machine). MayDraw m 1) (sym c.k.view_is) c.requires.numbers) in
+    let never : IsResting c.args.k.now c.args.t → ⊥ =
+    λ rests.
+    never_rests k u ready.at ready.may c.first_rule_of_a_step_applies.ensures.pays
+    (subst (λ (v : ThreadNo). IsResting (kernel_machine k) v) (sym (same_thread k c.args.t c.k.invariant known x is))
+    (subst (λ (m : Machine). IsResting m c.args.t) (sym c.k.view_is) rests)) in
+    step_taken (IsResting c.args.k.now c.args.t) never

@@ -1,5 +1,5 @@
 -- The steps that were done are turns, and the rest of them are there.
-use Rattle.std.proofs.Common.{◌≡◌, ℕ, ◌+◌, ◌<◌, ◌≤◌, Bool, Result, [], Ok, false, nat_lt, refl, ap, sym, subst, ◌∙◌, arith}
+use Rattle.std.proofs.Common.{◌≡◌, ℕ, ◌+◌, ◌<◌, ◌≤◌, Bool, Result, [], Ok, false, true≢false, nat_lt, refl, ap, sym, subst, ◌∙◌, arith}
 use Rattle.std.proofs.lemmas.Bool.{ltb-false}
 use Rattle.std.proofs.lemmas.Result.{err_from_is_err_and}
 use Rattle.jk_model.specs.declared.identifiers.ThreadNo.{ThreadNo}
@@ -8,7 +8,10 @@ use Rattle.jk_model_runs.specs.Steps.{Steps}
 use Rattle.jk_outside.specs.declared.sinks.SinkFailed.{SinkFailed}
 use Rattle.kernel_events.specs.PrintedLines.{SinkState}
 use Rattle.kernel_events.proofs.NumbersOfEvents.{rises_more}
+use Rattle.kernel_turns.specs.RestingThreads.{IsResting}
+use Rattle.kernel_turns.proofs.RestsTold.{failed_or_not, sink_failed, step_taken}
 use Rattle.jk_kernel.proofs.NumbersLeft.{counts_of, may_draw}
+use Rattle.jk_kernel.proofs.RestingTurns.{none_taken, still_rests}
 use Rattle.jk_kernel.proofs.TurnsSoFar.{failed_rises, rests_on, went_all, went_failed, went_more, went_none, went_nowhere, went_on, went_rest, went_rises}
 use Rattle.jk_kernel.proofs.kernel.Kernel.turns.Goals as goal
 
@@ -21,12 +24,16 @@ same_answer e = cc
 not_above : (n : ℕ) → nat_lt 0 n ≡ false → n ≡ 0
 not_above n e = omega (arith, ltb-false 0 n e)
 
+-- that so many steps are some
+abbrev above_none : ℕ → Result Bool SinkFailed
+above_none n = Ok (nat_lt 0 n)
+
 pub loop-done-init : goal.loop-done-init
 loop-done-init g c =
     let t : ThreadNo = record { 0 = c.args.thread } in
     let a : SinkState =
     record { bytes = g.S.Sink.bytes c.args.out.now; pieces = g.S.Sink.pieces c.args.out.now; faults = g.S.Sink.faults c.args.out.now } in
-    (went_none t c.args.self.now a (g.met.S.Sink.faults_fit c.args.out.now) c.is_sound.ensures, omega arith)
+    (went_none t c.args.self.now a (g.met.S.Sink.faults_fit c.args.out.now) c.is_sound.ensures, omega arith, λ _. refl)
 
 pub returns-then-done-steps-clause-event : goal.returns-then-done-steps-clause-event
 returns-then-done-steps-clause-event g c =
@@ -56,6 +63,23 @@ returns-then-done-steps-clause-counts g c =
     let went = went_on t l.done c.steps_alone.result m l.self mid a b l.invariant.0 c.steps_alone.ensures.event c.steps_alone.ensures.sound.1 in
     let few : done ≤ c.args.steps = omega (arith, c.steps_alone.ensures.few, c.loop-done-test.true) in
     counts_of m mid c.args.steps (rises_more m mid done c.args.steps few (went_rises c.numbers_rise.ensures t done m mid a b went))
+
+pub returns-then-done-steps-clause-resting : goal.returns-then-done-steps-clause-resting
+returns-then-done-steps-clause-resting g c =
+    λ some.
+    let t : ThreadNo = record { 0 = c.args.thread } in
+    let a : SinkState =
+    record { bytes = g.S.Sink.bytes c.args.out.now; pieces = g.S.Sink.pieces c.args.out.now; faults = g.S.Sink.faults c.args.out.now } in
+    let b : SinkState =
+    record { bytes = g.S.Sink.bytes c.loop-done.out; pieces = g.S.Sink.pieces c.loop-done.out; faults = g.S.Sink.faults c.loop-done.out } in
+    let l = c.loop-done in
+    let m = c.args.self.now in
+    let mid = c.steps_alone.new.self in
+    let done = l.done + c.steps_alone.result in
+    let went = went_on t l.done c.steps_alone.result m l.self mid a b l.invariant.0 c.steps_alone.ensures.event c.steps_alone.ensures.sound.1 in
+    let idle : IsResting m t → done ≡ 0 =
+    none_taken t l.done c.steps_alone.result m l.self a b l.invariant.0 l.invariant.2 c.steps_alone.ensures.resting in
+    step_taken (IsResting m t) (λ rests. omega (arith, some, idle rests, c.if-done-steps.true))
 
 pub step-requires : goal.step-requires
 step-requires g c =
@@ -115,6 +139,25 @@ returns-in_err-step-clause-counts g c =
     let event = c.in_err-step.ensures.event in
     counts_of m next c.args.steps
     (failed_rises c.numbers_rise.ensures t done c.args.steps m mid next a b event.0 less went event.2 c.step.ensures.sound.1)
+
+pub returns-in_err-step-clause-resting : goal.returns-in_err-step-clause-resting
+returns-in_err-step-clause-resting g c =
+    λ some.
+    let t : ThreadNo = record { 0 = c.args.thread } in
+    let a : SinkState =
+    record { bytes = g.S.Sink.bytes c.args.out.now; pieces = g.S.Sink.pieces c.args.out.now; faults = g.S.Sink.faults c.args.out.now } in
+    let b : SinkState =
+    record { bytes = g.S.Sink.bytes c.loop-done.out; pieces = g.S.Sink.pieces c.loop-done.out; faults = g.S.Sink.faults c.loop-done.out } in
+    let l = c.loop-done in
+    let m = c.args.self.now in
+    let mid = c.steps_alone.new.self in
+    let done = l.done + c.steps_alone.result in
+    let went = went_on t l.done c.steps_alone.result m l.self mid a b l.invariant.0 c.steps_alone.ensures.event c.steps_alone.ensures.sound.1 in
+    let idle : IsResting m t → done ≡ 0 =
+    none_taken t l.done c.steps_alone.result m l.self a b l.invariant.0 l.invariant.2 c.steps_alone.ensures.resting in
+    let failed = err_from_is_err_and c.from_residual.result c.from_residual.ensures.1 in
+    sink_failed (IsResting m t) c.from_residual.result failed.0 failed.1
+    (λ rests. failed_or_not c.in_err-step.field-0.0 (c.in_err-step.ensures.resting.1 (still_rests t done m mid a b went idle rests)))
 
 pub returns-then-not-branch-clause-event : goal.returns-then-not-branch-clause-event
 returns-then-not-branch-clause-event g c =
@@ -184,6 +227,27 @@ returns-then-not-branch-clause-counts g c =
     let all = went_rest t (done + 1) c.args.steps m next a out (omega (arith, less)) more still in
     counts_of m next c.args.steps (went_rises c.numbers_rise.ensures t c.args.steps m next a out all)
 
+pub returns-then-not-branch-clause-resting : goal.returns-then-not-branch-clause-resting
+returns-then-not-branch-clause-resting g c =
+    λ some.
+    let t : ThreadNo = record { 0 = c.args.thread } in
+    let a : SinkState =
+    record { bytes = g.S.Sink.bytes c.args.out.now; pieces = g.S.Sink.pieces c.args.out.now; faults = g.S.Sink.faults c.args.out.now } in
+    let b : SinkState =
+    record { bytes = g.S.Sink.bytes c.loop-done.out; pieces = g.S.Sink.pieces c.loop-done.out; faults = g.S.Sink.faults c.loop-done.out } in
+    let l = c.loop-done in
+    let m = c.args.self.now in
+    let mid = c.steps_alone.new.self in
+    let done = l.done + c.steps_alone.result in
+    let went = went_on t l.done c.steps_alone.result m l.self mid a b l.invariant.0 c.steps_alone.ensures.event c.steps_alone.ensures.sound.1 in
+    let idle : IsResting m t → done ≡ 0 =
+    none_taken t l.done c.steps_alone.result m l.self a b l.invariant.0 l.invariant.2 c.steps_alone.ensures.resting in (
+      λ is.
+          let none : mid ≡ m = went_nowhere t done m mid a b (not_above done (same_answer is)) went in
+          subst (λ (x : Machine). IsResting x t) none (c.in_ok-step.ensures.resting.0 (ap Ok c.if-not-branch.true)),
+      λ rests. ap above_none (idle rests),
+    )
+
 pub loop-done-preserved : goal.loop-done-preserved
 loop-done-preserved g c =
     let t : ThreadNo = record { 0 = c.args.thread } in
@@ -201,7 +265,14 @@ loop-done-preserved g c =
     record { bytes = g.S.Sink.bytes c.step.new.out; pieces = g.S.Sink.pieces c.step.new.out; faults = g.S.Sink.faults c.step.new.out } in
     let next = c.step.new.self in
     let event = c.in_ok-step.ensures.event in
-    (went_more t done m mid next a b out event.0 went event.1 event.2 c.step.ensures.sound.1, omega (arith, less))
+    let idle : IsResting m t → done ≡ 0 =
+    none_taken t l.done c.steps_alone.result m l.self a b l.invariant.0 l.invariant.2 c.steps_alone.ensures.resting in (
+      went_more t done m mid next a b out event.0 went event.1 event.2 c.step.ensures.sound.1,
+      omega (arith, less),
+      λ rests.
+          let told = same_answer (c.in_ok-step.ensures.resting.1 (still_rests t done m mid a b went idle rests)) in
+          absurd (true≢false (sym c.if-not-branch.false ∙ told)),
+    )
 
 pub returns-clause-event : goal.returns-clause-event
 returns-clause-event g c =
@@ -225,3 +296,10 @@ returns-clause-counts g c =
     counts_of c.args.self.now l.self c.args.steps
     (rises_more c.args.self.now l.self l.done c.args.steps l.invariant.1
     (went_rises c.numbers_rise.ensures t l.done c.args.self.now l.self a b l.invariant.0))
+
+pub returns-clause-resting : goal.returns-clause-resting
+returns-clause-resting g c =
+    λ some.
+    let l = c.loop-done in
+    let all : l.done ≡ c.args.steps = omega (arith, l.invariant.1, c.loop-done-test.false) in
+    step_taken (IsResting c.args.self.now (record { 0 = c.args.thread })) (λ rests. omega (arith, some, l.invariant.2 rests, all))
