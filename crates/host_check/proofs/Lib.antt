@@ -1,0 +1,2 @@
+-- Lemmas on the numbers that a host's calls draw.
+pub mod NumbersOfCalls

@@ -1,0 +1,16 @@
+-- A start draws few numbers.
+use Rattle.std.proofs.Common.{◌≤◌, arith}
+use Rattle.host_check.proofs.NumbersOfCalls.{draws_fewer, few_in_more}
+use Rattle.host_check.proofs.host_tests.expect_loss.Goals as goal
+
+fits : 1000 ≤ 16000
+fits = omega arith
+
+more_fits : 1900000 ≤ 2000000
+more_fits = omega arith
+
+pub start-told-requires : goal.start-told-requires
+start-told-requires g c = few_in_more 1900000 2000000 c.args.kernel.now more_fits c.requires
+
+pub returns : goal.returns
+returns g c = draws_fewer 1000 16000 c.args.kernel.now c.start-told.new.kernel fits c.start-told.ensures
