@@ -1,11 +1,11 @@
-//! The kernel's calls, as a host makes them that has no script.
+//! The kernel's `rounds`, as a host calls it that has no script. Its other calls are tested in `host_check`.
 
 ghost use Rattle.std.specs.Prelude.{◌≡◌, ◌+◌, ◌≤◌, IfOk};
 
 use crate::test_classes::SHORT_HELLO;
 use frame_store::PlainFrames;
-use jk_kernel::{AddAnswer, Kernel};
-use jk_model::{DomainId, OutOfMemory, Place, Quotas, Rule};
+use jk_kernel::Kernel;
+use jk_model::{DomainId, OutOfMemory, Quotas};
 use jk_outside::{MemoryFiles, MemorySink, SinkFailed};
 use jkasm::assemble;
 use plain_store::PlainStore;
@@ -39,7 +39,7 @@ fn tree(rt: &impl Abort, alloc: Global, path: &str) -> Result<MemoryFiles, OutOf
     Ok(files)
 }
 
-/// A kernel with no domain, and one with the domain of this tree.
+/// A kernel with the domain of this tree.
 fn with_domain(
     rt: &impl Abort,
     alloc: Global,
@@ -49,10 +49,6 @@ fn with_domain(
     ensures segment { IfOk result (λ k. k.next_segment ≡ 1) }
 {
     let mut kernel = Kernel::new(alloc, PlainStore::new(alloc), PlainFrames::new(alloc))?;
-    match kernel.add_domain(files, "root", "b", QUOTAS) {
-        Err(AddAnswer::Refused(rule, Place::Whole)) => assert!(rt; rule == Rule::L2),
-        _ => assert!(rt; false, "a folder that isn't there is a domain"),
-    }
     match kernel.add_domain(files, "root", "a", QUOTAS) {
         Ok(number) => assert!(rt; number == DomainId(0)),
         Err(_) => assert!(rt; false, "the folder is refused"),
@@ -69,30 +65,9 @@ fn begin(kernel: &mut PlainKernel, out: &mut MemorySink) -> Result<(), SinkFaile
     kernel.start(b"a", b"Hello", &[], out)
 }
 
-/// A first thread, until its line is out: its sixth step prints.
-fn print_first(
-    rt: &impl Abort,
-    kernel: &mut PlainKernel,
-    out: &mut MemorySink,
-) -> Result<(), SinkFailed>
-    requires { (kernel.old.next_thread ≤ 10) × (kernel.old.next_segment ≤ 10) }
-    ensures thread { kernel.new.next_thread ≤ 1 + kernel.old.next_thread }
-    ensures segment { kernel.new.next_segment ≤ 10 + kernel.old.next_segment }
-{
-    assert!(rt; kernel.next_live(0).is_none());
-    begin(kernel, out)?;
-    assert!(rt; kernel.next_live(0) == Some(1));
-    assert!(rt; kernel.next_live(1).is_none());
-    kernel.turn(1, out)?;
-    let changed = kernel.turns(1, 4, out)?;
-    assert!(rt; changed);
-    assert!(rt; out.bytes() == b"* thread 1 started in a\n".as_slice());
-    kernel.turn(1, out)
-}
-
-/// A second thread beside it, until both have ended. The first has its return left, and the second finds its class ready: after one step
-/// for the need that falls it has four.
-fn end_both(
+/// Two threads, in two rounds of three steps and then in one of a hundred. The first takes three steps until its `main` begins. By then its
+/// class is ready, and so the second has one step for the need that falls. Four instructions follow in each; the third prints.
+fn give_rounds(
     rt: &impl Abort,
     kernel: &mut PlainKernel,
     out: &mut MemorySink,
@@ -100,27 +75,27 @@ fn end_both(
     requires { (kernel.old.next_thread ≤ 20) × (kernel.old.next_segment ≤ 20) }
 {
     begin(kernel, out)?;
-    assert!(rt; kernel.next_live(0) == Some(1));
-    assert!(rt; kernel.next_live(1) == Some(2));
-    kernel.turn(1, out)?;
-    kernel.turn(1, out)?;
-    assert!(rt; kernel.next_live(0) == Some(2));
+    begin(kernel, out)?;
     kernel.rounds(2, 3, out)?;
-    assert!(rt; kernel.next_live(0).is_none());
+    assert!(rt;
+        out.bytes()
+            == b"* thread 1 started in a\n* thread 2 started in a\na: Hello\na: Hello\n* thread 2 ended\n".as_slice()
+    );
+    assert!(rt; kernel.next_live(0) == Some(1));
+    assert!(rt; kernel.next_live(1).is_none());
     kernel.rounds(1, 100, out)
 }
 
 #[test]
-fn a_host_runs_two_threads(rt: HostRuntime) -> Result<(), Fail> {
+fn a_host_gives_rounds(rt: HostRuntime) -> Result<(), Fail> {
     let mut files = tree(&rt, rt.alloc(), "root/a/Hello.class")?;
     let mut out = MemorySink::with_room(rt.alloc(), 1000, &[])?;
     let mut kernel = with_domain(&rt, rt.alloc(), &mut files)?;
-    print_first(&rt, &mut kernel, &mut out)?;
-    assert!(rt; out.bytes() == b"* thread 1 started in a\na: Hello\n".as_slice());
-    end_both(&rt, &mut kernel, &mut out)?;
+    give_rounds(&rt, &mut kernel, &mut out)?;
+    assert!(rt; kernel.next_live(0).is_none());
     assert!(rt;
         out.bytes()
-            == b"* thread 1 started in a\na: Hello\n* thread 2 started in a\n* thread 1 ended\na: Hello\n* thread 2 ended\n".as_slice()
+            == b"* thread 1 started in a\n* thread 2 started in a\na: Hello\na: Hello\n* thread 2 ended\n* thread 1 ended\n".as_slice()
     );
     Ok(())
 }

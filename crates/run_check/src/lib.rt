@@ -1,5 +1,5 @@
-//! Whole runs over files and sinks in memory, and the kernel's calls as a host makes them: what is printed beside what the words of the
-//! script's grammar and of the rules ask for. The crate has tests alone.
+//! Whole runs over files and sinks in memory with what `case_check` can't say: other words than a root and a script, reads and writes that
+//! fail, and the demo; and the kernel's `rounds`, as a host calls it. The crate has tests alone.
 #![tactic(auto)]
 
 #[cfg(test)]
