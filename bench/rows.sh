@@ -1,4 +1,4 @@
-# What bench/run, bench/hostile and bench/objects share, which source it: the rows of their tables, and how they end.
+# What bench/run and the scripts that it calls share, which source it: the rows of their tables, and how they end.
 # shellcheck shell=bash disable=SC2034,SC2154
 
 # 1 where a bound is not kept.
