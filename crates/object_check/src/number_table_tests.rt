@@ -44,9 +44,9 @@ fn take_out(rt: &impl Abort, table: &mut NumberTable, key: u64, slot: u32) {
 #[test]
 fn keys_come_and_go(rt: HostRuntime) -> Result<(), Fail> {
     let mut table = NumberTable::make(rt.alloc(), 8)?;
-    for (key, slot) in KEYS.iter().zip(0..8) {
-        assert!(rt; table.room() == 8 - slot as usize);
-        enter(&rt, &mut table, *key, slot);
+    for (i, key) in KEYS.iter().enumerate() {
+        assert!(rt; table.room() == 8 - i);
+        enter(&rt, &mut table, *key, i as u32);
     }
     assert!(rt; table.get(2) == None);
     assert!(rt; table.get(40) == None);
