@@ -18,6 +18,14 @@ start_draws m start new lines (Starts.many_words h few many) = record { threads 
 start_draws m start new lines (Starts.few_chunks h few fit lacks) = record { threads = omega arith; segments = omega arith }
 start_draws m start new lines (Starts.begins h few fit heap words frame is) = record { threads = omega arith; segments = omega arith }
 
+pub threads_drawn : (m : Machine) (start : StartWords) (new : Machine) (lines : List Line) → Starts m start lines new
+    → new.next_thread ≤ 1 + m.next_thread
+threads_drawn m start new lines h = (start_draws m start new lines h).threads
+
+pub segments_drawn : (m : Machine) (start : StartWords) (new : Machine) (lines : List Line) → Starts m start lines new
+    → new.next_segment ≤ 1 + m.next_segment
+segments_drawn m start new lines h = (start_draws m start new lines h).segments
+
 pub draws_fewer : (n most : ℕ) (m new : Machine) → n ≤ most → Draws n m new → Draws most m new
 draws_fewer n most m new fewer h =
     let threads = h.threads in

@@ -8,3 +8,5 @@ mod guests;
 mod host;
 #[cfg(test)]
 mod host_tests;
+#[cfg(test)]
+mod round_tests;

@@ -1,4 +1,4 @@
-//! The classes of the tests' folders, as a class file and as an assembler's text.
+//! The class of the tests' folders, as a class file.
 
 /// `Hello`, whose `main` prints "Hello".
 pub(crate) const HELLO: [u8; 321] = [
@@ -24,12 +24,3 @@ pub(crate) const HELLO: [u8; 321] = [
     0x00, 0x09, 0xb2, 0x00, 0x0c, 0x12, 0x12, 0xb6, 0x00, 0x13, 0xb1, 0x00, 0x00, 0x00, 0x00, 0x00,
     0x00,
 ];
-
-/// `Hello`, whose `main` has four instructions.
-pub(crate) const SHORT_HELLO: &[u8] = b"class 0021 Hello java/lang/Object
-method 0009 main ([Ljava/lang/String;)V 2 1
-        getstatic java/lang/System out Ljava/io/PrintStream;
-        ldc_w text \"Hello\"
-        invokevirtual java/io/PrintStream println (Ljava/lang/String;)V
-        return
-end";

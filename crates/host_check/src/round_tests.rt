@@ -1,8 +1,7 @@
-//! The kernel's `rounds`, as a host calls it that has no script. Its other calls are tested in `host_check`.
+//! The kernel's `rounds`, as a host calls it that has no script.
 
 ghost use Rattle.std.specs.Prelude.{◌≡◌, ◌+◌, ◌≤◌, IfOk};
 
-use crate::test_classes::SHORT_HELLO;
 use frame_store::PlainFrames;
 use jk_kernel::Kernel;
 use jk_model::{DomainId, OutOfMemory, Quotas};
@@ -12,6 +11,15 @@ use plain_store::PlainStore;
 use std::alloc::Global;
 use std::process::Abort;
 use std::test::Fail;
+
+/// `Hello`, whose `main` has four instructions.
+const HELLO: &[u8] = b"class 0021 Hello java/lang/Object
+method 0009 main ([Ljava/lang/String;)V 2 1
+        getstatic java/lang/System out Ljava/io/PrintStream;
+        ldc_w text \"Hello\"
+        invokevirtual java/io/PrintStream println (Ljava/lang/String;)V
+        return
+end";
 
 /// A kernel over objects and frames in vectors.
 type PlainKernel = Kernel<PlainStore, PlainFrames>;
@@ -29,7 +37,7 @@ const QUOTAS: Quotas = Quotas {
 /// A tree with one class in a folder.
 fn tree(rt: &impl Abort, alloc: Global, path: &str) -> Result<MemoryFiles, OutOfMemory> {
     let mut files = MemoryFiles::new(alloc);
-    match assemble(alloc, SHORT_HELLO) {
+    match assemble(alloc, HELLO) {
         Ok(class) => {
             assert!(rt; files.is_addable(path));
             files.add(path, class.as_slice())?;

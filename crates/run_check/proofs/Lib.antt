@@ -1,2 +1,0 @@
--- Lemmas on the numbers that starts draw.
-pub mod StartsDrawn
