@@ -47,3 +47,15 @@ count_of() {
     counted=$(awk '/ I +refs: / { gsub(",", ""); print $NF }' "$room/log")
     [ -n "$counted" ] || stop "cachegrind said nothing of the run of $2 on $1"
 }
+
+# count_inside ROOT SCRIPT FUNCTION..: sets `counted` to the instructions that such a run takes inside these functions and what they call. A
+# function is named as it stands in the program, up to its type parameters.
+count_inside() {
+    local root=$1 script=$2
+    shift 2
+    valgrind --tool=callgrind --callgrind-out-file=/dev/null --log-file="$room/log" "${@/#/--toggle-collect=}" \
+        "$program" "$root" "$script" </dev/null >"$room/out" 2>"$room/err" ||
+        stop "the run of $script on $root ended with status $?: $(head -n 1 "$room/err")"
+    counted=$(awk '/ Collected : / { print $NF }' "$room/log")
+    [ "${counted:-0}" -gt 0 ] || stop "callgrind saw none of $* in the run of $script on $root"
+}

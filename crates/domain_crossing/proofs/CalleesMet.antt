@@ -1,7 +1,6 @@
 -- What code finds that a call through a capability runs is the target of the call, and what it finds in its place refuses the call.
-use Rattle.std.proofs.Common.{◌≡◌, ℕ, ◌-◌, ◌==◌, inl, inr, false, true, IsTrue, List, Contains, find, slice_get, Option, Some, None, Ok, Err, refl, sym, ap, subst, ◌∙◌}
+use Rattle.std.proofs.Common.{◌≡◌, ℕ, ◌-◌, inl, inr, false, true, IsTrue, List, Contains, find, slice_get, Option, Some, None, Ok, Err, refl, sym, ap, subst, ◌∙◌}
 use Rattle.std.specs.Prelude.{option_and_then}
-use Rattle.std.proofs.lemmas.Bool.{eqb-true}
 use Rattle.std.proofs.lemmas.Option.{same_Some}
 use Rattle.jk_model.specs.Flags.{has, PUBLIC}
 use Rattle.jk_model.specs.declared.frames.FrameHead.{FrameHead}
@@ -14,15 +13,12 @@ use Rattle.jk_model.specs.declared.steps.Raise.{Raise}
 use Rattle.jk_model.specs.declared.steps.Raise.TheVariants as Raised
 use Rattle.jk_model_classes.specs.declared.records.ClassRecord.{ClassRecord}
 use Rattle.jk_model_classes.specs.declared.records.MethodRecord.{MethodRecord}
-use Rattle.jk_model_classes.specs.declared.sharing.Stub.{Stub}
 use Rattle.jk_model_classes.specs.Classes.{superclasses}
 use Rattle.jk_model_classes.specs.Lookups.{FindsOn, IsUnlessAbstract, MethodIs, RunsFor, Selects}
 use Rattle.class_lemmas.proofs.OneMember.{one_on}
 use Rattle.class_lemmas.proofs.OneRecord.{one_method}
 use Rattle.jk_model_heaps.specs.CalledFrames.{call_head}
 use Rattle.jk_model_heaps.specs.Capabilities.{CapRange, Capability, OwnedCapability, capability_in, capability_numbered, has_number}
-use Rattle.jk_model_sharing.specs.SharedStates.{SharedDomain, SharedState, stub_for}
-use Rattle.jk_model_sharing.specs.SharedStates.{caps_of as shared_caps}
 use Rattle.jk_model_machine_state.specs.Machines.{DomainState, Machine, caps_of}
 use Rattle.jk_model_machine_state.specs.Places.{LiveDomain}
 use Rattle.jk_model_crossings.specs.RemoteCalls.{HasTarget, IsLive, IsOpen, Refuses, RemoteCall}
@@ -31,7 +27,6 @@ use Rattle.list_lemmas.proofs.FoundItems.{Finds, finds}
 use Rattle.list_lemmas.proofs.ItemsByPlace.{comes_from}
 use Rattle.list_lemmas.proofs.ItemsOfLists.{Contains-at}
 use Rattle.list_lemmas.proofs.TestsAndOrders.{mapped_option}
-use Rattle.machine_parts.specs.FittingParts.{HaveStubs}
 use Rattle.domain_crossing.specs.declared.callees.Callee.{Callee}
 use Rattle.domain_crossing.specs.CalleesFound.{FindsCallee, FindsHead}
 
@@ -81,15 +76,6 @@ created caps k known is = by (find (has_number k) caps) (finds (has_number k) ca
           made = subst (Contains r.made) (ap (λ (x : OwnedCapability). x.capability) c.2) (Contains-at r.made (k.0 - r.first) c.0 c.1);
           owner = ap (λ (x : OwnedCapability). x.owner) c.2;
         }
-
--- it has a stub
-pub stub_made : (classes : List ClassRecord) (s : SharedState) (k : CapId) (known : OwnedCapability) → HaveStubs classes s
-    → capability_numbered (shared_caps s) k ≡ Some known → (stub : Stub) × (stub_for s known.capability.class ≡ Some stub)
-stub_made classes s k known have is =
-    let at = created (shared_caps s) k known is in
-    let from = comes_from (λ (e : SharedDomain). e.caps) s.domains at.place at.range at.is_range in
-    have.made from.from known.capability (Contains-at s.domains at.place from.from from.there)
-    (subst (λ (r : CapRange). Contains r.made known.capability) (sym from.gives) at.made)
 
 -- where it isn't revoked, its owner lives
 pub owner_lives : (m : Machine) → IsSealed m → (k : CapId) (known : OwnedCapability) → capability_numbered (caps_of m) k ≡ Some known
@@ -198,14 +184,3 @@ selected_is classes receiver m target h = by h.0 h.1 h.2
     by (Some n) f (inr e) =
         subst (λ (x : MemberId). (method : MethodRecord) × MethodIs classes x method) (sym (same_Some target n e.1))
         (f.member.suits.other_method, f.member.suits.other_is)
-
--- a stub is of the class for which it is looked up
-pub stub_class : (s : SharedState) (c : ClassId) (stub : Stub) → stub_for s c ≡ Some stub → stub.class ≡ c
-stub_class s c stub is = by (stub_for s c) (finds (λ (e : Stub). e.class.0 == c.0) s.stubs) is
-  where
-    by : (o : Option Stub) → Finds (λ (e : Stub). e.class.0 == c.0) s.stubs o → o ≡ Some stub → stub.class ≡ c
-    by None h e = absurd cc
-    by (Some x) h e =
-        let same : x ≡ stub = same_Some x stub e in
-        let number : x.class.0 ≡ c.0 = eqb-true x.class.0 c.0 h.2 in
-        ap (λ (y : Stub). y.class) (sym same) ∙ (λ i. record { 0 = number i })

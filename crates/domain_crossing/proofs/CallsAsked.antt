@@ -6,11 +6,10 @@ use Rattle.jk_model.specs.declared.identifiers.MemberId.{MemberId}
 use Rattle.jk_model.specs.declared.identifiers.SegmentNo.{SegmentNo}
 use Rattle.jk_model.specs.declared.identifiers.ThreadNo.{ThreadNo}
 use Rattle.jk_model.specs.declared.steps.Raise.{Raise}
-use Rattle.jk_model_classes.specs.declared.sharing.Stub.{Stub}
 use Rattle.jk_model_classes.specs.Lookups.{MethodIs}
 use Rattle.jk_model_domains.specs.OwnStates.{OwnState}
 use Rattle.jk_model_heaps.specs.Capabilities.{IsGivenOut, OwnedCapability, capability_numbered}
-use Rattle.jk_model_sharing.specs.SharedStates.{SharedState, caps_of, stub_for}
+use Rattle.jk_model_sharing.specs.SharedStates.{SharedState, caps_of}
 use Rattle.jk_model_crossings.specs.RemoteCalls.{RemoteCall}
 use Rattle.object_store.specs.HeapContents.{HeapContent, IsSame}
 use Rattle.frame_store.specs.FrameContents.{FrameContent}
@@ -28,7 +27,7 @@ use Rattle.domain_crossing.specs.Crossings.{CrossesSo}
 use Rattle.domain_crossing.specs.EnteringCalls.{CopiesFitLocals, EntersSo, MayArriveAt, enters, has_no_chunks, has_no_room, is_uncopied}
 use Rattle.domain_crossing.specs.MovedArguments.{StandsToCall}
 use Rattle.domain_crossing.specs.PassedValues.{Crossing}
-use Rattle.domain_crossing.proofs.CalleesMet.{MayRun, refused, runs_so, stub_made}
+use Rattle.domain_crossing.proofs.CalleesMet.{MayRun, refused, runs_so}
 use Rattle.domain_crossing.proofs.CallsEnter.{as_before, call_at, callee_of, copies_fit, crosses, fits_in, home, is_known, may_arrive, may_copy, number}
 use Rattle.domain_crossing.proofs.CallsEnter.{x as crossing_of}
 
@@ -41,10 +40,6 @@ module _ (p : MachineParts) (t : ThreadNo) (k : CapId) (method : MemberId) (may 
 
   pub given_out : IsGivenOut (caps_of p.shared) k
   given_out = (c.known, known_by)
-
-  pub has_stub : (known : OwnedCapability) → capability_numbered (caps_of p.shared) k ≡ Some known
-      → (stub : Stub) × (stub_for p.shared known.capability.class ≡ Some stub)
-  has_stub known is = stub_made p.world.classes p.shared k known may.cross.fitting.stubs is
 
   -- ---- What is found.
 

@@ -42,6 +42,7 @@ pub(crate) fn entries<F: FrameStore>(frames: &F, s: SegmentNo, count: u16) -> Ar
 }
 
 /// Begins a segment of the callee's owner, whose frame has the target in its first local. There are chunks enough.
+#[inline(always)]
 pub(crate) fn begin<F: FrameStore>(frames: &mut F, n: SegmentNo, callee: &Callee)
     requires admitted { IsAdmitted (F.content frames.old) callee.now.owner }
     requires new { (F.content frames.old).segment n ≡ None }

@@ -1,10 +1,9 @@
 //! What a call through a capability runs.
 
 ghost use Rattle.std.specs.Prelude.{◌≡◌, ◌↔◌, IsTrue, Some};
-ghost use Rattle.jk_model_classes.specs.declared.sharing.Stub.{Stub as AStub};
 ghost use Rattle.jk_model_classes.specs.Stubs.{IsRemoteInterfaceOf};
 ghost use Rattle.jk_model_heaps.specs.Capabilities.{IsGivenOut, OwnedCapability, capability_numbered};
-ghost use Rattle.jk_model_sharing.specs.SharedStates.{caps_of, stub_for};
+ghost use Rattle.jk_model_sharing.specs.SharedStates.{caps_of};
 ghost use Rattle.domain_crossing.specs.CalleesFound.{FindsCallee, FindsHead};
 
 use call_ops::call_head;
@@ -29,15 +28,14 @@ pub(crate) struct Callee {
 /// What a call of a method through a capability that was given out runs; or what is raised in its place, by the first rule that applies:
 /// the capability is revoked, it doesn't show the interface, its target's class has no such method with code, or that isn't public. It takes
 /// time in proportion to the classes and interfaces above the target's class.
+#[inline(always)]
 pub(crate) fn find_callee(
     w: &World,
     shared: &Shared,
     k: CapId,
     method: MemberId,
 ) -> Result<Callee, Raise>
-    requires given { IsGivenOut (caps_of shared.now) k }
-    requires stub { (c : OwnedCapability) → capability_numbered (caps_of shared.now) k ≡ Some c
-        → (stub : AStub) × (stub_for shared.now c.capability.class ≡ Some stub) }
+    requires { IsGivenOut (caps_of shared.now) k }
     ensures { (c : OwnedCapability) → capability_numbered (caps_of shared.now) k ≡ Some c → FindsCallee w.now.classes c method result }
 {
     let Some(status) = shared.status(k) else {
@@ -46,10 +44,10 @@ pub(crate) fn find_callee(
     if status.revoked {
         return Err(Raise::Standing(Standing::Revoked));
     }
-    let Some(stub) = shared.stub(k) else {
+    let Some(class) = shared.capability_class(k) else {
         unreachable!();
     };
-    match head_of(w.classes(), stub.class, method) {
+    match head_of(w.classes(), class, method) {
         Ok(head) => Ok(Callee {
             owner: status.owner,
             target: status.target,
@@ -61,6 +59,7 @@ pub(crate) fn find_callee(
 
 /// How the frame begins that a call of a method through a capability runs, where the target is of this class; or of which class a
 /// throwable is raised.
+#[inline(always)]
 fn head_of(t: &ClassTable, class: ClassId, method: MemberId) -> Result<FrameHead, ClassId>
     ensures { FindsHead t.now class method result }
 {

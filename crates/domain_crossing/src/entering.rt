@@ -44,6 +44,8 @@ pub(crate) struct Caller {
 /// capability and the arguments have left that frame's stack, and a segment of the capability's owner is on top of the thread, whose
 /// frame has the target and copies of the arguments. Where it is refused, nothing has changed. It takes no memory but the words of the copies,
 /// and time in proportion to what it copies, to the classes above the target's, and to a logarithm of the number of segments.
+// Not inlined, so that `bench/` can count it in the program.
+#[inline(never)]
 pub fn enter<H: ObjectStore, F: FrameStore>(
     heap: &mut H,
     frames: &mut F,
@@ -124,6 +126,7 @@ fn caller_of(w: &World, shared: &Shared, t: ThreadNo, method: MemberId) -> Calle
 }
 
 /// Lets a call enter, unless a copy or the owner's chunks refuse it.
+#[inline(always)]
 fn cross<H: ObjectStore, F: FrameStore>(
     heap: &mut H,
     frames: &mut F,
@@ -155,6 +158,7 @@ fn cross<H: ObjectStore, F: FrameStore>(
 }
 
 /// Lets a call enter with copies of its arguments, unless a copy or the owner's chunks refuse it.
+#[inline(never)]
 fn cross_with_copies<H: ObjectStore, F: FrameStore>(
     heap: &mut H,
     frames: &mut F,
@@ -235,6 +239,7 @@ fn frame_chunks(head: &FrameHead) -> u32
 
 /// Puts a segment of the owner on top of the thread, whose frame has the target and the arguments, or copies of them where there are some;
 /// and takes the capability and the arguments off the caller's stack.
+#[inline(always)]
 fn arrive<F: FrameStore>(
     frames: &mut F,
     shared: &mut Shared,

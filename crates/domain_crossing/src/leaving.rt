@@ -24,6 +24,8 @@ use thread_segments::Shared;
 /// below as a copy, and the frame that called goes on after its call. Where the value doesn't pass, that is raised below; an orphan's is
 /// dropped, and RevokedException is pending below. Where no segment is below, the thread has ended. It takes no memory but the words of
 /// the copies, and time in proportion to what it copies and to a logarithm of the number of segments.
+// Not inlined, so that `bench/` can count it in the program.
+#[inline(never)]
 pub fn leave<H: ObjectStore, F: FrameStore>(
     heap: &mut H,
     frames: &mut F,

@@ -27,6 +27,7 @@ pub(crate) struct Taken {
 }
 
 /// Takes the top segment off a live thread, with its frames. Where it was the only one, the thread has ended.
+#[inline(always)]
 pub(crate) fn take_off<F: FrameStore>(frames: &mut F, shared: &mut Shared, t: ThreadNo) -> Taken
     requires apart { AreApart shared.old.threads }
     requires top { (top : TopStands shared.old.threads t) × IsThere (F.content frames.old) top.segment.number }
@@ -51,6 +52,7 @@ pub(crate) fn take_off<F: FrameStore>(frames: &mut F, shared: &mut Shared, t: Th
 }
 
 /// The segment below the top one of a thread; none below a lowest one.
+#[inline(always)]
 fn segment_below(shared: &Shared, t: ThreadNo, segment: SegmentNo) -> Option<Below>
     requires apart { AreApart shared.now.threads }
     requires top { (top : TopStands shared.now.threads t) × (top.segment.number ≡ segment) }
@@ -67,6 +69,7 @@ fn segment_below(shared: &Shared, t: ThreadNo, segment: SegmentNo) -> Option<Bel
 }
 
 /// The top frame of a segment goes on after its call, with this value, or none, on its stack. The segment is looked up once.
+#[inline(always)]
 pub(crate) fn resume<F: FrameStore>(frames: &mut F, s: SegmentNo, v: Option<Value>)
     requires { TopMayResume (F.content frames.old) s v }
     ensures { (f : AFrame) → TopResumes (F.content frames.old) (F.content frames.new) s f v }

@@ -277,6 +277,7 @@ impl SegmentFrames for PlainFrames {
         Ok(())
     }
 
+    #[inline(always)]
     fn pop(&mut self, s: SegmentNo) {
         self.touch(s);
         let (_, x) = self.domains.pair_mut(self.cursor.domain);
@@ -387,6 +388,7 @@ impl FrameStore for PlainFrames {
         self.domain(d.0).free()
     }
 
+    #[inline(always)]
     fn begin(&mut self, d: DomainId, s: SegmentNo, head: FrameHead) -> Result<(), NoChunks> {
         let domain = self.index_of(d.0);
         // The segment isn't in the table yet, so the cursor may be at it.
@@ -401,15 +403,14 @@ impl FrameStore for PlainFrames {
         Ok(())
     }
 
+    #[inline(always)]
     fn end(&mut self, s: SegmentNo) {
-        let p = self.place(s);
-        // The segment goes from the table, so the cursor may be at it.
-        self.cursor.segment = s.0;
-        if let Some(x) = self.domains.get_mut(&p.domain) {
-            x.end(p.slot);
-            self.places.remove(s.0);
-            self.owed += 1;
-        }
+        self.touch(s);
+        let (_, x) = self.domains.pair_mut(self.cursor.domain);
+        x.end(self.cursor.place.slot);
+        // The segment goes from the table, so the cursor may stay at it.
+        self.places.remove(s.0);
+        self.owed += 1;
     }
 
     fn close(&mut self, d: DomainId) {

@@ -355,7 +355,8 @@ module _ (laws : StepLaws) (t : ThreadNo) where
       × AreKernelParts (worked n at.segment.domain final.own final.heaps final.frames k)
   steps_are_turns zero k at x start last final stands has (none _ _) b =
       let same : StaySame (contents_at at) final =
-      contents_stay (contents_at at) final (here_in k at.segment) start (knows k t at (tidy_so k stands.parts) stands.known.1 (small_numbers (kernel_machine k) stands.known.0.0)) stands.holds b in
+      contents_stay (contents_at at) final (here_in k at.segment) start
+      (knows k t at (tidy_so k stands.parts) stands.known.1 (small_numbers (kernel_machine k) stands.known.0.0)) stands.holds b in
       let parts : worked 0 at.segment.domain final.own final.heaps final.frames k ≡ k =
       λ i. record k {
         owns = (ap (λ (o : KeptState). slice_set k.owns at.segment.domain.0 (Some o)) same.own

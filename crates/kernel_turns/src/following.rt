@@ -28,6 +28,7 @@ use segment_steps::{Runs, Went};
 use thread_segments::Shared;
 
 /// What follows a step, unless the sink failed in it: after that nothing is printed, and the thread goes on.
+#[inline(always)]
 pub(crate) fn finish<H: ObjectStore, F: FrameStore, S: Sink>(
     w: &mut World,
     owns: &mut Vec<Option<Own>>,
@@ -57,6 +58,7 @@ pub(crate) fn finish<H: ObjectStore, F: FrameStore, S: Sink>(
 
 /// What follows a step of a thread's top segment. Where the sink fails, all of it has happened. It takes no memory but the words of copies,
 /// and time in proportion to what it copies, to the frames and segments that are left, and to what a domain that ends has.
+#[inline(always)]
 fn follow<H: ObjectStore, F: FrameStore, S: Sink>(
     w: &mut World,
     owns: &mut Vec<Option<Own>>,
@@ -96,6 +98,7 @@ fn follow<H: ObjectStore, F: FrameStore, S: Sink>(
 }
 
 /// Calls a method through a capability. What is raised where the call is refused is raised in the segment that calls, which is on top still.
+#[inline(always)]
 fn call_across<H: ObjectStore, F: FrameStore>(
     w: &World,
     shared: &mut Shared,

@@ -27,6 +27,7 @@ use thread_segments::Shared;
 
 /// What comes of a thread whose top segment was left, or in whose top segment something is to be raised. What is raised goes down from
 /// segment to segment, and where the thread ends, its line is printed. Where the sink fails, the thread has ended.
+#[inline(always)]
 pub(crate) fn go_down<H: ObjectStore, F: FrameStore, S: Sink>(
     w: &World,
     owns: &mut Vec<Option<Own>>,
@@ -55,6 +56,7 @@ pub(crate) fn go_down<H: ObjectStore, F: FrameStore, S: Sink>(
 }
 
 /// Raises something in the top segment of a thread. Where no frame catches it, what left them all leaves the segment.
+#[inline(never)]
 fn raise_once<H: ObjectStore, F: FrameStore>(
     w: &World,
     owns: &mut Vec<Option<Own>>,
@@ -90,6 +92,7 @@ fn raise_once<H: ObjectStore, F: FrameStore>(
 }
 
 /// Prints how a thread has ended, where it has.
+#[inline(never)]
 fn tell<S: Sink>(w: &World, t: ThreadNo, left: Left, out: &mut S) -> Result<(), SinkFailed>
     requires { IsToldWell w.now.classes left }
     ensures { (after : AList Line)

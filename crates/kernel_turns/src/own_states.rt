@@ -28,6 +28,7 @@ use segment_steps::{Meeting, Runs, Went, act, meet, raise_here};
 use thread_segments::Shared;
 
 /// Where the top frame of a segment of a live domain stands, and what its thread meets there.
+#[inline(always)]
 pub(crate) fn meet_in<'a, F: FrameStore>(
     w: &'a World,
     owns: &Vec<Option<Own>>,
@@ -46,6 +47,7 @@ pub(crate) fn meet_in<'a, F: FrameStore>(
 }
 
 /// One step of a segment of a live domain that acts, as `act`.
+#[inline(always)]
 pub(crate) fn act_in<H: ObjectStore, F: FrameStore, S: Sink>(
     w: &World,
     owns: &mut Vec<Option<Own>>,

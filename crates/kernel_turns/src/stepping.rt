@@ -27,6 +27,7 @@ use thread_segments::Shared;
 
 /// What the top segment of a thread does in one step. The thread isn't held, and its domain has a step left. What is pending is raised, and
 /// else the segment acts. Where the sink fails, it has done so.
+#[inline(always)]
 pub(crate) fn begin<H: ObjectStore, F: FrameStore, S: Sink>(
     w: &World,
     owns: &mut Vec<Option<Own>>,
@@ -54,6 +55,7 @@ pub(crate) fn begin<H: ObjectStore, F: FrameStore, S: Sink>(
 }
 
 /// The step of a thread for whose top segment something is pending: the flag falls, and a throwable is raised.
+#[inline(never)]
 fn raise_pending<H: ObjectStore, F: FrameStore>(
     w: &World,
     owns: &mut Vec<Option<Own>>,
@@ -83,6 +85,7 @@ fn raise_pending<H: ObjectStore, F: FrameStore>(
 }
 
 /// The step of a thread for whose top segment nothing is pending: that acts.
+#[inline(always)]
 fn act_now<H: ObjectStore, F: FrameStore, S: Sink>(
     w: &World,
     owns: &mut Vec<Option<Own>>,

@@ -30,6 +30,7 @@ use thread_segments::Shared;
 /// asks that the thread doesn't wait for a class. A line that the domain says goes out; where the sink fails, the whole step is done, and the
 /// line went out in part. It takes no memory, and time in proportion to what the step touches: to the methods of a class whose initialiser
 /// frame is put on top, and else as the functions of the step crates say.
+#[inline(always)]
 pub fn act<H: ObjectStore, F: FrameStore, S: Sink>(
     w: &World,
     heap: &mut H,
@@ -69,6 +70,7 @@ pub fn act<H: ObjectStore, F: FrameStore, S: Sink>(
 }
 
 /// As `act`, where the class that the top frame needs is ready, or it needs none.
+#[inline(always)]
 fn go_on<H: ObjectStore, F: FrameStore, S: Sink>(
     w: &World,
     heap: &mut H,
@@ -88,10 +90,11 @@ fn go_on<H: ObjectStore, F: FrameStore, S: Sink>(
         (printed result) lines) }
 {
     if met.head.need.is_some() {
-        return Ok(fall(w, heap, frames, own, r, &met.head));
+        let head = met.head;
+        return Ok(fall(w, heap, frames, own, r, &head));
     }
-    match &met.at {
-        Some(at) => execute(w, heap, frames, own, shared, r, at, out),
+    match met.at {
+        Some(at) => execute(w, heap, frames, own, shared, r, &at, out),
         None => unreachable!(),
     }
 }

@@ -28,6 +28,7 @@ use object_store::ObjectStore;
 
 /// The need falls of a top frame with this head, whose class is ready. A frame that initialises a class sets the constant texts of that class
 /// first, or raises an OutOfMemoryError where they don't fit together.
+#[inline(never)]
 pub(crate) fn fall<H: ObjectStore, F: FrameStore>(
     w: &World,
     heap: &mut H,

@@ -29,6 +29,7 @@ use step_contents::{Kind, StandsAt, kind_of};
 use thread_segments::Shared;
 
 /// Does the instruction at which the top frame stands, and what follows it in the segment. The class that it needs is ready.
+#[inline(always)]
 pub(crate) fn execute<H: ObjectStore, F: FrameStore, S: Sink>(
     w: &World,
     heap: &mut H,

@@ -38,6 +38,7 @@ pub struct Meeting<'a> {
 
 /// Where the top frame of a segment stands, and what its thread meets there. Nothing changes, and it takes constant time but for the
 /// search of the class among those of the domain.
+#[inline(always)]
 pub fn meet<'a, F: SegmentFrames>(w: &'a World, own: &Own, frames: &F, r: Runs) -> Meeting<'a>
     requires { HasTop (F.content frames.now) r.segment }
     ensures { (f : AFrame) → TopFrame (F.content frames.now) r.segment f → Meets w.now.classes own.now.state r f result }
@@ -55,6 +56,7 @@ pub fn meet<'a, F: SegmentFrames>(w: &'a World, own: &Own, frames: &F, r: Runs) 
 }
 
 /// The class that a frame with this head needs before it goes on, where it stands there: by its need, or else by its instruction.
+#[inline(always)]
 fn class_needed(head: &FrameHead, at: &Option<StandsAt<'_>>) -> Option<ClassId>
     ensures { (classes : AList AClassRecord) (f : AFrame) → f.head ≡ head.now → IsPlaceOf classes head.now (option_map place_of at.now)
         → NeedsOf classes f result }
@@ -69,6 +71,7 @@ fn class_needed(head: &FrameHead, at: &Option<StandsAt<'_>>) -> Option<ClassId>
 }
 
 /// What a thread meets at the class that it needs; ready where it needs none.
+#[inline(always)]
 fn look_at(own: &Own, t: ThreadNo, needed: Option<ClassId>) -> Look
     ensures { MatchOption needed (result ≡ Sees.Ready) (λ c. IsLook t (state_of own.now.state c) result) }
 {

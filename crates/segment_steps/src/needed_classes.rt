@@ -48,6 +48,7 @@ const NO_CODE: FrameHead = FrameHead {
 
 /// A class that is needed is untouched: it is in progress by the thread from now on, and its initialiser frame is on top. Where there
 /// is no room for that, the class stays untouched, and a StackOverflowError is raised. It takes time in proportion to the class's methods.
+#[inline(never)]
 pub(crate) fn touch<H: ObjectStore, F: FrameStore>(
     w: &World,
     heap: &mut H,
@@ -77,6 +78,7 @@ pub(crate) fn touch<H: ObjectStore, F: FrameStore>(
 }
 
 /// A class that is needed is broken: a NoClassDefFoundError is raised.
+#[inline(never)]
 pub(crate) fn meet_broken<H: ObjectStore, F: FrameStore>(
     w: &World,
     heap: &mut H,

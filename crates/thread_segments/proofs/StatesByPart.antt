@@ -20,7 +20,7 @@ use Rattle.jk_model_sharing.specs.Segments.{live_threads, new_segment, with_stac
 use Rattle.jk_model_sharing.specs.SharedStates.{MayBegin, SharedDomain, SharedState, admitted, begun, caps_of, domain_numbered, popped, spent, stub_for, stub_of, with_caps}
 use Rattle.thread_segments.specs.ClassedRanges.{CreatesIn, has_room_in, revoked_in, used_up_in}
 use Rattle.thread_segments.specs.Asked.{IsAdmitted, IsLiveDomain, IsNext, MaySpend, MaySpendSteps}
-use Rattle.thread_segments.specs.Answers.{CreatesFor, RevokesFor, count_numbers_left, has_stub, known_status, quotas_of, spent_steps, steps_left_of}
+use Rattle.thread_segments.specs.Answers.{CreatesFor, RevokesFor, count_numbers_left, has_stub, known_class, known_status, quotas_of, spent_steps, steps_left_of}
 use Rattle.thread_segments.specs.declared.domains.DomainEntry.{DomainEntry}
 use Rattle.thread_segments.specs.DomainEntries.{AreCounted, domain_with, domains_with, state_of}
 use Rattle.thread_segments.specs.NameEntries.{NameList}
@@ -185,6 +185,9 @@ module _ (es : List DomainEntry) (rs : List CapRange) (stubs : List Stub) (ns : 
 
   pub status_here : (k : CapId) → option_map status_of (capability_numbered rs k) ≡ known_status here k
   status_here k = rw caps_are refl
+
+  pub class_here : (k : CapId) → option_map (λ (c : OwnedCapability). c.capability.class) (capability_numbered rs k) ≡ known_class here k
+  class_here k = rw caps_are refl
 
   pub numbers_here : last_number - count_numbers rs ≡ count_numbers_left here
   numbers_here = rw caps_are refl

@@ -11,7 +11,7 @@ use Rattle.jk_model.specs.declared.script.Quotas.{Quotas}
 use Rattle.jk_model.specs.declared.steps.Raise.{Raise}
 use Rattle.jk_model.specs.declared.steps.Raise.TheVariants.{Fresh}
 use Rattle.jk_model_classes.specs.declared.sharing.Stub.{Stub}
-use Rattle.jk_model_heaps.specs.Capabilities.{CapRange, capability_numbered}
+use Rattle.jk_model_heaps.specs.Capabilities.{CapRange, OwnedCapability, capability_numbered}
 use Rattle.jk_model_heaps.specs.SystemClasses.{ILLEGAL_ARGUMENT_EXCEPTION}
 use Rattle.jk_model_sharing.specs.BoundNames.{Binds, BoundName, Unbinds}
 use Rattle.jk_model_sharing.specs.CapabilityCalls.{Creates, Revokes, count_numbers, status_of}
@@ -63,6 +63,10 @@ pub data Begins (s : SharedState) (d : DomainId) : Option ThreadNo → SharedSta
 -- what is known of a capability; nothing where it wasn't given out
 abbrev pub known_status : SharedState → CapId → Option CapStatus
 known_status s k = option_map status_of (capability_numbered (caps_of s) k)
+
+-- the class that a capability's target had; none where it wasn't given out
+abbrev pub known_class : SharedState → CapId → Option ClassId
+known_class s k = option_map (λ (c : OwnedCapability). c.capability.class) (capability_numbered (caps_of s) k)
 
 -- A domain creates a capability at an object of a class, which must have a stub.
 pub data CreatesFor (s : SharedState) (d : DomainId) (class : ClassId) (target : ℕ) : Result CapId Raise → SharedState → Type 0 where

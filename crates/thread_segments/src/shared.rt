@@ -11,7 +11,7 @@ ghost use Rattle.jk_model_sharing.specs.CapabilityCalls.{LacksNumbers};
 ghost use Rattle.jk_model_sharing.specs.KnownStubs.{AreRising};
 ghost use Rattle.jk_model_sharing.specs.Segments.{with_revoked, with_stop};
 ghost use Rattle.jk_model_sharing.specs.SharedStates.{SharedState as State, Drops, MayBegin, Resumes, SharedDomain as Domain, Stops, Suspends, admitted, caps_of, domain_numbered, first_state, popped, pushed, spent, stub_of, with_flags};
-ghost use Rattle.thread_segments.specs.Answers.{Begins, BindsFor, CreatesFor, EndsWith, IsLeastAbove, IsLiveNumber, RevokesFor, UnbindsFor, count_numbers_left, known_status, number_below, quotas_of, segment_info, spent_steps, steps_left_of, thread_number, top_number};
+ghost use Rattle.thread_segments.specs.Answers.{Begins, BindsFor, CreatesFor, EndsWith, IsLeastAbove, IsLiveNumber, RevokesFor, UnbindsFor, count_numbers_left, known_class, known_status, number_below, quotas_of, segment_info, spent_steps, steps_left_of, thread_number, top_number};
 ghost use Rattle.thread_segments.specs.Asked.{AreWithin, HasRoomForSegment, IsAdmitted, IsLiveDomain, IsLiveThread, IsNext, IsThere, MayDrawSegment, MayDrawThread, MaySpend, MaySpendSteps};
 ghost use Rattle.thread_segments.specs.RestoredStates.{IsRestorable, IsStateOf};
 ghost use Rattle.thread_segments.specs.SoundStates.{AreSound};
@@ -248,6 +248,7 @@ impl Shared {
     }
 
     /// Takes the top segment off a live thread. A thread that has none left has ended.
+    #[inline(always)]
     pub fn pop(&mut self, t: ThreadNo)
         requires { IsLiveThread self.old t }
         ensures { self.new ≡ popped t self.old }
@@ -482,6 +483,13 @@ impl Shared {
         ensures { result ≡ known_status self.now k }
     {
         self.caps.status(k)
+    }
+
+    /// The class that a capability's target had when it was created, in constant time. None exactly where it wasn't given out.
+    pub fn capability_class(&self, k: CapId) -> Option<ClassId>
+        ensures { result ≡ known_class self.now k }
+    {
+        self.caps.class_of(k)
     }
 
     /// The stub with which a capability was made. None exactly where it wasn't given out.

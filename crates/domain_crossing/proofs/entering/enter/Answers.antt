@@ -4,14 +4,14 @@ use Rattle.machine_parts.specs.MachineParts.{MachineParts}
 use Rattle.domain_crossing.specs.declared.answers.Crossed.{Crossed}
 use Rattle.domain_crossing.specs.EnteringCalls.{EntersSo}
 use Rattle.domain_crossing.specs.PassedValues.{Crossing}
-use Rattle.domain_crossing.proofs.CallsAsked.{IsCalled, answered, arrives, as_many, copied, few, few_params, fit, fits, given_out, has_stub, here, is_method, refuses, runs, stubs_kept, unchanged}
+use Rattle.domain_crossing.proofs.CallsAsked.{IsCalled, answered, arrives, as_many, copied, few, few_params, fit, fits, given_out, here, is_method, refuses, runs, stubs_kept, unchanged}
 use Rattle.domain_crossing.proofs.CallsEnter.{frames_same, home_of}
 use Rattle.domain_crossing.proofs.SegmentsArrive.{heap_same}
 use Rattle.domain_crossing.proofs.TopsTakenOff.{over, shared_apart}
 use Rattle.domain_crossing.proofs.entering.enter.Goals as goal
 
-pub find_callee-requires-clause-given : goal.find_callee-requires-clause-given
-find_callee-requires-clause-given g c =
+pub find_callee-requires : goal.find_callee-requires
+find_callee-requires g c =
     let p : MachineParts = record {
       world = c.args.w.now;
       owns = c.requires.may.0;
@@ -23,20 +23,6 @@ find_callee-requires-clause-given g c =
     let k = c.args.k in
     let m = c.args.method in
     given_out p t k m c.requires.may.1
-
-pub find_callee-requires-clause-stub : goal.find_callee-requires-clause-stub
-find_callee-requires-clause-stub g c =
-    let p : MachineParts = record {
-      world = c.args.w.now;
-      owns = c.requires.may.0;
-      shared = c.args.shared.now;
-      heap = g.H.ObjectStore.content c.args.heap.now;
-      frames = g.F.SegmentFrames.content c.args.frames.now;
-    } in
-    let t = c.args.t in
-    let k = c.args.k in
-    let m = c.args.method in
-    has_stub p t k m c.requires.may.1
 
 pub returns-in-Err-clause-answer : goal.returns-in-Err-clause-answer
 returns-in-Err-clause-answer g c = λ owns may.

@@ -25,7 +25,8 @@ go_down-requires g c =
       may = (
         c.requires.may.0,
         returned_down k c.args.r.thread h.0 c.leave-left.result c.leave-left.new.shared (g.H.ObjectStore.content c.leave-left.new.heap)
-            (g.F.SegmentFrames.content c.leave-left.new.frames) (c.leave-left.ensures.fitting (parts_of k).owns h.0.fitting) c.leave-left.ensures.stubs c.in-Returned.v h.1
+            (g.F.SegmentFrames.content c.leave-left.new.frames) (c.leave-left.ensures.fitting (parts_of k).owns h.0.fitting) c.leave-left.ensures.stubs
+            c.in-Returned.v h.1
             (c.leave-left.ensures.answer (parts_of k).owns h.1),
       );
     }
@@ -40,14 +41,16 @@ returns-in-Returned g c =
           (g.F.SegmentFrames.content c.args.frames.now) main in
           let h = subst (MayFollow k c.args.r) c.in-Returned.is may in
           let done = on.2 main (returned_down k c.args.r.thread h.0 c.leave-left.result c.leave-left.new.shared (g.H.ObjectStore.content c.leave-left.new.heap)
-          (g.F.SegmentFrames.content c.leave-left.new.frames) (c.leave-left.ensures.fitting (parts_of k).owns h.0.fitting) c.leave-left.ensures.stubs c.in-Returned.v h.1
+          (g.F.SegmentFrames.content c.leave-left.new.frames) (c.leave-left.ensures.fitting (parts_of k).owns h.0.fitting) c.leave-left.ensures.stubs
+          c.in-Returned.v h.1
           (c.leave-left.ensures.answer (parts_of k).owns h.1)) in
           let new : KernelContent = content_of c.args.w.now c.go_down.new.owns.items c.go_down.new.shared
           (g.H.ObjectStore.content c.go_down.new.heap) (g.F.SegmentFrames.content c.go_down.new.frames) main in
           subst (λ (went : Went). Follows k c.args.r.thread went on.0 new) (sym c.in-Returned.is) (
             suc done.1.0,
             returned_comes k c.args.r.thread h.0 c.leave-left.result c.leave-left.new.shared (g.H.ObjectStore.content c.leave-left.new.heap)
-                (g.F.SegmentFrames.content c.leave-left.new.frames) (c.leave-left.ensures.fitting (parts_of k).owns h.0.fitting) c.leave-left.ensures.stubs c.in-Returned.v h.1
+                (g.F.SegmentFrames.content c.leave-left.new.frames) (c.leave-left.ensures.fitting (parts_of k).owns h.0.fitting) c.leave-left.ensures.stubs
+                c.in-Returned.v h.1
                 (c.leave-left.ensures.answer (parts_of k).owns h.1) done.1.0 on.0 (kernel_machine new) done.1.1,
             done.0,
           ),
@@ -62,7 +65,8 @@ go_down-requires-in-Left g c =
       may = (
         c.requires.may.0,
         thrown_down k c.args.r.thread h.0 c.raise_across-left.result c.raise_across-left.new.shared (g.H.ObjectStore.content c.raise_across-left.new.heap)
-            (g.F.SegmentFrames.content c.raise_across-left.new.frames) (c.raise_across-left.ensures.fitting (parts_of k).owns h.0.fitting) c.raise_across-left.ensures.stubs c.in-Left.a h.1
+            (g.F.SegmentFrames.content c.raise_across-left.new.frames) (c.raise_across-left.ensures.fitting (parts_of k).owns h.0.fitting)
+            c.raise_across-left.ensures.stubs c.in-Left.a h.1
             (c.raise_across-left.ensures.answer (parts_of k).owns h.1),
       );
     }
@@ -76,15 +80,18 @@ returns-in-Left g c =
           let k : KernelContent = content_of c.args.w.now c.args.owns.now.items c.args.shared.now (g.H.ObjectStore.content c.args.heap.now)
           (g.F.SegmentFrames.content c.args.frames.now) main in
           let h = subst (MayFollow k c.args.r) c.in-Left.is may in
-          let done = on.2 main (thrown_down k c.args.r.thread h.0 c.raise_across-left.result c.raise_across-left.new.shared (g.H.ObjectStore.content c.raise_across-left.new.heap)
-          (g.F.SegmentFrames.content c.raise_across-left.new.frames) (c.raise_across-left.ensures.fitting (parts_of k).owns h.0.fitting) c.raise_across-left.ensures.stubs c.in-Left.a h.1
+          let done = on.2 main (thrown_down k c.args.r.thread h.0 c.raise_across-left.result c.raise_across-left.new.shared
+          (g.H.ObjectStore.content c.raise_across-left.new.heap)
+          (g.F.SegmentFrames.content c.raise_across-left.new.frames) (c.raise_across-left.ensures.fitting (parts_of k).owns h.0.fitting)
+          c.raise_across-left.ensures.stubs c.in-Left.a h.1
           (c.raise_across-left.ensures.answer (parts_of k).owns h.1)) in
           let new : KernelContent = content_of c.args.w.now c.go_down-in-Left.new.owns.items c.go_down-in-Left.new.shared
           (g.H.ObjectStore.content c.go_down-in-Left.new.heap) (g.F.SegmentFrames.content c.go_down-in-Left.new.frames) main in
           subst (λ (went : Went). Follows k c.args.r.thread went on.0 new) (sym c.in-Left.is) (
             suc done.1.0,
             thrown_comes k c.args.r.thread h.0 c.raise_across-left.result c.raise_across-left.new.shared (g.H.ObjectStore.content c.raise_across-left.new.heap)
-                (g.F.SegmentFrames.content c.raise_across-left.new.frames) (c.raise_across-left.ensures.fitting (parts_of k).owns h.0.fitting) c.raise_across-left.ensures.stubs c.in-Left.a h.1
+                (g.F.SegmentFrames.content c.raise_across-left.new.frames) (c.raise_across-left.ensures.fitting (parts_of k).owns h.0.fitting)
+                c.raise_across-left.ensures.stubs c.in-Left.a h.1
                 (c.raise_across-left.ensures.answer (parts_of k).owns h.1) done.1.0 on.0 (kernel_machine new) done.1.1,
             done.0,
           ),
@@ -99,10 +106,15 @@ go_down-requires-in-Crosses g c =
       may = (
         c.requires.may.0,
         (
-          tidy_left k c.call_across-left.new.shared (g.H.ObjectStore.content c.call_across-left.new.heap) (g.F.SegmentFrames.content c.call_across-left.new.frames) h.0
+          tidy_left k c.call_across-left.new.shared (g.H.ObjectStore.content c.call_across-left.new.heap)
+              (g.F.SegmentFrames.content c.call_across-left.new.frames) h.0
               (c.call_across-left.ensures.fitting (parts_of k).owns h.0.fitting) c.call_across-left.ensures.stubs,
           called_so (kernel_machine k) c.args.r.thread h.1.call h.1.cross.sealed h.1.cross.sound c.call_across-left.result
-              (kernel_machine (record k { shared = c.call_across-left.new.shared; heap = g.H.ObjectStore.content c.call_across-left.new.heap; frames = g.F.SegmentFrames.content c.call_across-left.new.frames }))
+              (kernel_machine (record k {
+                shared = c.call_across-left.new.shared;
+                heap = g.H.ObjectStore.content c.call_across-left.new.heap;
+                frames = g.F.SegmentFrames.content c.call_across-left.new.frames;
+              }))
               (c.call_across-left.ensures.entered (parts_of k).owns h.1),
         ),
       );
@@ -118,10 +130,15 @@ returns-in-Crosses g c =
           (g.F.SegmentFrames.content c.args.frames.now) main in
           let h = subst (MayFollow k c.args.r) c.in-Crosses.is may in
           let done = on.2 main (
-            tidy_left k c.call_across-left.new.shared (g.H.ObjectStore.content c.call_across-left.new.heap) (g.F.SegmentFrames.content c.call_across-left.new.frames) h.0
+            tidy_left k c.call_across-left.new.shared (g.H.ObjectStore.content c.call_across-left.new.heap)
+                (g.F.SegmentFrames.content c.call_across-left.new.frames) h.0
                 (c.call_across-left.ensures.fitting (parts_of k).owns h.0.fitting) c.call_across-left.ensures.stubs,
             called_so (kernel_machine k) c.args.r.thread h.1.call h.1.cross.sealed h.1.cross.sound c.call_across-left.result
-                (kernel_machine (record k { shared = c.call_across-left.new.shared; heap = g.H.ObjectStore.content c.call_across-left.new.heap; frames = g.F.SegmentFrames.content c.call_across-left.new.frames }))
+                (kernel_machine (record k {
+                  shared = c.call_across-left.new.shared;
+                  heap = g.H.ObjectStore.content c.call_across-left.new.heap;
+                  frames = g.F.SegmentFrames.content c.call_across-left.new.frames;
+                }))
                 (c.call_across-left.ensures.entered (parts_of k).owns h.1),
           ) in
           let new : KernelContent = content_of c.args.w.now c.go_down-in-Crosses.new.owns.items c.go_down-in-Crosses.new.shared
@@ -131,7 +148,8 @@ returns-in-Crosses g c =
             heap = g.H.ObjectStore.content c.call_across-left.new.heap;
             frames = g.F.SegmentFrames.content c.call_across-left.new.frames;
           } in
-          let deed = calls_on (kernel_machine k) c.args.r.thread h.1.call c.in-Crosses.k c.in-Crosses.method h.1.capability h.1.is_method c.call_across-left.result
+          let deed = calls_on (kernel_machine k) c.args.r.thread h.1.call c.in-Crosses.k c.in-Crosses.method h.1.capability h.1.is_method
+          c.call_across-left.result
           (kernel_machine mid) (c.call_across-left.ensures.entered (parts_of k).owns h.1) done.1.0 on.0 (kernel_machine new) done.1.1 in
           subst (λ (went : Went). Follows k c.args.r.thread went on.0 new) (sym c.in-Crosses.is) (deed.0, deed.1, done.0),
     )

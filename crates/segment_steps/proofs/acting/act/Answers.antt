@@ -22,7 +22,8 @@ returns-in-Some-clause-ok g c =
 pub returns-in-Broken-clause-ok : goal.returns-in-Broken-clause-ok
 returns-in-Broken-clause-ok g c =
     let old : Contents = contents_of (g.H.ObjectStore.content c.args.heap.now) (g.F.SegmentFrames.content c.args.frames.now) c.args.own.now in
-    let new : Contents = contents_of (g.H.ObjectStore.content c.meet_broken.new.heap) (g.F.SegmentFrames.content c.meet_broken.new.frames) c.meet_broken.new.own in
+    let new : Contents = contents_of (g.H.ObjectStore.content c.meet_broken.new.heap) (g.F.SegmentFrames.content c.meet_broken.new.frames)
+    c.meet_broken.new.own in
     let here : Here = here_at c.args.w.now c.args.shared.now c.args.r.domain c.args.r.segment in
     let result : Result (Unit {0}) SinkFailed = Ok tt in
     let Out : List Line → Type 0 = gone_out result (g.S.Sink.bytes c.args.out.now) (g.S.Sink.bytes c.args.out.now) (g.S.Sink.pieces c.args.out.now)
