@@ -1,6 +1,6 @@
 -- The earlier of the least items of two kinds is the least of either.
 use Rattle.std.proofs.Common.{◌≡◌, ℕ, ◌<◌, ◌≤◌, ◌⊎◌, inl, inr, Bool, true, false, List, Option, Some, None, refl, arith}
-use Rattle.std.specs.Prelude.{nat_lt, if◌then◌else◌}
+use Rattle.std.specs.Prelude.{nat_lt, if◌then◌else◌, IfSome}
 use Rattle.std.proofs.lemmas.Bool.{ltb-true, ltb-false}
 use Rattle.jk_model_classes.specs.Items.{HasItemBefore}
 use Rattle.class_rules.specs.Walks.{IsLeastItem, earlier}
@@ -37,3 +37,18 @@ module _ {X : Type 0} (P Q : X → Type 0) (xs : List X) where
   least_either None (Some j) p q = by_second j q (λ (k, y, below, found, h). p (k, y, found, h))
   least_either (Some i) None p q = by_first i None p (λ (k, y, below, found, h). q (k, y, found, h))
   least_either (Some i) (Some j) p q = of_two i j (nat_lt j i) refl p q
+
+-- ---- The earlier of two places is within what both are within.
+
+within_either : (i j n : ℕ) (b : Bool) → i < n → j < n → IfSome (if b then Some j else Some i) (λ k. k < n)
+within_either i j n true h k = k
+within_either i j n false h k = h
+
+pub earlier_within : (a b : Option ℕ) (n : ℕ) → IfSome a (λ i. i < n) → IfSome b (λ i. i < n) → IfSome (earlier a b) (λ i. i < n)
+earlier_within None b n h k = k
+earlier_within (Some i) None n h k = h
+earlier_within (Some i) (Some j) n h k = within_either i j n (nat_lt j i) h k
+
+pub within_more : (a : Option ℕ) (m n : ℕ) → m ≤ n → IfSome a (λ i. i < m) → IfSome a (λ i. i < n)
+within_more None m n few h = tt
+within_more (Some i) m n few h = omega arith

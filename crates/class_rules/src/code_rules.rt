@@ -19,7 +19,7 @@ use jk_model::{ClassFile, List, MemberInfo, OutOfMemory};
 use std::alloc::Global;
 
 /// A rule that asks of codes alone.
-#[derive(Clone, Copy, Debug)]
+#[derive(Clone, Copy)]
 pub(crate) enum CodeRule {
     /// The part of C10 on codes.
     Floats,

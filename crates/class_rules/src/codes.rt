@@ -21,7 +21,7 @@ use places::{is_marked, leads_out, places_of};
 use std::alloc::Global;
 
 /// Which of the rules on codes a code breaks.
-#[derive(Clone, Copy, Debug, PartialEq, Eq)]
+#[derive(Clone, Copy)]
 pub(crate) struct CodeJudgment {
     /// C10: an opcode of float or double, or a constant of them.
     pub has_float: bool,
@@ -65,7 +65,10 @@ fn is_misuse(pool: &KnownPool, max_locals: u16, instr: &Instr) -> bool
     requires { IsKnown pool.now }
     ensures { IsTrue result ↔ IsMisuse pool.now.entries.now max_locals instr.now }
 {
-    has_bad_local(max_locals, instr) || makes_bad_array(pool, instr) || calls_init(pool, instr)
+    if has_bad_local(max_locals, instr) {
+        return true;
+    }
+    makes_bad_array(pool, instr) || calls_init(pool, instr)
 }
 
 /// Whether an instruction leads to where none begins, or names what it may not.
@@ -158,8 +161,10 @@ fn is_bad_code(
     requires places { ArePlaces code.now places.now }
     ensures { IsTrue result ↔ IsBadIn pool.now.entries.now arguments code.now instrs.now }
 {
-    has_few_locals(code, arguments)
-        || has_bad_instr(pool, code, places, instrs)
+    if has_few_locals(code, arguments) {
+        return true;
+    }
+    has_bad_instr(pool, code, places, instrs)
         || has_bad_handler(pool, code, places, code.handlers.as_slice())
 }
 

@@ -13,14 +13,14 @@ use crate::texts::{TextFacts, Word};
 use jk_model::{ClassFile, PoolEntry};
 
 /// A pool, and at the same indices what is known of its texts.
-#[derive(Clone, Copy, Debug)]
+#[derive(Clone, Copy)]
 pub(crate) struct KnownPool<'a> {
     pub entries: &'a [PoolEntry],
     pub texts: &'a [Option<TextFacts>],
 }
 
 /// What a reference refers to.
-#[derive(Clone, Copy, Debug)]
+#[derive(Clone, Copy)]
 pub(crate) enum ReferenceKind {
     Field,
     Method,
@@ -28,7 +28,7 @@ pub(crate) enum ReferenceKind {
 }
 
 /// What is known of a reference to a member.
-#[derive(Clone, Copy, Debug)]
+#[derive(Clone, Copy)]
 pub(crate) struct Reference {
     pub kind: ReferenceKind,
     pub name: TextFacts,

@@ -7,7 +7,7 @@ ghost use Rattle.class_rules.specs.Walks.{IsFirstPassed, earlier, least_number};
 
 /// Where a class file breaks a rule first: at the class itself, and at which place of its fields, of its methods and
 /// of its pool.
-#[derive(Clone, Copy, Debug)]
+#[derive(Clone, Copy)]
 pub(crate) struct FirstPlaces {
     pub class: bool,
     pub field: Option<usize>,

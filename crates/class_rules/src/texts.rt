@@ -21,7 +21,7 @@ use unit_text::{UnitsError, units_of};
 use words::word_of;
 
 /// A text that means something by itself.
-#[derive(Clone, Copy, Debug, PartialEq, Eq)]
+#[derive(Clone, Copy, PartialEq, Eq)]
 pub(crate) enum Word {
     /// `<init>`
     Init,
@@ -38,7 +38,7 @@ pub(crate) enum Word {
 }
 
 /// What a constant of a type would be.
-#[derive(Clone, Copy, Debug, PartialEq, Eq)]
+#[derive(Clone, Copy)]
 pub(crate) enum Kind {
     /// byte, char, int, short, boolean
     Int,
@@ -52,14 +52,14 @@ pub(crate) enum Kind {
 }
 
 /// What the rules ask of a field's type.
-#[derive(Clone, Copy, Debug, PartialEq, Eq)]
+#[derive(Clone, Copy)]
 pub(crate) struct FieldShape {
     pub dims: u8,
     pub kind: Kind,
 }
 
 /// What the rules ask of a method's type.
-#[derive(Clone, Copy, Debug, PartialEq, Eq)]
+#[derive(Clone, Copy)]
 pub(crate) struct MethodShape {
     /// The slots of the parameters, without a receiver.
     pub slots: u32,
@@ -69,7 +69,7 @@ pub(crate) struct MethodShape {
 }
 
 /// What is known of a text.
-#[derive(Clone, Copy, Debug)]
+#[derive(Clone, Copy)]
 pub(crate) struct TextFacts {
     /// The least index at which the pool has a text of the same units.
     pub first: u16,

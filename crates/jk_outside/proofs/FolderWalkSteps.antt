@@ -1,5 +1,5 @@
 -- What one more name that a folder gives makes of the list.
-use Rattle.std.proofs.Common.{◌≡◌, ℕ, ◌+◌, ◌<◌, ◌≤◌, arith, length, List, [], ◌∷◌, ◌++◌, Option, Some, None, refl, sym, ap, ◌∙◌, append_assoc, append-nil}
+use Rattle.std.proofs.Common.{◌≡◌, ℕ, ◌+◌, ◌<◌, ◌≤◌, arith, length, List, [], ◌∷◌, ◌++◌, Option, Some, None, refl, sym, ap, ◌∙◌, subst, append_assoc, append-nil}
 use Rattle.std.specs.List.{filter_map, cons_option}
 use Rattle.std.specs.Option.{option_to_list}
 use Rattle.std.specs.declared.fs.attrs.FileType.{FileType}
@@ -10,7 +10,7 @@ use Rattle.jk_model.specs.declared.entries.Entry.{Entry}
 use Rattle.jk_outside.specs.declared.found.Sort.{Sort}
 use Rattle.jk_outside.specs.declared.found.Sort.TheVariants as sort
 use Rattle.jk_outside.specs.FolderWalks.{AllAre, IsListedAs, IsSortOf, listed_as, ListsOn}
-use Rattle.jk_outside.specs.Systems.{Places, Stands, Nothing, Folder, File, Pipe, LooksLike, IsSeenAt, GivesName, entry_as, entry_of}
+use Rattle.jk_outside.specs.Systems.{Places, Stands, Nothing, Folder, File, Pipe, LooksLike, IsSeenAt, IsFolderAt, FolderAtIs, EntriesAre, GivesName, entry_as, entry_of}
 
 -- ---- what is seen says how it is listed
 
@@ -98,3 +98,13 @@ one_at_most (Some x) = omega arith
 pub no_more_than : (entries entries' : List Entry) (o : Option Entry) (n : ℕ) → entries' ≡ entries ++ option_to_list o → length entries ≤ n
     → length entries' ≤ n + 1
 no_more_than entries entries' o n is fewer = rw is (omega (arith, length-append entries (option_to_list o), one_at_most o))
+
+-- ---- the folder that was opened
+
+pub folder_is : (places places' : Option Places) (folder : List ℕ) (left : Option (List (List ℕ))) (Are : List Entry → Type 0)
+    → IsFolderAt places folder left → places' ≡ places → AllAre places' folder left Are → FolderAtIs places folder Are
+folder_is None places' folder left Are opened same all = tt
+folder_is (Some at) places' folder left Are (names, stands, now) same all =
+    let of_place = subst (λ (p : Option Places). AllAre p folder left Are) same all in
+    let of_names = subst (λ (l : Option (List (List ℕ))). AllAre (Some at) folder l Are) now of_place in
+    subst (λ (s : Stands). EntriesAre at folder s Are) (sym stands) of_names

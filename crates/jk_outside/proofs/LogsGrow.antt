@@ -1,5 +1,5 @@
 -- What a log grows by in calls, one after another, where it is told.
-use Rattle.std.proofs.Common.{◌≡◌, arith, true, List, [], ◌∷◌, ◌++◌, Option, Some, None, refl, sym, ap, ◌∙◌, append_assoc, append-nil}
+use Rattle.std.proofs.Common.{◌≡◌, arith, true, List, [], ◌∷◌, ◌++◌, Option, Some, None, Result, Err, refl, sym, ap, ◌∙◌, append_assoc, append-nil}
 use Rattle.std.proofs.lemmas.List.Elements.{Contains-append_left, Contains-append_right}
 use Rattle.jk_model.proofs.EachItem.{all_append, all_weaker}
 use Rattle.jk_outside.specs.Systems.{Step, Logs, LogsOnly, LogsFault}
@@ -50,3 +50,7 @@ LogsFault-back Is (Some xs) (Some ys) c (more, e, all) (rest, d, step, at, faile
       Contains-append_right more rest step at,
       failed,
     )
+
+-- errors that are one answer are one
+pub same_error : {T E : Type 0} (a b : E) → ◌≡◌ {A = Result T E} (Err a) (Err b) → a ≡ b
+same_error a b e = cc

@@ -38,10 +38,10 @@ pub(crate) fn list_folder<S: System>(
     ensures too_long { result ≡ Err FilesError.TooLong → HasRisenBy limit taken.old taken.new }
     ensures taken { taken.old ≤ taken.new }
 {
-    let mut names = system
-        .open_folder(folder)
-        .map_err(|e| opening_fault(e.kind()))?;
-    list_names(alloc, system, folder, &mut names, limit, taken)
+    match system.open_folder(folder) {
+        Ok(mut names) => list_names(alloc, system, folder, &mut names, limit, taken),
+        Err(e) => Err(opening_fault(e.kind())),
+    }
 }
 
 /// Lists what an open folder gives, in the order in which it comes.
@@ -72,9 +72,10 @@ fn list_names<S: System>(
     let _before = *taken;
     let mut entries = List::new(alloc);
     for _turn in 0..u64::MAX {
-        let next = system
-            .next_name(names)
-            .map_err(|e| reading_fault(e.kind()))?;
+        let next = match system.next_name(names) {
+            Ok(next) => next,
+            Err(e) => return Err(reading_fault(e.kind())),
+        };
         let Some(text) = next else {
             return Ok(entries);
         };
@@ -102,10 +103,10 @@ fn sort_at<S: System>(
     ensures stays { S.places system.new ≡ S.places system.old }
 {
     let path = path_in(alloc, folder, name)?;
-    let seen = system
-        .look_at(path.as_str())
-        .map_err(|e| reading_fault(e.kind()))?;
-    Ok(sort_of(&seen))
+    match system.look_at(path.as_str()) {
+        Ok(seen) => Ok(sort_of(&seen)),
+        Err(e) => Err(reading_fault(e.kind())),
+    }
 }
 
 /// The path of a name in a folder.

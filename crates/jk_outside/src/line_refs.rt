@@ -3,14 +3,14 @@
 use jk_model::{Rule, ThreadNo};
 
 /// Where a rule is broken: in the folder as a whole, or at a number in a file.
-#[derive(Clone, Copy, Debug)]
+#[derive(Clone, Copy)]
 pub enum PlaceRef<'a> {
     Whole,
     At { path: &'a str, number: u32 },
 }
 
 /// A line of the output, without its line feed. `jk_model::Line` has the same kinds.
-#[derive(Clone, Copy, Debug)]
+#[derive(Clone, Copy)]
 pub enum LineRef<'a> {
     /// A program printed a line.
     Said {

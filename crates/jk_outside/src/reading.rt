@@ -18,7 +18,8 @@ const PIECE: usize = 65536;
 
 /// What an error of this kind means where a folder or a file is opened.
 pub(crate) fn opening_fault(kind: ErrorKind) -> FilesError
-    ensures { result ≡ opening_fault kind }
+    ensures value { result ≡ opening_fault kind }
+    ensures short { result ≢ FilesError.TooLong }
 {
     match kind {
         ErrorKind::NotFound | ErrorKind::NotADirectory => FilesError::Absent,
@@ -29,7 +30,9 @@ pub(crate) fn opening_fault(kind: ErrorKind) -> FilesError
 
 /// What an error of this kind means after that.
 pub(crate) fn reading_fault(kind: ErrorKind) -> FilesError
-    ensures { result ≡ reading_fault kind }
+    ensures value { result ≡ reading_fault kind }
+    ensures present { result ≢ FilesError.Absent }
+    ensures short { result ≢ FilesError.TooLong }
 {
     match kind {
         ErrorKind::OutOfMemory => FilesError::OutOfMemory,
@@ -92,18 +95,22 @@ fn open_to_read<S: System>(system: &mut S, path: &str, pipes: bool) -> Result<S:
     ensures well { OnOk result (LogsOnly GoesOn (S.log system.old) (S.log system.new)) }
     ensures stays { S.places system.new ≡ S.places system.old }
 {
-    let seen = system.look_at(path).map_err(|e| opening_fault(e.kind()))?;
+    let seen = match system.look_at(path) {
+        Ok(seen) => seen,
+        Err(e) => return Err(opening_fault(e.kind())),
+    };
     if !may_be_read(sort_of(&seen), pipes) {
         return Err(FilesError::Failed);
     }
-    let file = system.open_file(path).map_err(|e| opening_fault(e.kind()))?;
-    let seen = system
-        .look_into(&file)
-        .map_err(|e| reading_fault(e.kind()))?;
-    if !may_be_read(sort_of(&seen), pipes) {
-        return Err(FilesError::Failed);
+    let file = match system.open_file(path) {
+        Ok(file) => file,
+        Err(e) => return Err(opening_fault(e.kind())),
+    };
+    match system.look_into(&file) {
+        Ok(seen) if may_be_read(sort_of(&seen), pipes) => Ok(file),
+        Ok(_) => Err(FilesError::Failed),
+        Err(e) => Err(reading_fault(e.kind())),
     }
-    Ok(file)
 }
 
 /// Reads to the end, and takes at most one byte more than the limit.

@@ -15,7 +15,7 @@ use jk_model::opcodes::{
 use jk_model::{Instr, PoolEntry};
 
 /// What kind of entry an instruction names.
-#[derive(Clone, Copy, Debug)]
+#[derive(Clone, Copy)]
 pub(crate) enum EntryKind {
     /// An int or a string.
     Constant,

@@ -1,5 +1,5 @@
 -- The least of a field, the earlier of a method by its type and one by its code, and an entry is the least spot.
-use Rattle.std.proofs.Common.{false, sym, subst, ℕ, Option}
+use Rattle.std.proofs.Common.{arith, false, sym, subst, ℕ, Option, length, ◌^◌}
 use Rattle.jk_model_classes.specs.MemberCode.{UsesFloat}
 use Rattle.class_rules.specs.CodeRules.{HasWrongMethodCode}
 use Rattle.class_rules.specs.Entries.{IsFloatEntry}
@@ -7,10 +7,17 @@ use Rattle.class_rules.specs.Walks.{IsLeastItem}
 use Rattle.class_rules.specs.declared.code_rules.CodeRule.TheVariants.{Floats}
 use Rattle.class_rules.specs.declared.members.FirstPlaces.{FirstPlaces}
 use Rattle.class_rules.proofs.CodesReadEach.{false_is_never, least_code}
-use Rattle.class_rules.proofs.EarlierItems.{least_either}
+use Rattle.class_rules.proofs.EarlierItems.{earlier_within, least_either, within_more}
 use Rattle.class_rules.proofs.FloatsReadEach.{HasFloatType, HasFloatSignature, UsesFloatBy, floats_read_each}
 use Rattle.class_rules.proofs.LeastSpots.{least_spot}
 use Rattle.class_rules.proofs.floats.bad_floats.Goals as goal
+
+pub number-requires-clause-method : goal.number-requires-clause-method
+number-requires-clause-method c =
+    rw c.earlier.ensures
+    (earlier_within _ _ (2 ^ 16)
+    (within_more _ (length c.args.c.now.methods) (2 ^ 16) (omega arith) c.first_float_method-by_descriptor.ensures.within)
+    (within_more _ (length c.args.judged.now) (2 ^ 16) (omega (arith, c.requires.judged.long)) c.first_code-by_code.ensures.within))
 
 pub returns : goal.returns
 returns c =

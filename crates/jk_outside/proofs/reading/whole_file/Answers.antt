@@ -1,7 +1,7 @@
 -- One more piece was read, or a call of the system failed.
 use Rattle.std.proofs.Common.{rules, ◌≡◌, ◌≤◌, ◌+◌, ◌⊎◌, length, false, Ok, Err, arith, inl, inr, ap, ◌∙◌, ◌<◌, ◌++◌, [], take, drop}
 use Rattle.std.proofs.lemmas.Grind.{common_steps}
-use Rattle.jk_outside.specs.declared.files.FilesError.TheVariants.{Failed}
+use Rattle.jk_outside.specs.declared.files.FilesError.TheVariants.{Absent, Failed, TooLong}
 use Rattle.jk_outside.specs.DiskStates.{count_after}
 use Rattle.jk_outside.specs.Reading.{ReadsOn}
 use Rattle.jk_outside.specs.Systems.{GoesOn, LogsFault, LogsOnly, Reads, Step}
@@ -14,6 +14,22 @@ returns-in_err-read_more-clause-failed g c =
     λ failed.
     let is : c.in_err-read_more.field-0.0 ≡ Failed = search rules in
     LogsFault-back Is _ _ _ c.loop-turn.invariant.log (c.in_err-read_more.ensures.failed (ap Err is))
+
+pub returns-in_err-read_more-clause-present : goal.returns-in_err-read_more-clause-present
+returns-in_err-read_more-clause-present g c =
+    λ absent.
+    let is : c.in_err-read_more.field-0.0 ≡ Absent = search rules in
+    c.in_err-read_more.ensures.present (ap Err is)
+
+pub returns-in_err-read_more-clause-log : goal.returns-in_err-read_more-clause-log
+returns-in_err-read_more-clause-log g c =
+    LogsOnly-after (λ (s : Step). s.asks ≡ Reads) _ _ _ c.loop-turn.invariant.log c.read_more.ensures.log
+
+pub returns-in_err-read_more-clause-well_long : goal.returns-in_err-read_more-clause-well_long
+returns-in_err-read_more-clause-well_long g c =
+    λ long.
+    let is : c.in_err-read_more.field-0.0 ≡ TooLong = search rules in
+    LogsOnly-after GoesOn _ _ _ c.loop-turn.invariant.well (c.in_err-read_more.ensures.well_long (ap Err is))
 
 pub loop-turn-preserved : goal.loop-turn-preserved
 loop-turn-preserved g c =
