@@ -37,7 +37,7 @@ impl From<OutOfMemory> for AddAnswer {
 }
 
 /// What came of a start.
-#[derive(Clone, Copy, Debug, PartialEq, Eq)]
+#[derive(Clone, Copy)]
 pub enum Beginning {
     /// The number of the rule that refuses it. All is as before.
     Refused(u8),

@@ -1,6 +1,11 @@
 //! Domains that are opened.
 
-ghost use Rattle.std.specs.Prelude.{◌≡◌, ◌<◌, ◌≤◌, length, vec_len, vec_capacity, IfErr, OnErr, OnOk};
+ghost use Rattle.std.specs.Prelude.{◌≡◌, ◌<◌, vec_len, vec_capacity, IfErr, IfOk, OnErr, OnOk};
+ghost use Rattle.jk_model.specs.declared.identifiers.ClassId.{ClassId as AClassId};
+ghost use Rattle.jk_model_classes.specs.Classes.{HasClass};
+ghost use Rattle.jk_model_classes.specs.Worlds.{IsNamed};
+ghost use Rattle.jk_model_domains.specs.OwnStates.{IsFirstState};
+ghost use Rattle.class_init.specs.KeptStates.{HasFirstRooms};
 ghost use Rattle.kernel_openings.specs.OpenedParts.{AreAsked, IsWhyNot, KeepsParts, MayOpen, OpenParts as Parts, OpensParts};
 
 use crate::answers::AddAnswer;
@@ -8,7 +13,8 @@ use crate::joining::{Newcomer, enter};
 use crate::standing_objects::make_standing;
 use crate::store_rooms::admit_stores;
 use class_init::Own;
-use domain_resolver::World;
+use class_table::ClassTable;
+use domain_resolver::{NameTable, World};
 use folder_loader::Loaded;
 use frame_store::FrameStore;
 use jk_model::{AdmitError, Bytes, DomainId, OutOfMemory, Quotas};
@@ -70,21 +76,20 @@ pub(crate) fn open<H: ObjectStore, F: FrameStore>(
       frames = F.content frames.old;
     } in IfErr result (IsWhyNot old quotas.now) }
 {
-    let Loaded {
-        first: _,
-        table,
-        offers,
-        stubs,
-    } = loaded;
-    let mut own = Own::make(alloc, world.classes(), &table)?;
-    let name = Bytes::from_slice(alloc, name.as_bytes())?;
-    reserve_own(owns)?;
+    let ready = make_ready(alloc, world.classes(), owns, &loaded.table, name)?;
     let d = DomainId(world.domain_count() as u32);
     match admit_stores(heap, frames, d, quotas) {
         Ok(()) => {}
         Err(AdmitError::NoExtent) => return Err(AddAnswer::NoRoom),
         Err(AdmitError::OutOfMemory) => return Err(AddAnswer::OutOfMemory),
     }
+    let Ready { own, name } = ready;
+    let Loaded {
+        first: _,
+        table,
+        offers,
+        stubs,
+    } = loaded;
     let newcomer = Newcomer {
         name,
         table,
@@ -96,6 +101,7 @@ pub(crate) fn open<H: ObjectStore, F: FrameStore>(
         frames.close(d);
         return Err(e);
     }
+    let mut own = own;
     own.holds();
     make_standing(heap, world.classes(), d, &mut own);
     own.holds();
@@ -103,11 +109,30 @@ pub(crate) fn open<H: ObjectStore, F: FrameStore>(
     Ok(())
 }
 
-/// Makes room for another own state.
-fn reserve_own(owns: &mut Vec<Option<Own>>) -> Result<(), OutOfMemory>
+/// What a domain needs before it takes room: its own state, and its name.
+#[derive(Drop)]
+struct Ready {
+    own: Own,
+    name: Bytes,
+}
+
+/// Makes the own state and the name of a domain, and room for another own state.
+fn make_ready(
+    alloc: Global,
+    t: &ClassTable,
+    owns: &mut Vec<Option<Own>>,
+    table: &NameTable,
+    name: &str,
+) -> Result<Ready, OutOfMemory>
+    requires there { (c : AClassId) → IsNamed table.now c → HasClass t.now c }
     ensures items { owns.new.items ≡ owns.old.items }
     ensures room { OnOk result (vec_len owns.new < vec_capacity owns.new) }
+    ensures state { IfOk result (λ r. IsFirstState t.now table.now r.own.state) }
+    ensures rooms { IfOk result (λ r. HasFirstRooms t.now table.now r.own) }
+    ensures name { IfOk result (λ r. r.name ≡ name.now) }
 {
+    let own = Own::make(alloc, t, table)?;
+    let name = Bytes::from_slice(alloc, name.as_bytes())?;
     owns.reserve(1)?;
-    Ok(())
+    Ok(Ready { own, name })
 }

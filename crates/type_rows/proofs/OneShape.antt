@@ -1,5 +1,5 @@
 -- The shape of an instruction of a group is the one that its operands give.
-use Rattle.std.proofs.Common.{◌≡◌, inl, inr, Option, sym, ap, subst, ◌∙◌}
+use Rattle.std.proofs.Common.{◌≡◌, inl, inr, Option, Some, sym, ap, subst, ◌∙◌}
 use Rattle.jk_model.specs.declared.identifiers.ClassId.{ClassId}
 use Rattle.jk_model.specs.declared.identifiers.MemberId.{MemberId}
 use Rattle.jk_model.specs.declared.instructions.Instr.{Instr}
@@ -19,6 +19,12 @@ use Rattle.type_rows.specs.declared.shapes.Shape.{Shape as OurShape}
 
 pub at_group : (s : CodeScope) (i : Instr) (g h : def.Group) (o : Option OurShape) → g ≡ h → IsShape s i g o → IsShape s i h o
 at_group s i g h o e is = subst (λ (x : def.Group). IsShape s i x o) e is
+
+-- a shape that rests on the opcode alone
+pub fixed_group : (s : CodeScope) (i : Instr) (shape : Shape) (h : def.Group) (x : OurShape) → def.Group.Always shape ≡ h → shape_view s x ≡ shape
+    → IsShape s i h (Some x)
+fixed_group s i shape h x e is =
+    subst (λ (g : def.Group). IsShape s i g (Some x)) e (record { has = is; only = λ other also. also ∙ sym is })
 
 module _ (s : CodeScope) (i : Instr) (shape_of : ClassId → MemberId → FieldRecord → Shape) where
   -- what rests on a field

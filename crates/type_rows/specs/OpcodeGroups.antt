@@ -8,42 +8,68 @@ use Rattle.jk_model_typing.specs.FrameTypes.{throwable}
 use Rattle.jk_model_typing.specs.Groups as def
 use Rattle.jk_model_typing.specs.Groups.{takes, loads, stores, numbers, bytes, int, long}
 use Rattle.type_rows.specs.Shapes.{given}
+use Rattle.type_rows.specs.declared.groups.CallKind.{CallKind}
+use Rattle.type_rows.specs.declared.groups.CallKind.TheVariants as calls
+use Rattle.type_rows.specs.declared.groups.FieldUse.{FieldUse}
+use Rattle.type_rows.specs.declared.groups.FieldUse.TheVariants as fields
+use Rattle.type_rows.specs.declared.groups.Fixed.{Fixed}
+use Rattle.type_rows.specs.declared.groups.Fixed.TheVariants as fixed
 use Rattle.type_rows.specs.declared.groups.Group.{Group}
 use Rattle.type_rows.specs.declared.groups.Group.TheVariants as groups
+use Rattle.type_rows.specs.declared.groups.Returned.{Returned}
+use Rattle.type_rows.specs.declared.groups.Returned.TheVariants as returns
+use Rattle.type_rows.specs.declared.groups.TypeUse.{TypeUse}
+use Rattle.type_rows.specs.declared.groups.TypeUse.TheVariants as types
 
--- the same group in the definitions
+-- the same shape in the definitions
+abbrev pub fixed_view : Fixed → def.Shape
+fixed_view (fixed.TakesNone gives) = def.Shape.Takes [] (given gives)
+fixed_view (fixed.TakesOne a gives) = def.Shape.Takes (a ∷ []) (given gives)
+fixed_view (fixed.TakesTwo a b gives) = def.Shape.Takes (a ∷ b ∷ []) (given gives)
+fixed_view (fixed.TakesThree a b c) = def.Shape.Takes (a ∷ b ∷ c ∷ []) []
+fixed_view (fixed.Drops n) = def.Shape.Drops n
+fixed_view (fixed.Copies skipped copied) = def.Shape.Copies skipped copied
+fixed_view fixed.Swaps = def.Shape.Swaps
+fixed_view fixed.LoadsElement = def.Shape.LoadsElement
+
+-- the same groups in the definitions
+abbrev pub returned_view : Returned → def.Group
+returned_view returns.Int = def.Group.ReturnsInt
+returned_view returns.Long = def.Group.ReturnsLong
+returned_view returns.Reference = def.Group.ReturnsReference
+returned_view returns.Nothing = def.Group.ReturnsNothing
+
+abbrev pub field_view : FieldUse → def.Group
+field_view fields.GetsStatic = def.Group.GetsStatic
+field_view fields.PutsStatic = def.Group.PutsStatic
+field_view fields.Gets = def.Group.GetsField
+field_view fields.Puts = def.Group.PutsField
+
+abbrev pub call_view : CallKind → def.Group
+call_view calls.Virtual = def.Group.CallsVirtual
+call_view calls.Special = def.Group.CallsSpecial
+call_view calls.Static = def.Group.CallsStatic
+call_view calls.Interface = def.Group.CallsInterface
+
+abbrev pub type_view : TypeUse → def.Group
+type_view types.MakesObject = def.Group.MakesObject
+type_view types.MakesArray = def.Group.MakesArray
+type_view types.MakesArrays = def.Group.MakesArrays
+type_view types.Casts = def.Group.Casts
+type_view types.Tests = def.Group.Tests
+type_view types.MakesNumbers = def.Group.MakesNumbers
+
 abbrev pub group_view : Group → def.Group
-group_view (groups.TakesNone gives) = takes [] (given gives)
-group_view (groups.TakesOne a gives) = takes (a ∷ []) (given gives)
-group_view (groups.TakesTwo a b gives) = takes (a ∷ b ∷ []) (given gives)
-group_view (groups.TakesThree a b c) = takes (a ∷ b ∷ c ∷ []) []
-group_view (groups.Drops n) = def.Group.Always (def.Shape.Drops n)
-group_view (groups.Copies skipped copied) = def.Group.Always (def.Shape.Copies skipped copied)
-group_view groups.Swaps = def.Group.Always def.Shape.Swaps
-group_view groups.LoadsElement = def.Group.Always def.Shape.LoadsElement
+group_view (groups.Fixed kind) = def.Group.Always (fixed_view kind)
 group_view (groups.LoadsLocal demand) = def.Group.LoadsLocal demand
 group_view (groups.StoresLocal demand) = def.Group.StoresLocal demand
 group_view groups.IncrementsLocal = def.Group.IncrementsLocal
 group_view groups.LoadsConstant = def.Group.LoadsConstant
 group_view groups.LoadsLong = def.Group.LoadsLong
-group_view groups.ReturnsInt = def.Group.ReturnsInt
-group_view groups.ReturnsLong = def.Group.ReturnsLong
-group_view groups.ReturnsReference = def.Group.ReturnsReference
-group_view groups.ReturnsNothing = def.Group.ReturnsNothing
-group_view groups.GetsStatic = def.Group.GetsStatic
-group_view groups.PutsStatic = def.Group.PutsStatic
-group_view groups.GetsField = def.Group.GetsField
-group_view groups.PutsField = def.Group.PutsField
-group_view groups.CallsVirtual = def.Group.CallsVirtual
-group_view groups.CallsSpecial = def.Group.CallsSpecial
-group_view groups.CallsStatic = def.Group.CallsStatic
-group_view groups.CallsInterface = def.Group.CallsInterface
-group_view groups.MakesObject = def.Group.MakesObject
-group_view groups.MakesArray = def.Group.MakesArray
-group_view groups.MakesArrays = def.Group.MakesArrays
-group_view groups.Casts = def.Group.Casts
-group_view groups.Tests = def.Group.Tests
-group_view groups.MakesNumbers = def.Group.MakesNumbers
+group_view (groups.Returns kind) = returned_view kind
+group_view (groups.UsesField kind) = field_view kind
+group_view (groups.Calls kind) = call_view kind
+group_view (groups.NamesType kind) = type_view kind
 group_view groups.NoGroup = def.Group.NoGroup
 
 abbrev pub between : ℕ → ℕ → ℕ → Bool

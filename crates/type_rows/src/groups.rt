@@ -113,6 +113,22 @@ use jk_model_typing::VType;
 /// Which operands what an instruction does rests on, and what it does where it rests on none.
 #[derive(Clone, Copy)]
 pub(crate) enum Group {
+    Fixed(Fixed),
+    LoadsLocal(Demand),
+    StoresLocal(Demand),
+    IncrementsLocal,
+    LoadsConstant,
+    LoadsLong,
+    Returns(Returned),
+    UsesField(FieldUse),
+    Calls(CallKind),
+    NamesType(TypeUse),
+    NoGroup,
+}
+
+/// What an instruction does that rests on its opcode alone.
+#[derive(Clone, Copy)]
+pub(crate) enum Fixed {
     /// Takes nothing, and pushes an entry, or none.
     TakesNone(Option<VType>),
     /// Takes entries that meet these demands, the last of them from the top, and pushes an entry, or none.
@@ -126,30 +142,44 @@ pub(crate) enum Group {
     Copies(usize, usize),
     Swaps,
     LoadsElement,
-    LoadsLocal(Demand),
-    StoresLocal(Demand),
-    IncrementsLocal,
-    LoadsConstant,
-    LoadsLong,
-    ReturnsInt,
-    ReturnsLong,
-    ReturnsReference,
-    ReturnsNothing,
+}
+
+/// What a method answers at its end.
+#[derive(Clone, Copy)]
+pub(crate) enum Returned {
+    Int,
+    Long,
+    Reference,
+    Nothing,
+}
+
+/// What is done at a field.
+#[derive(Clone, Copy)]
+pub(crate) enum FieldUse {
     GetsStatic,
     PutsStatic,
-    GetsField,
-    PutsField,
-    CallsVirtual,
-    CallsSpecial,
-    CallsStatic,
-    CallsInterface,
+    Gets,
+    Puts,
+}
+
+/// How a method is called.
+#[derive(Clone, Copy)]
+pub(crate) enum CallKind {
+    Virtual,
+    Special,
+    Static,
+    Interface,
+}
+
+/// What is done with a type that an operand names.
+#[derive(Clone, Copy)]
+pub(crate) enum TypeUse {
     MakesObject,
     MakesArray,
     MakesArrays,
     Casts,
     Tests,
     MakesNumbers,
-    NoGroup,
 }
 
 const ANY: Demand = Demand::AnyReference;
@@ -235,10 +265,10 @@ fn local_group(op: u8) -> Group
     ensures { group_view result ≡ local_group op }
 {
     match op {
-        NOP => Group::TakesNone(None),
-        ACONST_NULL => Group::TakesNone(Some(VType::Null)),
-        LCONST_0 => Group::TakesNone(A_LONG),
-        SIPUSH => Group::TakesNone(AN_INT),
+        NOP => Group::Fixed(Fixed::TakesNone(None)),
+        ACONST_NULL => Group::Fixed(Fixed::TakesNone(Some(VType::Null))),
+        LCONST_0 => Group::Fixed(Fixed::TakesNone(A_LONG)),
+        SIPUSH => Group::Fixed(Fixed::TakesNone(AN_INT)),
         LDC_W => Group::LoadsConstant,
         LDC2_W => Group::LoadsLong,
         ILOAD => Group::LoadsLocal(INT),
@@ -258,18 +288,18 @@ fn element_group(op: u8) -> Group
     ensures { group_view result ≡ element_group op }
 {
     match op {
-        IALOAD => Group::TakesTwo(INTS, INT, AN_INT),
-        LALOAD => Group::TakesTwo(LONGS, INT, A_LONG),
-        AALOAD => Group::LoadsElement,
-        BALOAD => Group::TakesTwo(BYTES, INT, AN_INT),
-        CALOAD => Group::TakesTwo(CHARS, INT, AN_INT),
-        SALOAD => Group::TakesTwo(SHORTS, INT, AN_INT),
-        IASTORE => Group::TakesThree(INTS, INT, INT),
-        LASTORE => Group::TakesThree(LONGS, INT, LONG),
-        AASTORE => Group::TakesThree(Demand::ReferenceArray, INT, Demand::Reference),
-        BASTORE => Group::TakesThree(BYTES, INT, INT),
-        CASTORE => Group::TakesThree(CHARS, INT, INT),
-        SASTORE => Group::TakesThree(SHORTS, INT, INT),
+        IALOAD => Group::Fixed(Fixed::TakesTwo(INTS, INT, AN_INT)),
+        LALOAD => Group::Fixed(Fixed::TakesTwo(LONGS, INT, A_LONG)),
+        AALOAD => Group::Fixed(Fixed::LoadsElement),
+        BALOAD => Group::Fixed(Fixed::TakesTwo(BYTES, INT, AN_INT)),
+        CALOAD => Group::Fixed(Fixed::TakesTwo(CHARS, INT, AN_INT)),
+        SALOAD => Group::Fixed(Fixed::TakesTwo(SHORTS, INT, AN_INT)),
+        IASTORE => Group::Fixed(Fixed::TakesThree(INTS, INT, INT)),
+        LASTORE => Group::Fixed(Fixed::TakesThree(LONGS, INT, LONG)),
+        AASTORE => Group::Fixed(Fixed::TakesThree(Demand::ReferenceArray, INT, Demand::Reference)),
+        BASTORE => Group::Fixed(Fixed::TakesThree(BYTES, INT, INT)),
+        CASTORE => Group::Fixed(Fixed::TakesThree(CHARS, INT, INT)),
+        SASTORE => Group::Fixed(Fixed::TakesThree(SHORTS, INT, INT)),
         _ => Group::NoGroup,
     }
 }
@@ -280,15 +310,15 @@ fn stack_group(op: u8) -> Group
     ensures { group_view result ≡ stack_group op }
 {
     match op {
-        POP => Group::Drops(1),
-        POP2 => Group::Drops(2),
-        DUP => Group::Copies(0, 1),
-        DUP_X1 => Group::Copies(1, 1),
-        DUP_X2 => Group::Copies(2, 1),
-        DUP2 => Group::Copies(0, 2),
-        DUP2_X1 => Group::Copies(1, 2),
-        DUP2_X2 => Group::Copies(2, 2),
-        SWAP => Group::Swaps,
+        POP => Group::Fixed(Fixed::Drops(1)),
+        POP2 => Group::Fixed(Fixed::Drops(2)),
+        DUP => Group::Fixed(Fixed::Copies(0, 1)),
+        DUP_X1 => Group::Fixed(Fixed::Copies(1, 1)),
+        DUP_X2 => Group::Fixed(Fixed::Copies(2, 1)),
+        DUP2 => Group::Fixed(Fixed::Copies(0, 2)),
+        DUP2_X1 => Group::Fixed(Fixed::Copies(1, 2)),
+        DUP2_X2 => Group::Fixed(Fixed::Copies(2, 2)),
+        SWAP => Group::Fixed(Fixed::Swaps),
         _ => Group::NoGroup,
     }
 }
@@ -300,17 +330,17 @@ fn number_group(op: u8) -> Group
 {
     match op {
         IADD | ISUB | IMUL | IDIV | IREM | ISHL | ISHR | IUSHR | IAND | IOR | IXOR => {
-            Group::TakesTwo(INT, INT, AN_INT)
+            Group::Fixed(Fixed::TakesTwo(INT, INT, AN_INT))
         }
         LADD | LSUB | LMUL | LDIV | LREM | LAND | LOR | LXOR => {
-            Group::TakesTwo(LONG, LONG, A_LONG)
+            Group::Fixed(Fixed::TakesTwo(LONG, LONG, A_LONG))
         }
-        LSHL | LSHR | LUSHR => Group::TakesTwo(LONG, INT, A_LONG),
-        INEG | I2B..=I2S => Group::TakesOne(INT, AN_INT),
-        LNEG => Group::TakesOne(LONG, A_LONG),
-        I2L => Group::TakesOne(INT, A_LONG),
-        L2I => Group::TakesOne(LONG, AN_INT),
-        LCMP => Group::TakesTwo(LONG, LONG, AN_INT),
+        LSHL | LSHR | LUSHR => Group::Fixed(Fixed::TakesTwo(LONG, INT, A_LONG)),
+        INEG | I2B..=I2S => Group::Fixed(Fixed::TakesOne(INT, AN_INT)),
+        LNEG => Group::Fixed(Fixed::TakesOne(LONG, A_LONG)),
+        I2L => Group::Fixed(Fixed::TakesOne(INT, A_LONG)),
+        L2I => Group::Fixed(Fixed::TakesOne(LONG, AN_INT)),
+        LCMP => Group::Fixed(Fixed::TakesTwo(LONG, LONG, AN_INT)),
         _ => Group::NoGroup,
     }
 }
@@ -321,16 +351,16 @@ fn jump_group(op: u8) -> Group
     ensures { group_view result ≡ jump_group op }
 {
     match op {
-        IFEQ..=IFLE | TABLESWITCH..=LOOKUPSWITCH => Group::TakesOne(INT, None),
-        IF_ICMPEQ..=IF_ICMPLE => Group::TakesTwo(INT, INT, None),
-        IF_ACMPEQ..=IF_ACMPNE => Group::TakesTwo(ANY, ANY, None),
-        GOTO => Group::TakesNone(None),
-        IRETURN => Group::ReturnsInt,
-        LRETURN => Group::ReturnsLong,
-        ARETURN => Group::ReturnsReference,
-        RETURN => Group::ReturnsNothing,
-        ATHROW => Group::TakesOne(Demand::Fitting(THROWABLE), None),
-        IFNULL..=IFNONNULL => Group::TakesOne(ANY, None),
+        IFEQ..=IFLE | TABLESWITCH..=LOOKUPSWITCH => Group::Fixed(Fixed::TakesOne(INT, None)),
+        IF_ICMPEQ..=IF_ICMPLE => Group::Fixed(Fixed::TakesTwo(INT, INT, None)),
+        IF_ACMPEQ..=IF_ACMPNE => Group::Fixed(Fixed::TakesTwo(ANY, ANY, None)),
+        GOTO => Group::Fixed(Fixed::TakesNone(None)),
+        IRETURN => Group::Returns(Returned::Int),
+        LRETURN => Group::Returns(Returned::Long),
+        ARETURN => Group::Returns(Returned::Reference),
+        RETURN => Group::Returns(Returned::Nothing),
+        ATHROW => Group::Fixed(Fixed::TakesOne(Demand::Fitting(THROWABLE), None)),
+        IFNULL..=IFNONNULL => Group::Fixed(Fixed::TakesOne(ANY, None)),
         _ => Group::NoGroup,
     }
 }
@@ -341,21 +371,21 @@ fn object_group(op: u8) -> Group
     ensures { group_view result ≡ object_group op }
 {
     match op {
-        GETSTATIC => Group::GetsStatic,
-        PUTSTATIC => Group::PutsStatic,
-        GETFIELD => Group::GetsField,
-        PUTFIELD => Group::PutsField,
-        INVOKEVIRTUAL => Group::CallsVirtual,
-        INVOKESPECIAL => Group::CallsSpecial,
-        INVOKESTATIC => Group::CallsStatic,
-        INVOKEINTERFACE => Group::CallsInterface,
-        NEW => Group::MakesObject,
-        NEWARRAY => Group::MakesNumbers,
-        ANEWARRAY => Group::MakesArray,
-        ARRAYLENGTH => Group::TakesOne(Demand::Array, AN_INT),
-        CHECKCAST => Group::Casts,
-        INSTANCEOF => Group::Tests,
-        MULTIANEWARRAY => Group::MakesArrays,
+        GETSTATIC => Group::UsesField(FieldUse::GetsStatic),
+        PUTSTATIC => Group::UsesField(FieldUse::PutsStatic),
+        GETFIELD => Group::UsesField(FieldUse::Gets),
+        PUTFIELD => Group::UsesField(FieldUse::Puts),
+        INVOKEVIRTUAL => Group::Calls(CallKind::Virtual),
+        INVOKESPECIAL => Group::Calls(CallKind::Special),
+        INVOKESTATIC => Group::Calls(CallKind::Static),
+        INVOKEINTERFACE => Group::Calls(CallKind::Interface),
+        NEW => Group::NamesType(TypeUse::MakesObject),
+        NEWARRAY => Group::NamesType(TypeUse::MakesNumbers),
+        ANEWARRAY => Group::NamesType(TypeUse::MakesArray),
+        ARRAYLENGTH => Group::Fixed(Fixed::TakesOne(Demand::Array, AN_INT)),
+        CHECKCAST => Group::NamesType(TypeUse::Casts),
+        INSTANCEOF => Group::NamesType(TypeUse::Tests),
+        MULTIANEWARRAY => Group::NamesType(TypeUse::MakesArrays),
         _ => Group::NoGroup,
     }
 }

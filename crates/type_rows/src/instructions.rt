@@ -11,12 +11,13 @@ ghost use Rattle.jk_model_typing.specs.Groups as def;
 ghost use Rattle.jk_model_typing.specs.Rows.{IsCodeOf};
 ghost use Rattle.jk_model_typing.specs.Scopes.{CodeScope, result_values};
 ghost use Rattle.type_rows.specs.CodeViews.{scope_of};
-ghost use Rattle.type_rows.specs.Shapes.{given};
+ghost use Rattle.type_rows.specs.OpcodeGroups.{call_view, field_view, fixed_view, returned_view, type_view};
+ghost use Rattle.type_rows.specs.Shapes.{given, shape_view};
 ghost use Rattle.type_rows.specs.ShapesOfGroups.{IsKind, IsShape, NamesNoType, NamesType};
 
 use crate::code_view::CodeView;
 use crate::fresh::is_init;
-use crate::groups::{Group, group_of};
+use crate::groups::{CallKind, FieldUse, Fixed, Group, Returned, TypeUse, group_of};
 use crate::operands::{link_of, number_of, used_field, used_method};
 use crate::shapes::{Demands, INT, LONG, STRING, Shape};
 use jk_model::Instr;
@@ -29,38 +30,83 @@ pub(crate) fn shape_of<'a>(view: &CodeView<'a>, i: &Instr) -> Option<Shape<'a>>
     ensures { IsShape (scope_of view.now) i.now (def.group_of i.now.op) result }
 {
     match group_of(i.op) {
-        Group::TakesNone(gives) => Some(Shape::Takes(Demands::Nothing, gives)),
-        Group::TakesOne(a, gives) => Some(Shape::Takes(Demands::One(a), gives)),
-        Group::TakesTwo(a, b, gives) => Some(Shape::Takes(Demands::Two(a, b), gives)),
-        Group::TakesThree(a, b, c) => Some(Shape::Takes(Demands::Three(a, b, c), None)),
-        Group::Drops(n) => Some(Shape::Drops(n)),
-        Group::Copies(skipped, copied) => Some(Shape::Copies(skipped, copied)),
-        Group::Swaps => Some(Shape::Swaps),
-        Group::LoadsElement => Some(Shape::LoadsElement),
+        Group::Fixed(kind) => Some(fixed_shape(kind)),
         Group::LoadsLocal(demand) => Some(Shape::Loads(demand, number_of(i.a)?)),
         Group::StoresLocal(demand) => Some(Shape::Stores(demand, number_of(i.a)?)),
         Group::IncrementsLocal => Some(Shape::Increments(number_of(i.a)?)),
         Group::LoadsConstant => loads_constant(view, i),
         Group::LoadsLong => loads_long(view, i),
-        Group::ReturnsInt => returns_int(view),
-        Group::ReturnsLong => returns_long(view),
-        Group::ReturnsReference => returns_reference(view),
-        Group::ReturnsNothing => returns_nothing(view),
-        Group::GetsStatic => gets_static(view, i),
-        Group::PutsStatic => puts_static(view, i),
-        Group::GetsField => gets_field(view, i),
-        Group::PutsField => puts_field(view, i),
-        Group::CallsVirtual => calls_virtual(view, i),
-        Group::CallsSpecial => calls_special(view, i),
-        Group::CallsStatic => calls_static(view, i),
-        Group::CallsInterface => calls_interface(view, i),
-        Group::MakesObject => makes_object(view, i),
-        Group::MakesArray => makes_array(view, i),
-        Group::MakesArrays => makes_arrays(view, i),
-        Group::Casts => casts(view, i),
-        Group::Tests => tests(view, i),
-        Group::MakesNumbers => makes_numbers(i),
+        Group::Returns(kind) => returned_shape(view, kind),
+        Group::UsesField(kind) => field_shape(view, i, kind),
+        Group::Calls(kind) => call_shape(view, i, kind),
+        Group::NamesType(kind) => type_shape(view, i, kind),
         Group::NoGroup => None,
+    }
+}
+
+/// What an instruction does that rests on its opcode alone.
+fn fixed_shape<'a>(kind: Fixed) -> Shape<'a>
+    ensures { (s : CodeScope) → shape_view s result ≡ fixed_view kind }
+{
+    match kind {
+        Fixed::TakesNone(gives) => Shape::Takes(Demands::Nothing, gives),
+        Fixed::TakesOne(a, gives) => Shape::Takes(Demands::One(a), gives),
+        Fixed::TakesTwo(a, b, gives) => Shape::Takes(Demands::Two(a, b), gives),
+        Fixed::TakesThree(a, b, c) => Shape::Takes(Demands::Three(a, b, c), None),
+        Fixed::Drops(n) => Shape::Drops(n),
+        Fixed::Copies(skipped, copied) => Shape::Copies(skipped, copied),
+        Fixed::Swaps => Shape::Swaps,
+        Fixed::LoadsElement => Shape::LoadsElement,
+    }
+}
+
+/// The end of a method.
+fn returned_shape<'a>(view: &CodeView<'a>, kind: Returned) -> Option<Shape<'a>>
+    ensures { (i : AnInstr) → IsShape (scope_of view.now) i (returned_view kind) result }
+{
+    match kind {
+        Returned::Int => returns_int(view),
+        Returned::Long => returns_long(view),
+        Returned::Reference => returns_reference(view),
+        Returned::Nothing => returns_nothing(view),
+    }
+}
+
+/// What is done at a field.
+fn field_shape<'a>(view: &CodeView<'a>, i: &Instr, kind: FieldUse) -> Option<Shape<'a>>
+    ensures { IsShape (scope_of view.now) i.now (field_view kind) result }
+{
+    match kind {
+        FieldUse::GetsStatic => gets_static(view, i),
+        FieldUse::PutsStatic => puts_static(view, i),
+        FieldUse::Gets => gets_field(view, i),
+        FieldUse::Puts => puts_field(view, i),
+    }
+}
+
+/// The call of a method.
+fn call_shape<'a>(view: &CodeView<'a>, i: &Instr, kind: CallKind) -> Option<Shape<'a>>
+    ensures { IsShape (scope_of view.now) i.now (call_view kind) result }
+{
+    match kind {
+        CallKind::Virtual => calls_virtual(view, i),
+        CallKind::Special => calls_special(view, i),
+        CallKind::Static => calls_static(view, i),
+        CallKind::Interface => calls_interface(view, i),
+    }
+}
+
+/// What is done with a type.
+fn type_shape<'a>(view: &CodeView<'a>, i: &Instr, kind: TypeUse) -> Option<Shape<'a>>
+    ensures { IsShape (scope_of view.now) i.now (type_view kind) result }
+{
+    match kind {
+        TypeUse::MakesObject => makes_object(view, i),
+        TypeUse::MakesArray => makes_array(view, i),
+        TypeUse::MakesArrays => makes_arrays(view, i),
+        TypeUse::Casts => casts(view, i),
+        TypeUse::Tests => tests(view, i),
+        TypeUse::MakesNumbers => makes_numbers(i),
     }
 }
 

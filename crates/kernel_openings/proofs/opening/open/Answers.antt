@@ -18,11 +18,11 @@ use Rattle.kernel_openings.proofs.ClosedStores.{heap_again, stack_again}
 use Rattle.kernel_openings.proofs.OpenedOrNot.{admitted_places, why_full, why_no_memory}
 use Rattle.kernel_openings.proofs.opening.open.Goals as goal
 
-pub make-requires : goal.make-requires
-make-requires g c = record { there = λ x named. subst (λ (t : List ClassRecord). HasClass t x) (sym c.classes.ensures) (c.requires.may.there x named) }
+pub make_ready-requires : goal.make_ready-requires
+make_ready-requires g c = record { there = λ x named. subst (λ (t : List ClassRecord). HasClass t x) (sym c.classes.ensures) (c.requires.may.there x named) }
 
-pub returns-in_err-reserve_own-clause-cause : goal.returns-in_err-reserve_own-clause-cause
-returns-in_err-reserve_own-clause-cause g c =
+pub returns-in_err-ready-clause-cause : goal.returns-in_err-ready-clause-cause
+returns-in_err-ready-clause-cause g c =
     let old : Parts =
     record {
       world = c.args.world.now;
@@ -32,21 +32,21 @@ returns-in_err-reserve_own-clause-cause g c =
       frames = g.F.SegmentFrames.content c.args.frames.now;
     }
     in
-    why_no_memory old c.args.quotas.now c.from_residual-in_err-reserve_own.result c.from_residual-in_err-reserve_own.ensures.1
+    why_no_memory old c.args.quotas.now c.from_residual.result c.from_residual.ensures.1
 
 pub returns-in-Err-NoExtent-clause-cause : goal.returns-in-Err-NoExtent-clause-cause
 returns-in-Err-NoExtent-clause-cause g c =
     c.admit_stores.ensures.no_extent (c.in-Err-NoExtent.is ∙ ap (λ (e : AdmitError). Err e) c.in-Err-NoExtent.field-0-is)
 
 pub enter-requires-clause-free : goal.enter-requires-clause-free
-enter-requires-clause-free g c = λ e live. c.requires.may.not_live e (live.0, live.1, live.2, live.3 ∙ c.in_ok-name.ensures ∙ c.as_bytes.ensures.value)
+enter-requires-clause-free g c = λ e live. c.requires.may.not_live e (live.0, live.1, live.2, live.3 ∙ c.in_ok-ready.ensures.name)
 
 pub returns-in-Err-clause-err : goal.returns-in-Err-clause-err
 returns-in-Err-clause-err g c =
     let d : DomainId = record { 0 = c.domain_count.result } in
     record {
       world = c.in-Err.ensures.same_world;
-      owns = c.reserve_own.ensures.items;
+      owns = c.make_ready.ensures.items;
       shared = c.in-Err.ensures.same_shared;
       heap = heap_again (g.H.ObjectStore.content c.args.heap.now) (g.H.ObjectStore.content c.admit_stores.new.heap)
           (g.H.ObjectStore.content c.close.new.self) d
@@ -99,10 +99,10 @@ returns-clause-ok g c =
       places = admitted_places old c.args.quotas.now c.admit_stores.result c.in-Ok.is c.admit_stores.ensures.only_no_extent;
       numbers = c.in_default.ensures.numbers;
       few = c.in_default.ensures.few;
-      before = c.in_ok-own.own;
+      before = c.in_ok-ready.ready.own;
       own = c.make_standing.new.own;
-      first = subst (λ (t : List ClassRecord). IsFirstState t c.args.loaded.table c.in_ok-own.own.state) c.classes.ensures c.in_ok-own.ensures.state;
-      rooms = subst (λ (t : List ClassRecord). HasFirstRooms t c.args.loaded.table c.in_ok-own.own) c.classes.ensures c.in_ok-own.ensures.rooms;
+      first = subst (λ (t : List ClassRecord). IsFirstState t c.args.loaded.table c.in_ok-ready.ready.own.state) c.classes.ensures c.in_ok-ready.ensures.state;
+      rooms = subst (λ (t : List ClassRecord). HasFirstRooms t c.args.loaded.table c.in_ok-ready.ready.own) c.classes.ensures c.in_ok-ready.ensures.rooms;
       eight = c.holds-2.ensures.standing;
       empty = g.H.ObjectStore.content c.admit_stores.new.heap;
       heap =
@@ -110,18 +110,18 @@ returns-clause-ok g c =
           c.in-Ok.ensures.heap;
       standing =
           subst (λ (d : DomainId). MakesStanding (g.H.ObjectStore.content c.admit_stores.new.heap) (g.H.ObjectStore.content c.make_standing.new.heap)
-          c.args.world.now.classes d c.in_ok-own.own c.make_standing.new.own) number
+          c.args.world.now.classes d c.in_ok-ready.ready.own c.make_standing.new.own) number
           (subst (λ (t : List ClassRecord). MakesStanding (g.H.ObjectStore.content c.admit_stores.new.heap)
-          (g.H.ObjectStore.content c.make_standing.new.heap) t (record { 0 = c.domain_count.result }) c.in_ok-own.own c.make_standing.new.own)
+          (g.H.ObjectStore.content c.make_standing.new.heap) t (record { 0 = c.domain_count.result }) c.in_ok-ready.ready.own c.make_standing.new.own)
           same_classes c.make_standing.ensures);
       stack =
           subst (λ (d : DomainId). AdmitsStack old.frames (g.F.SegmentFrames.content c.admit_stores.new.frames) d c.args.quotas.now.chunks) number
           c.in-Ok.ensures.stack;
       names_are =
-          c.in_default.ensures.world ∙ ap (λ (d : DomainId). with_names d c.in_ok-name.name) number
-          ∙ ap (with_names (next_number old)) (c.in_ok-name.ensures ∙ c.as_bytes.ensures.value);
+          c.in_default.ensures.world ∙ ap (λ (d : DomainId). with_names d c.in_ok-ready.ready.name) number
+          ∙ ap (with_names (next_number old)) c.in_ok-ready.ensures.name;
       shared_is =
           c.in_default.ensures.shared ∙ ap (λ (d : DomainId). admitted d c.args.quotas.now c.args.loaded.stubs c.args.shared.now) number;
       owns_are =
-          c.push_reserved.ensures.items ∙ ap (λ (o : List (Option KeptState)). o ++ Some c.make_standing.new.own ∷ []) c.reserve_own.ensures.items;
+          c.push_reserved.ensures.items ∙ ap (λ (o : List (Option KeptState)). o ++ Some c.make_standing.new.own ∷ []) c.make_ready.ensures.items;
     }
