@@ -1,24 +1,24 @@
 -- The segments of a domain are gone over from the newest down, and the threads that end with it are listed; the list answers which is the next.
-use Rattle.std.proofs.Common.{◌≡◌, ℕ, ◌+◌, ◌<◌, ◌≤◌, ◌⊎◌, inl, inr, Bool, true, false, List, [], ◌∷◌, ◌++◌, length, map, filter, find, is_some, Contains, Option, Some, None, slice_get, get_or, refl, sym, ap, subst, ◌∙◌, arith, length-append}
-use Rattle.std.specs.Prelude.{◌==◌, ◌&&◌, if◌then◌else◌}
+use Rattle.std.proofs.Common.{◌≡◌, ℕ, ◌<◌, ◌≤◌, ◌⊎◌, inl, inr, Bool, true, false, List, [], ◌∷◌, ◌++◌, length, map, filter, find, is_some, Contains, Option, Some, None, slice_get, get_or, refl, sym, ap, subst, ◌∙◌, arith, length-append}
+use Rattle.std.specs.Prelude.{if◌then◌else◌}
 use Rattle.std.specs.List.{list_all}
-use Rattle.std.specs.List.Sorted.{IsNonDecreasing, IsPartitionPoint, IsPermutation}
+use Rattle.std.specs.List.Sorted.{IsNonDecreasing, IsPermutation}
 use Rattle.std.specs.Option.{option_map_or}
-use Rattle.std.proofs.lemmas.Bool.{and_from, and_parts, cases_lt}
+use Rattle.std.proofs.lemmas.Bool.{and_parts, cases_lt}
 use Rattle.std.proofs.lemmas.List.Elements.{Contains-append_cases, Contains-append_left, Contains-append_right}
 use Rattle.std.proofs.lemmas.List.Sorted.{Contains-permutation, IsPermutation-sym}
-use Rattle.std.proofs.lemmas.Option.{get_or_from_slice_get, same_Some, slice_get-get_or, slice_get_within}
+use Rattle.std.proofs.lemmas.Option.{get_or_from_slice_get, slice_get-get_or, slice_get_within}
 use Rattle.jk_model.specs.declared.identifiers.DomainId.{DomainId}
 use Rattle.jk_model.specs.declared.identifiers.SegmentNo.{SegmentNo}
-use Rattle.jk_model_sharing.specs.Segments.{SharedThread, top_of}
-use Rattle.list_lemmas.proofs.ItemsOfLists.{Contains-at, Contains-cases, Contains-here, Contains-none, Contains-there, place_of}
+use Rattle.jk_model_sharing.specs.Segments.{top_of}
+use Rattle.list_lemmas.proofs.ItemsOfLists.{Contains-at, Contains-cases, Contains-here, Contains-none, place_of}
 use Rattle.list_lemmas.proofs.ItemsThatPass.{Contains-filter}
 use Rattle.thread_stacks.specs.declared.entries.ThreadEntry.{ThreadEntry}
 use Rattle.thread_stacks.specs.declared.slots.Slot.{Slot}
 use Rattle.thread_stacks.specs.ListedEndings.{AreEndings, AreListed, AreNewestFirst, lowest_of_ending}
 use Rattle.thread_stacks.specs.Places.{AreRisingBy, has_key}
 use Rattle.thread_stacks.specs.StackAnswers.{EndsWith, IsLeastAbove}
-use Rattle.thread_stacks.specs.Stacks.{AreChained, AreLinked, HasRoom, IsEntryWith, NameTops, above_in, below_in, is_in, is_live, is_own, is_running, last_or, newer_in, older_in, owned_by, runs_only_in, slot_key, slot_number, slots_on, stands_on, thread_key, threads_of, top_on}
+use Rattle.thread_stacks.specs.Stacks.{AreChained, AreLinked, HasRoom, IsEntryWith, NameTops, above_in, below_in, is_in, is_live, is_own, is_running, newer_in, older_in, owned_by, runs_only_in, slot_key, slot_number, slots_on, stands_on, thread_key, threads_of}
 use Rattle.thread_stacks.proofs.Chains.{chained_parts, last_or_top}
 use Rattle.thread_stacks.proofs.EndingThreads.{ending_entry, entry_ending}
 use Rattle.thread_stacks.proofs.Filtered.{filter_twice, length_first, one_if, stood_at}
@@ -27,7 +27,7 @@ use Rattle.thread_stacks.proofs.ItemsByKey.{only_at}
 use Rattle.thread_stacks.proofs.Owned.{own_from, own_parts}
 use Rattle.thread_stacks.proofs.StacksWalked.{IsWalked, all_walked, goes_lower, last_is, left_ends, left_whole, none_done, then_done, to_walk, walk_begins, walk_goes_to}
 use Rattle.thread_stacks.proofs.StandsOnThreads.{stands_parts}
-use Rattle.std.proofs.lemmas.Bool.{eqb-true, eq-eqb}
+use Rattle.std.proofs.lemmas.Bool.{eqb-true}
 
 -- ---- The walk.
 

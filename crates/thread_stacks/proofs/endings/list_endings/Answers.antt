@@ -1,5 +1,5 @@
 -- Each slot on the way is there, and there is room for the thread of each; then all of the domain were looked at, and the numbers are put in order.
-use Rattle.std.proofs.Common.{◌≡◌, ◌<◌, Option, List, ℕ, Bool, sym, subst, ◌∙◌, arith, vec_capacity}
+use Rattle.std.proofs.Common.{◌<◌, Option, List, ℕ, sym, subst, ◌∙◌, arith}
 use Rattle.std.proofs.lemmas.List.Sorted.{IsNonDecreasingBy-from_sort}
 use Rattle.jk_model.specs.declared.identifiers.SegmentNo.{SegmentNo}
 use Rattle.thread_stacks.specs.Stacks.{is_own}

@@ -1,5 +1,5 @@
 -- Numbers don't fall: those up to the one asked for are in front.
-use Rattle.std.proofs.Common.{◌≡◌, ◌<◌, ◌≤◌, List, Option, Some, ℕ, get_or, nat_le, rules, slice_get, sym, arith, ap, ◌∙◌, true, false}
+use Rattle.std.proofs.Common.{ℕ, nat_le, rules, sym, arith, ap, ◌∙◌}
 use Rattle.std.proofs.lemmas.Bool.{leb-false, leb-true}
 use Rattle.std.proofs.lemmas.List.Sorted.{IsPartitionPoint-from_clause, IsPartitionedBy-leb}
 use Rattle.std.proofs.lemmas.Option.{get_or_from_slice_get, slice_get_within}
