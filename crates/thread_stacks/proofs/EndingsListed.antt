@@ -1,33 +1,33 @@
 -- The segments of a domain are gone over from the newest down, and the threads that end with it are listed; the list answers which is the next.
-use Rattle.std.proofs.Common.{◌≡◌, ℕ, ◌<◌, ◌≤◌, ◌⊎◌, inl, inr, Bool, true, false, List, [], ◌∷◌, ◌++◌, length, map, filter, find, is_some, Contains, Option, Some, None, slice_get, get_or, refl, sym, ap, subst, ◌∙◌, arith, length-append}
+use Rattle.std.proofs.Common.{◌≡◌, ℕ, ◌+◌, ◌<◌, ◌≤◌, ◌⊎◌, inl, inr, Bool, true, false, List, [], ◌∷◌, ◌++◌, length, map, filter, find, is_some, take, Contains, Option, Some, None, slice_get, get_or, refl, sym, ap, subst, ◌∙◌, arith, length-append}
 use Rattle.std.specs.Prelude.{if◌then◌else◌}
 use Rattle.std.specs.List.{list_all}
 use Rattle.std.specs.List.Sorted.{IsNonDecreasing, IsPermutation}
 use Rattle.std.specs.Option.{option_map_or}
-use Rattle.std.proofs.lemmas.Bool.{and_parts, cases_lt}
+use Rattle.std.proofs.lemmas.Bool.{and_from, and_parts, cases_lt, eq-eqb, eqb-true}
 use Rattle.std.proofs.lemmas.List.Elements.{Contains-append_cases, Contains-append_left, Contains-append_right}
 use Rattle.std.proofs.lemmas.List.Sorted.{Contains-permutation, IsPermutation-sym}
-use Rattle.std.proofs.lemmas.Option.{get_or_from_slice_get, slice_get-get_or, slice_get_within}
+use Rattle.std.proofs.lemmas.Option.{get_or_from_slice_get, same_Some, slice_get-get_or, slice_get_within}
 use Rattle.jk_model.specs.declared.identifiers.DomainId.{DomainId}
 use Rattle.jk_model.specs.declared.identifiers.SegmentNo.{SegmentNo}
 use Rattle.jk_model_sharing.specs.Segments.{top_of}
+use Rattle.list_lemmas.proofs.ItemsByPlace.{length_take_whole, slice_get-from_take, slice_get-take}
 use Rattle.list_lemmas.proofs.ItemsOfLists.{Contains-at, Contains-cases, Contains-here, Contains-none, place_of}
 use Rattle.list_lemmas.proofs.ItemsThatPass.{Contains-filter}
 use Rattle.thread_stacks.specs.declared.entries.ThreadEntry.{ThreadEntry}
 use Rattle.thread_stacks.specs.declared.slots.Slot.{Slot}
-use Rattle.thread_stacks.specs.ListedEndings.{AreEndings, AreListed, AreNewestFirst, lowest_of_ending}
-use Rattle.thread_stacks.specs.Places.{AreRisingBy, has_key}
+use Rattle.thread_stacks.specs.ListedEndings.{AreEndings, AreListed, AreNewestFirst, EndsAlone, HaveEntries, lowest_of_ending}
+use Rattle.thread_stacks.specs.Places.{AreRisingBy, IsOnlyAt, has_key}
 use Rattle.thread_stacks.specs.StackAnswers.{EndsWith, IsLeastAbove}
-use Rattle.thread_stacks.specs.Stacks.{AreChained, AreLinked, HasRoom, IsEntryWith, NameTops, above_in, below_in, is_in, is_live, is_own, is_running, newer_in, older_in, owned_by, runs_only_in, slot_key, slot_number, slots_on, stands_on, thread_key, threads_of}
+use Rattle.thread_stacks.specs.Stacks.{AreChained, AreLinked, HasRoom, IsEntryWith, NameTops, above_in, below_in, first_or, is_in, is_live, is_own, is_running, newer_in, older_in, owned_by, runs_only_in, slot_key, slot_number, slots_on, stands_on, thread_key, threads_of}
 use Rattle.thread_stacks.proofs.Chains.{chained_parts, last_or_top}
 use Rattle.thread_stacks.proofs.EndingThreads.{ending_entry, entry_ending}
 use Rattle.thread_stacks.proofs.Filtered.{filter_twice, length_first, one_if, stood_at}
-use Rattle.thread_stacks.proofs.FoundInStacks.{found_at, only_found}
+use Rattle.thread_stacks.proofs.FoundInStacks.{found_at, none_fits, only_found, only_passes, only_within}
 use Rattle.thread_stacks.proofs.ItemsByKey.{only_at}
 use Rattle.thread_stacks.proofs.Owned.{own_from, own_parts}
-use Rattle.thread_stacks.proofs.StacksWalked.{IsWalked, all_walked, goes_lower, last_is, left_ends, left_whole, none_done, then_done, to_walk, walk_begins, walk_goes_to}
-use Rattle.thread_stacks.proofs.StandsOnThreads.{stands_parts}
-use Rattle.std.proofs.lemmas.Bool.{eqb-true}
+use Rattle.thread_stacks.proofs.StacksWalked.{IsWalked, all_walked, goes_lower, last_is, last_stood, left_ends, left_whole, none_done, then_done, to_walk, walk_begins, walk_goes_to}
+use Rattle.thread_stacks.proofs.StandsOnThreads.{stands_from, stands_parts}
 
 -- ---- The walk.
 
@@ -142,6 +142,117 @@ listing_room entries slots d n rising listed l =
       length-append e.rest (e.last ∷ l.walk.done),
     )
 
+-- ---- The slots of older segments stand before.
+
+-- the slot of the next segment to look at stands before a place
+abbrev pub StandsBefore : List Slot → ℕ → Option SegmentNo → Type 0
+StandsBefore slots end next = (i : ℕ) (x : Slot) → slice_get slots i ≡ Some x → next ≡ Some (slot_number x) → i < end
+
+-- what is found before a place is found in all
+pub record FoundBefore (slots : List Slot) (n : SegmentNo) (place : ℕ) (s : Slot) : Type 0 where
+  pub found : find (has_key slot_key n.0) slots ≡ Some s
+  pub number : s.number ≡ n.0
+
+pub place_within : (slots : List Slot) (n : SegmentNo) (end place : ℕ) → IsOnlyAt (has_key slot_key n.0) (take end slots) place → place < length slots
+place_within slots n end place only =
+    omega (arith, only_within (has_key slot_key n.0) (take end slots) place only, length_take_whole slots end)
+
+pub found_before : (slots : List Slot) (n : SegmentNo) (rising : AreRisingBy slot_key slots) (end place : ℕ) (s : Slot)
+    → IsOnlyAt (has_key slot_key n.0) (take end slots) place → slice_get slots place ≡ Some s → FoundBefore slots n place s
+found_before slots n rising end place s only there =
+    let at = slice_get-get_or (take end slots) place s (only_within (has_key slot_key n.0) (take end slots) place only) in
+    let same = same_Some (get_or (take end slots) place s) s
+    (sym (slice_get-from_take slots end place (get_or (take end slots) place s) at) ∙ there) in
+    let passes : has_key slot_key n.0 s ≡ true =
+    ap (has_key slot_key n.0) (sym same) ∙ only_passes (has_key slot_key n.0) (take end slots) place (get_or (take end slots) place s) only at in
+    let number : s.number ≡ n.0 = eqb-true s.number n.0 passes in
+    record {
+      found = only_found (has_key slot_key n.0) slots place s (only_at slot_key slots place n.0 s rising there number) there;
+      number = number;
+    }
+
+-- it isn't missing there
+pub not_before : (entries : List ThreadEntry) (slots : List Slot) (d : DomainId) (n : SegmentNo) (rising : AreRisingBy slot_key slots) (listed : List ℕ)
+    (l : IsListing entries slots d (Some n) listed) (end : ℕ) → StandsBefore slots end (Some n)
+    → find (has_key slot_key n.0) (take end slots) ≡ None → ⊥
+not_before entries slots d n rising listed l end before none =
+    let e = left_ends slots (is_own d.0) n rising l.walk in
+    let stood = last_stood slots (is_own d.0) n rising l.walk in
+    let low = before stood.place e.last stood.there (ap (λ (m : SegmentNo). Some m) (sym e.is)) in
+    let miss = none_fits (has_key slot_key n.0) (take end slots) stood.place e.last none (slice_get-take slots end stood.place low ∙ stood.there) in
+    let never : true ≡ false = sym (eq-eqb e.last.number n.0 (ap (λ (m : SegmentNo). m.0) e.is)) ∙ miss in cc
+
+pub stands_before_it : (slots : List Slot) (n : SegmentNo) (rising : AreRisingBy slot_key slots) (place : ℕ) (s : Slot) → slice_get slots place ≡ Some s
+    → s.number ≡ n.0 → to_walk s.older < to_walk (Some n) → StandsBefore slots place s.older
+stands_before_it slots n rising place s there number falls =
+    λ i x at older.
+    let less : x.number + 1 < n.0 + 1 = subst (λ (o : Option SegmentNo). to_walk o < to_walk (Some n)) older falls in
+    elim (cases_lt i place) [
+      | inl before ↦ before
+      | inr after ↦ elim (cases_lt place i) [
+        | inl behind ↦ absurd (omega (arith, rising place i s x there at behind, less, number))
+        | inr here ↦
+            let one : i ≡ place = omega (arith, after, here) in
+            let same = same_Some x s (sym at ∙ ap (λ (k : ℕ). slice_get slots k) one ∙ there) in
+            absurd (omega (arith, ap slot_key same, less, number))
+      ]
+    ]
+
+-- ---- A segment that is all of its thread.
+
+-- what stands on another isn't the lowest
+never_first : (n : SegmentNo) (xs : List Slot) (s : Slot) → AreChained below_in above_in (Some n) xs None → Contains xs s → s.below ≡ None → ⊥
+never_first n [] s chain there below = Contains-none s there
+never_first n (x ∷ xs) s chain there below = elim (Contains-cases s x xs there) [
+  | inl same ↦ let never : Some n ≡ None = sym chain.0 ∙ ap below_in same ∙ below in absurd cc
+  | inr more ↦ never_first (slot_number x) xs s chain.2 more below
+]
+
+nothing_follows : (xs : List Slot) → first_or None xs ≡ None → xs ≡ []
+nothing_follows [] is = refl
+nothing_follows (x ∷ xs) is = absurd cc
+
+all_alone : (xs : List Slot) (s : Slot) → AreChained below_in above_in None xs None → Contains xs s → s.below ≡ None → s.above ≡ None → xs ≡ s ∷ []
+all_alone [] s chain there below above = absurd (Contains-none s there)
+all_alone (x ∷ xs) s chain there below above = elim (Contains-cases s x xs there) [
+  | inl same ↦
+      let last : xs ≡ [] = nothing_follows xs (sym chain.1 ∙ ap above_in same ∙ above) in
+      ap (λ (ys : List Slot). x ∷ ys) last ∙ ap (λ (y : Slot). y ∷ []) same
+  | inr more ↦ absurd (never_first (slot_number x) xs s chain.2 more below)
+]
+
+pub ends_alone : (entries : List ThreadEntry) (slots : List Slot) (d : DomainId) → AreRisingBy thread_key entries → AreLinked slots entries
+    → HaveEntries slots entries → (place : ℕ) (s : Slot) → slice_get slots place ≡ Some s → is_own d.0 s ≡ true → EndsAlone entries slots d s
+ends_alone entries slots d threads links homes place s there own below above =
+    let parts = own_parts d.0 s own in
+    let home = homes place s there parts.0 in
+    let entry : find (has_key thread_key s.thread) entries ≡ Some home.entry =
+    only_found (has_key thread_key s.thread) entries home.place home.entry
+    (only_at thread_key entries home.place s.thread home.entry threads home.there home.number) home.there in
+    let on : Contains (slots_on s.thread slots) s =
+    Contains-filter (stands_on s.thread) slots s (Contains-at slots place s there) (stands_from s.thread s parts.0 refl) in
+    let stack : slots_on home.entry.number slots ≡ s ∷ [] =
+    ap (λ (u : ℕ). slots_on u slots) home.number ∙ all_alone (slots_on s.thread slots) s (links.stacks s.thread) on below above in
+    let top : home.entry.top ≡ Some (slot_number s) =
+    links.tops home.place home.entry home.there ∙ ap (λ (ys : List Slot). top_of (map slot_number ys)) stack in
+    let ours : list_all (is_in d) (s ∷ []) ≡ true = and_from (is_in d s) true (eq-eqb s.domain.0 d.0 parts.1) refl in
+    let both : runs_only_in slots d home.entry ≡ true =
+    and_from (is_running home.entry) (list_all (is_in d) (slots_on home.entry.number slots)) (ap (λ (o : Option SegmentNo). is_some o) top)
+    (ap (λ (ys : List Slot). list_all (is_in d) ys) stack ∙ ours) in
+    ap (λ (o : Option SegmentNo). if is_some o then false
+    else option_map_or (runs_only_in slots d) (find (has_key thread_key s.thread) entries) false) below
+    ∙ ap (λ (o : Option ThreadEntry). option_map_or (runs_only_in slots d) o false) entry ∙ both
+
+-- the next one that is looked at
+pub next_alone : (entries : List ThreadEntry) (slots : List Slot) (d : DomainId) (n : SegmentNo) (rising : AreRisingBy slot_key slots) (listed : List ℕ)
+    (l : IsListing entries slots d (Some n) listed) (s : Slot) → find (has_key slot_key n.0) slots ≡ Some s → AreRisingBy thread_key entries
+    → AreLinked slots entries → HaveEntries slots entries → EndsAlone entries slots d s
+next_alone entries slots d n rising listed l s is threads links homes =
+    let stood = last_stood slots (is_own d.0) n rising l.walk in
+    let same = last_is slots (is_own d.0) n rising l.walk s is in
+    ends_alone entries slots d threads links homes stood.place s (stood.there ∙ ap (λ (x : Slot). Some x) same)
+    (ap (is_own d.0) (sym same) ∙ stood.passes)
+
 -- ---- All of the domain were looked at.
 
 module _ (entries : List ThreadEntry) (slots : List Slot) (d : DomainId) (threads : AreRisingBy thread_key entries) (links : AreLinked slots entries) where
@@ -169,8 +280,8 @@ module _ (entries : List ThreadEntry) (slots : List Slot) (d : DomainId) (thread
         Contains-filter (is_own d.0) slots s (Contains-at slots stood.place s stood.there) (own_from d.0 s on.0 home),
         on.1,
         ap (λ (o : Option SegmentNo). if is_some o then false
-        else option_map_or (runs_only_in slots d) (find (has_key thread_key s.thread) entries) false) below
-        ∙ ap (λ (o : Option ThreadEntry). option_map_or (runs_only_in slots d) o false) entry ∙ both,
+            else option_map_or (runs_only_in slots d) (find (has_key thread_key s.thread) entries) false) below
+            ∙ ap (λ (o : Option ThreadEntry). option_map_or (runs_only_in slots d) o false) entry ∙ both,
       )
 
   pub all_listed : (listed sorted : List ℕ) → IsListing entries slots d None listed → IsPermutation listed sorted → IsNonDecreasing sorted
