@@ -26,6 +26,7 @@ pub mod StacksWalked
 pub mod StandsOnThreads
 pub mod TakenFromStacks
 pub mod LeftTheSame
+pub mod MarkAtTheEnd
 pub mod ThreadsAfter
 pub mod ToldOfSegments
 pub mod SegmentsTakenOff

@@ -66,11 +66,19 @@ pub(crate) fn new_slot(
     }
 }
 
-/// Where a segment stands, a marked one too; none where it isn't there.
+/// Where a segment stands, a marked one too; none where it isn't there. The last one, which a thread that runs mostly put on top, is found
+/// at once.
 pub(crate) fn place_of_segment(slots: &[Slot], s: SegmentNo) -> Option<usize>
     requires { AreRisingBy slot_key slots.now }
     ensures { IsPlaceOf (has_key slot_key s.0) slots.now result }
 {
+    let count = slots.len();
+    if count > 0 {
+        let last = count - 1;
+        if slots[last].number == s.0 {
+            return Some(last);
+        }
+    }
     slots.binary_search_by(|slot| slot.number.cmp(&s.0)).ok()
 }
 
@@ -110,6 +118,7 @@ pub(crate) fn below_of(slot: &Slot) -> Option<SegmentNo>
 }
 
 /// Marks the slot of a segment, lets its neighbours name one another, and answers it as it was.
+#[inline(always)]
 pub(crate) fn take_off(slots: &mut Vec<Slot>, s: SegmentNo) -> Slot
     requires order { AreRisingBy slot_key slots.old.items }
     requires there { IsSlotted slots.old.items s.0 }
@@ -220,12 +229,19 @@ fn with_flag(slot: Slot, flag: Flag, on: bool) -> Slot
     changed
 }
 
-/// Drops the marks where they are more than the live segments.
+/// Drops the marks where they are more than the live segments, and one mark alone that stands last: so segments that go before all that were
+/// there before them leave no mark.
 pub(crate) fn close_up_slots(slots: &mut Vec<Slot>, live: usize)
     requires { live ≡ length (filter is_live slots.old.items) }
     ensures closed { IsClosedUp is_live slots.old.items slots.new.items live }
     ensures capacity { vec_capacity slots.new ≡ vec_capacity slots.old }
 {
+    if slots.len() == live + 1 {
+        if !slots[live].live {
+            let _mark = slots.pop();
+            return;
+        }
+    }
     if slots.len() > 2 * live {
         slots.retain(|slot| slot.live);
     }
