@@ -4,11 +4,9 @@ use Rattle.std.proofs.lemmas.Option.{same_Some, slice_get_within}
 use Rattle.jk_model.specs.declared.descriptors.MethodType.{MethodType}
 use Rattle.jk_model_classes.specs.Worlds.{DomainRecord}
 use Rattle.jk_model_machine_state.specs.Machines.{DomainState}
-use Rattle.jk_model_machine_state.specs.Places.{LiveDomain}
 use Rattle.jk_model_crossings.specs.DomainEnds.{Terminates}
 use Rattle.jk_model_sharing.specs.SharedStates.{Drops, SharedState}
 use Rattle.machine_parts.specs.EndedParts.{EndsInParts, ended_threads, lines_of_end}
-use Rattle.machine_parts.specs.FittingParts.{AreFittingParts}
 use Rattle.machine_parts.proofs.DomainEnded.{ends_change_machines}
 use Rattle.kernel_parts.specs.SoundKernels.{KernelContent, kernel_machine, parts_of}
 use Rattle.domain_ends.specs.TidyParts.{content_of}
