@@ -4,7 +4,7 @@ use Rattle.std.proofs.lemmas.Bool.{eqb-false, eqb-true}
 use Rattle.std.proofs.lemmas.List.Sums.{sum_by-cons}
 use Rattle.jk_model.specs.declared.identifiers.DomainId.{DomainId}
 use Rattle.jk_model_frames.specs.Frames.{segment_chunks}
-use Rattle.jk_model_sharing.specs.Segments.{as_orphan, changed, is_of, left_above, segments_left, top_is_of, with_revoked, with_top}
+use Rattle.jk_model_sharing.specs.Segments.{as_orphan, changed, left_above, segments_left, top_is_of, with_revoked, with_top}
 use Rattle.jk_model_machine_state.specs.Machines.{Segment, Thread, chunks_of, segment_form}
 use Rattle.jk_model_crossings.specs.DomainEnds.{has_segments}
 

@@ -33,7 +33,7 @@ use Rattle.machine_laws.proofs.ChangedItems.{as_many as as_many_changed}
 use Rattle.machine_laws.proofs.FilteredItems.{filtered_from}
 use Rattle.machine_parts.specs.EndedParts.{EndsInParts, ended_threads, lines_of_end}
 use Rattle.machine_parts.specs.ChangedParts.{StandsInParts}
-use Rattle.machine_parts.specs.FittingParts.{AreFittingParts, HaveOneList, HaveSegments, HaveStubs}
+use Rattle.machine_parts.specs.FittingParts.{AreFittingParts, HaveOneList, HaveStubs}
 use Rattle.machine_parts.specs.MachineParts.{MachineParts, domain_state, frames_in, inside_of, machine_of}
 use Rattle.machine_parts.proofs.DomainEnded.{ends_change_machines}
 use Rattle.machine_parts.proofs.DomainsOfParts.{live_domain_is_of_parts, state_at}

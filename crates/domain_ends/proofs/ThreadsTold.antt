@@ -1,5 +1,5 @@
 -- The threads that end with a domain are told in rising number: those up to a number have been told, and the least one above it is the next.
-use Rattle.std.proofs.Common.{◌≡◌, ◌⊎◌, ℕ, suc, ◌<◌, ◌≤◌, inl, inr, Bool, true, false, not, cond, filter, List, [], ◌∷◌, ◌++◌, append_assoc, append-nil, map, slice_get, Contains, Option, Some, None, refl, sym, ap, subst, ◌∙◌, arith}
+use Rattle.std.proofs.Common.{◌≡◌, ◌⊎◌, ℕ, suc, ◌<◌, ◌≤◌, inl, inr, Bool, true, false, not, cond, filter, List, [], ◌∷◌, ◌++◌, append_assoc, append-nil, map, slice_get, Contains, Some, None, refl, sym, ap, subst, ◌∙◌, arith}
 use Rattle.std.specs.Prelude.{⊤}
 use Rattle.std.proofs.lemmas.List.Elements.{Contains-append_cases, Contains-append_right}
 use Rattle.jk_model.specs.declared.identifiers.DomainId.{DomainId}
@@ -8,7 +8,7 @@ use Rattle.jk_model.specs.declared.output.Line.{Line}
 use Rattle.jk_model.specs.declared.output.Line.TheVariants.{EndedByKill}
 use Rattle.jk_model_sharing.specs.Segments.{SharedSegment, SharedThread, has_segments, segments_left, shared_form, with_segments}
 use Rattle.jk_model_sharing.specs.SharedStates.{SharedState}
-use Rattle.list_lemmas.proofs.ItemsOfLists.{Contains-at, Contains-cases, Contains-here, Contains-none, Contains-there, place_of}
+use Rattle.list_lemmas.proofs.ItemsOfLists.{Contains-cases, Contains-here, Contains-none, place_of}
 use Rattle.list_lemmas.proofs.ItemsThatPass.{Contains-filter}
 use Rattle.heap_laws.proofs.MappedLists.{mapped, mapped_from}
 use Rattle.machine_laws.proofs.FilteredItems.{filtered_from, filtered_passes}

@@ -22,8 +22,8 @@ use thread_segments::Shared;
 
 /// Ends a live domain, and prints its lines: that it was killed, and which threads end with it, in rising number. Its heap goes back whole, its
 /// capabilities are revoked, the names that it bound are removed, and its segments are taken out of every thread. Where the sink fails, the
-/// domain has ended. It takes no memory, and time in proportion to the domain's segments, with a logarithm, to its capabilities, to the names
-/// that are bound and to the live threads.
+/// domain has ended. It takes no memory, and time in proportion to the domain's segments, with a logarithm, to its capabilities and to the names
+/// that are bound.
 pub fn end_domain<H: ObjectStore, F: FrameStore, S: Sink>(
     w: &mut World,
     owns: &mut Vec<Option<Own>>,
@@ -51,6 +51,7 @@ pub fn end_domain<H: ObjectStore, F: FrameStore, S: Sink>(
     ensures parts { (main : MethodType) → AreKernelParts (content_of w.old owns.old.items shared.old (H.content heap.old) (F.content frames.old) main)
         → AreKernelParts (content_of w.new owns.new.items shared.new (H.content heap.new) (F.content frames.new) main) }
 {
+    shared.list_endings(d);
     let told = tell_end(w, shared, d, out);
     shared.drop_domain(frames, d);
     heap.close(d);

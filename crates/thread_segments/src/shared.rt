@@ -283,8 +283,17 @@ impl Shared {
         self.threads.next_live(above)
     }
 
+    /// Lists the threads of which the end of a domain leaves nothing, so that `next_ending` takes a logarithm as long as nothing else is
+    /// changed. It takes time in proportion to the segments of the domain, with a logarithm.
+    pub fn list_endings(&mut self, d: DomainId)
+        ensures { self.new ≡ self.old }
+    {
+        self.threads.list_endings(d);
+    }
+
     /// The least live thread above this number of which the end of a live domain leaves nothing. None exactly where there is none. It
-    /// goes over the live threads from there on, over segments of the domain, and over one more of each thread.
+    /// takes a logarithm where `list_endings` was called for the domain and nothing has changed since. Else it goes over the live threads
+    /// from there on, over segments of the domain, and over one more of each thread.
     pub fn next_ending(&self, d: DomainId, above: u32) -> Option<ThreadNo>
         requires { IsLiveDomain self.now d }
         ensures { IsLeastAbove (EndsWith self.now.threads d) above (option_map thread_number result) }

@@ -63,7 +63,7 @@ module _ (d : DomainId) where
 
 module _ (slots : List Slot) (es : List ThreadEntry) (d : DomainId) (tops : NameTops slots es) where
   -- a thread that ends has an entry that does
-  ending_entry : (t : ℕ) → EndsWith (threads_of slots es) d t → IsEntryWith (runs_only_in slots d) es t
+  pub ending_entry : (t : ℕ) → EndsWith (threads_of slots es) d t → IsEntryWith (runs_only_in slots d) es t
   ending_entry t (thread, among, is, ends) =
       let e = entered slots es thread tops among in
       let left : segments_left shared_form d (stack_of e.0.number slots) ≡ [] =
@@ -76,7 +76,7 @@ module _ (slots : List Slot) (es : List ThreadEntry) (d : DomainId) (tops : Name
         and_from (is_running e.0) (list_all (is_in d) (slots_on e.0.number slots)) e.2 all,
       )
 
-  entry_ending : (t : ℕ) → IsEntryWith (runs_only_in slots d) es t → EndsWith (threads_of slots es) d t
+  pub entry_ending : (t : ℕ) → IsEntryWith (runs_only_in slots d) es t → EndsWith (threads_of slots es) d t
   entry_ending t (x, among, is, both) =
       let at = place_of es x among in
       let parts = and_parts (is_running x) (list_all (is_in d) (slots_on x.number slots)) both in (

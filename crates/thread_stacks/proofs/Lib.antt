@@ -2,6 +2,7 @@
 pub mod Chains
 pub mod CountedAlive
 pub mod EndingThreads
+pub mod EndingsListed
 pub mod FilteredByOwner
 pub mod Filtered
 pub mod FlagsOfSegments

@@ -11,7 +11,7 @@ use Rattle.thread_stacks.specs.declared.parts.ThreadPart.{ThreadPart}
 use Rattle.thread_stacks.specs.declared.slots.Slot.{Slot}
 use Rattle.thread_stacks.specs.Places.{AreRisingBy, has_key}
 use Rattle.thread_stacks.specs.StackParts.{segment_part, thread_part}
-use Rattle.thread_stacks.specs.Stacks.{NameBelows, is_running, segment_of, slot_key, stack_of, thread_of, threads_of, top_on}
+use Rattle.thread_stacks.specs.Stacks.{NameBelows, is_running, segment_of, slot_key, stack_of, stands_on, thread_of, threads_of, top_on}
 use Rattle.thread_stacks.proofs.Filtered.{filter_hit, filter_miss}
 use Rattle.thread_stacks.proofs.StacksWalked.{IsWalked, all_walked, none_done, now_done, walk_begins, walk_goes_on}
 use Rattle.thread_stacks.proofs.ThreadsAfter.{runs}
@@ -23,15 +23,15 @@ slot_part s = segment_part (segment_of s)
 
 -- Those that were looked at are listed, the lowest last.
 pub record IsListed (slots : List Slot) (t : ℕ) (next : Option SegmentNo) (parts : List SegmentPart) : Type 0 where
-  pub walk : IsWalked slots t next
+  pub walk : IsWalked slots (stands_on t) next
   pub listed : reverse parts ≡ map slot_part walk.done
 
 pub listing_begins : (slots : List Slot) (t : ℕ) (next : Option SegmentNo) (parts : List SegmentPart) → next ≡ top_on t slots → parts ≡ []
     → IsListed slots t next parts
 listing_begins slots t next parts is none =
     record {
-      walk = walk_begins slots t next is;
-      listed = ap (λ (ps : List SegmentPart). reverse ps) none ∙ sym (ap (λ (ss : List Slot). map slot_part ss) (none_done slots t next is));
+      walk = walk_begins slots (stands_on t) next is;
+      listed = ap (λ (ps : List SegmentPart). reverse ps) none ∙ sym (ap (λ (ss : List Slot). map slot_part ss) (none_done slots (stands_on t) next is));
     }
 
 map_twice : (ss : List Slot) → map segment_part (map segment_of ss) ≡ map slot_part ss
@@ -41,7 +41,7 @@ map_twice (s ∷ ss) = ap (λ (ps : List SegmentPart). slot_part s ∷ ps) (map_
 pub all_listed : (slots : List Slot) (t : ℕ) (parts : List SegmentPart) → IsListed slots t None parts
     → reverse parts ≡ map segment_part (stack_of t slots)
 all_listed slots t parts l =
-    l.listed ∙ sym (map_twice l.walk.done ∙ refl) ∙ ap (λ (ss : List Slot). map segment_part (map segment_of ss)) (sym (all_walked slots t l.walk))
+    l.listed ∙ sym (map_twice l.walk.done ∙ refl) ∙ ap (λ (ss : List Slot). map segment_part (map segment_of ss)) (sym (all_walked slots (stands_on t) l.walk))
 
 pub listing_goes_on : (slots : List Slot) (t : ℕ) (n : SegmentNo) (rising : AreRisingBy slot_key slots) (parts more : List SegmentPart)
     (l : IsListed slots t (Some n) parts) (s : Slot) → find (has_key slot_key n.0) slots ≡ Some s → NameBelows slots → more ≡ parts ++ slot_part s ∷ []

@@ -18,11 +18,18 @@ pub(crate) struct ThreadEntry {
     pub(crate) top: Option<SegmentNo>,
 }
 
-/// Where a thread stands, a marked one too; none where it isn't there.
+/// Where a thread stands, a marked one too; none where it isn't there. The last one is found at once.
 fn place_of_thread(entries: &[ThreadEntry], t: ThreadNo) -> Option<usize>
     requires { AreRisingBy thread_key entries.now }
     ensures { IsPlaceOf (has_key thread_key t.0) entries.now result }
 {
+    let count = entries.len();
+    if count > 0 {
+        let last = count - 1;
+        if entries[last].number == t.0 {
+            return Some(last);
+        }
+    }
     entries
         .binary_search_by(|entry| entry.number.cmp(&t.0))
         .ok()
@@ -60,12 +67,19 @@ pub(crate) fn set_top(
     was
 }
 
-/// Drops the marked threads where they are more than the live ones.
+/// Drops the marked threads where they are more than the live ones, and one alone that stands last: so threads that end before all that
+/// were begun before them leave no marks.
 pub(crate) fn close_up_entries(entries: &mut Vec<ThreadEntry>, live: usize)
     requires { live ≡ length (filter is_running entries.old.items) }
     ensures closed { IsClosedUp is_running entries.old.items entries.new.items live }
     ensures capacity { vec_capacity entries.new ≡ vec_capacity entries.old }
 {
+    if entries.len() == live + 1 {
+        if entries[live].top.is_none() {
+            let _mark = entries.pop();
+            return;
+        }
+    }
     if entries.len() > 2 * live {
         entries.retain(|entry| entry.top.is_some());
     }

@@ -10,7 +10,7 @@ ghost use Rattle.thread_stacks.specs.Places.{AreRisingBy};
 ghost use Rattle.thread_stacks.specs.StackParts.{thread_part};
 ghost use Rattle.thread_stacks.specs.StackChanges.{LeavesAll, TakesOut, flag_changed, newest_after};
 
-use crate::endings::next_ending;
+use crate::endings::{list_endings, next_ending, next_listed};
 use crate::entries::{ThreadEntry, close_up_entries, entry_of, next_running, set_top};
 use crate::parts::{ThreadPart, all_parts};
 use crate::restoring::{enter_all, placed_in_order, put_all};
@@ -34,6 +34,10 @@ pub struct Threads {
     slots: Vec<Slot>,
     /// The newest segment of each domain; none of one that has no segment.
     newest: Vec<Option<SegmentNo>>,
+    /// The threads that end with the domain below, in rising number. There is memory for as many as segments may live at once.
+    listed: Vec<u32>,
+    /// The domain for which threads were listed; none where something changed since then.
+    listed_for: Option<DomainId>,
     live: usize,
     live_segments: usize,
     /// How many threads may live at once.
@@ -46,6 +50,7 @@ pub struct Threads {
 
 impl Model for Threads {
     ghost use Rattle.std.specs.Prelude.{length, vec_capacity};
+    ghost use Rattle.thread_stacks.specs.ListedEndings.{AreListed};
     ghost use Rattle.thread_stacks.specs.Stacks.{AreInOrder, AreLinked, AreOwned, HasRoom, ThreadList, is_live, is_running, threads_of};
 
     ghost Value = { ThreadList };
@@ -63,7 +68,8 @@ impl Model for Threads {
         × AreLinked t.slots.items t.entries.items
         × HasRoom is_running t.entries.items t.live t.most (vec_capacity t.entries)
         × HasRoom is_live t.slots.items t.live_segments t.most_segments (vec_capacity t.slots)
-        × AreOwned t.slots.items t.newest.items };
+        × AreOwned t.slots.items t.newest.items
+        × AreListed t.entries.items t.slots.items t.listed_for t.listed.items t.most_segments (vec_capacity t.listed) };
 }
 
 impl Threads {
@@ -75,6 +81,8 @@ impl Threads {
             entries: Vec::new(alloc),
             slots: Vec::new(alloc),
             newest: Vec::new(alloc),
+            listed: Vec::new(alloc),
+            listed_for: None,
             live: 0,
             live_segments: 0,
             most: 0,
@@ -98,6 +106,9 @@ impl Threads {
         let most_segments = self.most_segments + segments as usize;
         self.entries.reserve(2 * most - self.entries.len())?;
         self.slots.reserve(2 * most_segments - self.slots.len())?;
+        self.listed_for = None;
+        self.listed.clear();
+        self.listed.reserve(most_segments)?;
         self.newest.reserve(1)?;
         self.newest.push_reserved(None);
         self.most = most;
@@ -143,6 +154,7 @@ impl Threads {
         let n = self.next_segment;
         self.next_thread = t + 1;
         self.next_segment = n + 1;
+        self.listed_for = None;
         self.live += 1;
         self.live_segments += 1;
         let older = set_newest(&mut self.newest, d, Some(SegmentNo(n)));
@@ -172,6 +184,7 @@ impl Threads {
     {
         let n = self.next_segment;
         let entry = set_top(&mut self.entries, t, Some(SegmentNo(n)));
+        self.listed_for = None;
         self.next_segment = n + 1;
         self.live_segments += 1;
         let older = set_newest(&mut self.newest, d, Some(SegmentNo(n)));
@@ -195,6 +208,7 @@ impl Threads {
             Some(top) => top,
             None => unreachable!(),
         };
+        self.listed_for = None;
         let slot = take_off(&mut self.slots, top);
         lower_newest(&mut self.newest, slot);
         self.live_segments -= 1;
@@ -220,6 +234,7 @@ impl Threads {
             Some(s) => s,
             None => return None,
         };
+        self.listed_for = None;
         let was = take_off(&mut self.slots, s);
         lower_newest(&mut self.newest, was);
         warn_neighbours(&mut self.slots, was);
@@ -266,14 +281,39 @@ impl Threads {
         next_running(self.entries.as_slice(), above)
     }
 
-    /// The least number above of a live thread of which the end of this domain leaves nothing. None exactly where there is none. It
-    /// goes over the live threads from there on, over segments of the domain, and over one more of each thread. Where the domain has no
-    /// segment, it takes constant time.
+    /// Lists the threads of which the end of this domain leaves nothing, so that `next_ending` takes a logarithm as long as nothing else
+    /// is changed. It takes time in proportion to the segments of the domain, with a logarithm, and no memory.
+    pub fn list_endings(&mut self, d: DomainId)
+        ensures { self.new ≡ self.old }
+    {
+        let newest = match newest_of(self.newest.as_slice(), d) {
+            Some(newest) => newest,
+            None => return,
+        };
+        list_endings(
+            &mut self.listed,
+            self.entries.as_slice(),
+            self.slots.as_slice(),
+            newest,
+            d,
+        );
+        self.listed_for = Some(d);
+    }
+
+    /// The least number above of a live thread of which the end of this domain leaves nothing. None exactly where there is none. It takes
+    /// a logarithm where `list_endings` was called for the domain and nothing has changed since, and constant time where the domain has no
+    /// segment. Else it goes over the live threads from there on, over segments of the domain, and over one more of each thread.
     pub fn next_ending(&self, d: DomainId, above: u32) -> Option<ThreadNo>
         ensures { IsLeastAbove (EndsWith self.now.threads d) above (option_map thread_number result) }
     {
         if has_nothing(self.newest.as_slice(), d) {
             return None;
+        }
+        if is_for(self.listed_for, d) {
+            return match next_listed(self.listed.as_slice(), above) {
+                Some(number) => Some(ThreadNo(number)),
+                None => None,
+            };
         }
         match next_ending(self.entries.as_slice(), self.slots.as_slice(), d, above) {
             Some(number) => Some(ThreadNo(number)),
@@ -326,6 +366,9 @@ impl Threads {
         let most_segments = self.most_segments + placed.len();
         self.entries.reserve(2 * most - self.entries.len())?;
         self.slots.reserve(2 * most_segments - self.slots.len())?;
+        self.listed_for = None;
+        self.listed.clear();
+        self.listed.reserve(most_segments)?;
         enter_all(&mut self.entries, parts);
         put_all(
             &mut self.entries,
@@ -356,8 +399,26 @@ impl Threads {
     pub fn set_flag(&mut self, s: SegmentNo, flag: Flag, on: bool)
         ensures { self.new ≡ record self.old { threads = with_stacks (with_segment shared_form s (flag_changed flag on)) self.old.threads } }
     {
+        self.listed_for = None;
         set_flag_among(&mut self.slots, s, flag, on);
     }
+}
+
+/// Whether something was listed for this domain.
+fn is_for(listed_for: Option<DomainId>, d: DomainId) -> bool
+    ensures { IsTrue result → listed_for ≡ Some d }
+{
+    match listed_for {
+        Some(of) => of.0 == d.0,
+        None => false,
+    }
+}
+
+/// The newest segment of a domain, where it is there.
+fn newest_of(newest: &[Option<SegmentNo>], d: DomainId) -> Option<Option<SegmentNo>>
+    ensures { result ≡ slice_get newest.now d.0 }
+{
+    newest.get(d.0 as usize).copied()
 }
 
 /// Whether a domain is there and has no segment.

@@ -1,5 +1,5 @@
 -- One more is told, until none is left.
-use Rattle.std.proofs.Common.{◌≡◌, ◌++◌, List, ◌∷◌, [], Option, Some, None, append_assoc, append-nil, option_map, sym, ap, subst, ◌∙◌}
+use Rattle.std.proofs.Common.{◌++◌, List, ◌∷◌, [], Option, Some, None, append_assoc, append-nil, option_map, sym, ap, subst, ◌∙◌}
 use Rattle.jk_model.specs.declared.identifiers.ThreadNo.{ThreadNo}
 use Rattle.jk_model.specs.declared.output.Line.{Line}
 use Rattle.jk_model.specs.declared.output.Line.TheVariants.{EndedByKill}

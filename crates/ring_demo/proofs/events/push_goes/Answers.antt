@@ -10,6 +10,7 @@ loop-domain-preserved c =
     let i = c.loop-domain.domain in
     record {
       so_far = c.in_ok-push.ensures.ok ∙ ap (λ (e : Event). c.loop-domain.events ++ e ∷ []) c.in_ok-start_go.ensures
-          ∙ ap (λ (es : List Event). es ++ (go_starts c.args.nodes c.args.hops) i ∷ []) c.loop-domain.invariant.so_far ∙ ring_more (go_starts c.args.nodes c.args.hops) c.args.events.now i;
+          ∙ ap (λ (es : List Event). es ++ (go_starts c.args.nodes c.args.hops) i ∷ []) c.loop-domain.invariant.so_far
+          ∙ ring_more (go_starts c.args.nodes c.args.hops) c.args.events.now i;
       within = omega (arith, c.loop-domain-test.true);
     }

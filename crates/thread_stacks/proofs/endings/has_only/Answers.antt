@@ -4,7 +4,7 @@ use Rattle.std.specs.Prelude.{◌&&◌}
 use Rattle.std.specs.List.{list_all}
 use Rattle.std.proofs.lemmas.Bool.{and_right, eq-eqb, ne_eqb}
 use Rattle.jk_model.specs.declared.identifiers.SegmentNo.{SegmentNo}
-use Rattle.thread_stacks.specs.Stacks.{is_in, is_running, slots_on}
+use Rattle.thread_stacks.specs.Stacks.{is_in, is_running, slots_on, stands_on}
 use Rattle.thread_stacks.proofs.StacksWalked.{IsOurs, not_missing, ours_begins, ours_goes_on, to_walk, walk_ends, walk_falls, walk_stops}
 use Rattle.thread_stacks.proofs.endings.has_only.Goals as goal
 
@@ -19,7 +19,7 @@ pub unreachable-requires : goal.unreachable-requires
 unreachable-requires c =
     let P : Option SegmentNo → Type 0 = λ o. IsOurs c.args.slots.now c.args.entry.number c.args.d o in
     let w = subst P c.in-Some.is c.loop-next.invariant in
-    not_missing c.args.slots.now c.args.entry.number c.in-Some.s c.requires.segments w.walk (sym c.in-None.ensures)
+    not_missing c.args.slots.now (stands_on c.args.entry.number) c.in-Some.s c.requires.segments w.walk (sym c.in-None.ensures)
 
 pub returns-then-slot-d : goal.returns-then-slot-d
 returns-then-slot-d c =
@@ -28,7 +28,7 @@ returns-then-slot-d c =
     let s = c.in-Some-slot_of.slot in
     let miss = ne_eqb s.domain.0 c.args.d.0 c.if-slot-d.true in
     sym (and_right (is_running c.args.entry) (list_all (is_in c.args.d) (slots_on c.args.entry.number c.args.slots.now))
-    (walk_stops c.args.slots.now c.args.entry.number c.in-Some.s c.requires.segments w.walk s (sym c.in-Some-slot_of.ensures) c.args.d miss))
+    (walk_stops c.args.slots.now (stands_on c.args.entry.number) c.in-Some.s c.requires.segments w.walk s (sym c.in-Some-slot_of.ensures) c.args.d miss))
 
 pub loop-next-smaller : goal.loop-next-smaller
 loop-next-smaller c =

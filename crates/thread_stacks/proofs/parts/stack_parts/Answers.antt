@@ -2,6 +2,7 @@
 use Rattle.std.proofs.Common.{◌<◌, ◌++◌, ◌∷◌, [], Option, sym, subst, ap, ◌∙◌}
 use Rattle.jk_model.specs.declared.identifiers.SegmentNo.{SegmentNo}
 use Rattle.thread_stacks.specs.declared.parts.SegmentPart.{SegmentPart}
+use Rattle.thread_stacks.specs.Stacks.{stands_on}
 use Rattle.thread_stacks.proofs.StacksListed.{IsListed, all_listed, listing_begins, listing_goes_on}
 use Rattle.thread_stacks.proofs.StacksWalked.{not_missing, to_walk, walk_falls}
 use Rattle.thread_stacks.proofs.parts.stack_parts.Goals as goal
@@ -13,7 +14,7 @@ pub unreachable-requires : goal.unreachable-requires
 unreachable-requires c =
     let P : Option SegmentNo → Type 0 = λ o. IsListed c.args.slots.now c.args.entry.number o c.loop-next.parts.items in
     let l = subst P c.in-Some.is c.loop-next.invariant in
-    not_missing c.args.slots.now c.args.entry.number c.in-Some.s c.requires.segments l.walk (sym c.in-None.ensures)
+    not_missing c.args.slots.now (stands_on c.args.entry.number) c.in-Some.s c.requires.segments l.walk (sym c.in-None.ensures)
 
 pub loop-next-smaller : goal.loop-next-smaller
 loop-next-smaller c =

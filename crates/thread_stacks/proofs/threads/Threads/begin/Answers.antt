@@ -8,6 +8,7 @@ use Rattle.std.proofs.lemmas.Option.{slice_get_within}
 use Rattle.jk_model.specs.declared.identifiers.SegmentNo.{SegmentNo}
 use Rattle.thread_stacks.specs.declared.slots.Slot.{Slot}
 use Rattle.thread_stacks.specs.StackChanges.{raised}
+use Rattle.thread_stacks.proofs.EndingsListed.{none_listed}
 use Rattle.thread_stacks.proofs.Owned.{owned_pushed}
 use Rattle.thread_stacks.proofs.Relinked.{raised_live}
 use Rattle.thread_stacks.proofs.PushedAndPopped.{begun_in_order, begun_linked, begun_with}
@@ -55,6 +56,7 @@ invariant_of-self c =
           (room_mapped is_live t.slots.items t.live_segments t.most_segments _ inv.3 (raised n None older) _ (raised_live n None older)
           c.relink.ensures.capacity) _ (t.live_segments + 1) _ refl few_segments refl c.push_reserved.ensures.capacity,
       owned_pushed t.slots.items t.newest.items inv.4 inv.0.segments t.next_segment t.next_thread c.args.d None older c.set_newest-older.ensures.was,
+      none_listed _ _ _ _ _ inv.5.room,
     )
 
 pub returns-clause-begun : goal.returns-clause-begun

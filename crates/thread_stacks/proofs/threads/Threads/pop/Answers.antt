@@ -4,6 +4,7 @@ use Rattle.std.proofs.lemmas.Option.{same_Some}
 use Rattle.jk_model_sharing.specs.Segments.{top_segment}
 use Rattle.thread_stacks.specs.StackAnswers.{IsLive, number_of}
 use Rattle.thread_stacks.specs.Stacks.{ThreadList, is_live, is_running}
+use Rattle.thread_stacks.proofs.EndingsListed.{none_listed}
 use Rattle.thread_stacks.proofs.CountedAlive.{some_live}
 use Rattle.thread_stacks.proofs.PushedAndPopped.{live_entry}
 use Rattle.thread_stacks.proofs.SegmentsTakenOff.{ends, entries_fewer, entries_room, entries_room_closed, goes_on, has_top, ran, slots_room, top_slotted, was_live, owned_after, taken_count}
@@ -117,6 +118,7 @@ invariant_of-self c =
           (c.close_up_slots.ensures.capacity ∙ c.take_off-slot.ensures.capacity),
       owned_after t.slots.items c.take_off-slot.new.slots.items c.close_up_slots.new.slots.items t.newest.items _ c.in-Some.top.0 (t.live_segments - 1)
           c.take_off-slot.result inv.0.segments inv.4 m was c.close_up_slots.ensures.closed c.lower_newest.ensures,
+      none_listed _ _ _ _ _ inv.5.room,
     )
 
 pub returns-then-is_some-clause-popped : goal.returns-then-is_some-clause-popped
@@ -243,6 +245,7 @@ invariant_of-self-2 c =
           (c.close_up_slots.ensures.capacity ∙ c.take_off-slot.ensures.capacity),
       owned_after t.slots.items c.take_off-slot.new.slots.items c.close_up_slots.new.slots.items t.newest.items _ c.in-Some.top.0 (t.live_segments - 1)
           c.take_off-slot.result inv.0.segments inv.4 m was c.close_up_slots.ensures.closed c.lower_newest.ensures,
+      none_listed _ _ _ _ _ inv.5.room,
     )
 
 pub returns-clause-popped : goal.returns-clause-popped

@@ -11,6 +11,7 @@ use Rattle.thread_stacks.specs.declared.slots.Link.TheVariants.{Newer, Above}
 use Rattle.thread_stacks.specs.declared.slots.Slot.{Slot}
 use Rattle.thread_stacks.specs.StackChanges.{if_hit, raised, slot_linked}
 use Rattle.thread_stacks.specs.Places.{AreRisingBy}
+use Rattle.thread_stacks.proofs.EndingsListed.{none_listed}
 use Rattle.thread_stacks.proofs.KeptInOrder.{rising_mapped}
 use Rattle.thread_stacks.proofs.Owned.{owned_pushed}
 use Rattle.thread_stacks.proofs.Relinked.{raised_all, raised_live, linked_number}
@@ -82,6 +83,7 @@ invariant_of-self c =
           (room_mapped is_live t.slots.items t.live_segments t.most_segments _ inv.3 (raised n was.top older) _ (raised_live n was.top older)
           (c.relink-2.ensures.capacity ∙ c.relink.ensures.capacity)) _ (t.live_segments + 1) _ refl few refl c.push_reserved.ensures.capacity,
       owned_pushed t.slots.items t.newest.items inv.4 inv.0.segments t.next_segment c.args.t.0 c.args.d was.top older c.set_newest-older.ensures.was,
+      none_listed _ _ _ _ _ inv.5.room,
     )
 
 pub returns-clause-pushed : goal.returns-clause-pushed

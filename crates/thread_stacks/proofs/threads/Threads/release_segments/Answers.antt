@@ -21,4 +21,5 @@ invariant_of-self c =
         room = omega (arith, inv.3.room);
       },
       inv.4,
+      record { endings = inv.5.endings; room = omega (arith, inv.5.room) },
     )

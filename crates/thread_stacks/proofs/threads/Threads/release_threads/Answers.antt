@@ -20,4 +20,5 @@ invariant_of-self c =
       },
       inv.3,
       inv.4,
+      inv.5,
     )

@@ -1,5 +1,6 @@
 -- There is memory for twice as many as may live.
 use Rattle.std.proofs.Common.{arith, rules}
+use Rattle.thread_stacks.proofs.EndingsListed.{none_listed}
 use Rattle.thread_stacks.proofs.Owned.{owned_more}
 use Rattle.thread_stacks.proofs.threads.Threads.reserve.Goals as goal
 
@@ -13,7 +14,7 @@ pub invariant_of-self-2 : goal.invariant_of-self-2
 invariant_of-self-2 c =
     let t = c.self.inside in
     let inv = c.self.invariant in
-    rw (c.reserve-2.ensures.items, c.reserve.ensures.items, c.push_reserved.ensures.items, c.reserve-3.ensures.items) (
+    rw (c.reserve-2.ensures.items, c.reserve.ensures.items, c.push_reserved.ensures.items, c.reserve-4.ensures.items) (
       inv.0,
       inv.1,
       record {
@@ -29,4 +30,5 @@ invariant_of-self-2 c =
         room = search rules;
       },
       owned_more t.slots.items t.newest.items inv.4,
+      none_listed _ _ _ _ _ (search rules),
     )

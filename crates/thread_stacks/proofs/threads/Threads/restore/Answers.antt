@@ -7,6 +7,7 @@ use Rattle.thread_stacks.specs.LiveStacks.{ArePut, entry_without}
 use Rattle.thread_stacks.specs.StackAnswers.{segments_in}
 use Rattle.thread_stacks.specs.StackParts.{thread_part}
 use Rattle.thread_stacks.specs.Stacks.{ThreadList}
+use Rattle.thread_stacks.proofs.EndingsListed.{none_listed}
 use Rattle.thread_stacks.proofs.RestoredThreads.{as_many_segments, in_order_again, may_put, no_entries, no_slots, none_newest, slots_room, threads_room, threads_told}
 use Rattle.thread_stacks.proofs.threads.Threads.restore.Goals as goal
 
@@ -64,6 +65,7 @@ invariant_of-self-2 c =
           c.in_ok-placed.ensures.same c.in_ok-placed.ensures.order es slots t.newest.items newest put
           (t.most_segments + c.len.result) (vec_capacity c.put_all.new.slots) (omega (arith, long)) (search rules)),
       put.owned,
+      none_listed _ _ _ _ _ (search rules),
     )
 
 pub returns : goal.returns

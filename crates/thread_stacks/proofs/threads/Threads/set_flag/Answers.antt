@@ -1,5 +1,6 @@
 -- A flag of one segment is changed, and nothing that is counted.
 use Rattle.std.proofs.Common.{refl}
+use Rattle.thread_stacks.proofs.EndingsListed.{none_listed}
 use Rattle.thread_stacks.proofs.FlagsOfSegments.{flags_kept, owned_flagged, room_flagged}
 use Rattle.thread_stacks.proofs.threads.Threads.set_flag.Goals as goal
 
@@ -20,6 +21,7 @@ invariant_of-self c =
           c.self.invariant.3 e.capacity,
       owned_flagged t.slots.items t.newest.items c.args.s c.args.flag c.args.on c.set_flag_among.new.slots.items c.self.invariant.0.segments
           c.self.invariant.4 e.flagged,
+      none_listed _ _ _ _ _ c.self.invariant.5.room,
     )
 
 pub returns : goal.returns

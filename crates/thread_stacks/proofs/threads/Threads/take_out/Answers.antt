@@ -3,6 +3,7 @@ use Rattle.std.proofs.Common.{◌≡◌, ◌∙◌, ◌+◌, ◌-◌, ◌<◌, N
 use Rattle.thread_stacks.specs.StackChanges.{LeavesAll}
 use Rattle.thread_stacks.specs.Stacks.{ThreadList, is_live, is_running}
 use Rattle.thread_stacks.proofs.CountedAlive.{some_live}
+use Rattle.thread_stacks.proofs.EndingsListed.{none_listed}
 use Rattle.thread_stacks.proofs.OneFewerOfADomain.{kept_room, newest_at, newest_slotted, none_of, nothing_left, off_rises, seen_count, some_of, taken_between, taken_last, taken_on_top, told_so, was_entered, was_home, was_running, was_there}
 use Rattle.thread_stacks.proofs.Owned.{newest_as_long}
 use Rattle.thread_stacks.proofs.SegmentsTakenOff.{entries_fewer, entries_room, entries_room_closed}
@@ -86,6 +87,7 @@ invariant_of-self c =
           c.close_up_slots.ensures.closed _ c.lower_newest.ensures _
           (c.close_up_slots.ensures.capacity ∙ c.warn_neighbours.ensures.capacity ∙ c.take_off-was.ensures.capacity),
       after.owned,
+      none_listed _ _ _ _ _ inv.5.room,
     )
 
 pub returns-then-is_some-clause-taken : goal.returns-then-is_some-clause-taken
@@ -165,6 +167,7 @@ invariant_of-self-then-is_some-2 c =
           c.close_up_slots.ensures.closed _ c.lower_newest.ensures _
           (c.close_up_slots.ensures.capacity ∙ c.warn_neighbours.ensures.capacity ∙ c.take_off-was.ensures.capacity),
       after.owned,
+      none_listed _ _ _ _ _ inv.5.room,
     )
 
 pub returns-then-is_some-2-clause-taken : goal.returns-then-is_some-2-clause-taken
@@ -285,6 +288,7 @@ invariant_of-self-2 c =
           c.close_up_slots.ensures.closed _ c.lower_newest.ensures _
           (c.close_up_slots.ensures.capacity ∙ c.warn_neighbours.ensures.capacity ∙ c.take_off-was.ensures.capacity),
       after.owned,
+      none_listed _ _ _ _ _ inv.5.room,
     )
 
 pub returns-clause-taken : goal.returns-clause-taken
