@@ -136,8 +136,8 @@ module _ (classes : List ClassRecord) (class : ClassId) where
         marked,
         over,
       )) (λ x (g, g_is, named, typed, g_marked, g_over).
-          let other : g ≡ final = one g g_is in
-          (ap (λ (y : MethodRecord). y.name) (sym other) ∙ named, ap (λ (y : MethodRecord). y.kind) (sym other) ∙ typed)) first
+      let other : g ≡ final = one g g_is in
+      (ap (λ (y : MethodRecord). y.name) (sym other) ∙ named, ap (λ (y : MethodRecord). y.kind) (sym other) ∙ typed)) first
 
   pub overriding_none : (m : MemberId) (methods : List MethodRecord) → (IsFinalIn classes class m → ⊥) → HasItem (OverridesAt classes class m) methods → ⊥
   overriding_none m methods none (i, method, at, (f, is, named, typed, marked, over)) = none (f, is, marked, over)

@@ -1,5 +1,5 @@
 -- One is found, or none is there.
-use Rattle.std.proofs.Common.{true, false, arith}
+use Rattle.std.proofs.Common.{arith}
 use Rattle.list_lemmas.proofs.ItemsByPlace.{item_read}
 use Rattle.class_lemmas.proofs.SomeItem.{none_yet, none_more, none_at_all}
 use Rattle.link_rules.specs.FinalMethods.{OverridesIn}
