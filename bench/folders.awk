@@ -207,6 +207,15 @@ function overrides(n,    i) {
     finish()
 }
 
+# No two methods of the chain have one name.
+function members_of_chain(n, flags,    i, j) {
+    for (i = 0; i < n; i++) {
+        begin("C" i, i ? "C" (i - 1) : "java/lang/Object", 33)
+        for (j = 0; j < 60; j++) coded(flags, "m" (60 * i + j), "()V", 0, 1, u1(177), 0, "")
+        finish()
+    }
+}
+
 # ---- Offers. A class has a name of two letters, and a domain one letter.
 
 function letter(i) { return substr("abcdefghijklmnopqrstuvwxyzABCDEFGHIJKLMNOPQRSTUVWXYZ0123456789", i % 62 + 1, 1) }
@@ -307,6 +316,15 @@ function ring(n,    i, top) {
 function many_locals(n,    i) {
     begin_class("S")
     for (i = 0; i < n; i++) method_with("m" i, "()V", 0, 65535, times(u1(0), 63) u1(177), 0, "")
+    finish()
+}
+
+# iconst_0, istore over and over, nop, return.
+function stores(n,    i, body) {
+    begin_class("S")
+    for (i = 0; i < 31; i++) put(u1(3) of_local(54, 2000 * i + 1000))
+    body = taken() u1(0) u1(177)
+    for (i = 0; i < n; i++) method_with("m" i, "()V", 1, 65535, body, 0, "")
     finish()
 }
 
@@ -487,6 +505,8 @@ BEGIN {
     else if (family == "fields") crowd_of_fields(size)
     else if (family == "methods") crowd_of_methods(size)
     else if (family == "overrides") overrides(size)
+    else if (family == "inherited") members_of_chain(size, 1)
+    else if (family == "finals") members_of_chain(size, 17)
     else if (family == "offers") offers(50, size)
     else if (family == "shares") offers(size, 95325)
     else if (family == "long-name") long_name(size)
@@ -499,6 +519,7 @@ BEGIN {
     else if (family == "rising") rising(size)
     else if (family == "ring") ring(size)
     else if (family == "locals") many_locals(size)
+    else if (family == "stores") stores(size)
     else if (family == "cases") cases(size)
     else if (family == "catches") catches(size)
     else if (family == "news") news(size)

@@ -1,67 +1,111 @@
--- A final method of a class properly above is one of the classes from the parent upwards.
-use Rattle.std.proofs.Common.{◌≡◌, ◌≢◌, ℕ, ◌+◌, ◌<◌, ◌≤◌, inl, inr, Bool, false, ◌↔◌, IsTrue, List, [], ◌∷◌, length, Option, Some, None, Contains, refl, sym, ap, subst, ◌∙◌, arith}
+-- The classes properly above a class are asked one after the other for final methods that the class's methods override.
+use Rattle.std.proofs.Common.{◌≡◌, ℕ, ◌+◌, ◌<◌, ◌⊎◌, inl, inr, List, [], ◌∷◌, ◌++◌, length, Option, Some, None, Contains, refl, sym, ap, subst, ◌∙◌, arith, append-nil, append_assoc}
 use Rattle.std.specs.Prelude.{slice_get}
-use Rattle.std.specs.Option.{is_some, option_map, option_to_list}
+use Rattle.std.specs.Option.{option_map, option_to_list}
+use Rattle.std.proofs.lemmas.List.Elements.{Contains-append_cases, Contains-append_left, Contains-append_right}
 use Rattle.std.proofs.lemmas.Option.{same_Some}
-use Rattle.list_lemmas.proofs.ItemsOfLists.{Contains-at, Contains-here}
-use Rattle.class_table.proofs.StandingAbove.{parent-lower, superclasses-cases, superclasses-lower, superclasses-of_parent}
+use Rattle.list_lemmas.proofs.ItemsOfLists.{Contains-cases, Contains-here, Contains-there, none_in, only_in}
+use Rattle.class_table.proofs.StandingAbove.{parent-lower}
 use Rattle.jk_model.specs.declared.identifiers.ClassId.{ClassId}
-use Rattle.jk_model.specs.declared.identifiers.MemberId.{MemberId}
 use Rattle.jk_model_classes.specs.declared.records.ClassRecord.{ClassRecord}
 use Rattle.jk_model_classes.specs.declared.records.MethodRecord.{MethodRecord}
 use Rattle.jk_model_classes.specs.Classes.{AreOrdered, parents_of, record_of, superclasses}
 use Rattle.jk_model_classes.specs.Items.{HasItem, HasItemBefore, IsBefore, Member, Entry, Spot}
 use Rattle.jk_model_classes.specs.LinkRules.{HasFinalOverridden, LinkScope, OverridesFinal}
-use Rattle.jk_model_classes.specs.Lookups.{FindsOn}
-use Rattle.link_rules.specs.FinalMethods.{IsFinalFor, IsFirstPlace, scope_of}
+use Rattle.member_lookup.proofs.WalksUpwards.{superclasses-upwards, upwards}
+use Rattle.link_rules.specs.FinalMethods.{IsFirstPlace, OverridesIn, earlier_place, scope_of}
 use Rattle.link_rules.specs.LinkFaults.{IsLeastNumber}
+use Rattle.link_rules.proofs.FirstPlaces.{first-both, first-same}
 
-module _ (classes : List ClassRecord) (ordered : AreOrdered classes) (class : ClassId) (method : MethodRecord) where
-  abbrev Overrides : Type 0
-  Overrides = OverridesFinal (scope_of classes class) method
+-- a method overrides a final one of one of these classes
+abbrev pub OverridesOneOf : List ClassRecord → ClassId → List ClassId → MethodRecord → Type 0
+OverridesOneOf classes class done method = (d : ClassId) × Contains done d × OverridesIn classes class d method
 
-  abbrev Finds : ClassId → Option MemberId → Type 0
-  Finds p found = FindsOn (IsFinalFor classes class method.name method.kind) (superclasses classes p) found
+-- these of the classes properly above were asked, and this is the first place so far
+pub record AreAsked (classes : List ClassRecord) (class : ClassId) (methods : List MethodRecord) (next : Option ClassId) (best : Option ℕ) : Type 0 where
+  pub done : List ClassId
+  pub split : superclasses classes class ≡ class ∷ (done ++ upwards classes next)
+  pub lower : (d : ClassId) → Contains done d → d.0 < class.0
+  pub next_lower : (d : ClassId) → next ≡ Some d → d.0 < class.0
+  pub first : IsFirstPlace (OverridesOneOf classes class done) methods best
 
-  is_lower : (p : ClassId) (m : ClassId) → p.0 < class.0 → m.0 ≤ p.0 → m ≢ class
-  is_lower p m below le e = let same : m.0 ≡ class.0 = ap (λ (c : ClassId). c.0) e in omega arith
+module _ (classes : List ClassRecord) (ordered : AreOrdered classes) (class : ClassId) (methods : List MethodRecord) where
+  parent_below : (d : ClassId) (next : Option ClassId) (p : ClassId) → parents_of classes d ≡ option_to_list next → next ≡ Some p → p.0 < d.0
+  parent_below d next p parent e = parent-lower classes ordered d p (parent ∙ ap option_to_list e)
 
-  found_above : (p : ClassId) (m : MemberId) → parents_of classes class ≡ p ∷ [] → Finds p (Some m) → Overrides
-  found_above p m e first =
-      let (final, is, named, typed, marked, over) = first.member.suits in
-      let there : Contains (superclasses classes p) m.class = Contains-at (superclasses classes p) first.place m.class first.visited in
-      let parent : Contains (parents_of classes class) p = subst (λ (w : List ClassId). Contains w p) (sym e) (Contains-here p []) in
-      let lower = is_lower p m.class (parent-lower classes ordered class p e) (superclasses-lower classes ordered p m.class there) in
-      (m, final, is, superclasses-of_parent classes ordered class p m.class parent there, lower, named, typed, marked, over)
+  pub none-asked : (next : Option ClassId) → parents_of classes class ≡ option_to_list next → AreAsked classes class methods next None
+  none-asked next parent = record {
+    done = [];
+    split = superclasses-upwards (λ m. ⊥) classes ordered class next parent;
+    lower = λ d has. absurd (none_in d [] refl has);
+    next_lower = λ d e. parent_below class next d parent e;
+    first = λ (i, x, at, (d, has, over)). absurd (none_in d [] refl has);
+  }
 
-  above_parent : (p : ClassId) (m : ClassId) → parents_of classes class ≡ p ∷ [] → Contains (superclasses classes class) m → m ≢ class
-      → Contains (superclasses classes p) m
-  above_parent p m e there other = elim (superclasses-cases classes ordered class m there) [
-    | inl same ↦ absurd (other (sym same))
-    | inr (q, only, above) ↦
-        let one : q ≡ p = cc in
-        subst (λ (w : ClassId). Contains (superclasses classes w) m) one above
+  one-more : (done : List ClassId) (d : ClassId) (method : MethodRecord) → OverridesOneOf classes class done method ⊎ OverridesIn classes class d method
+      → OverridesOneOf classes class (done ++ d ∷ []) method
+  one-more done d method (inl (e, has, over)) = (e, Contains-append_left done (d ∷ []) e has, over)
+  one-more done d method (inr over) = (d, Contains-append_right done (d ∷ []) d (Contains-here d []), over)
+
+  one-fewer : (done : List ClassId) (d : ClassId) (method : MethodRecord) → OverridesOneOf classes class (done ++ d ∷ []) method
+      → OverridesOneOf classes class done method ⊎ OverridesIn classes class d method
+  one-fewer done d method (e, has, over) = elim (Contains-append_cases done (d ∷ []) e has) [
+    | inl before ↦ inl (e, before, over)
+    | inr last ↦
+        let same : d ≡ e = only_in e d (d ∷ []) refl last in
+        inr (subst (λ (x : ClassId). OverridesIn classes class x method) (sym same) over)
   ]
 
-  none_above : (p : ClassId) → parents_of classes class ≡ p ∷ [] → Finds p None → Overrides → ⊥
-  none_above p e none (m, final, is, below, other, named, typed, marked, over) =
-      none m.class (above_parent p m.class e below other) (m.index, (final, is, named, typed, marked, over))
+  pub one-asked : (next parent : Option ClassId) (d : ClassId) (best found best_now : Option ℕ) → next ≡ Some d → parents_of classes d ≡ option_to_list parent
+      → AreAsked classes class methods next best → IsFirstPlace (OverridesIn classes class d) methods found → best_now ≡ earlier_place best found
+      → AreAsked classes class methods parent best_now
+  one-asked next parent d best found best_now e above asked first is =
+      let rest : upwards classes next ≡ d ∷ upwards classes parent =
+      ap (upwards classes) e ∙ superclasses-upwards (λ m. ⊥) classes ordered d parent above in
+      record {
+        done = asked.done ++ d ∷ [];
+        split = asked.split
+            ∙ ap (λ (ds : List ClassId). class ∷ (asked.done ++ ds)) rest
+            ∙ ap (λ (ds : List ClassId). class ∷ ds) (sym (append_assoc asked.done (d ∷ []) (upwards classes parent)));
+        lower = λ c has. elim (Contains-append_cases asked.done (d ∷ []) c has) [
+          | inl before ↦ asked.lower c before
+          | inr last ↦
+              let same : d ≡ c = only_in c d (d ∷ []) refl last in
+              subst (λ (x : ClassId). x.0 < class.0) same (asked.next_lower d e)
+        ];
+        next_lower = λ c parent_is. omega (arith, parent_below d parent c above parent_is, asked.next_lower d e);
+        first = subst (IsFirstPlace (OverridesOneOf classes class (asked.done ++ d ∷ [])) methods) (sym is)
+            (first-same methods (λ x. OverridesOneOf classes class asked.done x ⊎ OverridesIn classes class d x)
+            (OverridesOneOf classes class (asked.done ++ d ∷ [])) (earlier_place best found) (one-more asked.done d) (one-fewer asked.done d)
+            (first-both methods (OverridesOneOf classes class asked.done) (OverridesIn classes class d) best found asked.first first));
+      }
 
-  -- what the search from the parent upwards says
-  pub above_says : (p : ClassId) (found : Option MemberId) (b : Bool) → parents_of classes class ≡ option_to_list (Some p) → Finds p found
-      → b ≡ is_some found → IsTrue b ↔ Overrides
-  above_says p None b e none is = (λ (t : IsTrue b). absurd cc, λ h. absurd (none_above p e none h))
-  above_says p (Some m) b e first is = (λ (t : IsTrue b). found_above p m e first, λ h. is)
+  -- all were asked
+  pub all-asked : (next : Option ClassId) (best : Option ℕ) → next ≡ None → AreAsked classes class methods next best
+      → IsFirstPlace (OverridesFinal (scope_of classes class)) methods best
+  all-asked next best none asked =
+      let all : superclasses classes class ≡ class ∷ asked.done =
+      asked.split ∙ ap (λ (n : Option ClassId). class ∷ (asked.done ++ upwards classes n)) none
+      ∙ ap (λ (ds : List ClassId). class ∷ ds) (append-nil asked.done) in
+      first-same methods (OverridesOneOf classes class asked.done) (OverridesFinal (scope_of classes class)) best (to all) (from all) asked.first
+    where
+      to : superclasses classes class ≡ class ∷ asked.done → (method : MethodRecord) → OverridesOneOf classes class asked.done method
+          → OverridesFinal (scope_of classes class) method
+      to all method (d, has, (i, (final, is, named, typed, marked, over))) =
+          let below : Contains (superclasses classes class) d =
+          subst (λ (ds : List ClassId). Contains ds d) (sym all) (Contains-there d class asked.done has) in
+          let lower = asked.lower d has in
+          let other : d ≡ class → ⊥ = λ e. let same : d.0 ≡ class.0 = ap (λ (c : ClassId). c.0) e in omega arith in
+          (record { class = d; index = i }, final, is, below, other, named, typed, marked, over)
 
-  -- there is no parent
-  pub no_parent : parents_of classes class ≡ option_to_list None → IsTrue false ↔ Overrides
-  no_parent e = (
-    λ t. absurd cc,
-    λ (m, final, is, below, other, named, typed, marked, over). absurd (elim (superclasses-cases classes ordered class m.class below) [
-      | inl same ↦ other (sym same)
-      | inr (q, only, above) ↦ let z : q ∷ [] ≡ [] = sym only ∙ e in cc
-    ]),
-  )
+      from : superclasses classes class ≡ class ∷ asked.done → (method : MethodRecord) → OverridesFinal (scope_of classes class) method
+          → OverridesOneOf classes class asked.done method
+      from all method (m, final, is, below, other, named, typed, marked, over) =
+          let there : Contains (class ∷ asked.done) m.class = subst (λ (ds : List ClassId). Contains ds m.class) all below in
+          elim (Contains-cases m.class class asked.done there) [
+            | inl same ↦ absurd (other (sym same))
+            | inr later ↦ (m.class, later, (m.index, (final, is, named, typed, marked, over)))
+          ]
 
 -- ---- The number of the first method.
 

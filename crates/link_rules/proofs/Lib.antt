@@ -3,6 +3,7 @@ mod ClosedClasses
 mod FinalByLinks
 mod FinalsAbove
 mod FinalsOfAClass
+mod FirstPlaces
 mod MadeByLinks
 mod MethodsByRecord
 mod MissingByLinks

@@ -1,11 +1,12 @@
 -- Final methods that a method overrides, and the least place of a method that overrides one.
-use Rattle.std.specs.Prelude.{◌≡◌, ℕ, IsTrue, List, Option, Some, None, slice_get}
+use Rattle.std.specs.Prelude.{◌≡◌, ℕ, IsTrue, List, min, Option, Some, None, slice_get}
 use Rattle.jk_model.specs.Flags.{has, FINAL}
 use Rattle.jk_model.specs.declared.descriptors.MethodType.{MethodType}
 use Rattle.jk_model.specs.declared.identifiers.ClassId.{ClassId}
 use Rattle.jk_model.specs.declared.identifiers.MemberId.{MemberId}
 use Rattle.jk_model_classes.specs.declared.records.ClassRecord.{ClassRecord}
 use Rattle.jk_model_classes.specs.declared.records.MethodRecord.{MethodRecord}
+use Rattle.jk_model_classes.specs.Classes.{record_of}
 use Rattle.jk_model_classes.specs.Items.{HasItem, HasItemBefore}
 use Rattle.jk_model_classes.specs.Lookups.{IsOverriddenIn, MethodIs}
 use Rattle.jk_model_classes.specs.LinkRules.{LinkScope}
@@ -19,6 +20,27 @@ IsFinalFor classes class name kind m =
 -- it is overridden so, where a method of this name and type is given
 abbrev pub IsFinalIn : List ClassRecord → ClassId → MemberId → Type 0
 IsFinalIn classes class m = (final : MethodRecord) × MethodIs classes m final × IsTrue (has final.flags FINAL) × IsOverriddenIn classes m final.flags class
+
+-- a method with this record overrides this final one, if it is one
+abbrev pub OverridesAt : List ClassRecord → ClassId → MemberId → MethodRecord → Type 0
+OverridesAt classes class m method = IsFinalFor classes class method.name method.kind m
+
+-- it overrides a final one of class d
+abbrev pub OverridesIn : List ClassRecord → ClassId → ClassId → MethodRecord → Type 0
+OverridesIn classes class d method = (i : ℕ) × OverridesAt classes class (record { class = d; index = i }) method
+
+-- they have one name and one type
+abbrev pub IsNamedAs : MethodRecord → MethodRecord → Type 0
+IsNamedAs final method = (final.name ≡ method.name) × (final.kind ≡ method.kind)
+
+-- these are the methods of the class
+abbrev pub HasMethods : List ClassRecord → ClassId → List MethodRecord → Type 0
+HasMethods classes c methods = (r : ClassRecord) × (record_of classes c ≡ Some r) × (r.methods ≡ methods)
+
+abbrev pub earlier_place : Option ℕ → Option ℕ → Option ℕ
+earlier_place None b = b
+earlier_place (Some i) None = Some i
+earlier_place (Some i) (Some j) = Some (min i j)
 
 abbrev pub scope_of : List ClassRecord → ClassId → LinkScope
 scope_of classes self = record { meaning = λ name. None; classes = classes; self = self }

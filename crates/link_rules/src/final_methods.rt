@@ -1,11 +1,12 @@
 //! C22: final methods that are overridden.
 
-ghost use Rattle.std.specs.Prelude.{◌≡◌, ◌↔◌, IsTrue, Some};
+ghost use Rattle.std.specs.Prelude.{◌≡◌, ◌↔◌, ℕ, IsTrue, Some, length};
 ghost use Rattle.std.specs.Option.{option_to_list};
-ghost use Rattle.jk_model_classes.specs.Classes.{parents_of, record_of, superclasses};
+ghost use Rattle.jk_model_classes.specs.declared.records.MethodRecord.{MethodRecord as AMethod};
+ghost use Rattle.jk_model_classes.specs.Classes.{parents_of, record_of};
 ghost use Rattle.jk_model_classes.specs.LinkRules.{LinkScope, HasFinalOverridden, OverridesFinal};
-ghost use Rattle.jk_model_classes.specs.Lookups.{FindsFrom, FindsOn};
-ghost use Rattle.link_rules.specs.FinalMethods.{IsFinalFor, IsFinalIn, IsFirstPlace, scope_of};
+ghost use Rattle.jk_model_classes.specs.Lookups.{FindsFrom, MethodIs};
+ghost use Rattle.link_rules.specs.FinalMethods.{HasMethods, IsFinalFor, IsFinalIn, IsFirstPlace, IsNamedAs, OverridesAt, OverridesIn, earlier_place, scope_of};
 ghost use Rattle.link_rules.specs.LinkFaults.{IsLeastNumber};
 
 use class_table::{ClassTable, MethodKey};
@@ -14,7 +15,8 @@ use jk_model_classes::{ClassRecord, MethodRecord};
 use member_lookup::{method_record, overrides};
 
 /// The least number of a method of the class that overrides a final one of a class above; none where there is none. It takes
-/// no memory, and for each method a search in each class above.
+/// no memory, and for each class above at most a search for each method of the class, or one in the class for each final
+/// method of the one above, whichever are fewer.
 pub fn final_fault(t: &ClassTable, class: ClassId) -> Option<u32>
     ensures { (s : LinkScope) → s.classes ≡ t.now → s.self ≡ class → IsLeastNumber (HasFinalOverridden s) result }
 {
@@ -36,26 +38,29 @@ fn fault_of(t: &ClassTable, class: ClassId, r: &ClassRecord) -> Option<u32>
     }
 }
 
-/// The place of the first of these methods that overrides a final one.
+/// The place of the first of the class's methods that overrides a final one of a class above.
 fn first_overriding(t: &ClassTable, class: ClassId, methods: &[MethodRecord]) -> Option<usize>
+    requires { HasMethods t.now class methods.now }
     ensures { IsFirstPlace (OverridesFinal (scope_of t.now class)) methods.now result }
 {
-    for i in 0..methods.len() {
-        if overrides_final(t, class, &methods[i]) {
-            return Some(i);
-        }
+    t.ordered();
+    let mut best = None;
+    let mut next = parent_of(t, class);
+    while let Some(d) = next {
+        best = earlier(best, first_below(t, class, d, methods));
+        next = parent_of(t, d);
     }
-    None
+    best
 }
 
-/// Whether a method of the class overrides a final one of a class above.
-fn overrides_final(t: &ClassTable, class: ClassId, method: &MethodRecord) -> bool
-    ensures { IsTrue result ↔ OverridesFinal (scope_of t.now class) method.now }
+/// The earlier of two places.
+fn earlier(a: Option<usize>, b: Option<usize>) -> Option<usize>
+    ensures { result ≡ earlier_place a b }
 {
-    t.ordered();
-    match parent_of(t, class) {
-        Some(parent) => final_above(t, class, parent, method).is_some(),
-        None => false,
+    match (a, b) {
+        (Some(i), Some(j)) => Some(i.min(j)),
+        (None, found) => found,
+        (found, None) => found,
     }
 }
 
@@ -66,28 +71,120 @@ fn parent_of(t: &ClassTable, c: ClassId) -> Option<ClassId>
     t.class(c)?.parent
 }
 
-/// Of a class and its parents upwards, the first that has a final method which methods of `class` with this one's name and
-/// type override, and its first such method.
-fn final_above(
+/// The place of the first of the class's methods that overrides a final one of class d.
+fn first_below(
     t: &ClassTable,
     class: ClassId,
-    from: ClassId,
-    method: &MethodRecord,
-) -> Option<MemberId>
-    ensures { FindsOn (IsFinalFor t.now class method.now.name method.now.kind) (superclasses t.now from) result }
+    d: ClassId,
+    methods: &[MethodRecord],
+) -> Option<usize>
+    requires { HasMethods t.now class methods.now }
+    ensures { IsFirstPlace (OverridesIn t.now class d) methods.now result }
 {
-    t.ordered();
-    let mut next = Some(from);
-    while let Some(d) = next {
-        if let Some(index) = own_final(t, class, d, method) {
-            return Some(MemberId { class: d, index });
+    let Some(r) = t.class(d) else {
+        return first_found(t, class, d, methods);
+    };
+    if asks_final_ones(methods.len(), r.methods.as_slice()) {
+        first_named(t, class, d, methods, r.methods.as_slice())
+    } else {
+        first_found(t, class, d, methods)
+    }
+}
+
+/// Whether fewer searches are made by the final ones of these methods than by so many others. Where the others are few, the
+/// methods aren't counted.
+fn asks_final_ones(others: usize, methods: &[MethodRecord]) -> bool {
+    if others < methods.len() / 64 {
+        return false;
+    }
+    let mut finals = 0;
+    for i in 0..methods.len() {
+        if has(methods[i].flags, AccessFlags::FINAL) {
+            finals += 1;
         }
-        next = parent_of(t, d);
+    }
+    finals < others
+}
+
+/// The same, by a search in class d for each method of the class.
+fn first_found(
+    t: &ClassTable,
+    class: ClassId,
+    d: ClassId,
+    methods: &[MethodRecord],
+) -> Option<usize>
+    ensures { IsFirstPlace (OverridesIn t.now class d) methods.now result }
+{
+    for i in 0..methods.len() {
+        if own_final(t, class, d, &methods[i]).is_some() {
+            return Some(i);
+        }
     }
     None
 }
 
-/// The first such method of class d.
+/// The same, by a search in the class for each final method of class d.
+fn first_named(
+    t: &ClassTable,
+    class: ClassId,
+    d: ClassId,
+    methods: &[MethodRecord],
+    above: &[MethodRecord],
+) -> Option<usize>
+    requires own { HasMethods t.now class methods.now }
+    requires above { HasMethods t.now d above.now }
+    ensures { IsFirstPlace (OverridesIn t.now class d) methods.now result }
+{
+    t.ordered();
+    let mut best = None;
+    for i in 0..above.len() {
+        let m = MemberId {
+            class: d,
+            index: i as u16,
+        };
+        best = earlier(best, overriding(t, class, m, &above[i], methods));
+    }
+    best
+}
+
+/// The place of the first of the class's methods that overrides this one, if it is final.
+fn overriding(
+    t: &ClassTable,
+    class: ClassId,
+    m: MemberId,
+    method: &MethodRecord,
+    methods: &[MethodRecord],
+) -> Option<usize>
+    requires own { HasMethods t.now class methods.now }
+    requires method { (final : AMethod) → MethodIs t.now m final → final ≡ method.now }
+    ensures { IsFirstPlace (OverridesAt t.now class m) methods.now result }
+{
+    if !has(method.flags, AccessFlags::FINAL) {
+        return None;
+    }
+    if !is_final_in(t, class, m) {
+        return None;
+    }
+    first_of_name(t, class, method, methods)
+}
+
+/// The place of the first of the class's methods that has this one's name and type.
+fn first_of_name(
+    t: &ClassTable,
+    class: ClassId,
+    method: &MethodRecord,
+    methods: &[MethodRecord],
+) -> Option<usize>
+    requires { HasMethods t.now class methods.now }
+    ensures { IsFirstPlace (IsNamedAs method.now) methods.now result }
+{
+    match t.own_method(class, &MethodKey::of_method(method), 0) {
+        Some(i) => Some(usize::from(i)),
+        None => None,
+    }
+}
+
+/// The first final method of class d which methods of `class` with this one's name and type override.
 fn own_final(t: &ClassTable, class: ClassId, d: ClassId, method: &MethodRecord) -> Option<u16>
     ensures { FindsFrom (IsFinalFor t.now class method.now.name method.now.kind) d 0 result }
 {

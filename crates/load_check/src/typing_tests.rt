@@ -102,6 +102,69 @@ const TYPED: &[Case<'static>] = &[
     ),
 ];
 
+/// Methods of many locals, of which they use a few.
+const FAR_LOCALS: &[Case<'static>] = &[
+    (
+        "parameters-and-the-last-locals",
+        &[(
+            "A.class",
+            "class 0021 A java/lang/Object|method 0009 m (JI)V 2 65535|lload 0|lstore 65533|lload 65533|lstore 300|lload 300|pop2|iload 2|pop|return|end",
+        )],
+        Loads,
+    ),
+    (
+        "local-that-nothing-stores",
+        &[(
+            "A.class",
+            "class 0021 A java/lang/Object|method 0009 m (JI)V 2 65535|iload 2000|pop|return|end",
+        )],
+        At(Rule::C23, "A.class", 1),
+    ),
+    // A long loses its second half, or its first one.
+    (
+        "second-half-is-stored-over",
+        &[(
+            "A.class",
+            "class 0021 A java/lang/Object|method 0009 m (JI)V 2 65535|lload 0|lstore 1000|iload 2|istore 1001|lload 1000|pop2|return|end",
+        )],
+        At(Rule::C23, "A.class", 1),
+    ),
+    (
+        "first-half-is-stored-over",
+        &[(
+            "A.class",
+            "class 0021 A java/lang/Object|method 0009 m (JI)V 2 65535|lload 0|lstore 1000|lload 0|lstore 999|lload 1000|pop2|return|end",
+        )],
+        At(Rule::C23, "A.class", 1),
+    ),
+    (
+        "beside-a-long",
+        &[(
+            "A.class",
+            "class 0021 A java/lang/Object|method 0009 m (JI)V 2 65535|lload 0|lstore 1000|iload 2|istore 999|iload 2|istore 1002|lload 1000|pop2|return|end",
+        )],
+        Loads,
+    ),
+    // An int is stored on both paths, and on one.
+    (
+        "stored-on-both-paths",
+        &[(
+            "A.class",
+            "class 0021 A java/lang/Object|method 0009 m (JI)V 2 65535|iload 2|ifeq other|iload 2|istore 2000|goto both\
+            |other: iload 2|istore 2000|both: iload 2000|pop|return|end",
+        )],
+        Loads,
+    ),
+    (
+        "stored-on-one-path",
+        &[(
+            "A.class",
+            "class 0021 A java/lang/Object|method 0009 m (JI)V 2 65535|iload 2|ifeq both|iload 2|istore 2000|both: iload 2000|pop|return|end",
+        )],
+        At(Rule::C23, "A.class", 1),
+    ),
+];
+
 /// A method with 32 instructions and 131,070 slots: 4,194,240 in all. The limit is 4,194,304.
 const MOST: &str =
     "class 0021 A java/lang/Object|field 1 a I|method 0009 m ()V 65535 65535|nop|nop|nop|nop|nop|nop|nop|nop|nop|nop|nop|nop\
@@ -125,5 +188,6 @@ const LARGE: &[Case<'static>] = &[
 fn typings_of_methods(rt: HostRuntime) -> Result<(), Fail> {
     let alloc = rt.alloc();
     expect_answers(&rt, alloc, &[], TYPED)?;
+    expect_answers(&rt, alloc, &[], FAR_LOCALS)?;
     expect_answers(&rt, alloc, &[], LARGE)
 }

@@ -17,7 +17,7 @@ use class_table::ClassTable;
 use jk_model::{ClassId, MemberId, OutOfMemory, Rule};
 use jk_model_classes::{Body, MethodRecord};
 use std::alloc::Global;
-use type_verifier::verify;
+use type_verifier::has_typing;
 
 /// The first file whose class has a method whose code has no typing, with the least number of such a method; none where each
 /// is typed. It asks each class once.
@@ -103,7 +103,7 @@ fn is_typed(
     ensures untyped { IfOk result (λ typed. IsTrue (not typed) → IsUntypedAt t.now m method.now) }
 {
     match &method.body {
-        Body::Linked(_) => Ok(verify(alloc, t, m)?.is_some()),
+        Body::Linked(_) => has_typing(alloc, t, m),
         _ => Ok(true),
     }
 }

@@ -1,6 +1,6 @@
 -- What each typing has at a place where a frame of ours fits: the instruction may begin with ours too, and what it leaves fits
 -- wherever control goes in the typing.
-use Rattle.std.proofs.Common.{◌≡◌, ℕ, ◌<◌, inl, inr, pos, ℤ, IsTrue, Bool, List, [], ◌∷◌, length, Contains, Option, Some, None, slice_get, subst, arith}
+use Rattle.std.proofs.Common.{◌≡◌, ℕ, ◌<◌, inl, inr, pos, ℤ, IsTrue, Bool, List, [], ◌∷◌, length, Contains, Option, Some, None, slice_get, arith}
 use Rattle.std.proofs.lemmas.Option.{slice_get_cases, slice_get_within}
 use Rattle.std.specs.List.{AllByRecursion}
 use Rattle.jk_model.specs.declared.identifiers.ClassId.{ClassId}
@@ -13,7 +13,6 @@ use Rattle.jk_model_typing.specs.FrameTypes.{EachFits, FrameFits, IsFrameOf, IsU
 use Rattle.jk_model_typing.specs.Rows.{Row}
 use Rattle.jk_model_typing.specs.Scopes.{CodeScope}
 use Rattle.jk_model_typing.specs.Typing.{FrameAt, FitsAt, Covers, GoesOnAt, GoesWell, caught_value, handler_frame, is_store}
-use Rattle.typing_lemmas.proofs.OneScope.{one-scope}
 use Rattle.type_verifier.specs.declared.tasks.Task.{Task}
 use Rattle.type_verifier.specs.Covers.{AreHanded}
 use Rattle.type_verifier.specs.Progress.{AreFrames}
@@ -49,16 +48,10 @@ module _ (task : Task) (is : IsTask task) (ordered : AreOrdered (scope_in task).
     (types : TypesTask task typing) where
   goes-well : (place : ℕ) (i : Instr) (g : FrameType) → slice_get (scope_in task).code.instrs place ≡ Some i → FrameAt typing place g
       → GoesWell (scope_in task) typing place i g
-  goes-well =
-      let P : CodeScope → Type 0 =
-      λ t. (place : ℕ) (i : Instr) (g : FrameType) → slice_get t.code.instrs place ≡ Some i → FrameAt typing place g
-      → GoesWell t typing place i g in
-      subst P (one-scope (scope_in task).classes task.method types.scope (scope_in task) types.scope_is is.scope) types.each
+  goes-well = types.each
 
   pub typing-as_many : length typing ≡ length (scope_in task).code.instrs
-  typing-as_many =
-      let P : CodeScope → Type 0 = λ t. length typing ≡ length t.code.instrs in
-      subst P (one-scope (scope_in task).classes task.method types.scope (scope_in task) types.scope_is is.scope) types.as_many
+  typing-as_many = types.as_many
 
   -- a place that has a frame is one
   pub fits-within : (place : ℕ) (f : FrameType) → FitsAt (scope_in task) typing place f → place < length task.leads.items

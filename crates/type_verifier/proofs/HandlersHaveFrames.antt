@@ -1,15 +1,12 @@
 -- What a handler's frame says of locals that are handed to it, and that a handler without room has none.
-use Rattle.std.proofs.Common.{◌≡◌, ℕ, ◌≤◌, ◌⊎◌, Bool, List, [], ◌∷◌, length, Option, Some, ap, subst, inl, inr, arith}
+use Rattle.std.proofs.Common.{◌≡◌, ℕ, ◌≤◌, ◌⊎◌, Bool, List, [], ◌∷◌, length, Option, Some, subst, inl, inr, arith}
 use Rattle.std.proofs.lemmas.Option.{slice_get_within}
 use Rattle.jk_model_classes.specs.declared.records.Caught.{Caught}
-use Rattle.jk_model_classes.specs.declared.records.LinkedCode.{LinkedCode}
 use Rattle.jk_model_classes.specs.Classes.{AreOrdered}
 use Rattle.jk_model_typing.specs.declared.frames.VType.{VType}
 use Rattle.jk_model_typing.specs.declared.frames.FrameType.{FrameType}
-use Rattle.jk_model_typing.specs.FrameTypes.{IsFrameOf}
 use Rattle.jk_model_typing.specs.Scopes.{CodeScope}
 use Rattle.jk_model_typing.specs.Typing.{FrameAt, FitsAt, handler_frame, caught_value}
-use Rattle.typing_lemmas.proofs.OneScope.{one-scope}
 use Rattle.type_frames.specs.FrameJoins.{FitOutside}
 use Rattle.type_frames.proofs.HeightsAreBounded.{slots-most}
 use Rattle.type_frames.proofs.OrderOfFrames.{EachFits-length}
@@ -47,11 +44,8 @@ pub no-room : (task : Task) → IsTask task → (typing : List (Option FrameType
     → ((scope_in task).code.max_stack ≡ 0) ⊎ (length (scope_in task).code.instrs ≤ h.handler) → ⊥
 no-room task is typing h locals fresh types (g, at, fits) why =
     let s = scope_in task in
-    let same : types.scope.code ≡ s.code =
-    ap (λ (t : CodeScope). t.code) (one-scope s.classes task.method types.scope s types.scope_is is.scope) in
-    let sized : IsFrameOf s.code g = subst (λ (code : LinkedCode). IsFrameOf code g) same (types.sized h.handler g at) in
-    let many : length typing ≡ length s.code.instrs =
-    subst (λ (code : LinkedCode). length typing ≡ length code.instrs) same types.as_many in
+    let sized = types.sized h.handler g at in
+    let many = types.as_many in
     let within = slice_get_within typing h.handler (Some g) at in
     let one = EachFits-length s.classes (caught_value s h ∷ []) g.stack fits.stack in
     let some = slots-most s.classes g.stack in

@@ -18,7 +18,6 @@ use Rattle.type_verifier.specs.Progress.{AreFrames}
 use Rattle.type_verifier.specs.Settling.{AreSettled, Settles, StepsWell, ends, joins, goes_on}
 use Rattle.type_verifier.specs.Tasks.{IsTask, TypesTask, scope_in}
 use Rattle.type_verifier.specs.Unrolling.{Leaves, MayBegin}
-use Rattle.type_verifier.proofs.OneScope.{typing_goes}
 
 -- ---- A frame that is settled.
 
@@ -115,7 +114,7 @@ module _ (task : Task) (frames : List (Option FrameType)) (t : IsTask task) (are
         → FitsAt (scope_in task) typing (suc place) g
     below_on typing types sized (h, h_at, fits) =
         let s = scope_in task in
-        let well = typing_goes task typing t types place i h at h_at in
+        let well = types.each place i h at h_at in
         let (n, e, (k, k_at, k_fits)) = well.goes_on (pos (place + 1)) (inl (goes, refl)) in
         let left = row-fits s ordered place i f h g well.after fits sized row well.row in
         let here : n ≡ suc place = omega (arith, same_pos (place + 1) n e) in

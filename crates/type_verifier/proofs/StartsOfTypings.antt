@@ -1,13 +1,11 @@
 -- How a walk over a code begins: no place has a frame, and each typing begins with our start frame.
 use Rattle.std.proofs.Common.{◌≡◌, ℕ, zero, suc, inl, inr, Bool, List, length, replicate, Option, None, sym, subst, ◌∙◌}
 use Rattle.std.proofs.lemmas.List.{length-replicate}
-use Rattle.jk_model.specs.declared.identifiers.MemberId.{MemberId}
-use Rattle.jk_model_classes.specs.declared.records.ClassRecord.{ClassRecord}
 use Rattle.jk_model_typing.specs.declared.frames.FrameType.{FrameType}
-use Rattle.jk_model_typing.specs.Scopes.{CodeScope, IsScopeOf}
-use Rattle.jk_model_typing.specs.Typing.{FitsAt, FrameAt, IsStart, IsTyping}
-use Rattle.typing_lemmas.proofs.OneScope.{one-scope}
+use Rattle.jk_model_typing.specs.Scopes.{CodeScope}
+use Rattle.jk_model_typing.specs.Typing.{FitsAt, FrameAt, IsStart}
 use Rattle.type_rows.proofs.RowsStart.{start-determined}
+use Rattle.touched_locals.specs.TypingsIn.{IsTypingIn}
 use Rattle.type_verifier.specs.declared.tasks.Task.{Task}
 use Rattle.type_verifier.specs.Progress.{AreFrames, Moves, Notes}
 use Rattle.type_verifier.specs.Settling.{AreSettled}
@@ -15,19 +13,11 @@ use Rattle.type_verifier.specs.Tasks.{scope_in}
 
 -- ---- The start of a typing.
 
--- a typing has a start frame in the scope of its method
-pub typing-start : (classes : List ClassRecord) (m : MemberId) (s : CodeScope) (typing : List (Option FrameType)) → IsScopeOf classes m s
-    → IsTyping classes m typing → (g : FrameType) × IsStart s g × FitsAt s typing 0 g
-typing-start classes m s typing is types =
-    let P : CodeScope → Type 0 = λ t. (g : FrameType) × IsStart t g × FitsAt t typing 0 g in
-    subst P (one-scope classes m types.scope s types.scope_is is) (types.start, types.start_is, types.first)
-
--- it is the one that the method has
-pub start-below : (classes : List ClassRecord) (m : MemberId) (s : CodeScope) (typing : List (Option FrameType)) (start : FrameType)
-    → IsScopeOf classes m s → IsTyping classes m typing → IsStart s start → FitsAt s typing 0 start
-start-below classes m s typing start is types begins =
-    let theirs = typing-start classes m s typing is types in
-    subst (λ (f : FrameType). FitsAt s typing 0 f) (start-determined s theirs.0 start theirs.1 begins) theirs.2
+-- a typing begins with the start frame that the code has
+pub start-below : (s : CodeScope) (typing : List (Option FrameType)) (start : FrameType) → IsTypingIn s typing → IsStart s start
+    → FitsAt s typing 0 start
+start-below s typing start types begins =
+    subst (λ (f : FrameType). FitsAt s typing 0 f) (start-determined s types.start start types.start_is begins) types.first
 
 -- ---- No frames.
 
@@ -51,8 +41,3 @@ AreSettled-begun s leads n old_work new new_work moves place f at = elim (moves.
   | inl same ↦ absurd (no-frame n place f (sym same ∙ at))
   | inr waits ↦ inl waits
 ]
-
--- ---- Scopes.
-
-pub scope-own : (classes : List ClassRecord) (m : MemberId) (s : CodeScope) → IsScopeOf classes m s → IsScopeOf s.classes m s
-scope-own classes m s is = subst (λ (cs : List ClassRecord). IsScopeOf cs m s) (sym is.all) is

@@ -8,9 +8,10 @@ use Rattle.jk_model_classes.specs.MemberCode.{LeadsTo}
 use Rattle.jk_model_typing.specs.declared.frames.FrameType.{FrameType}
 use Rattle.jk_model_typing.specs.FrameTypes.{FrameFits}
 use Rattle.jk_model_typing.specs.Rows.{Row}
-use Rattle.jk_model_typing.specs.Typing.{FitsAt, FrameAt, GoesOnAt, GoesWell, IsLeastTyping, IsStart, IsTyping, handler_frame, leaves_line}
+use Rattle.jk_model_typing.specs.Typing.{FitsAt, FrameAt, GoesOnAt, GoesWell, IsStart, handler_frame, leaves_line}
 use Rattle.type_frames.proofs.OrderOfFrames.{FrameFits-refl}
 use Rattle.type_rows.proofs.RowsAreDetermined.{row-determined}
+use Rattle.touched_locals.specs.TypingsIn.{IsLeastTypingIn, IsTypingIn}
 use Rattle.type_verifier.specs.declared.tasks.Task.{Task}
 use Rattle.type_verifier.specs.Leaders.{Leads}
 use Rattle.type_verifier.specs.Progress.{AreFrames}
@@ -85,10 +86,8 @@ module _ (task : Task) (frames typed : List (Option FrameType)) (line : Option F
       }
 
   pub unrolled_types : (f : FrameType) → IsStart (scope_in task) f → FitsAt (scope_in task) frames 0 f
-      → IsTyping (scope_in task).classes task.method typed
+      → IsTypingIn (scope_in task) typed
   unrolled_types f start first = record {
-    scope = scope_in task;
-    scope_is = t.scope;
     as_many = all;
     sized = λ place g at. (so.stands place (Some g) at).sized g refl;
     start = f;
@@ -98,7 +97,7 @@ module _ (task : Task) (frames typed : List (Option FrameType)) (line : Option F
   }
 
   pub unrolled_least : (f : FrameType) → IsStart (scope_in task) f → FitsAt (scope_in task) frames 0 f
-      → IsLeastTyping (scope_in task).classes task.method typed
+      → IsLeastTypingIn (scope_in task) typed
   unrolled_least f start first = record {
     typing = unrolled_types f start first;
     least = λ other types place g at. (so.stands place (Some g) at).below other g types refl;

@@ -29,7 +29,7 @@ pub record IsUnrolled (task : Task) (frames typed : List (Option FrameType)) (li
       → slice_get (scope_in task).code.instrs place ≡ Some i → slice_get typed place ≡ Some before → Leaves (scope_in task) place i before line
   pub next : (Leads task.leads.items (length typed) → ⊥) → Stands task frames (length typed) line
 
-leads_or_not : (leads : List Bool) (place : ℕ) → Leads leads place ⊎ (Leads leads place → ⊥)
+pub leads_or_not : (leads : List Bool) (place : ℕ) → Leads leads place ⊎ (Leads leads place → ⊥)
 leads_or_not [] place = inr (λ e. cc)
 leads_or_not (true ∷ leads) zero = inl refl
 leads_or_not (false ∷ leads) zero = inr (λ e. cc)

@@ -7,6 +7,7 @@ pub mod Marks
 pub mod Progress
 pub mod Ranges
 pub mod Rises
+pub mod SettledCodes
 pub mod Settling
 pub mod Tasks
 pub mod Unrolling

@@ -16,4 +16,4 @@ mod unrolling;
 mod verifying;
 mod visiting;
 
-pub use verifying::verify;
+pub use verifying::{has_typing, verify};

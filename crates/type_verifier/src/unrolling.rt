@@ -2,8 +2,9 @@
 
 ghost use Rattle.std.specs.Prelude.{[], ◌≡◌, ◌<◌, ◌^◌, IfOk, List as AList, Option as Maybe, Some, length, slice_get};
 ghost use Rattle.jk_model_typing.specs.declared.frames.FrameType.{FrameType as AFrame};
-ghost use Rattle.jk_model_typing.specs.Typing.{FitsAt, IsLeastTyping, IsStart};
+ghost use Rattle.jk_model_typing.specs.Typing.{FitsAt, IsStart};
 ghost use Rattle.type_rows.specs.CodeViews.{scope_of};
+ghost use Rattle.touched_locals.specs.TypingsIn.{IsLeastTypingIn};
 ghost use Rattle.type_verifier.specs.Leaders.{Leads};
 ghost use Rattle.type_verifier.specs.Progress.{AreFrames};
 ghost use Rattle.type_verifier.specs.Settling.{AreSettled};
@@ -27,7 +28,7 @@ pub(crate) fn unroll(
     requires frames { AreFrames task.now frames.now }
     requires settled { AreSettled (scope_in task.now) task.now.leads.items frames.now [] }
     requires start { (f : AFrame) × IsStart (scope_in task.now) f × FitsAt (scope_in task.now) frames.now 0 f }
-    ensures { IfOk result (λ t. IsLeastTyping (scope_in task.now).classes task.now.method t.frames) }
+    ensures { IfOk result (λ t. IsLeastTypingIn (scope_in task.now) t.frames) }
 {
     task.view.table.ordered();
     let mut typed = List::new(alloc);

@@ -1,15 +1,18 @@
 //! The verifier.
 
-ghost use Rattle.std.specs.Prelude.{◌≡◌, ◌<◌, ◌^◌, IfNone, IfOk, IfSome, List, Option, None as NoFrame, [], length, replicate};
+ghost use Rattle.std.specs.Prelude.{◌≡◌, ◌<◌, ◌^◌, Bool, false, IfNone, IfOk, IfSome, IsTrue, List, Option, None as NoFrame, [], length, replicate};
 ghost use Rattle.jk_model_classes.specs.Classes.{AreOrdered};
 ghost use Rattle.jk_model_typing.specs.declared.frames.FrameType.{FrameType as AFrame};
 ghost use Rattle.jk_model_typing.specs.FrameTypes.{IsFrameOf};
 ghost use Rattle.jk_model_typing.specs.Scopes.{CodeScope, IsScopeOf};
 ghost use Rattle.jk_model_typing.specs.Typing.{FitsAt, IsLeastTyping, IsStart, IsTyping};
+ghost use Rattle.touched_locals.specs.Narrowing.{IsNarrowed, with_code};
+ghost use Rattle.touched_locals.specs.TypingsIn.{IsLeastTypingIn, IsTypingIn};
 ghost use Rattle.type_rows.specs.CodeViews.{scope_of};
 ghost use Rattle.type_verifier.specs.Covers.{Nodes};
 ghost use Rattle.type_verifier.specs.Known.{AreKnown};
 ghost use Rattle.type_verifier.specs.Progress.{AreFrames};
+ghost use Rattle.type_verifier.specs.SettledCodes.{IsSettledIn};
 ghost use Rattle.type_verifier.specs.Settling.{AreSettled};
 ghost use Rattle.type_verifier.specs.Tasks.{HasNoTyping, IsTask, scope_in};
 
@@ -23,11 +26,23 @@ use crate::visiting::visit;
 use class_table::ClassTable;
 use handler_cover::CoverTree;
 use jk_model::{MemberId, OutOfMemory};
+use jk_model_classes::LinkedCode;
 use jk_model_typing::{FrameType, Typing};
 use std::alloc::Global;
 use std::collections::BTreeSet;
+use touched_locals::narrow_code;
 use type_frames::FrameRef;
 use type_rows::{CodeView, start_frame};
+
+/// A code whose leaders' frames are all settled.
+#[derive(Drop)]
+struct SettledCode<'a> {
+    task: Task<'a>,
+    frames: Vec<Option<FrameType>>,
+}
+
+/// More locals than this are narrowed to those that the code can touch before it is gone over.
+const FEW_LOCALS: u16 = 64;
 
 /// The least typing of a method's code; none exactly where it has no typing, and where there is no such method or it has no
 /// code.
@@ -43,32 +58,102 @@ pub fn verify(
     let Some(view) = CodeView::of(t, method) else {
         return Ok(None);
     };
-    let Some(start) = start_frame(alloc, &view)? else {
+    let Some(code) = settled_code(alloc, view)? else {
         return Ok(None);
     };
-    let task = task_of(alloc, method, view)?;
-    let Some(frames) = settled_frames(alloc, &task, &start)? else {
-        return Ok(None);
-    };
-    let typing = unroll(alloc, &task, frames.as_slice())?;
+    let typing = unroll(alloc, &code.task, code.frames.as_slice())?;
     Ok(Some(typing))
 }
 
-/// What is known of a method before its code is gone over.
-fn task_of<'a>(alloc: Global, method: MemberId, view: CodeView<'a>) -> Result<Task<'a>, OutOfMemory>
-    requires scope { IsScopeOf view.table.now method (scope_of view) }
+/// Whether a method's code has a typing, and so a least one; no where there is no such method or it has no code. No list of
+/// it is made, and of many locals only those are looked at that the code can touch.
+pub fn has_typing(alloc: Global, t: &ClassTable, method: MemberId) -> Result<bool, OutOfMemory>
+    requires short { (s : CodeScope) → IsScopeOf t.now method s → length s.code.instrs < 2 ^ 32 }
+    ensures typed { IfOk result (λ yes. IsTrue yes → (frames : List (Option AFrame)) × IsLeastTyping t.now method frames) }
+    ensures none { IfOk result (λ yes. yes ≡ false → (frames : List (Option AFrame)) → IsTyping t.now method frames → ⊥) }
+{
+    let Some(view) = CodeView::of(t, method) else {
+        return Ok(false);
+    };
+    is_typed_by_touched(alloc, view)
+}
+
+/// Whether a code has a typing, asked of the locals that it can touch where it has many.
+fn is_typed_by_touched(alloc: Global, view: CodeView<'_>) -> Result<bool, OutOfMemory>
+    requires short { length view.code.now.instrs < 2 ^ 32 }
+    ensures typed { IfOk result (λ yes. IsTrue yes → (frames : List (Option AFrame)) × IsLeastTypingIn (scope_of view.entry) frames) }
+    ensures none { IfOk result (λ yes. yes ≡ false → (frames : List (Option AFrame)) → IsTypingIn (scope_of view.entry) frames → ⊥) }
+{
+    match touched_code(alloc, &view)? {
+        Some(code) => is_typed(alloc, over(view, &code)),
+        None => is_typed(alloc, view),
+    }
+}
+
+/// A code of many locals over those that it can touch; none where it has few, and where it isn't narrowed.
+fn touched_code(alloc: Global, view: &CodeView<'_>) -> Result<Option<LinkedCode>, OutOfMemory>
+    ensures { IfOk result (λ o. IfSome o (λ code. (marks : List Bool) × IsNarrowed (scope_of view.now) marks code)) }
+{
+    if view.code.max_locals <= FEW_LOCALS {
+        return Ok(None);
+    }
+    narrow_code(alloc, view.code, view.method)
+}
+
+/// The same method with another code.
+fn over<'a>(view: CodeView<'a>, code: &'a LinkedCode) -> CodeView<'a>
+    ensures { scope_of result ≡ with_code (scope_of view.entry) code.now }
+{
+    CodeView {
+        table: view.table,
+        class: view.class,
+        links: view.links,
+        method: view.method,
+        code,
+    }
+}
+
+/// Whether a code has a typing.
+fn is_typed(alloc: Global, view: CodeView<'_>) -> Result<bool, OutOfMemory>
+    requires short { length view.code.now.instrs < 2 ^ 32 }
+    ensures typed { IfOk result (λ yes. IsTrue yes → (frames : List (Option AFrame)) × IsLeastTypingIn (scope_of view.entry) frames) }
+    ensures none { IfOk result (λ yes. yes ≡ false → (frames : List (Option AFrame)) → IsTypingIn (scope_of view.entry) frames → ⊥) }
+{
+    view.table.ordered();
+    let Some(_code) = settled_code(alloc, view)? else {
+        return Ok(false);
+    };
+    Ok(true)
+}
+
+/// A code with the frames of its leaders, all of which are settled; none where it has no typing.
+fn settled_code<'a>(
+    alloc: Global,
+    view: CodeView<'a>,
+) -> Result<Option<SettledCode<'a>>, OutOfMemory>
+    requires short { length view.code.now.instrs < 2 ^ 32 }
+    ensures none { IfOk result (λ o. IfNone o ((frames : List (Option AFrame)) → IsTypingIn (scope_of view.entry) frames → ⊥)) }
+    ensures some { IfOk result (λ o. IfSome o (λ c. IsSettledIn (scope_of view.entry) c)) }
+{
+    let Some(start) = start_frame(alloc, &view)? else {
+        return Ok(None);
+    };
+    let task = task_of(alloc, view)?;
+    let Some(frames) = settled_frames(alloc, &task, &start)? else {
+        return Ok(None);
+    };
+    Ok(Some(SettledCode { task, frames }))
+}
+
+/// What is known of a code before it is gone over.
+fn task_of<'a>(alloc: Global, view: CodeView<'a>) -> Result<Task<'a>, OutOfMemory>
     requires short { length view.code.now.instrs < 2 ^ 32 }
     ensures task { IfOk result (λ task. IsTask task) }
-    ensures same { IfOk result (λ task. (task.view ≡ view.entry) × (task.method ≡ method)) }
+    ensures same { IfOk result (λ task. task.view ≡ view.entry) }
 {
     let leads = leaders(alloc, view.code)?;
     let tree = CoverTree::new(alloc, view.code.instrs.len(), view.code.handlers.as_slice())?;
-    Ok(Task {
-        method,
-        view,
-        leads,
-        tree,
-    })
+    Ok(Task { view, leads, tree })
 }
 
 /// The frames of leaders, all of which are settled, and the start frame fits that of the first place; none where there is no

@@ -1,11 +1,14 @@
 -- The number is counted from the place.
-use Rattle.std.proofs.Common.{◌≡◌, ◌+◌, List, ℕ, Some, None, arith, length, subst}
+use Rattle.std.proofs.Common.{◌≡◌, ◌+◌, List, ℕ, Some, None, sym, arith, length, subst}
 use Rattle.jk_model_classes.specs.declared.records.MethodRecord.{MethodRecord}
 use Rattle.jk_model_classes.specs.LinkRules.{HasFinalOverridden, OverridesFinal}
 use Rattle.link_rules.specs.FinalMethods.{IsFirstPlace, scope_of}
 use Rattle.link_rules.specs.LinkFaults.{IsLeastNumber}
 use Rattle.link_rules.proofs.FinalsAbove.{least_final}
 use Rattle.link_rules.proofs.final_methods.fault_of.Goals as goal
+
+pub first_overriding-requires : goal.first_overriding-requires
+first_overriding-requires c = (c.args.r.now, c.requires, sym c.as_slice.ensures)
 
 pub returns-in-None : goal.returns-in-None
 returns-in-None c =

@@ -1,8 +1,10 @@
--- No method so far overrides a final one.
-use Rattle.jk_model_classes.specs.Items.{HasItemBefore}
-use Rattle.jk_model_classes.specs.LinkRules.{OverridesFinal}
-use Rattle.link_rules.specs.FinalMethods.{scope_of}
+-- The classes so far were asked.
+use Rattle.member_lookup.proofs.WalksUpwards.{height}
+use Rattle.link_rules.proofs.FinalsAbove.{AreAsked}
 use Rattle.link_rules.proofs.final_methods.first_overriding.Given as goal
 
-abbrev pub invariant-loop-i : goal.invariant-loop-i
-invariant-loop-i l = HasItemBefore l.i (OverridesFinal (scope_of l.t l.class)) l.methods → ⊥
+abbrev pub invariant-loop-next : goal.invariant-loop-next
+invariant-loop-next l = AreAsked l.t l.class l.methods l.next l.best
+
+abbrev pub decreases-loop-next : goal.decreases-loop-next
+decreases-loop-next l = height l.next

@@ -11,7 +11,7 @@ use Rattle.type_verifier.proofs.verifying.begun.Goals as goal
 pub returns-then-places-eq0-clause-none : goal.returns-then-places-eq0-clause-none
 returns-then-places-eq0-clause-none c = λ typing types.
     let task = c.args.task.now in
-    let below = start-below task.view.table.now task.method (scope_in task) typing c.args.start.now c.requires.task.scope types c.requires.start in
+    let below = start-below (scope_in task) typing c.args.start.now types c.requires.start in
     let within = fits-within task c.requires.task c.requires.ordered typing types 0 c.args.start.now below in
     absurd (omega arith)
 
@@ -32,7 +32,7 @@ pub raise_at-requires-clause-below : goal.raise_at-requires-clause-below
 raise_at-requires-clause-below c = λ typing types.
     let task = c.args.task.now in
     rw (c.as_slice.ensures, c.as_slice-2.ensures)
-    (start-below task.view.table.now task.method (scope_in task) typing c.args.start.now c.requires.task.scope types c.requires.start)
+    (start-below (scope_in task) typing c.args.start.now types c.requires.start)
 
 pub returns-then-branch-clause-settled : goal.returns-then-branch-clause-settled
 returns-then-branch-clause-settled c =
