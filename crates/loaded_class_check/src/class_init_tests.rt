@@ -7,14 +7,16 @@ ghost use Rattle.jk_model_classes.specs.Classes.{HasClass};
 ghost use Rattle.jk_model_classes.specs.Worlds.{IsNamed};
 ghost use Rattle.jk_model_domains.specs.OwnStates.{OwnState as AState, HasPart, HasStatic, IsFirstState};
 
+use crate::class_rows::{Place, Row, add, class, member};
 use class_init::{Own, look};
 use class_table::ClassTable;
 use domain_resolver::NameTable;
-use jk_model::{AccessFlags, ClassId, DomainId, List, MemberId, OutOfMemory, ThreadNo, Value, has};
+use jk_model::{AccessFlags, ClassId, List, MemberId, OutOfMemory, ThreadNo, Value, has};
 use jk_model_classes::{BaseRef, ClassRecord, FieldRecord, Link, TypeRef};
-use jk_model_domains::{ClassState, Look, OwnParts};
+use jk_model_domains::{ClassState, Look, OwnClass, OwnParts};
 use shared_values::Text;
 use std::alloc::Global;
+use std::process::Abort;
 use std::test::Fail;
 
 const OBJECT: ClassId = ClassId(0);
@@ -63,8 +65,10 @@ fn fields(alloc: Global) -> Result<List<FieldRecord>, OutOfMemory> {
     Ok(list)
 }
 
-/// Fields of class String with these flags, whose constants are these texts.
-fn text_fields(alloc: Global, rows: &[(u16, &[u16])]) -> Result<List<FieldRecord>, OutOfMemory> {
+/// A field of class String: its flags, and the text that is its constant.
+type TextRow<'a> = (u16, &'a [u16]);
+
+fn text_fields(alloc: Global, rows: &[TextRow]) -> Result<List<FieldRecord>, OutOfMemory> {
     let mut list = List::new(alloc);
     for (flags, text) in rows {
         let constant = Link::Text(Text::new(alloc, text)?);
@@ -77,43 +81,39 @@ fn text_fields(alloc: Global, rows: &[(u16, &[u16])]) -> Result<List<FieldRecord
 fn links(alloc: Global) -> Result<List<Link>, OutOfMemory> {
     let mut list = List::new(alloc);
     list.push(Link::Nothing)?;
-    list.push(Link::Text(Text::new(alloc, HI)?))?;
-    list.push(Link::Text(Text::new(alloc, HI)?))?;
-    list.push(Link::Text(Text::new(alloc, HO)?))?;
+    for text in [HI, HI, HO] {
+        list.push(Link::Text(Text::new(alloc, text)?))?;
+    }
     Ok(list)
 }
 
 /// Puts a class of the domain 0 with this name and these fields after the others.
-fn add(
+fn add_class(
     alloc: Global,
     table: &mut ClassTable,
-    letter: u16,
+    name: &str,
     fields: List<FieldRecord>,
 ) -> Result<(), Fail> {
-    let class = ClassRecord {
-        name: Text::new(alloc, &[letter])?,
-        home: Some(DomainId(0)),
+    let row = Row {
+        name,
+        home: 0,
         flags: 1,
-        parent: Some(OBJECT),
-        interfaces: List::new(alloc),
-        fields,
-        methods: List::new(alloc),
-        links: links(alloc)?,
-        references: List::new(alloc),
+        parent: 0,
+        interfaces: &[],
+        fields: &[],
+        methods: &[],
     };
-    let n = table.len();
-    if n == 0 || n > 1000 || class.fields.len() > 65_535 {
-        return Err(Fail::from("no place for the class"));
-    }
-    table.add(class)?;
-    Ok(())
+    let mut class = class(alloc, &row)?;
+    class.fields = fields;
+    class.links = links(alloc)?;
+    add(table, class)
 }
 
 /// The system classes, and two of the domain, whose names come in the other order.
 fn classes(alloc: Global) -> Result<ClassTable, Fail> {
     let mut table = ClassTable::new(alloc)?;
-    add(alloc, &mut table, 122, fields(alloc)?)?;
-    add(alloc, &mut table, 97, fields(alloc)?)?;
+    add_class(alloc, &mut table, "z", fields(alloc)?)?;
+    add_class(alloc, &mut table, "a", fields(alloc)?)?;
     Ok(table)
 }
 
@@ -169,17 +169,17 @@ fn has_static(t: &ClassTable, names: &NameTable, m: MemberId) -> bool
     }
 }
 
-/// Whether these are the parts of A and Z, in the order of their names, in these states and with these values.
-fn are_parts(parts: &OwnParts, a: (ClassState, &[Value]), z: (ClassState, &[Value])) -> bool {
-    let classes = parts.classes.as_slice();
-    if classes.len() != 2 {
-        return false;
+/// Whether this is the part of an untouched class with these values.
+fn is_part(part: &OwnClass, class: ClassId, values: &[Value]) -> bool {
+    part.class == class && part.state == ClassState::Untouched && part.statics.as_slice() == values
+}
+
+/// Whether these are the parts of A and Z, in the order of their names, untouched and with these values.
+fn are_parts(parts: &OwnParts, of_a: &[Value], of_z: &[Value]) -> bool {
+    match parts.classes.as_slice() {
+        [a, z] => is_part(a, A, of_a) && is_part(z, Z, of_z),
+        _ => false,
     }
-    let of_a = classes[0].class == A && classes[0].state == a.0;
-    let of_z = classes[1].class == Z && classes[1].state == z.0;
-    let values_of_a = classes[0].statics.as_slice() == a.1;
-    let values_of_z = classes[1].statics.as_slice() == z.1;
-    of_a && of_z && values_of_a && values_of_z
 }
 
 /// The values with which the static fields of A and of Z begin.
@@ -190,95 +190,127 @@ const FIRST: &[Value] = &[
     Value::Long(0),
 ];
 
-#[test]
-fn begins(rt: HostRuntime) -> Result<(), Fail> {
-    let t = classes(rt.alloc())?;
-    let names = names(rt.alloc(), &t)?;
-    let own = Own::make(rt.alloc(), &t, &names)?;
-    let untouched = ClassState::Untouched;
-    assert!(rt; are_parts(&own.parts(&t)?, (untouched, FIRST), (untouched, FIRST)));
-    let cases = [
-        (Z, 0, Some(Value::Int(7))),
-        (Z, 1, None),
-        (A, 2, Some(Value::Long(1_099_511_627_776))),
-        (A, 3, Some(Value::Null)),
-        (Z, 4, Some(Value::Long(0))),
-        (Z, 5, None),
-        (OBJECT, 0, None),
-    ];
-    for (class, index, wanted) in cases {
-        let m = MemberId { class, index };
-        let value = if has_static(&t, &names, m) {
-            Some(own.static_value(m))
-        } else {
-            None
-        };
-        assert!(rt; value == wanted);
-    }
-    Ok(())
+/// The same after the third was set.
+const CHANGED: &[Value] = &[
+    Value::Int(7),
+    Value::Long(1_099_511_627_776),
+    Value::Obj(9),
+    Value::Long(0),
+];
+
+/// Whether the static fields of A have their first values and those of Z these, and both classes are untouched.
+fn has_values(t: &ClassTable, own: &Own, of_z: &[Value]) -> Result<bool, OutOfMemory> {
+    let parts = own.parts(t)?;
+    Ok(are_parts(&parts, FIRST, of_z))
 }
 
-/// What the threads 3 and 4 meet at class A in this state, where no other state was set.
-fn seen(
+/// Static fields, each with the value that it begins with; none where there is no such field.
+const BEGINNINGS: &[(Place, Option<Value>)] = &[
+    ((45, 0), Some(Value::Int(7))),
+    ((45, 1), None),
+    ((46, 2), Some(Value::Long(1_099_511_627_776))),
+    ((46, 3), Some(Value::Null)),
+    ((45, 4), Some(Value::Long(0))),
+    ((45, 5), None),
+    ((0, 0), None),
+];
+
+/// The value with which a static field begins.
+fn first_value(
+    alloc: Global,
+    t: &ClassTable,
+    names: &NameTable,
+    m: MemberId,
+) -> Result<Option<Value>, OutOfMemory>
+    requires { (c : AClassId) → IsNamed names.now c → HasClass t.now c }
+{
+    if !has_static(t, names, m) {
+        return Ok(None);
+    }
+    let own = Own::make(alloc, t, names)?;
+    Ok(Some(own.static_value(m)))
+}
+
+/// Whether a state begins with the first values.
+fn begins(alloc: Global, t: &ClassTable, names: &NameTable) -> Result<bool, OutOfMemory>
+    requires { (c : AClassId) → IsNamed names.now c → HasClass t.now c }
+{
+    let own = Own::make(alloc, t, names)?;
+    has_values(t, &own, FIRST)
+}
+
+/// States of a class, with what the threads 3 and 4 meet at it.
+const STATES: &[(ClassState, Look, Look)] = &[
+    (ClassState::Untouched, Look::Untouched, Look::Untouched),
+    (
+        ClassState::InProgress(ThreadNo(3)),
+        Look::Ready,
+        Look::Waits,
+    ),
+    (ClassState::Done, Look::Ready, Look::Ready),
+    (ClassState::Broken, Look::Broken, Look::Broken),
+];
+
+/// A state in which class A has this one, and no other was set.
+fn with_state(
     alloc: Global,
     t: &ClassTable,
     names: &NameTable,
     state: ClassState,
-) -> Result<(Look, Look), Fail>
+) -> Result<Own, Fail>
     requires { (c : AClassId) → IsNamed names.now c → HasClass t.now c }
 {
-    let mut own = Own::make(alloc, t, names)?;
     let Some(_class) = own_class(t, names, A) else {
         return Err(Fail::from("no class A"));
     };
+    let mut own = Own::make(alloc, t, names)?;
     own.set_state(A, state);
-    let z = look(&own, ThreadNo(3), Z);
-    let object = look(&own, ThreadNo(3), OBJECT);
-    if z != Look::Untouched || object != Look::Ready {
-        return Err(Fail::from("another class has changed"));
-    }
-    Ok((look(&own, ThreadNo(3), A), look(&own, ThreadNo(4), A)))
+    Ok(own)
 }
 
-#[test]
-fn looks(rt: HostRuntime) -> Result<(), Fail> {
-    let t = classes(rt.alloc())?;
-    let names = names(rt.alloc(), &t)?;
-    let cases = [
-        (ClassState::Untouched, Look::Untouched, Look::Untouched),
-        (
-            ClassState::InProgress(ThreadNo(3)),
-            Look::Ready,
-            Look::Waits,
-        ),
-        (ClassState::Done, Look::Ready, Look::Ready),
-        (ClassState::Broken, Look::Broken, Look::Broken),
-    ];
-    for (state, by_3, by_4) in cases {
-        assert!(rt; seen(rt.alloc(), &t, &names, state)? == (by_3, by_4));
-    }
-    Ok(())
+/// What the threads 3 and 4 meet at class A, and thread 3 at class Z and at java/lang/Object.
+fn seen(own: &Own) -> [Look; 4] {
+    let (three, four) = (ThreadNo(3), ThreadNo(4));
+    [
+        look(own, three, A),
+        look(own, four, A),
+        look(own, three, Z),
+        look(own, three, OBJECT),
+    ]
 }
 
-#[test]
-fn sets_a_static_field(rt: HostRuntime) -> Result<(), Fail> {
-    let t = classes(rt.alloc())?;
-    let names = names(rt.alloc(), &t)?;
-    let mut own = Own::make(rt.alloc(), &t, &names)?;
+/// What they meet where class A has this state, and no other was set.
+fn seen_in(
+    alloc: Global,
+    t: &ClassTable,
+    names: &NameTable,
+    state: ClassState,
+) -> Result<[Look; 4], Fail>
+    requires { (c : AClassId) → IsNamed names.now c → HasClass t.now c }
+{
+    let own = with_state(alloc, t, names, state)?;
+    Ok(seen(&own))
+}
+
+/// A state in which a static field of Z was set.
+fn changed(alloc: Global, t: &ClassTable, names: &NameTable) -> Result<Own, Fail>
+    requires { (c : AClassId) → IsNamed names.now c → HasClass t.now c }
+{
     let m = MemberId { class: Z, index: 3 };
-    if !has_static(&t, &names, m) {
+    if !has_static(t, names, m) {
         return Err(Fail::from("no such static field"));
     }
+    let mut own = Own::make(alloc, t, names)?;
     own.set_static(m, Value::Obj(9));
-    let changed = [
-        Value::Int(7),
-        Value::Long(1_099_511_627_776),
-        Value::Obj(9),
-        Value::Long(0),
-    ];
-    let untouched = ClassState::Untouched;
-    assert!(rt; are_parts(&own.parts(&t)?, (untouched, FIRST), (untouched, &changed)));
-    Ok(())
+    Ok(own)
+}
+
+/// Whether that is so of its values.
+fn changes(alloc: Global, t: &ClassTable, names: &NameTable) -> Result<bool, Fail>
+    requires { (c : AClassId) → IsNamed names.now c → HasClass t.now c }
+{
+    let own = changed(alloc, t, names)?;
+    Ok(has_values(t, &own, CHANGED)?)
 }
 
 /// A state that went through its parts.
@@ -291,58 +323,92 @@ fn again(alloc: Global, t: &ClassTable, names: &NameTable) -> Result<Own, OutOfM
     Own::from_parts(alloc, t, names, parts)
 }
 
-#[test]
-fn back_from_parts(rt: HostRuntime) -> Result<(), Fail> {
-    let t = classes(rt.alloc())?;
-    let names = names(rt.alloc(), &t)?;
-    let own = again(rt.alloc(), &t, &names)?;
-    let untouched = ClassState::Untouched;
-    assert!(rt; are_parts(&own.parts(&t)?, (untouched, FIRST), (untouched, FIRST)));
-    assert_eq!(rt; own.out(), 11);
+/// Whether it is as before.
+fn comes_back(alloc: Global, t: &ClassTable, names: &NameTable) -> Result<bool, OutOfMemory>
+    requires { (c : AClassId) → IsNamed names.now c → HasClass t.now c }
+{
+    let own = again(alloc, t, names)?;
+    Ok(own.out() == 11 && has_values(t, &own, FIRST)?)
+}
+
+/// All of these.
+fn expect_states(
+    rt: &impl Abort,
+    alloc: Global,
+    t: &ClassTable,
+    names: &NameTable,
+) -> Result<(), Fail>
+    requires { (c : AClassId) → IsNamed names.now c → HasClass t.now c }
+{
+    assert!(rt; begins(alloc, t, names)?);
+    for (m, wanted) in BEGINNINGS {
+        assert!(rt; first_value(alloc, t, names, member(*m))? == *wanted);
+    }
+    for (state, by_3, by_4) in STATES {
+        let others = [*by_3, *by_4, Look::Untouched, Look::Ready];
+        assert!(rt; seen_in(alloc, t, names, *state)? == others);
+    }
+    assert!(rt; changes(alloc, t, names)?);
+    assert!(rt; comes_back(alloc, t, names)?);
     Ok(())
 }
 
-/// What the texts cost that are constants of static fields of Z and have no object, before and after `hi` has one.
-fn missing(alloc: Global, t: &ClassTable, names: &NameTable) -> Result<(u64, u64), Fail>
+#[test]
+fn states_of_a_domain(rt: HostRuntime) -> Result<(), Fail> {
+    let t = classes(rt.alloc())?;
+    let names = names(rt.alloc(), &t)?;
+    expect_states(&rt, rt.alloc(), &t, &names)
+}
+
+/// What the texts cost that are constants of static fields of Z and have no object, before and after `hi` has one, and that object.
+fn missing(
+    alloc: Global,
+    t: &ClassTable,
+    names: &NameTable,
+) -> Result<(u64, u64, Option<u32>), Fail>
     requires { (c : AClassId) → IsNamed names.now c → HasClass t.now c }
 {
-    let mut own = Own::make(alloc, t, names)?;
     let Some(class) = own_class(t, names, Z) else {
         return Err(Fail::from("no class Z"));
     };
-    let before = own.missing_words(class.fields.as_slice());
     let Some(Link::Text(hi)) = class.links.get(1) else {
         return Err(Fail::from("the pool doesn't name the text"));
     };
+    let mut own = Own::make(alloc, t, names)?;
+    let before = own.missing_words(class.fields.as_slice());
     if own.literal(hi).is_some() {
         return Err(Fail::from("the text has an object already"));
     }
     own.set_literal(hi, 9);
-    if own.literal(hi) != Some(9) {
-        return Err(Fail::from("the text has no object"));
-    }
-    Ok((before, own.missing_words(class.fields.as_slice())))
+    let after = own.missing_words(class.fields.as_slice());
+    Ok((before, after, own.literal(hi)))
 }
 
 /// Fields of class String by their flags and texts, and what the missing texts cost before and after `hi` has an object. An object of
 /// a text costs four words and one for each of its units: `hi` has two, and `hey` three.
+const MISSING: &[(&[TextRow<'static>], u64, u64)] = &[
+    (&[], 0, 0),
+    (&[(STATIC, HI)], 6, 0),
+    (&[(STATIC, HEY)], 7, 7),
+    (&[(STATIC, HI), (STATIC, HI)], 6, 0),
+    (&[(STATIC, HI), (STATIC, HEY)], 13, 7),
+    (&[(STATIC, HEY), (STATIC, HI), (STATIC, HEY)], 13, 7),
+    // The text of a field that isn't static costs nothing.
+    (&[(0, HEY), (STATIC, HI)], 6, 0),
+];
+
+/// The same of a class with these fields.
+fn missing_of(alloc: Global, fields: &[TextRow]) -> Result<(u64, u64, Option<u32>), Fail> {
+    let mut t = ClassTable::new(alloc)?;
+    add_class(alloc, &mut t, "z", text_fields(alloc, fields)?)?;
+    let names = names(alloc, &t)?;
+    missing(alloc, &t, &names)
+}
+
 #[test]
 fn missing_texts(rt: HostRuntime) -> Result<(), Fail> {
-    let cases: [(&[(u16, &[u16])], u64, u64); 7] = [
-        (&[], 0, 0),
-        (&[(STATIC, HI)], 6, 0),
-        (&[(STATIC, HEY)], 7, 7),
-        (&[(STATIC, HI), (STATIC, HI)], 6, 0),
-        (&[(STATIC, HI), (STATIC, HEY)], 13, 7),
-        (&[(STATIC, HEY), (STATIC, HI), (STATIC, HEY)], 13, 7),
-        // The text of a field that isn't static costs nothing.
-        (&[(0, HEY), (STATIC, HI)], 6, 0),
-    ];
-    for (fields, before, after) in cases {
-        let mut t = ClassTable::new(rt.alloc())?;
-        add(rt.alloc(), &mut t, 122, text_fields(rt.alloc(), fields)?)?;
-        let names = names(rt.alloc(), &t)?;
-        assert!(rt; missing(rt.alloc(), &t, &names)? == (before, after));
+    for (fields, before, after) in MISSING {
+        assert!(rt; missing_of(rt.alloc(), fields)? == (*before, *after, Some(9)));
     }
     Ok(())
 }

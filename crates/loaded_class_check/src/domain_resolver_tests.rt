@@ -8,177 +8,167 @@ ghost use Rattle.jk_model_classes.specs.SystemRecords.{AreSystemRecords};
 ghost use Rattle.jk_model_classes.specs.Worlds.{NamesClasses};
 ghost use Rattle.domain_resolver.specs.LiveDomains.{IsLiveLast};
 
+use crate::class_rows::{text, units};
 use class_table::ClassTable;
 use domain_resolver::*;
 use jk_model::{Bytes, ClassId, DomainId, OutOfMemory};
-use shared_values::Text;
 use std::alloc::Global;
 use std::process::Abort;
 use std::test::Fail;
 
-/// Whether a line is an import, the class, and the domain; no bytes where there is none.
-fn parts(line: &ResolverLine) -> (bool, &[u8], &[u8]) {
-    match &line.says {
+// ---- Lines.
+
+/// A line by its number, whether it is an import, the class, and the domain; no bytes where there is none.
+type LineRow<'a> = (u32, bool, &'a [u8], &'a [u8]);
+
+/// Texts, with the lines that say something.
+const TEXTS: &[(&[u8], &[LineRow<'static>])] = &[
+    (b"share a/B", &[(1, false, b"a/B", b"")]),
+    (b"share a/B\n", &[(1, false, b"a/B", b"")]),
+    (
+        b"\n# x\n \t\nshare a/B bank\r\n",
+        &[(4, false, b"a/B", b"bank")],
+    ),
+    (b"\timport  bank\ta/B \n\n", &[(1, true, b"a/B", b"bank")]),
+    (
+        b" \t # share x\r\n#\nimport x-_9 !~\n",
+        &[(3, true, b"!~", b"x-_9")],
+    ),
+    (b"share share import\n", &[(1, false, b"share", b"import")]),
+    (b"share #\n", &[(1, false, b"#", b"")]),
+    (
+        b"share a\n# b\nimport c d\nshare e f",
+        &[
+            (1, false, b"a", b""),
+            (3, true, b"d", b"c"),
+            (4, false, b"e", b"f"),
+        ],
+    ),
+    (b"\r\n# \t !~\n\n", &[]),
+];
+
+/// Texts, with the first bad line.
+const BAD: &[(&[u8], u32)] = &[
+    (b"share\n", 1),
+    (b"share a b c\n", 1),
+    (b"import a\n", 1),
+    (b"import a b c\n", 1),
+    (b"Share a\n", 1),
+    (b"\nshare a\nfly b\nfly c\n", 3),
+    (b"share a\n# \xc3\xa9\n", 2),
+    (b"# \x7f\n", 1),
+    (b"share a\r", 1),
+    (b"share a\r\r\n", 1),
+    (b"share a b.c\n", 1),
+    (b"import b/c a\n", 1),
+    (b"share a a23456789_123456789-123456789012\n#\nno", 3),
+    (b"share a a23456789_123456789-1234567890123\n", 1),
+];
+
+fn is_line(line: &ResolverLine, row: &LineRow) -> bool {
+    let (import, class, domain) = match &line.says {
         ResolverWord::Share { class, to: None } => (false, class.as_slice(), b"".as_slice()),
         ResolverWord::Share {
             class,
             to: Some(domain),
         } => (false, class.as_slice(), domain.as_slice()),
         ResolverWord::Import { from, class } => (true, class.as_slice(), from.as_slice()),
+    };
+    line.line == row.0 && import == row.1 && class == row.2 && domain == row.3
+}
+
+/// Whether a text says these lines alone.
+fn says(alloc: Global, text: &[u8], rows: &[LineRow]) -> Result<bool, Fail> {
+    if text.len() > 1000 {
+        return Err(Fail::from("a long text"));
     }
+    let lines = read_resolver(alloc, text)?;
+    let lines = lines.as_slice();
+    let are_same = lines.iter().zip(rows).all(|(line, row)| is_line(line, row));
+    Ok(are_same && lines.len() == rows.len())
 }
 
 /// The first bad line, or `None` where there is none.
-fn bad_line(rt: &impl Abort, alloc: Global, text: &[u8]) -> Option<u32> {
-    assert!(rt; text.len() < 1000);
+fn bad_line(alloc: Global, text: &[u8]) -> Result<Option<u32>, Fail> {
+    if text.len() > 1000 {
+        return Err(Fail::from("a long text"));
+    }
     match read_resolver(alloc, text) {
-        Ok(_) => None,
-        Err(ResolverError::BadResolver(line)) => Some(line),
-        Err(ResolverError::OutOfMemory) => panic!(rt; "out of memory"),
+        Ok(_) => Ok(None),
+        Err(ResolverError::BadResolver(line)) => Ok(Some(line)),
+        Err(ResolverError::OutOfMemory) => Err(Fail::from("out of memory")),
     }
 }
 
-#[test]
-fn one_line_each(rt: HostRuntime) -> Result<(), Fail> {
-    let rows = [
-        (
-            b"share a/B".as_slice(),
-            1,
-            false,
-            b"a/B".as_slice(),
-            b"".as_slice(),
-        ),
-        (b"share a/B\n", 1, false, b"a/B", b""),
-        (b"\n# x\n \t\nshare a/B bank\r\n", 4, false, b"a/B", b"bank"),
-        (b"\timport  bank\ta/B \n\n", 1, true, b"a/B", b"bank"),
-        (
-            b" \t # share x\r\n#\nimport x-_9 !~\n",
-            3,
-            true,
-            b"!~",
-            b"x-_9",
-        ),
-        (b"share share import\n", 1, false, b"share", b"import"),
-        (b"share #\n", 1, false, b"#", b""),
-    ];
-    for (text, number, import, class, domain) in rows {
-        assert!(rt; text.len() < 1000);
-        let lines = read_resolver(rt.alloc(), text)?;
-        assert_eq!(rt; lines.len(), 1);
-        let line = lines.get(0).ok_or("no line")?;
-        assert_eq!(rt; line.line, number);
-        let (is_import, is_class, is_domain) = parts(line);
-        assert_eq!(rt; is_import, import);
-        assert_eq!(rt; is_class, class);
-        assert_eq!(rt; is_domain, domain);
+/// The first bad line of an import of a class with a name of so many bytes.
+fn bad_line_of_name(alloc: Global, length: usize) -> Result<Option<u32>, Fail> {
+    let mut text = Vec::from_slice(alloc, b"import a ")?;
+    for _ in 0..length {
+        text.push(b'x')?;
     }
+    bad_line(alloc, text.as_slice())
+}
+
+#[test]
+fn lines(rt: HostRuntime) -> Result<(), Fail> {
+    for (text, rows) in TEXTS {
+        assert!(rt; says(rt.alloc(), text, rows)?);
+    }
+    for (text, line) in BAD {
+        assert!(rt; bad_line(rt.alloc(), text)? == Some(*line));
+    }
+    assert!(rt; bad_line_of_name(rt.alloc(), 255)?.is_none());
+    assert!(rt; bad_line_of_name(rt.alloc(), 256)? == Some(1));
     Ok(())
 }
 
-#[test]
-fn lines_in_order(rt: HostRuntime) -> Result<(), Fail> {
-    let lines = read_resolver(rt.alloc(), b"share a\n# b\nimport c d\nshare e f")?;
-    assert_eq!(rt; lines.len(), 3);
-    let rows = [(0, 1, b"a".as_slice()), (1, 3, b"d"), (2, 4, b"e")];
-    for (place, number, class) in rows {
-        let line = lines.get(place).ok_or("no line")?;
-        assert_eq!(rt; line.line, number);
-        let (_, is_class, _) = parts(line);
-        assert_eq!(rt; is_class, class);
-    }
-    assert!(rt; read_resolver(rt.alloc(), b"\r\n# \t !~\n\n")?.is_empty());
-    Ok(())
+// ---- Names.
+
+/// What is done with a table of names, or asked of it, and what comes of it.
+enum NameStep<'a> {
+    /// A name is given a class: whether it is that of the class afterwards.
+    Gives(&'a str, u32, bool),
+    /// A name means a class, or none.
+    Means(&'a str, Option<u32>),
+    /// Whether some name means a class.
+    Has(u32, bool),
+    /// The class of the name at a place.
+    At(usize, Option<u32>),
+    Len(usize),
+    /// java/lang/Object is imported: whether it can be.
+    ImportsObject(bool),
 }
 
-#[test]
-fn bad_lines(rt: HostRuntime) {
-    let rows = [
-        (b"share\n".as_slice(), 1),
-        (b"share a b c\n", 1),
-        (b"import a\n", 1),
-        (b"import a b c\n", 1),
-        (b"Share a\n", 1),
-        (b"\nshare a\nfly b\nfly c\n", 3),
-        (b"share a\n# \xc3\xa9\n", 2),
-        (b"# \x7f\n", 1),
-        (b"share a\r", 1),
-        (b"share a\r\r\n", 1),
-        (b"share a b.c\n", 1),
-        (b"import b/c a\n", 1),
-        (b"share a a23456789_123456789-123456789012\n#\nno", 3),
-        (b"share a a23456789_123456789-1234567890123\n", 1),
-    ];
-    for (text, line) in rows {
-        assert_eq!(rt; bad_line(&rt, rt.alloc(), text), Some(line));
-    }
-}
+const NAMES: &[NameStep<'static>] = &[
+    NameStep::Len(0),
+    NameStep::Means("a/B", None),
+    NameStep::Gives("a/B", 7, true),
+    NameStep::Gives("a/C", 5, true),
+    NameStep::Gives("a/B", 7, true),
+    NameStep::Gives("a/B", 5, false),
+    NameStep::Len(2),
+    NameStep::Means("a/B", Some(7)),
+    NameStep::Means("a/C", Some(5)),
+    NameStep::Means("a", None),
+    NameStep::Has(5, true),
+    NameStep::Has(6, false),
+    NameStep::At(1, Some(5)),
+    NameStep::At(2, None),
+];
 
-#[test]
-fn long_class_names(rt: HostRuntime) -> Result<(), Fail> {
-    let mut text = Vec::from_slice(rt.alloc(), b"import a ")?;
-    text.extend_from_slice(&[b'x'; 255])?;
-    assert_eq!(rt; bad_line(&rt, rt.alloc(), text.as_slice()), None);
-    text.push(b'x')?;
-    assert_eq!(rt; bad_line(&rt, rt.alloc(), text.as_slice()), Some(1));
-    Ok(())
-}
+/// An import that is made twice.
+const IMPORTS: &[NameStep<'static>] = &[
+    NameStep::ImportsObject(true),
+    NameStep::ImportsObject(true),
+    NameStep::Len(1),
+    NameStep::Means("java/lang/Object", Some(0)),
+];
 
-#[test]
-fn names(rt: HostRuntime) -> Result<(), Fail> {
-    let (a, b) = ([97, 47, 66], [97, 47, 67]);
-    let mut table = NameTable::new(rt.alloc());
-    assert!(rt; table.is_empty());
-    assert_eq!(rt; table.resolve(&a), None);
-    let first = Text::new(rt.alloc(), &a)?;
-    let second = Text::new(rt.alloc(), &b)?;
-    assert!(rt; table.give(&first, ClassId(7))?);
-    assert!(rt; table.give(&second, ClassId(5))?);
-    assert!(rt; table.give(&first, ClassId(7))?);
-    assert!(rt; !table.give(&first, ClassId(5))?);
-    assert_eq!(rt; table.len(), 2);
-    assert_eq!(rt; table.resolve(&a), Some(ClassId(7)));
-    assert_eq!(rt; table.resolve(&b), Some(ClassId(5)));
-    assert_eq!(rt; table.resolve(&[97]), None);
-    assert!(rt; table.has_class(ClassId(5)));
-    assert!(rt; !table.has_class(ClassId(6)));
-    assert_eq!(rt; table.class_at(1), Some(ClassId(5)));
-    assert_eq!(rt; table.class_at(2), None);
-    Ok(())
-}
-
-#[test]
-fn offers(rt: HostRuntime) -> Result<(), Fail> {
-    let mut given = Vec::new(rt.alloc());
-    let rows = [(4, b"b".as_slice()), (9, b""), (4, b"ab"), (1, b"b")];
-    for (class, name) in rows {
-        let to = if name.is_empty() {
-            None
-        } else {
-            Some(Bytes::from_slice(rt.alloc(), name)?)
-        };
-        given.push(Offer {
-            class: ClassId(class),
-            to,
-        })?;
-    }
-    let offers = Offers::of(given)?;
-    assert_eq!(rt; offers.as_slice().len(), 4);
-    // the class, whether it is offered at all, to all, to `b`, and to `ab`
-    let rows = [
-        (1, true, false, true, false),
-        (2, false, false, false, false),
-        (4, true, false, true, true),
-        (9, true, true, true, true),
-    ];
-    let b = Some(Bytes::from_slice(rt.alloc(), b"b")?);
-    for (class, at_all, to_all, to_b, to_ab) in rows {
-        assert_eq!(rt; offers.has_class(ClassId(class)), at_all);
-        assert_eq!(rt; offers.goes_along(ClassId(class), &None), to_all);
-        assert_eq!(rt; offers.goes_along(ClassId(class), &b), to_b);
-        assert_eq!(rt; offers.is_offered_to(ClassId(class), b"ab"), to_ab);
-    }
-    Ok(())
-}
+/// An import whose name means another class already.
+const TAKEN: &[NameStep<'static>] = &[
+    NameStep::Gives("java/lang/Object", 5, true),
+    NameStep::ImportsObject(false),
+];
 
 /// System classes refer to no class. It does nothing.
 fn refer_to_none(_classes: &ClassTable)
@@ -186,25 +176,149 @@ fn refer_to_none(_classes: &ClassTable)
     ensures { (c : AClassId) (r : ARecord) → record_of _classes.now c ≡ Some r → NamesClasses _classes.now r }
 {}
 
-#[test]
-fn imports(rt: HostRuntime) -> Result<(), Fail> {
-    let classes = ClassTable::new(rt.alloc())?;
-    assert!(rt; classes.len() > 0);
+/// Whether java/lang/Object is imported into a table.
+fn imports_object(alloc: Global, table: &mut NameTable) -> Result<bool, Fail> {
+    let classes = ClassTable::new(alloc)?;
     refer_to_none(&classes);
-    let object = ClassId(0);
-    let name = [
-        106, 97, 118, 97, 47, 108, 97, 110, 103, 47, 79, 98, 106, 101, 99, 116,
-    ];
-    let mut table = NameTable::new(rt.alloc());
-    assert!(rt; table.import(&classes, object)?);
-    assert!(rt; table.import(&classes, object)?);
-    assert_eq!(rt; table.len(), 1);
-    assert_eq!(rt; table.resolve(&name), Some(object));
-    let mut taken = NameTable::new(rt.alloc());
-    assert!(rt; taken.give(&Text::new(rt.alloc(), &name)?, ClassId(5))?);
-    assert!(rt; !taken.import(&classes, object)?);
+    if classes.len() == 0 {
+        return Err(Fail::from("no class"));
+    }
+    Ok(table.import(&classes, ClassId(0))?)
+}
+
+fn means(
+    alloc: Global,
+    table: &NameTable,
+    name: &str,
+    class: Option<u32>,
+) -> Result<bool, OutOfMemory> {
+    let name = units(alloc, name)?;
+    Ok(table.resolve(name.as_slice()) == class.map(|c| ClassId(c)))
+}
+
+fn gives(
+    alloc: Global,
+    table: &mut NameTable,
+    name: &str,
+    class: u32,
+) -> Result<bool, OutOfMemory> {
+    let name = text(alloc, name)?;
+    table.give(&name, ClassId(class))
+}
+
+/// Whether the step comes out as it says.
+fn takes_step(alloc: Global, table: &mut NameTable, step: &NameStep) -> Result<bool, Fail> {
+    match step {
+        NameStep::Gives(name, class, given) => Ok(gives(alloc, table, name, *class)? == *given),
+        NameStep::Means(name, class) => Ok(means(alloc, table, name, *class)?),
+        NameStep::Has(class, has) => Ok(table.has_class(ClassId(*class)) == *has),
+        NameStep::At(place, class) => Ok(table.class_at(*place) == class.map(|c| ClassId(c))),
+        NameStep::Len(len) => Ok(table.len() == *len && table.is_empty() == (*len == 0)),
+        NameStep::ImportsObject(done) => Ok(imports_object(alloc, table)? == *done),
+    }
+}
+
+#[test]
+fn names(rt: HostRuntime) -> Result<(), Fail> {
+    for steps in [NAMES, IMPORTS, TAKEN] {
+        let mut table = NameTable::new(rt.alloc());
+        for (i, step) in steps.iter().enumerate() {
+            assert!(rt; takes_step(rt.alloc(), &mut table, step)?, "step {i}");
+        }
+    }
     Ok(())
 }
+
+// ---- Offers.
+
+/// Classes, each with the domain that it is offered to; no bytes where it is offered to all.
+const GIVEN: &[(u32, &[u8])] = &[(4, b"b"), (9, b""), (4, b"ab"), (1, b"b")];
+
+/// Classes, and whether they are offered at all, to all, to `b`, and to `ab`.
+const OFFERED: &[(u32, bool, bool, bool, bool)] = &[
+    (1, true, false, true, false),
+    (2, false, false, false, false),
+    (4, true, false, true, true),
+    (9, true, true, true, true),
+];
+
+fn offer(alloc: Global, class: u32, name: &[u8]) -> Result<Offer, OutOfMemory> {
+    let to = if name.is_empty() {
+        None
+    } else {
+        Some(Bytes::from_slice(alloc, name)?)
+    };
+    let class = ClassId(class);
+    Ok(Offer { class, to })
+}
+
+fn given(alloc: Global) -> Result<Offers, OutOfMemory> {
+    let mut given = Vec::new(alloc);
+    for (class, name) in GIVEN {
+        given.push(offer(alloc, *class, name)?)?;
+    }
+    Offers::of(given)
+}
+
+/// Whether a class is offered at all, to all, to `b`, and to `ab`.
+fn offered(
+    alloc: Global,
+    offers: &Offers,
+    class: ClassId,
+) -> Result<(bool, bool, bool, bool), OutOfMemory> {
+    let b = Some(Bytes::from_slice(alloc, b"b")?);
+    Ok((
+        offers.has_class(class),
+        offers.goes_along(class, &None),
+        offers.goes_along(class, &b),
+        offers.is_offered_to(class, b"ab"),
+    ))
+}
+
+#[test]
+fn offers(rt: HostRuntime) -> Result<(), Fail> {
+    let offers = given(rt.alloc())?;
+    assert!(rt; offers.as_slice().len() == 4);
+    for (class, at_all, to_all, to_b, to_ab) in OFFERED {
+        let found = offered(rt.alloc(), &offers, ClassId(*class))?;
+        assert!(rt; found == (*at_all, *to_all, *to_b, *to_ab), "class {class}");
+    }
+    Ok(())
+}
+
+// ---- A world.
+
+/// What is done with a world, or asked of it, and what comes of it.
+enum WorldStep<'a> {
+    /// A domain without names or offers is added: its number.
+    Adds(&'a [u8], u32),
+    /// A domain ends, of which its name alone is left.
+    Ends(u32, &'a [u8]),
+    /// The last domain is taken back.
+    TakesBack,
+    /// The live domain of a name.
+    Live(&'a [u8], Option<u32>),
+    /// How many domains there are.
+    Count(u32),
+}
+
+const WORLD: &[WorldStep<'static>] = &[
+    WorldStep::Adds(b"a", 0),
+    WorldStep::Adds(b"b", 1),
+    WorldStep::Adds(b"c", 2),
+    WorldStep::Ends(1, b"b"),
+    WorldStep::Live(b"a", Some(0)),
+    WorldStep::Live(b"b", None),
+    WorldStep::Live(b"c", Some(2)),
+    WorldStep::Adds(b"b", 3),
+    WorldStep::Ends(1, b"b"),
+    WorldStep::Live(b"b", Some(3)),
+    WorldStep::Count(4),
+    WorldStep::TakesBack,
+    WorldStep::Count(3),
+    WorldStep::Live(b"b", None),
+    WorldStep::Live(b"c", Some(2)),
+];
 
 /// Adds a domain without names or offers.
 fn add(
@@ -247,31 +361,53 @@ fn take_back(rt: &impl Abort, world: &mut World) {
     world.take_back_domain();
 }
 
+/// Whether a domain isn't live, and of what it had its name alone is left.
+fn is_ended(world: &World, d: DomainId, name: &[u8]) -> bool {
+    match world.domain(d) {
+        Some(ended) => {
+            let is_empty = ended.table().len() == 0 && ended.offers().as_slice().is_empty();
+            !ended.is_live() && ended.name().as_slice() == name && is_empty
+        }
+        None => false,
+    }
+}
+
+/// Whether there are so many domains, and no more.
+fn has_domains(world: &World, count: u32) -> bool {
+    world.domain_count() == count as usize && world.domain(DomainId(count)).is_none()
+}
+
+/// Takes a step, and says whether it comes out as it says.
+fn takes_world_step(
+    rt: &impl Abort,
+    alloc: Global,
+    world: &mut World,
+    step: &WorldStep,
+) -> Result<bool, OutOfMemory> {
+    match step {
+        WorldStep::Adds(name, d) => Ok(add(rt, alloc, world, name)? == DomainId(*d)),
+        WorldStep::Ends(d, name) => {
+            end(rt, world, DomainId(*d));
+            Ok(is_ended(world, DomainId(*d), name))
+        }
+        WorldStep::TakesBack => {
+            take_back(rt, world);
+            Ok(true)
+        }
+        WorldStep::Live(name, d) => Ok(world.live_named(name) == d.map(|d| DomainId(d))),
+        WorldStep::Count(count) => Ok(has_domains(world, *count)),
+    }
+}
+
 #[test]
 fn three_domains(rt: HostRuntime) -> Result<(), Fail> {
     let mut world = World::new(rt.alloc())?;
-    assert!(rt; world.classes().len() > 0);
-    for (name, number) in [(b"a", 0), (b"b", 1), (b"c", 2)] {
-        let d = add(&rt, rt.alloc(), &mut world, name)?;
-        assert_eq!(rt; d, DomainId(number));
+    assert!(rt; world.classes().len() == 45);
+    for (i, step) in WORLD.iter().enumerate() {
+        assert!(rt;
+            takes_world_step(&rt, rt.alloc(), &mut world, step)?,
+            "step {i}"
+        );
     }
-    end(&rt, &mut world, DomainId(1));
-    assert_eq!(rt; world.live_named(b"a"), Some(DomainId(0)));
-    assert_eq!(rt; world.live_named(b"b"), None);
-    assert_eq!(rt; world.live_named(b"c"), Some(DomainId(2)));
-    let ended = world.domain(DomainId(1)).ok_or("no domain")?;
-    assert!(rt; !ended.is_live());
-    assert_eq!(rt; ended.name().as_slice(), b"b".as_slice());
-    assert_eq!(rt; ended.table().len(), 0);
-    assert_eq!(rt; ended.offers().as_slice().len(), 0);
-    let again = add(&rt, rt.alloc(), &mut world, b"b")?;
-    end(&rt, &mut world, DomainId(1));
-    assert_eq!(rt; world.live_named(b"b"), Some(again));
-    assert_eq!(rt; world.domain_count(), 4);
-    assert!(rt; world.domain(DomainId(4)).is_none());
-    take_back(&rt, &mut world);
-    assert_eq!(rt; world.domain_count(), 3);
-    assert_eq!(rt; world.live_named(b"b"), None);
-    assert_eq!(rt; world.live_named(b"c"), Some(DomainId(2)));
     Ok(())
 }

@@ -6,13 +6,18 @@ use jk_model_classes::Caught;
 use std::alloc::Global;
 use std::test::Fail;
 
-fn entry(start: u32, end: u32) -> Caught {
-    Caught {
-        start,
-        end,
-        handler: 0,
-        class: None,
+/// The tree over so many places of entries with these starts and ends.
+fn tree(alloc: Global, places: usize, entries: &[(u32, u32)]) -> Result<CoverTree, OutOfMemory> {
+    let mut handlers = Vec::new(alloc);
+    for (start, end) in entries {
+        handlers.push(Caught {
+            start: *start,
+            end: *end,
+            handler: 0,
+            class: None,
+        })?;
     }
+    CoverTree::new(alloc, places, handlers.as_slice())
 }
 
 /// The entries at the nodes over a place, by their numbers.
@@ -27,42 +32,45 @@ fn covering(alloc: Global, tree: &CoverTree, place: usize) -> Result<Vec<usize>,
     Ok(found)
 }
 
+/// Entries over six places, and which of them cover each place.
+const ENTRIES: &[(u32, u32)] = &[(0, 6), (1, 3), (2, 2), (5, 9), (4, 1)];
+
+const COVERING: &[&[usize]] = &[&[0], &[0, 1], &[0, 1], &[0], &[0], &[0, 3]];
+
 #[test]
 fn entries_of_each_place(rt: HostRuntime) -> Result<(), Fail> {
     let alloc = rt.alloc();
-    let entries = [
-        entry(0, 6),
-        entry(1, 3),
-        entry(2, 2),
-        entry(5, 9),
-        entry(4, 1),
-    ];
-    let tree = CoverTree::new(alloc, 6, &entries)?;
-    let wanted: [&[usize]; 6] = [&[0], &[0, 1], &[0, 1], &[0], &[0], &[0, 3]];
-    for (place, numbers) in wanted.iter().enumerate() {
-        assert_eq!(rt; covering(alloc, &tree, place)?.as_slice(), *numbers);
+    let six = tree(alloc, 6, ENTRIES)?;
+    for (place, numbers) in COVERING.iter().enumerate() {
+        assert!(rt; covering(alloc, &six, place)?.as_slice() == *numbers);
     }
-    let none = CoverTree::new(alloc, 6, &[])?;
-    assert_eq!(rt; none.len(), 0);
+    assert!(rt; tree(alloc, 6, &[])?.len() == 0);
     Ok(())
+}
+
+/// The widths of the levels over thirteen places, each with the nodes at which the entry over 3 to 11 stands.
+const LEVELS: &[(usize, &[usize])] = &[(13, &[3]), (7, &[]), (4, &[1, 2]), (2, &[])];
+
+/// Whether a level has so many nodes, and the one entry stands at these alone.
+fn has_level(tree: &CoverTree, level: usize, width: usize, nodes: &[usize]) -> bool {
+    if level >= tree.len() || tree.width(level) != width {
+        return false;
+    }
+    for node in 0..width {
+        let wanted: &[usize] = if nodes.contains(&node) { &[0] } else { &[] };
+        if tree.entries_at(level, node) != wanted {
+            return false;
+        }
+    }
+    true
 }
 
 #[test]
 fn nodes_of_an_entry(rt: HostRuntime) -> Result<(), Fail> {
-    let tree = CoverTree::new(rt.alloc(), 13, &[entry(3, 12)])?;
-    let widths = [13, 7, 4, 2];
-    let nodes = [(0, 3), (2, 1), (2, 2)];
-    assert_eq!(rt; tree.len(), 4);
-    for level in 0..tree.len() {
-        assert_eq!(rt; widths.get(level), Some(&tree.width(level)));
-        for node in 0..tree.width(level) {
-            let wanted: &[usize] = if nodes.contains(&(level, node)) {
-                &[0]
-            } else {
-                &[]
-            };
-            assert_eq!(rt; tree.entries_at(level, node), wanted);
-        }
+    let tree = tree(rt.alloc(), 13, &[(3, 12)])?;
+    assert!(rt; tree.len() == 4);
+    for (level, (width, nodes)) in LEVELS.iter().enumerate() {
+        assert!(rt; has_level(&tree, level, *width, nodes), "level {level}");
     }
     Ok(())
 }

@@ -6,6 +6,8 @@
 #[cfg(test)]
 mod class_init_tests;
 #[cfg(test)]
+mod class_rows;
+#[cfg(test)]
 mod class_table_tests;
 #[cfg(test)]
 mod class_texts_tests;

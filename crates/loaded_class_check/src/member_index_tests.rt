@@ -1,21 +1,12 @@
 //! What is found in a class with several members of one name.
 
-use jk_model::{Base, ClassId, FieldType, List, MethodType, OutOfMemory};
-use jk_model_classes::{BaseRef, Body, FieldRecord, Link, MethodRecord, TypeRef};
+use crate::class_rows::MethodSort::{Giving, Plain};
+use crate::class_rows::{FieldRow, INT, LONG, MethodRow, fields, kind, methods, units};
+use jk_model::ClassId;
+use jk_model_classes::{BaseRef, FieldRecord, MethodRecord, TypeRef};
 use member_index::*;
-use shared_values::{Shared, SharedKind, Text};
 use std::alloc::Global;
 use std::test::Fail;
-
-const INT: TypeRef = TypeRef {
-    dims: 0,
-    base: BaseRef::Int,
-};
-
-const LONG: TypeRef = TypeRef {
-    dims: 0,
-    base: BaseRef::Long,
-};
 
 const INTS: TypeRef = TypeRef {
     dims: 1,
@@ -27,125 +18,136 @@ const SEVEN: TypeRef = TypeRef {
     base: BaseRef::Class(ClassId(7)),
 };
 
-fn field(alloc: Global, name: &[u16], kind: TypeRef) -> Result<FieldRecord, OutOfMemory> {
-    Ok(FieldRecord {
-        name: Text::new(alloc, name)?,
-        flags: 0,
-        kind,
-        constant: Link::Nothing,
-    })
+const FIELDS: &[FieldRow<'static>] = &[
+    ("a", 0, INT),
+    ("b", 0, INT),
+    ("a", 0, LONG),
+    ("a", 0, INT),
+    ("ab", 0, INT),
+    ("a", 0, SEVEN),
+    ("a", 0, INTS),
+];
+
+/// Names and types of fields with a place, and the first place from there on of such a field.
+const FIELD_CASES: &[(&str, TypeRef, u16, Option<u16>)] = &[
+    ("a", INT, 0, Some(0)),
+    ("a", INT, 1, Some(3)),
+    ("a", INT, 3, Some(3)),
+    ("a", INT, 4, None),
+    ("a", INT, 65_535, None),
+    ("a", LONG, 0, Some(2)),
+    ("a", SEVEN, 0, Some(5)),
+    ("a", INTS, 0, Some(6)),
+    ("ab", INT, 0, Some(4)),
+    ("b", INT, 0, Some(1)),
+    ("b", LONG, 0, None),
+    ("c", INT, 0, None),
+    ("", INT, 0, None),
+];
+
+/// The first place from a place on of a field of a name and a type, by an index that is made of these fields.
+fn found_field(
+    alloc: Global,
+    fields: &[FieldRecord],
+    name: &str,
+    kind: TypeRef,
+    from: u16,
+) -> Result<Option<u16>, Fail> {
+    if fields.len() > 1000 {
+        return Err(Fail::from("many fields"));
+    }
+    let name = units(alloc, name)?;
+    let index = FieldIndex::new(alloc, fields)?;
+    Ok(index.find(fields, &FieldKey::new(name.as_slice(), kind), from))
 }
 
 #[test]
-fn fields(rt: HostRuntime) -> Result<(), Fail> {
+fn fields_are_found(rt: HostRuntime) -> Result<(), Fail> {
     let alloc = rt.alloc();
-    let a: &[u16] = &[97];
-    let mut fields = Vec::new(alloc);
-    for (name, kind) in [
-        (a, INT),
-        (&[98], INT),
-        (a, LONG),
-        (a, INT),
-        (&[97, 98], INT),
-        (a, SEVEN),
-        (a, INTS),
-    ] {
-        fields.push(field(alloc, name, kind)?)?;
+    let fields = fields(alloc, FIELDS)?;
+    for (name, kind, from, wanted) in FIELD_CASES {
+        assert!(rt; found_field(alloc, fields.as_slice(), name, *kind, *from)? == *wanted);
     }
-    let fields = fields.as_slice();
-    assert_eq!(rt; fields.len(), 7);
-    let index = FieldIndex::new(alloc, fields)?;
-    let cases: [(&[u16], TypeRef, u16, Option<u16>); 13] = [
-        (a, INT, 0, Some(0)),
-        (a, INT, 1, Some(3)),
-        (a, INT, 3, Some(3)),
-        (a, INT, 4, None),
-        (a, INT, 65_535, None),
-        (a, LONG, 0, Some(2)),
-        (a, SEVEN, 0, Some(5)),
-        (a, INTS, 0, Some(6)),
-        (&[97, 98], INT, 0, Some(4)),
-        (&[98], INT, 0, Some(1)),
-        (&[98], LONG, 0, None),
-        (&[99], INT, 0, None),
-        (&[], INT, 0, None),
-    ];
-    for (name, kind, from, wanted) in cases {
-        let key = FieldKey::new(name, kind);
-        assert_eq!(rt; index.find(fields, &key, from), wanted);
-    }
-    let none = FieldIndex::new(alloc, &[])?;
-    assert_eq!(rt; none.find(&[], &FieldKey::new(a, INT), 0), None);
+    assert!(rt; found_field(alloc, &[], "a", INT, 0)?.is_none());
     Ok(())
 }
 
-/// The type of a method with or without an `int` parameter, and with or without an `int` result.
-fn kind(alloc: Global, takes: bool, gives: bool) -> Result<MethodType, OutOfMemory> {
-    let mut params = List::new(alloc);
-    if takes {
-        params.push(int())?;
-    }
-    let result = if gives { Some(int()) } else { None };
-    Ok(MethodType { params, result })
+const METHODS: &[MethodRow<'static>] = &[
+    ("a", 0x0400, 1, Plain),
+    ("b", 0x0400, 1, Plain),
+    ("a", 0x0400, 0, Giving),
+    ("a", 0x0400, 1, Plain),
+    ("a", 0x0400, 0, Plain),
+];
+
+/// Names of methods with how many ints they take, whether they answer one, and a place, and the first place from there on of such a
+/// method.
+const METHOD_CASES: &[(&str, u8, bool, u16, Option<u16>)] = &[
+    ("a", 1, false, 0, Some(0)),
+    ("a", 1, false, 1, Some(3)),
+    ("a", 1, false, 3, Some(3)),
+    ("a", 1, false, 4, None),
+    ("a", 0, true, 0, Some(2)),
+    ("a", 0, false, 0, Some(4)),
+    ("a", 1, true, 0, None),
+    ("b", 1, false, 0, Some(1)),
+    ("b", 0, false, 0, None),
+    ("c", 1, false, 0, None),
+];
+
+/// The first place from a place on of a method of a name and a type, by an index that is made of these methods.
+fn found_method(
+    alloc: Global,
+    methods: &[MethodRecord],
+    name: &str,
+    (ints, gives): (u8, bool),
+    from: u16,
+) -> Result<Option<u16>, Fail> {
+    let name = units(alloc, name)?;
+    let kind = kind(alloc, ints, gives)?;
+    found(
+        alloc,
+        methods,
+        &MethodKey::new(name.as_slice(), &kind),
+        from,
+    )
 }
 
-fn int() -> FieldType {
-    FieldType {
-        dims: 0,
-        base: Base::Int,
+fn found(
+    alloc: Global,
+    methods: &[MethodRecord],
+    key: &MethodKey<'_>,
+    from: u16,
+) -> Result<Option<u16>, Fail> {
+    if methods.len() > 1000 {
+        return Err(Fail::from("many methods"));
     }
+    let index = MethodIndex::new(alloc, methods)?;
+    Ok(index.find(methods, key, from))
 }
 
-/// A method of a name of one unit.
-fn method(alloc: Global, name: u16, takes: bool, gives: bool) -> Result<MethodRecord, OutOfMemory> {
-    let kind = kind(alloc, takes, gives)?;
-    Ok(MethodRecord {
-        name: Text::new(alloc, &[name])?,
-        flags: 0x0400,
-        kind: SharedKind::new(alloc, kind)?,
-        params: Shared::new(alloc, List::new(alloc))?,
-        result: None,
-        body: Body::Absent,
-    })
+/// The same of a method of the class by its own key.
+fn found_own(
+    alloc: Global,
+    methods: &[MethodRecord],
+    place: usize,
+    from: u16,
+) -> Result<Option<u16>, Fail> {
+    match methods.get(place) {
+        Some(own) => found(alloc, methods, &MethodKey::of_method(own), from),
+        None => Err(Fail::from("no method")),
+    }
 }
 
 #[test]
-fn methods(rt: HostRuntime) -> Result<(), Fail> {
+fn methods_are_found(rt: HostRuntime) -> Result<(), Fail> {
     let alloc = rt.alloc();
-    let mut methods = Vec::new(alloc);
-    for (name, takes, gives) in [
-        (97, true, false),
-        (98, true, false),
-        (97, false, true),
-        (97, true, false),
-        (97, false, false),
-    ] {
-        methods.push(method(alloc, name, takes, gives)?)?;
+    let methods = methods(alloc, METHODS)?;
+    for (name, ints, gives, from, wanted) in METHOD_CASES {
+        let found = found_method(alloc, methods.as_slice(), name, (*ints, *gives), *from)?;
+        assert!(rt; found == *wanted);
     }
-    let methods = methods.as_slice();
-    assert_eq!(rt; methods.len(), 5);
-    let index = MethodIndex::new(alloc, methods)?;
-    let cases = [
-        (97, true, false, 0, Some(0)),
-        (97, true, false, 1, Some(3)),
-        (97, true, false, 3, Some(3)),
-        (97, true, false, 4, None),
-        (97, false, true, 0, Some(2)),
-        (97, false, false, 0, Some(4)),
-        (97, true, true, 0, None),
-        (98, true, false, 0, Some(1)),
-        (98, false, false, 0, None),
-        (99, true, false, 0, None),
-    ];
-    for (name, takes, gives, from, wanted) in cases {
-        let kind = kind(alloc, takes, gives)?;
-        let units = [name];
-        let key = MethodKey::new(&units, &kind);
-        assert_eq!(rt; index.find(methods, &key, from), wanted);
-    }
-    let own = MethodKey::of_method(&methods[3]);
-    assert_eq!(rt; index.find(methods, &own, 1), Some(3));
-    let none = MethodIndex::new(alloc, &[])?;
-    assert_eq!(rt; none.find(&[], &own, 0), None);
+    assert!(rt; found_own(alloc, methods.as_slice(), 3, 1)? == Some(3));
+    assert!(rt; found_method(alloc, &[], "a", (1, false), 0)?.is_none());
     Ok(())
 }

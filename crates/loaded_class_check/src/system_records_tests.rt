@@ -1,8 +1,9 @@
 //! Records of the table, as the rules of the system classes give them.
 
 use jk_model::ClassId;
-use jk_model_classes::{BaseRef, Body, ClassRecord, MethodRecord, TypeRef};
+use jk_model_classes::{BaseRef, Body, ClassRecord, FieldRecord, MethodRecord, TypeRef};
 use shared_values::Text;
+use std::alloc::Global;
 use std::test::Fail;
 use system_records::*;
 use system_table::count;
@@ -11,6 +12,21 @@ use system_table::count;
 /// methods it has.
 #[derive(Clone, Copy)]
 struct Row(&'static str, u16, Option<u16>, usize, usize, usize);
+
+const CLASSES: &[(u16, Row)] = &[
+    (0, Row("java/lang/Object", 0x0001, None, 0, 0, 2)),
+    (1, Row("java/io/Serializable", 0x0201, Some(0), 0, 0, 0)),
+    (3, Row("java/lang/String", 0x0001, Some(0), 1, 0, 9)),
+    (9, Row("java/lang/Throwable", 0x0001, Some(0), 1, 1, 3)),
+    (11, Row("jk/Capability", 0x0401, Some(0), 0, 0, 2)),
+    (14, Row("jk/Task", 0x0001, Some(0), 0, 0, 4)),
+    (
+        33,
+        Row("java/lang/VirtualMachineError", 0x0401, Some(16), 0, 0, 2),
+    ),
+    (34, Row("java/lang/ThreadDeath", 0x0001, Some(16), 0, 0, 1)),
+    (43, Row("jk/QuotaException", 0x0001, Some(18), 0, 0, 2)),
+];
 
 /// Whether a text is this ASCII text.
 fn reads(text: &Text, expected: &str) -> bool {
@@ -36,27 +52,65 @@ fn is_of(made: &ClassRecord, row: &Row) -> bool {
         && made.references.is_empty()
 }
 
-/// The type of objects of the class of a number.
-fn class(number: u32) -> TypeRef {
-    TypeRef {
-        dims: 0,
-        base: BaseRef::Class(ClassId(number)),
+/// The record of a class of the table.
+fn record(alloc: Global, n: u16) -> Result<ClassRecord, Fail> {
+    if n >= count() {
+        return Err(Fail::from("no class"));
     }
+    Ok(system_record(alloc, n)?)
 }
 
-/// A type of numbers.
-fn plain(base: BaseRef) -> TypeRef {
-    TypeRef { dims: 0, base }
+/// Whether the record of a class is of this row.
+fn has_row(alloc: Global, n: u16, row: &Row) -> Result<bool, Fail> {
+    let made = record(alloc, n)?;
+    Ok(is_of(&made, row))
 }
 
-/// Whether a method has this name and these flags, and runs the method of this number.
-fn is_method(method: &MethodRecord, name: &str, flags: u16, number: u16) -> bool {
-    let numbered = match method.body {
-        Body::System(n) => n == number,
-        _ => false,
-    };
-    reads(&method.name, name) && method.flags == flags && numbered
+/// Whether the record of a class is of no domain.
+fn has_no_home(alloc: Global, n: u16) -> Result<bool, Fail> {
+    let made = record(alloc, n)?;
+    Ok(made.home.is_none())
 }
+
+#[test]
+fn classes(rt: HostRuntime) -> Result<(), Fail> {
+    for n in 0..count() {
+        assert!(rt; has_no_home(rt.alloc(), n)?);
+    }
+    for (n, row) in CLASSES {
+        assert!(rt; has_row(rt.alloc(), *n, row)?, "class {n}");
+    }
+    Ok(())
+}
+
+/// The type of objects of class java/lang/String.
+const STRING: TypeRef = TypeRef {
+    dims: 0,
+    base: BaseRef::Class(ClassId(3)),
+};
+
+const INT: TypeRef = TypeRef {
+    dims: 0,
+    base: BaseRef::Int,
+};
+
+/// What the rules say of a method: its name, its flags, which one of the system it runs, and the types that it takes and answers.
+struct MethodRow(&'static str, u16, u16, &'static [TypeRef], Option<TypeRef>);
+
+/// Methods by their class and their place there.
+const METHODS: &[(u16, usize, MethodRow)] = &[
+    (
+        3,
+        3,
+        MethodRow("concat", 0x0001, 5, &[STRING], Some(STRING)),
+    ),
+    (
+        3,
+        4,
+        MethodRow("substring", 0x0001, 6, &[INT, INT], Some(STRING)),
+    ),
+    (11, 1, MethodRow("revoke", 0x0011, 41, &[], None)),
+];
 
 /// Whether a method takes and answers these types.
 fn has_types(method: &MethodRecord, params: &[TypeRef], answer: Option<TypeRef>) -> bool {
@@ -67,56 +121,49 @@ fn has_types(method: &MethodRecord, params: &[TypeRef], answer: Option<TypeRef>)
         && kind.result.is_some() == answer.is_some()
 }
 
-#[test]
-fn makes_all(rt: HostRuntime) -> Result<(), Fail> {
-    for n in 0..count() {
-        let made = system_record(rt.alloc(), n)?;
-        assert!(rt; made.home.is_none());
+fn runs(method: &MethodRecord, number: u16) -> bool {
+    match method.body {
+        Body::System(n) => n == number,
+        _ => false,
     }
-    Ok(())
 }
 
-#[test]
-fn classes(rt: HostRuntime) -> Result<(), Fail> {
-    let rows = [
-        (0, Row("java/lang/Object", 0x0001, None, 0, 0, 2)),
-        (1, Row("java/io/Serializable", 0x0201, Some(0), 0, 0, 0)),
-        (3, Row("java/lang/String", 0x0001, Some(0), 1, 0, 9)),
-        (9, Row("java/lang/Throwable", 0x0001, Some(0), 1, 1, 3)),
-        (11, Row("jk/Capability", 0x0401, Some(0), 0, 0, 2)),
-        (14, Row("jk/Task", 0x0001, Some(0), 0, 0, 4)),
-        (
-            33,
-            Row("java/lang/VirtualMachineError", 0x0401, Some(16), 0, 0, 2),
-        ),
-        (34, Row("java/lang/ThreadDeath", 0x0001, Some(16), 0, 0, 1)),
-        (43, Row("jk/QuotaException", 0x0001, Some(18), 0, 0, 2)),
-    ];
-    for (n, row) in &rows {
-        assert!(rt; *n < count());
-        let made = system_record(rt.alloc(), *n)?;
-        assert!(rt; is_of(&made, row), "class {}", *n);
+fn is_method(method: &MethodRecord, row: &MethodRow) -> bool {
+    let MethodRow(name, flags, number, params, answer) = row;
+    reads(&method.name, name)
+        && method.flags == *flags
+        && runs(method, *number)
+        && has_types(method, params, *answer)
+}
+
+/// Whether a class has the method of a row at a place.
+fn has_method(alloc: Global, n: u16, place: usize, row: &MethodRow) -> Result<bool, Fail> {
+    let made = record(alloc, n)?;
+    match made.methods.get(place) {
+        Some(method) => Ok(is_method(method, row)),
+        None => Ok(false),
     }
-    Ok(())
+}
+
+/// Whether a field is the public text of a throwable.
+fn is_message(field: &FieldRecord) -> bool {
+    reads(&field.name, ".message") && field.flags == 0x0001 && field.kind == STRING
+}
+
+/// Whether a class begins with such a field.
+fn has_message(alloc: Global, n: u16) -> Result<bool, Fail> {
+    let made = record(alloc, n)?;
+    match made.fields.get(0) {
+        Some(field) => Ok(is_message(field)),
+        None => Ok(false),
+    }
 }
 
 #[test]
 fn members(rt: HostRuntime) -> Result<(), Fail> {
-    let string = system_record(rt.alloc(), 3)?;
-    let concat = string.methods.get(3).expect(&rt, "a fourth method");
-    assert!(rt; is_method(concat, "concat", 0x0001, 5));
-    assert!(rt; has_types(concat, &[class(3)], Some(class(3))));
-    let substring = string.methods.get(4).expect(&rt, "a fifth method");
-    let ints = [plain(BaseRef::Int), plain(BaseRef::Int)];
-    assert!(rt; is_method(substring, "substring", 0x0001, 6));
-    assert!(rt; has_types(substring, &ints, Some(class(3))));
-    let throwable = system_record(rt.alloc(), 9)?;
-    let message = throwable.fields.get(0).expect(&rt, "a field");
-    assert!(rt; reads(&message.name, ".message") && message.flags == 0x0001);
-    assert!(rt; message.kind == class(3));
-    let capability = system_record(rt.alloc(), 11)?;
-    let revoke = capability.methods.get(1).expect(&rt, "a second method");
-    assert!(rt; is_method(revoke, "revoke", 0x0011, 41));
-    assert!(rt; has_types(revoke, &[], None));
+    for (n, place, row) in METHODS {
+        assert!(rt; has_method(rt.alloc(), *n, *place, row)?, "class {n}");
+    }
+    assert!(rt; has_message(rt.alloc(), 9)?);
     Ok(())
 }

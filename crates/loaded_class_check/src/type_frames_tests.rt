@@ -1,142 +1,239 @@
 //! Types and frames made by hand, with what they join to by the rules in words.
 
+use crate::class_rows::{Row, table};
 use class_table::ClassTable;
 use jk_model::{ClassId, List, OutOfMemory};
-use jk_model_classes::{BaseRef, ClassRecord, TypeRef};
+use jk_model_classes::{BaseRef, TypeRef};
 use jk_model_typing::{FrameType, VType};
-use shared_values::Text;
 use std::alloc::Global;
 use std::test::Fail;
 use type_frames::*;
 
-const OBJECT: ClassId = ClassId(0);
-
-const STRING: ClassId = ClassId(3);
-
 // The numbers after those of the 45 system classes.
-const PARENT: ClassId = ClassId(45);
+const PARENT: u32 = 45;
 
-const LEFT: ClassId = ClassId(46);
+const LEFT: u32 = 46;
 
-const RIGHT: ClassId = ClassId(47);
+const RIGHT: u32 = 47;
 
-const BELOW_LEFT: ClassId = ClassId(48);
+const BELOW_LEFT: u32 = 48;
 
-const SHAPE: ClassId = ClassId(49);
+const SHAPE: u32 = 49;
 
-const NO_CLASS: ClassId = ClassId(50);
-
-const INTERFACE: u16 = 0x0600;
-
-/// Puts a class after the others, where its parent stands before it.
-fn add(
-    alloc: Global,
-    table: &mut ClassTable,
-    flags: u16,
-    parent: ClassId,
-) -> Result<(), OutOfMemory> {
-    let class = ClassRecord {
-        name: Text::new(alloc, &[97])?,
-        home: None,
-        flags,
-        parent: Some(parent),
-        interfaces: List::new(alloc),
-        fields: List::new(alloc),
-        methods: List::new(alloc),
-        links: List::new(alloc),
-        references: List::new(alloc),
-    };
-    let n = table.len();
-    if n < 1000 && (parent.0 as usize) < n {
-        table.add(class)?;
-    }
-    Ok(())
-}
+const NO_CLASS: u32 = 50;
 
 /// Two classes below one, a class below the first of them, and an interface.
-fn five(alloc: Global) -> Result<ClassTable, OutOfMemory> {
-    let mut table = ClassTable::new(alloc)?;
-    add(alloc, &mut table, 1, OBJECT)?;
-    add(alloc, &mut table, 1, PARENT)?;
-    add(alloc, &mut table, 1, PARENT)?;
-    add(alloc, &mut table, 1, LEFT)?;
-    add(alloc, &mut table, INTERFACE, OBJECT)?;
-    Ok(table)
+const FIVE: &[Row<'static>] = &[
+    Row {
+        name: "Parent",
+        home: 0,
+        flags: 1,
+        parent: 0,
+        interfaces: &[],
+        fields: &[],
+        methods: &[],
+    },
+    Row {
+        name: "Left",
+        home: 0,
+        flags: 1,
+        parent: PARENT,
+        interfaces: &[],
+        fields: &[],
+        methods: &[],
+    },
+    Row {
+        name: "Right",
+        home: 0,
+        flags: 1,
+        parent: PARENT,
+        interfaces: &[],
+        fields: &[],
+        methods: &[],
+    },
+    Row {
+        name: "BelowLeft",
+        home: 0,
+        flags: 1,
+        parent: LEFT,
+        interfaces: &[],
+        fields: &[],
+        methods: &[],
+    },
+    Row {
+        name: "Shape",
+        home: 0,
+        flags: 0x0600,
+        parent: 0,
+        interfaces: &[],
+        fields: &[],
+        methods: &[],
+    },
+];
+
+/// A type of the verifier's, in few words.
+#[derive(Clone, Copy)]
+enum Of {
+    Class(u32),
+    /// An array of a class, by its dimensions.
+    Classes(u8, u32),
+    /// One of another base.
+    Array(u8, BaseRef),
+    Other(VType),
 }
+
+const OBJECT: Of = Of::Class(0);
+
+const STRING: u32 = 3;
+
+const INT: Of = Of::Other(VType::Int);
+
+const LONG: Of = Of::Other(VType::Long);
+
+const NULL: Of = Of::Other(VType::Null);
+
+const UNUSABLE: Of = Of::Other(VType::Unusable);
+
+const FRESH_3: Of = Of::Other(VType::Fresh(3));
+
+const FRESH_4: Of = Of::Other(VType::Fresh(4));
+
+const FRESH_THIS: Of = Of::Other(VType::FreshThis);
+
+const INTS: Of = Of::Array(1, BaseRef::Int);
+
+const INT_ROWS: Of = Of::Array(2, BaseRef::Int);
 
 fn array(dims: u8, base: BaseRef) -> VType {
     VType::Ref(TypeRef { dims, base })
 }
 
-fn classes(dims: u8, c: ClassId) -> VType {
-    array(dims, BaseRef::Class(c))
+fn vtype(of: Of) -> VType {
+    match of {
+        Of::Class(c) => array(0, BaseRef::Class(ClassId(c))),
+        Of::Classes(dims, c) => array(dims, BaseRef::Class(ClassId(c))),
+        Of::Array(dims, base) => array(dims, base),
+        Of::Other(other) => other,
+    }
 }
 
-fn class(c: ClassId) -> VType {
-    classes(0, c)
+/// Two types, and what they join to.
+const JOINS: &[(Of, Of, Of)] = &[
+    (Of::Class(LEFT), Of::Class(RIGHT), Of::Class(PARENT)),
+    (Of::Class(BELOW_LEFT), Of::Class(RIGHT), Of::Class(PARENT)),
+    (Of::Class(BELOW_LEFT), Of::Class(LEFT), Of::Class(LEFT)),
+    (Of::Class(LEFT), Of::Class(STRING), OBJECT),
+    (Of::Class(LEFT), Of::Class(NO_CLASS), UNUSABLE),
+    (
+        Of::Classes(1, LEFT),
+        Of::Classes(1, RIGHT),
+        Of::Classes(1, PARENT),
+    ),
+    (
+        Of::Classes(2, LEFT),
+        Of::Classes(1, RIGHT),
+        Of::Classes(1, 0),
+    ),
+    (Of::Classes(1, LEFT), Of::Class(LEFT), OBJECT),
+    (INTS, Of::Array(1, BaseRef::Long), OBJECT),
+    (INTS, Of::Classes(1, 0), OBJECT),
+    (INT_ROWS, INTS, OBJECT),
+    (INT_ROWS, Of::Classes(1, STRING), Of::Classes(1, 0)),
+    (INT_ROWS, Of::Array(2, BaseRef::Bool), Of::Classes(1, 0)),
+    (NULL, Of::Class(LEFT), Of::Class(LEFT)),
+    (NULL, INTS, INTS),
+    (NULL, FRESH_3, UNUSABLE),
+    (INT, Of::Class(LEFT), UNUSABLE),
+    (INT, LONG, UNUSABLE),
+    (LONG, LONG, LONG),
+    (FRESH_3, FRESH_3, FRESH_3),
+    (FRESH_3, FRESH_4, UNUSABLE),
+    (FRESH_THIS, Of::Class(LEFT), UNUSABLE),
+    (UNUSABLE, INTS, UNUSABLE),
+];
+
+/// Whether two types join to a third in both orders, which both of them fit, and they fit one another only so.
+fn join_to(t: &ClassTable, a: VType, b: VType, c: VType) -> bool {
+    let are_joined = join(t, &a, &b) == c && join(t, &b, &a) == c;
+    are_joined && fits(t, &a, &c) && fits(t, &b, &c) && fits(t, &a, &b) == (b == c)
 }
 
 #[test]
 fn joins(rt: HostRuntime) -> Result<(), Fail> {
-    let table = five(rt.alloc())?;
-    let ints = array(1, BaseRef::Int);
-    let grid = array(2, BaseRef::Int);
-    let cases = [
-        (class(LEFT), class(RIGHT), class(PARENT)),
-        (class(BELOW_LEFT), class(RIGHT), class(PARENT)),
-        (class(BELOW_LEFT), class(LEFT), class(LEFT)),
-        (class(LEFT), class(STRING), class(OBJECT)),
-        (class(LEFT), class(NO_CLASS), VType::Unusable),
-        (classes(1, LEFT), classes(1, RIGHT), classes(1, PARENT)),
-        (classes(2, LEFT), classes(1, RIGHT), classes(1, OBJECT)),
-        (classes(1, LEFT), class(LEFT), class(OBJECT)),
-        (ints, array(1, BaseRef::Long), class(OBJECT)),
-        (ints, classes(1, OBJECT), class(OBJECT)),
-        (grid, ints, class(OBJECT)),
-        (grid, classes(1, STRING), classes(1, OBJECT)),
-        (grid, array(2, BaseRef::Bool), classes(1, OBJECT)),
-        (VType::Null, class(LEFT), class(LEFT)),
-        (VType::Null, ints, ints),
-        (VType::Null, VType::Fresh(3), VType::Unusable),
-        (VType::Int, class(LEFT), VType::Unusable),
-        (VType::Int, VType::Long, VType::Unusable),
-        (VType::Long, VType::Long, VType::Long),
-        (VType::Fresh(3), VType::Fresh(3), VType::Fresh(3)),
-        (VType::Fresh(3), VType::Fresh(4), VType::Unusable),
-        (VType::FreshThis, class(LEFT), VType::Unusable),
-        (VType::Unusable, ints, VType::Unusable),
-    ];
-    for (a, b, c) in cases {
-        assert_eq!(rt; join(&table, &a, &b), c);
-        assert_eq!(rt; join(&table, &b, &a), c);
-        assert!(rt; fits(&table, &a, &c) && fits(&table, &b, &c));
-        assert_eq!(rt; fits(&table, &a, &b), b == c);
+    let t = table(rt.alloc(), FIVE)?;
+    for (a, b, c) in JOINS {
+        assert!(rt; join_to(&t, vtype(*a), vtype(*b), vtype(*c)));
     }
     Ok(())
 }
 
+/// Types of fields, and those of their values.
+const VALUES: &[(u8, BaseRef, Of)] = &[
+    (0, BaseRef::Byte, INT),
+    (0, BaseRef::Char, INT),
+    (0, BaseRef::Short, INT),
+    (0, BaseRef::Bool, INT),
+    (0, BaseRef::Int, INT),
+    (0, BaseRef::Long, LONG),
+    (0, BaseRef::Class(ClassId(LEFT)), Of::Class(LEFT)),
+    (0, BaseRef::Class(ClassId(SHAPE)), OBJECT),
+    (1, BaseRef::Class(ClassId(SHAPE)), Of::Classes(1, 0)),
+    (2, BaseRef::Byte, Of::Array(2, BaseRef::Byte)),
+];
+
 #[test]
 fn values(rt: HostRuntime) -> Result<(), Fail> {
-    let table = five(rt.alloc())?;
-    let cases = [
-        (0, BaseRef::Byte, VType::Int),
-        (0, BaseRef::Char, VType::Int),
-        (0, BaseRef::Short, VType::Int),
-        (0, BaseRef::Bool, VType::Int),
-        (0, BaseRef::Int, VType::Int),
-        (0, BaseRef::Long, VType::Long),
-        (0, BaseRef::Class(LEFT), class(LEFT)),
-        (0, BaseRef::Class(SHAPE), class(OBJECT)),
-        (1, BaseRef::Class(SHAPE), classes(1, OBJECT)),
-        (2, BaseRef::Byte, array(2, BaseRef::Byte)),
-    ];
-    for (dims, base, value) in cases {
-        let kind = TypeRef { dims, base };
-        assert_eq!(rt; value_of(&table, &kind), value);
+    let t = table(rt.alloc(), FIVE)?;
+    for (dims, base, value) in VALUES {
+        let (dims, base) = (*dims, *base);
+        assert!(rt; value_of(&t, &TypeRef { dims, base }) == vtype(*value));
     }
-    assert_eq!(rt; of_class(&table, SHAPE), class(OBJECT));
-    assert_eq!(rt; of_class(&table, RIGHT), class(RIGHT));
+    assert!(rt; of_class(&t, ClassId(SHAPE)) == vtype(OBJECT));
+    assert!(rt; of_class(&t, ClassId(RIGHT)) == vtype(Of::Class(RIGHT)));
     Ok(())
+}
+
+/// A frame: its locals, its stack, and whether its object is fresh.
+type Frame<'a> = (&'a [Of], &'a [Of], bool);
+
+const FRONT: Frame<'static> = (&[Of::Class(LEFT), INT, LONG, UNUSABLE], &[NULL], false);
+
+const BEHIND: &[Of] = &[Of::Class(RIGHT), NULL, LONG, UNUSABLE];
+
+const JOINED: Frame<'static> = (
+    &[Of::Class(PARENT), UNUSABLE, LONG, UNUSABLE],
+    &[Of::Class(LEFT)],
+    true,
+);
+
+/// Frames, each with one that is joined into it, and whether it changes; where there is an answer, it is the joined one afterwards.
+const RAISES: &[(Frame, Frame, Option<bool>)] = &[
+    (FRONT, (BEHIND, &[Of::Class(LEFT)], true), Some(true)),
+    (JOINED, (BEHIND, &[Of::Class(LEFT)], true), Some(false)),
+    (JOINED, (BEHIND, &[], true), None),
+    (JOINED, (BEHIND, &[INT], true), None),
+];
+
+fn vtypes(alloc: Global, types: &[Of]) -> Result<List<VType>, OutOfMemory> {
+    let mut list = List::new(alloc);
+    for of in types {
+        list.push(vtype(*of))?;
+    }
+    Ok(list)
+}
+
+fn frame(alloc: Global, (locals, stack, fresh): Frame) -> Result<FrameType, OutOfMemory> {
+    Ok(FrameType {
+        locals: vtypes(alloc, locals)?,
+        stack: vtypes(alloc, stack)?,
+        fresh,
+    })
+}
+
+fn are_same(a: &FrameType, b: &FrameType) -> bool {
+    a.locals.as_slice() == b.locals.as_slice()
+        && a.stack.as_slice() == b.stack.as_slice()
+        && a.fresh == b.fresh
 }
 
 /// Joins a whole frame into another of as many locals.
@@ -148,36 +245,33 @@ fn raise_whole(t: &ClassTable, into: &mut FrameType, from: FrameRef<'_>) -> Opti
     raise(t, into, from, 0, end)
 }
 
+/// What comes of joining a frame into another, where that is the joined one afterwards.
+fn raised(
+    t: &ClassTable,
+    into: &mut FrameType,
+    from: &FrameType,
+    joined: &FrameType,
+) -> Option<bool> {
+    let from = FrameRef {
+        locals: from.locals.as_slice(),
+        stack: from.stack.as_slice(),
+        fresh: from.fresh,
+    };
+    let changed = raise_whole(t, into, from)?;
+    if are_same(into, joined) {
+        return Some(changed);
+    }
+    None
+}
+
 #[test]
 fn frames(rt: HostRuntime) -> Result<(), Fail> {
-    let table = five(rt.alloc())?;
-    let locals = [class(LEFT), VType::Int, VType::Long, VType::Unusable];
-    let mut frame = FrameType {
-        locals: List::from_slice(rt.alloc(), &locals)?,
-        stack: List::from_slice(rt.alloc(), &[VType::Null])?,
-        fresh: false,
-    };
-    let others = [class(RIGHT), VType::Null, VType::Long, VType::Unusable];
-    let other = FrameRef {
-        locals: &others,
-        stack: &[class(LEFT)],
-        fresh: true,
-    };
-    assert_eq!(rt; raise_whole(&table, &mut frame, other), Some(true));
-    let joined = [class(PARENT), VType::Unusable, VType::Long, VType::Unusable];
-    assert!(rt; frame.locals.as_slice() == joined.as_slice());
-    assert!(rt; frame.stack.as_slice() == [class(LEFT)].as_slice());
-    assert!(rt; frame.fresh);
-    assert_eq!(rt; raise_whole(&table, &mut frame, other), Some(false));
-    let lower = FrameRef {
-        stack: &[],
-        ..other
-    };
-    assert_eq!(rt; raise_whole(&table, &mut frame, lower), None);
-    let number = FrameRef {
-        stack: &[VType::Int],
-        ..other
-    };
-    assert_eq!(rt; raise_whole(&table, &mut frame, number), None);
+    let t = table(rt.alloc(), FIVE)?;
+    let joined = frame(rt.alloc(), JOINED)?;
+    for (into, from, wanted) in RAISES {
+        let mut into = frame(rt.alloc(), *into)?;
+        let from = frame(rt.alloc(), *from)?;
+        assert!(rt; raised(&t, &mut into, &from, &joined) == *wanted);
+    }
     Ok(())
 }

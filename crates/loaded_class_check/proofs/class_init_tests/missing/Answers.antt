@@ -13,8 +13,13 @@ set_literal-requires-clause-known c =
     rw c.missing_words-before.ensures.same
     (link_has_room c.args.t.now c.args.names.now c.in_ok-own.own _ r 1 c.in-Some-Text.hi c.in_ok-own.ensures.rooms c.in-Some.ensures at)
 
-pub missing_words-requires : goal.missing_words-requires
-missing_words-requires c = λ f text has constant.
+pub missing_words-before-requires : goal.missing_words-before-requires
+missing_words-before-requires c = λ f text has constant.
+    constant_has_room c.args.t.now c.args.names.now c.in_ok-own.own _ c.in-Some.class.now c.in_ok-own.ensures.rooms c.in-Some.ensures f text
+    (rw c.as_slice.ensures at has) constant
+
+pub missing_words-after-requires : goal.missing_words-after-requires
+missing_words-after-requires c = λ f text has constant.
     rw (c.set_literal.ensures, c.missing_words-before.ensures.same)
     (constant_has_room c.args.t.now c.args.names.now c.in_ok-own.own _ c.in-Some.class.now c.in_ok-own.ensures.rooms c.in-Some.ensures f text
     (rw c.as_slice-2.ensures at has) constant)

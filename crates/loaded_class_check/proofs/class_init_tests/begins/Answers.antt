@@ -1,5 +1,0 @@
--- The field is there.
-use Rattle.loaded_class_check.proofs.class_init_tests.begins.Goals as goal
-
-pub static_value-requires : goal.static_value-requires
-static_value-requires g c = c.has_static.ensures c.if-has_static.true c.in_ok-own.own.state c.in_ok-own.ensures.state

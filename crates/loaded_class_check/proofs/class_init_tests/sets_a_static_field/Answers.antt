@@ -1,5 +1,0 @@
--- The field is there.
-use Rattle.loaded_class_check.proofs.class_init_tests.sets_a_static_field.Goals as goal
-
-pub set_static-requires : goal.set_static-requires
-set_static-requires g c = c.has_static.ensures c.if-not-has_static.false c.in_ok-own.own.state c.in_ok-own.ensures.state
