@@ -50,7 +50,7 @@ fn array_words(element: &TypeRef, count: u32) -> u64
     HEADER_WORDS + element_words(element) * u64::from(count)
 }
 
-/// How many words the arrays cost together that `make_arrays` makes; none where they pass the most that a heap has. The array type
+/// How many words the arrays cost together that `make_arrays` makes; none only where they pass the most that a heap has. The array type
 /// has as many dimensions as there are counts, or more. It takes one step for each count.
 pub fn arrays_words(t: &TypeRef, counts: &[u32]) -> Option<u64>
     requires { length counts.now ≤ t.now.dims }

@@ -27,7 +27,7 @@ impl<H: ObjectStore + Drop, F: FrameStore + Drop> Kernel<H, F> {
         ensures event { (lines : List Line)
             × PrintsLines (S.bytes out.old) (S.bytes out.new) (S.pieces out.old) (S.pieces out.new) (S.faults out.old) (S.faults out.new) result lines
             × Kills self.old name.now lines self.new }
-        // The pages of the domain, and no others, are free then.
+        // In a machine with pools the pages of the domain, and no others, are free then.
         ensures pages { FreesPages self.old name.now self.new }
         ensures counts { NumbersRise self.old 0 self.new × (length self.new.domains ≡ length self.old.domains) }
     {

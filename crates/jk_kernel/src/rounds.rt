@@ -18,7 +18,8 @@ use object_store::ObjectStore;
 
 impl<H: ObjectStore + Drop, F: FrameStore + Drop> Kernel<H, F> {
     /// So many rounds: in each the threads that are live as their places come take so many steps, in rising order. It takes no memory.
-    /// Rounds in which nothing changes cost nothing but the first, and a round takes time for the live threads and for their steps alone.
+    /// Rounds of one step or more in which nothing changes cost nothing but the first, and a round takes time for the live threads and for
+    /// their steps alone; rounds of no steps go over the live threads each time.
     /// Where the sink fails, the step in whose lines it failed has happened whole, and is the last one.
     pub fn rounds<S: Sink>(&mut self, count: u32, steps: u32, out: &mut S) -> Result<(), SinkFailed>
         requires numbers { MayDraw self.old (steps_of count steps self.old) }

@@ -39,8 +39,8 @@ impl<H: ObjectStore + Drop, F: FrameStore + Drop> Kernel<H, F> {
 
     /// So many steps of a thread. Where they are one or more, it answers false exactly where the thread rests: it isn't live, is suspended,
     /// waits for a class that another thread initialises, or its domain has no steps left. Then no step of the thread changes anything until
-    /// another thread acts. It takes no memory. Steps that change nothing cost nothing but the first. Where the sink fails, the step in whose
-    /// lines it failed has happened whole, and is the last one.
+    /// another thread, a start or a kill has changed something. It takes no memory. Steps that change nothing cost nothing but the first.
+    /// Where the sink fails, the step in whose lines it failed has happened whole, and is the last one.
     pub fn turns<S: Sink>(
         &mut self,
         thread: u32,

@@ -140,7 +140,7 @@ pub fn jkernel<F: Files, S: Sink, E: Sink>(
     out: &mut S,
     err: &mut E,
 ) -> Status
-    // All events were run, their lines went out, and the files were asked for the script and for what its events need; for the demo nothing.
+    // All events were run, their lines went out, and the files were asked for the script, and else for what its events need alone; for the demo nothing.
     ensures done { result ≡ Status.Done → EndsDone (F.tree files.old) (map string_bytes words.now)
         (moment (sink (S.bytes out.old) (S.pieces out.old) (S.faults out.old)) (F.asked files.old) (F.faults files.old))
         (moment (sink (S.bytes out.new) (S.pieces out.new) (S.faults out.new)) (F.asked files.new) (F.faults files.new)) }
@@ -166,7 +166,7 @@ pub fn jkernel<F: Files, S: Sink, E: Sink>(
 
     // The files are asked for nothing but the script, and what the `domain` events need of their folders, each event for each file at most once.
     ensures asks { Asks (F.tree files.old) (map string_bytes words.now) (F.asked files.old) (F.asked files.new) }
-    // No call of told files failed that did not end the run.
+    // Unless the run ended with a read fault, no call of told files failed.
     ensures calm { (result ≡ Status.ReadFault → ⊥) → IsSome (F.tree files.old) → F.faults files.new ≡ F.faults files.old }
 
     // No write failed that did not end the run.

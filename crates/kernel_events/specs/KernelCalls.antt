@@ -34,6 +34,7 @@
 --   ensures failed       { let t = record { 0 = thread } in
 --                          OnErr result (StopsAt t (TurnsBefore steps t) (Turns steps t) self.old out.old out.new self.new) }
 --   ensures rests        { result ≡ Ok false → (self.new ≡ self.old) × Rests self.old (record { 0 = thread }) }
+--   ensures resting      { 0 < steps → (result ≡ Ok false ↔ IsResting self.old (record { 0 = thread })) }
 --   ensures counts       { NumbersRise self.old steps self.new × (length self.new.domains ≡ length self.old.domains) }
 --
 -- rounds<S: Sink>(&mut self, count: u32, steps: u32, out: &mut S) -> Result<(), SinkFailed>

@@ -63,7 +63,7 @@ pub record StopsAt (t : ThreadNo) (Before All : Move) (m : Machine) (old out : S
   pub all : All m ((before ++ said) ++ more) last
   pub whole : IsWhole last
 
--- ---- No step changes anything until another thread acts.
+-- ---- No step of the thread changes anything, as long as nothing else does.
 
 pub record Rests (m : Machine) (t : ThreadNo) : Type 0 where
   pub always : (more : ℕ) → Turns more t m [] m

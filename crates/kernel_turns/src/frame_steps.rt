@@ -29,10 +29,10 @@ use row_laws::running::local_steps_keep;
 use segment_steps::{Runs, Worked, run_in_frame, stand, work};
 use thread_segments::Shared;
 
-/// At most so many steps of a thread, as long as its top segment does each alone: it computes, jumps, works on objects, calls a method with
-/// code, returns from one that is no class's initialiser, or throws what its frame catches, needs no class that isn't ready, and raises nothing
-/// else and prints nothing. It answers how many they were. It stops before each other step, and where the domain has no step left. Where the
-/// thread runs is looked up once. It takes no memory.
+/// At most so many steps of a thread, which print nothing. It answers how many they were. They are meant to be those that its top segment
+/// does alone: it computes, jumps, works on objects, calls a method with code, returns from one that is no class's initialiser, or throws what
+/// its frame catches, needs no class that isn't ready, and raises nothing else. The clauses don't say that no other step is among them, nor that
+/// it goes on as long as it could. It stops where the domain has no step left. Where the thread runs is looked up once. It takes no memory.
 pub fn steps_alone<H: ObjectStore + Drop, F: FrameStore + Drop>(
     k: &mut KernelParts<H, F>,
     t: ThreadNo,

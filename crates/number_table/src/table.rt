@@ -79,8 +79,8 @@ impl NumberTable {
         self.table.remove(key);
     }
 
-    /// Makes room for so many more keys in all. Where there is less, the table becomes at least twice as large, in time in
-    /// proportion to that. After an error all is as before.
+    /// Makes room for so many more keys in all. Where there is less, the table is made anew, in time in proportion to what it has room for
+    /// then. After an error all is as before.
     pub fn reserve(&mut self, alloc: Global, more: usize) -> Result<(), OutOfMemory>
         ensures same { HasSamePlaces self.old self.new }
         ensures ok { OnOk result (more ≤ self.new.room) }

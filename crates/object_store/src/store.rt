@@ -17,9 +17,9 @@ pub trait ObjectStore {
     /// All that the store holds.
     ghost content: { Self → HeapContent };
 
-    /// Gives a domain an empty heap of so many words, of which it has none yet. `NoExtent` comes exactly where the store has a
-    /// pool of pages and no free run of it is long enough, and `OutOfMemory` only where memory was asked for and not given:
-    /// never because of numbers that are too narrow. After an error all is as before.
+    /// Gives a domain an empty heap of so many words, of which it has none yet. `NoExtent` comes only where the store has a pool of
+    /// pages and no free run of it is long enough; there it comes, or `OutOfMemory`. `OutOfMemory` never comes where all memory was
+    /// taken before. After an error all is as before.
     fn admit(&mut self, d: DomainId, words: u32) -> Result<(), AdmitError>
         requires new { (content self.old).quota d ≡ None }
         requires few { HasFewDomains (content self.old) }
