@@ -331,7 +331,8 @@ module _ (p new : MachineParts) (d : DomainId) (l : LiveDomain (machine_of p) d)
       now ∙ (λ i. Some (record { domain = sym was.domain i; frames = frames_of (sym now i) }))
 
   -- a thread with one of these segments lives on
-  some_left : (t : SharedThread) (segments : List SharedSegment) (s : SharedSegment) → Contains segments s → has_segments (record t { segments = segments }) ≡ true
+  some_left : (t : SharedThread) (segments : List SharedSegment) (s : SharedSegment) → Contains segments s
+      → has_segments (record t { segments = segments }) ≡ true
   some_left t [] s there = absurd (Contains-none s there)
   some_left t (a ∷ more) s there = refl
 

@@ -193,7 +193,8 @@ module _ (d : DomainId) (s : SharedState) (above : ℕ) (told : ToldUpTo d s abo
   all_by (y ∷ rest) is none =
       let in_it : Contains told.back y = subst (λ (zs : List SharedThread). Contains zs y) (sym is) (Contains-here y rest) in
       let first = told.beyond y in_it in
-      let low = none y.number.0 (ended_so d s y (subst (λ (zs : List SharedThread). Contains zs y) (sym told.are) (Contains-append_right told.front told.back y in_it))) in
+      let low = none y.number.0
+      (ended_so d s y (subst (λ (zs : List SharedThread). Contains zs y) (sym told.are) (Contains-append_right told.front told.back y in_it))) in
       absurd (omega (arith, first, low))
 
   pub all_told : IsLeastAbove (EndsWith s.threads d) above None → lines_of_threads told.front ≡ lines_of_threads (ended_threads d s)
