@@ -2,7 +2,6 @@
 
 ghost use Rattle.std.specs.Prelude.{◌≤◌, length};
 
-use jk_model::{Bytes, List};
 use jk_outside::{Disk, DiskFiles, Entry, Files, FilesError, MemoryFiles, System};
 use std::alloc::Global;
 use std::fs::Metadata;
@@ -12,24 +11,105 @@ use std::process::Abort;
 use std::test::Fail;
 use std::{env, fs, io, process};
 
-fn list<F: Files>(files: &mut F, folder: &str, limit: u32) -> Result<List<Entry>, FilesError> {
-    files.list(folder, limit)
+/// What is asked of files below a root, with the most that may come, and what is answered. A path begins with `/`, or is empty.
+enum Question<'a> {
+    /// A folder is listed: the names, and whether they are of folders.
+    List(&'a str, u32, Result<&'a [Name<'a>], FilesError>),
+    /// A folder is listed, which has so many entries in any order, all of them folders.
+    Folders(&'a str, u32, usize),
+    /// A file is read.
+    Read(&'a str, u32, Result<&'a [u8], FilesError>),
 }
 
-fn read<F: Files>(files: &mut F, path: &str, limit: u32) -> Result<Bytes, FilesError> {
-    files.read(path, limit)
+/// The name of an entry, and whether it is that of a folder.
+type Name<'a> = (&'a [u8], bool);
+
+fn are_named(entries: &[Entry], names: &[Name]) -> bool {
+    let are_same = entries.iter().zip(names).all(|(entry, name)| entry.name.as_slice() == name.0
+        && entry.folder == name.1);
+    are_same && entries.len() == names.len()
 }
 
-/// Asserts that an entry has a name, and is a folder or not.
-fn expect_entry(rt: &impl Abort, entries: &List<Entry>, i: usize, name: &[u8], folder: bool) {
-    match entries.get(i) {
-        Some(entry) => {
-            assert!(rt; entry.name.as_slice() == name, "the name of entry {i}");
-            assert!(rt; entry.folder == folder, "the sort of entry {i}");
-        }
-        None => panic!(rt; "no entry {i}"),
+fn lists<F: Files>(
+    files: &mut F,
+    path: &str,
+    limit: u32,
+    wanted: &Result<&[Name], FilesError>,
+) -> bool {
+    match files.list(path, limit) {
+        Ok(entries) => matches!(wanted, Ok(names) if are_named(entries.as_slice(), names)),
+        Err(error) => matches!(wanted, Err(other) if error == *other),
     }
 }
+
+fn has_folders<F: Files>(files: &mut F, path: &str, limit: u32, count: usize) -> bool {
+    match files.list(path, limit) {
+        Ok(entries) => {
+            let entries = entries.as_slice();
+            entries.len() == count && entries.iter().all(|entry| entry.folder)
+        }
+        Err(_) => false,
+    }
+}
+
+fn reads<F: Files>(
+    files: &mut F,
+    path: &str,
+    limit: u32,
+    wanted: &Result<&[u8], FilesError>,
+) -> bool {
+    match files.read(path, limit) {
+        Ok(bytes) => matches!(wanted, Ok(other) if bytes.as_slice() == *other),
+        Err(error) => matches!(wanted, Err(other) if error == *other),
+    }
+}
+
+/// A path below a root.
+fn below(alloc: Global, root: &str, path: &str) -> Result<String, Fail> {
+    Ok(format!(in alloc; "{root}{path}")?)
+}
+
+/// Whether a question is answered as it says.
+fn answers<F: Files>(
+    alloc: Global,
+    files: &mut F,
+    root: &str,
+    question: &Question,
+) -> Result<bool, Fail> {
+    match question {
+        Question::List(path, limit, wanted) => {
+            let path = below(alloc, root, path)?;
+            Ok(lists(files, path.as_str(), *limit, wanted))
+        }
+        Question::Folders(path, limit, count) => {
+            let path = below(alloc, root, path)?;
+            Ok(has_folders(files, path.as_str(), *limit, *count))
+        }
+        Question::Read(path, limit, wanted) => {
+            let path = below(alloc, root, path)?;
+            Ok(reads(files, path.as_str(), *limit, wanted))
+        }
+    }
+}
+
+// ---- A tree in memory.
+
+/// The files of a told tree, of which one is added twice.
+const TREE: &[(&str, &[u8])] = &[
+    ("root/one/a/B.class", b"1"),
+    ("root/one/resolver.txt", b"22"),
+    ("root/one/a/C.class", b"333"),
+    ("root/one/resolver.txt", b"4444"),
+];
+
+const TOLD: &[Question<'static>] = &[
+    Question::List("/one", 2, Ok(&[(b"a", true), (b"resolver.txt", false)])),
+    Question::Read("/one/resolver.txt", 4, Ok(b"4444")),
+    Question::List("/one", 1, Err(FilesError::TooLong)),
+    Question::Read("/one/resolver.txt", 3, Err(FilesError::TooLong)),
+    Question::List("/two", 2, Err(FilesError::Absent)),
+    Question::Read("/one", 9, Err(FilesError::Absent)),
+];
 
 /// Puts a file into a told tree.
 fn add(rt: &impl Abort, files: &mut MemoryFiles, path: &str, bytes: &[u8]) {
@@ -40,26 +120,103 @@ fn add(rt: &impl Abort, files: &mut MemoryFiles, path: &str, bytes: &[u8]) {
 #[test]
 fn tells_a_tree(rt: HostRuntime) -> Result<(), Fail> {
     let mut files = MemoryFiles::new(rt.alloc());
-    add(&rt, &mut files, "root/one/a/B.class", b"1");
-    add(&rt, &mut files, "root/one/resolver.txt", b"22");
-    add(&rt, &mut files, "root/one/a/C.class", b"333");
-    add(&rt, &mut files, "root/one/resolver.txt", b"4444");
-    let entries = list(&mut files, "root/one", 2)?;
-    assert_eq!(rt; entries.len(), 2);
-    expect_entry(&rt, &entries, 0, b"a", true);
-    expect_entry(&rt, &entries, 1, b"resolver.txt", false);
-    assert!(rt; read(&mut files, "root/one/resolver.txt", 4)?.as_slice() == b"4444".as_slice());
-    assert!(rt; matches!(list(&mut files, "root/one", 1), Err(FilesError::TooLong)));
-    assert!(rt;
-        matches!(
-            read(&mut files, "root/one/resolver.txt", 3),
-            Err(FilesError::TooLong)
-        )
-    );
-    assert!(rt; matches!(list(&mut files, "root/two", 2), Err(FilesError::Absent)));
-    assert!(rt; matches!(read(&mut files, "root/one", 9), Err(FilesError::Absent)));
-    assert_eq!(rt; files.faults(), 0);
+    for (path, bytes) in TREE {
+        add(&rt, &mut files, path, bytes);
+    }
+    for (i, question) in TOLD.iter().enumerate() {
+        assert!(rt;
+            answers(rt.alloc(), &mut files, "root", question)?,
+            "question {i}"
+        );
+    }
+    assert!(rt; files.faults() == 0);
     Ok(())
+}
+
+// ---- A disk, and other systems.
+
+/// What is done on a disk, or asked of the files of a system.
+enum Step<'a> {
+    /// A folder is made.
+    Folder(&'a str),
+    /// A file is written.
+    File(&'a str, &'a [u8]),
+    /// A link is made that leads to this path.
+    Link(&'a str, &'a str),
+    Asks(Question<'a>),
+    /// So many faults were counted.
+    Faults(u64),
+    /// So many bytes and entries were taken.
+    Taken(u64),
+}
+
+const READS: &[Step<'static>] = &[
+    Step::Folder("/folder"),
+    Step::File("/folder/file", b"bytes"),
+    Step::Asks(Question::List("", 1, Ok(&[(b"folder", true)]))),
+    Step::Asks(Question::List("/folder", 1, Ok(&[(b"file", false)]))),
+    Step::Asks(Question::Read("/folder/file", 5, Ok(b"bytes"))),
+    Step::Faults(0),
+    Step::Taken(7),
+    Step::Asks(Question::Read("/folder/file", 4, Err(FilesError::TooLong))),
+    Step::Asks(Question::List("/folder", 0, Err(FilesError::TooLong))),
+    Step::Taken(13),
+];
+
+const FAULTS: &[Step<'static>] = &[
+    Step::File("/file", b"bytes"),
+    Step::Asks(Question::List("/file", 5, Err(FilesError::Absent))),
+    Step::Asks(Question::Read("", 5, Err(FilesError::Failed))),
+    Step::Asks(Question::Read("/link", 5, Err(FilesError::Absent))),
+    Step::Faults(3),
+    Step::Link("/link", "nowhere"),
+    Step::Asks(Question::List("", 5, Err(FilesError::Failed))),
+    Step::Faults(4),
+];
+
+const LINKS: &[Step<'static>] = &[
+    Step::Folder("/folder"),
+    Step::File("/folder/resolver.txt", b"share A\n"),
+    Step::Link("/link", "folder"),
+    Step::Asks(Question::Folders("", 2, 2)),
+    Step::Asks(Question::List("/link", 1, Ok(&[(b"resolver.txt", false)]))),
+    Step::Asks(Question::Read("/link/resolver.txt", 8, Ok(b"share A\n"))),
+    Step::Faults(0),
+];
+
+/// Makes what a step makes on the disk.
+fn make(rt: &HostRuntime, root: &str, step: &Step) -> Result<(), Fail> {
+    match step {
+        Step::Folder(path) => {
+            let path = below(rt.alloc(), root, path)?;
+            fs::create_dir_all(rt, path.as_str())?;
+        }
+        Step::File(path, bytes) => {
+            let path = below(rt.alloc(), root, path)?;
+            fs::write(rt, path.as_str(), *bytes)?;
+        }
+        Step::Link(path, to) => {
+            let path = below(rt.alloc(), root, path)?;
+            unix::fs::symlink(rt, to, path.as_str())?;
+        }
+        _ => {}
+    }
+    Ok(())
+}
+
+/// Whether what a step asks of the files of a system is answered as it says.
+fn comes_out<S: System + Drop>(
+    alloc: Global,
+    files: &mut DiskFiles<S>,
+    root: &str,
+    step: &Step,
+) -> Result<bool, Fail> {
+    match step {
+        Step::Asks(question) => answers(alloc, files, root, question),
+        Step::Faults(faults) => Ok(files.faults() == *faults),
+        Step::Taken(taken) => Ok(files.taken() == *taken),
+        _ => Ok(true),
+    }
 }
 
 /// A folder of the system's, which a test may fill.
@@ -71,59 +228,25 @@ fn new_folder(rt: &HostRuntime, name: &str) -> io::Result<String> {
     Ok(root)
 }
 
-#[test]
-fn reads_a_disk(rt: HostRuntime) -> Result<(), Fail> {
-    let root = new_folder(&rt, "reads")?;
-    let folder = format!(in rt.alloc(); "{root}/folder")?;
-    let file = format!(in rt.alloc(); "{folder}/file")?;
-    fs::create_dir_all(&rt, folder.as_str())?;
-    fs::write(&rt, file.as_str(), b"bytes".as_slice())?;
+/// Takes each step in a new folder of a name on the disk.
+fn take_steps(rt: &HostRuntime, name: &str, steps: &[Step]) -> Result<(), Fail> {
+    let root = new_folder(rt, name)?;
     let mut files = DiskFiles::new(rt.alloc(), Disk::new(rt.alloc(), rt.clone()?));
-    expect_entry(
-        &rt,
-        &list(&mut files, root.as_str(), 1)?,
-        0,
-        b"folder",
-        true,
-    );
-    expect_entry(
-        &rt,
-        &list(&mut files, folder.as_str(), 1)?,
-        0,
-        b"file",
-        false,
-    );
-    assert!(rt; read(&mut files, file.as_str(), 5)?.as_slice() == b"bytes".as_slice());
-    assert_eq!(rt; files.faults(), 0);
-    assert_eq!(rt; files.taken(), 7);
-    assert!(rt; matches!(read(&mut files, file.as_str(), 4), Err(FilesError::TooLong)));
-    assert!(rt;
-        matches!(
-            list(&mut files, folder.as_str(), 0),
-            Err(FilesError::TooLong)
-        )
-    );
-    assert_eq!(rt; files.taken(), 13);
-    fs::remove_dir_all(&rt, root.as_str())?;
+    for (i, step) in steps.iter().enumerate() {
+        make(rt, root.as_str(), step)?;
+        if !comes_out(rt.alloc(), &mut files, root.as_str(), step)? {
+            return Err(Fail::from(format!(in rt.alloc(); "step {i} in {name}")?));
+        }
+    }
+    fs::remove_dir_all(rt, root.as_str())?;
     Ok(())
 }
 
 #[test]
-fn counts_faults_of_a_disk(rt: HostRuntime) -> Result<(), Fail> {
-    let root = new_folder(&rt, "faults")?;
-    let file = format!(in rt.alloc(); "{root}/file")?;
-    let link = format!(in rt.alloc(); "{root}/link")?;
-    fs::write(&rt, file.as_str(), b"bytes".as_slice())?;
-    let mut files = DiskFiles::new(rt.alloc(), Disk::new(rt.alloc(), rt.clone()?));
-    assert!(rt; matches!(list(&mut files, file.as_str(), 5), Err(FilesError::Absent)));
-    assert!(rt; matches!(read(&mut files, root.as_str(), 5), Err(FilesError::Failed)));
-    assert!(rt; matches!(read(&mut files, link.as_str(), 5), Err(FilesError::Absent)));
-    assert_eq!(rt; files.faults(), 3);
-    unix::fs::symlink(&rt, "nowhere", link.as_str())?;
-    assert!(rt; matches!(list(&mut files, root.as_str(), 5), Err(FilesError::Failed)));
-    assert_eq!(rt; files.faults(), 4);
-    fs::remove_dir_all(&rt, root.as_str())?;
-    Ok(())
+fn reads_a_disk(rt: HostRuntime) -> Result<(), Fail> {
+    take_steps(&rt, "reads", READS)?;
+    take_steps(&rt, "faults", FAULTS)?;
+    take_steps(&rt, "links", LINKS)
 }
 
 /// A file of three bytes a turn, whose turns come after one that is interrupted.
@@ -244,98 +367,102 @@ impl System for Fake {
     }
 }
 
-#[test]
-fn leaves_pipes_out(rt: HostRuntime) -> Result<(), Fail> {
-    let mut files = DiskFiles::new(rt.alloc(), Fake::new(rt.alloc(), 0, false));
-    // A script may be a pipe, and what a listed folder has may not.
-    assert!(rt; read(&mut files, "a/pipe.class", 6)?.len() == 6);
-    let entries = list(&mut files, "a", 2)?;
-    assert_eq!(rt; entries.len(), 2);
-    expect_entry(&rt, &entries, 0, b".B.class", false);
-    expect_entry(&rt, &entries, 1, b"c", true);
-    assert_eq!(rt; files.taken(), 9);
-    assert!(rt; matches!(read(&mut files, "a/pipe.class", 6), Err(FilesError::Failed)));
-    assert!(rt; matches!(read(&mut files, "a/c", 6), Err(FilesError::Failed)));
-    assert!(rt; read(&mut files, "a/.B.class", 6)?.len() == 6);
-    assert_eq!(rt; files.faults(), 2);
-    let mut files = DiskFiles::new(rt.alloc(), Fake::new(rt.alloc(), 0, true));
-    assert!(rt; list(&mut files, "a", 2)?.len() == 2);
-    assert!(rt; matches!(read(&mut files, "a/.B.class", 6), Err(FilesError::Failed)));
+/// The bytes of a file of this system.
+const TURNS: &[u8] = b"\x02\x02\x02\x01\x01\x01";
+
+const NAMES: &[Name<'static>] = &[(b".B.class", false), (b"c", true)];
+
+/// A script may be a pipe, and what a listed folder has may not.
+const PIPE: &[Step<'static>] = &[
+    Step::Asks(Question::Read("a/pipe.class", 6, Ok(TURNS))),
+    Step::Asks(Question::List("a", 2, Ok(NAMES))),
+    Step::Taken(9),
+    Step::Asks(Question::Read("a/pipe.class", 6, Err(FilesError::Failed))),
+    Step::Asks(Question::Read("a/c", 6, Err(FilesError::Failed))),
+    Step::Asks(Question::Read("a/.B.class", 6, Ok(TURNS))),
+    Step::Faults(2),
+];
+
+/// A file was exchanged for a pipe.
+const EXCHANGED: &[Step<'static>] = &[
+    Step::Asks(Question::List("a", 2, Ok(NAMES))),
+    Step::Asks(Question::Read("a/.B.class", 6, Err(FilesError::Failed))),
+];
+
+/// A listing fails at the first try alone, and a reading.
+const LISTED_TWICE: &[Step<'static>] = &[
+    Step::Asks(Question::List("a", 2, Err(FilesError::Failed))),
+    Step::Asks(Question::List("a", 2, Ok(NAMES))),
+    Step::Faults(1),
+];
+
+const READ_TWICE: &[Step<'static>] = &[
+    Step::Asks(Question::Read("a/b", 6, Err(FilesError::Failed))),
+    Step::Asks(Question::Read("a/b", 6, Ok(TURNS))),
+    Step::Faults(1),
+];
+
+/// Takes each step at a system.
+fn expect_steps(rt: &impl Abort, alloc: Global, fake: Fake, steps: &[Step]) -> Result<(), Fail> {
+    let mut files = DiskFiles::new(alloc, fake);
+    for (i, step) in steps.iter().enumerate() {
+        assert!(rt; comes_out(alloc, &mut files, "", step)?, "step {i}");
+    }
     Ok(())
 }
 
+/// A listing makes 8 calls that may fail, and a reading 6.
 #[test]
-fn fails_at_the_first_try_alone(rt: HostRuntime) -> Result<(), Fail> {
-    // A listing makes 8 calls that may fail, and a reading 6.
+fn asks_a_system(rt: HostRuntime) -> Result<(), Fail> {
+    let alloc = rt.alloc();
+    expect_steps(&rt, alloc, Fake::new(alloc, 0, false), PIPE)?;
+    expect_steps(&rt, alloc, Fake::new(alloc, 0, true), EXCHANGED)?;
     for fails in 1..=8 {
-        let mut files = DiskFiles::new(rt.alloc(), Fake::new(rt.alloc(), fails, false));
-        assert!(rt; matches!(list(&mut files, "a", 2), Err(FilesError::Failed)));
-        assert!(rt; list(&mut files, "a", 2)?.len() == 2);
-        assert_eq!(rt; files.faults(), 1);
+        expect_steps(&rt, alloc, Fake::new(alloc, fails, false), LISTED_TWICE)?;
     }
     for fails in 1..=6 {
-        let mut files = DiskFiles::new(rt.alloc(), Fake::new(rt.alloc(), fails, false));
-        assert!(rt; matches!(read(&mut files, "a/b", 6), Err(FilesError::Failed)));
-        assert!(rt;
-            read(&mut files, "a/b", 6)?.as_slice() == b"\x02\x02\x02\x01\x01\x01".as_slice()
-        );
-        assert_eq!(rt; files.faults(), 1);
+        expect_steps(&rt, alloc, Fake::new(alloc, fails, false), READ_TWICE)?;
     }
     Ok(())
 }
+
+// ---- Long files.
 
 /// The most bytes of a file that counts.
 const MOST: u32 = 1_048_576;
 
-#[test]
-fn reads_up_to_the_limit(rt: HostRuntime) -> Result<(), Fail> {
-    let root = new_folder(&rt, "limit")?;
-    let file = format!(in rt.alloc(); "{root}/A.class")?;
-    let mut bytes = Vec::new(rt.alloc());
-    for i in 0..MOST {
+/// So many bytes.
+fn many_bytes(alloc: Global, count: u32) -> Result<Vec<u8>, Fail> {
+    let mut bytes = Vec::new(alloc);
+    for i in 0..count {
         bytes.push((i % 251) as u8)?;
     }
-    fs::write(&rt, file.as_str(), bytes.as_slice())?;
+    Ok(bytes)
+}
+
+/// Whether a file of so many bytes is read as it was written, where so many may be; otherwise it is too long. No fault is counted.
+fn reads_file(rt: &HostRuntime, path: &str, count: u32, most: u32) -> Result<bool, Fail> {
+    let bytes = many_bytes(rt.alloc(), count)?;
+    fs::write(rt, path, bytes.as_slice())?;
     let mut files = DiskFiles::new(rt.alloc(), Disk::new(rt.alloc(), rt.clone()?));
-    assert!(rt; read(&mut files, file.as_str(), MOST)?.as_slice() == bytes.as_slice());
-    bytes.push(1)?;
-    fs::write(&rt, file.as_str(), bytes.as_slice())?;
-    assert!(rt;
-        matches!(
-            read(&mut files, file.as_str(), MOST),
-            Err(FilesError::TooLong)
-        )
-    );
-    assert_eq!(rt; files.faults(), 0);
-    fs::remove_dir_all(&rt, root.as_str())?;
-    Ok(())
+    let wanted = if count <= most {
+        Ok(bytes.as_slice())
+    } else {
+        Err(FilesError::TooLong)
+    };
+    Ok(reads(&mut files, path, most, &wanted) && files.faults() == 0)
 }
 
 #[test]
-fn follows_links(rt: HostRuntime) -> Result<(), Fail> {
-    let root = new_folder(&rt, "links")?;
-    let folder = format!(in rt.alloc(); "{root}/folder")?;
-    let file = format!(in rt.alloc(); "{root}/folder/resolver.txt")?;
-    let to_folder = format!(in rt.alloc(); "{root}/link")?;
-    let through = format!(in rt.alloc(); "{root}/link/resolver.txt")?;
-    fs::create_dir_all(&rt, folder.as_str())?;
-    fs::write(&rt, file.as_str(), b"share A\n".as_slice())?;
-    unix::fs::symlink(&rt, "folder", to_folder.as_str())?;
-    let mut files = DiskFiles::new(rt.alloc(), Disk::new(rt.alloc(), rt.clone()?));
-    let entries = list(&mut files, root.as_str(), 2)?;
-    assert_eq!(rt; entries.len(), 2);
-    for i in 0..2 {
-        assert!(rt; entries.get(i).is_some_and(|entry| entry.folder));
+fn reads_up_to_the_limit(rt: HostRuntime) -> Result<(), Fail> {
+    let root = new_folder(&rt, "limit")?;
+    let file = below(rt.alloc(), root.as_str(), "/A.class")?;
+    for count in [MOST, MOST + 1] {
+        assert!(rt;
+            reads_file(&rt, file.as_str(), count, MOST)?,
+            "{count} bytes"
+        );
     }
-    expect_entry(
-        &rt,
-        &list(&mut files, to_folder.as_str(), 1)?,
-        0,
-        b"resolver.txt",
-        false,
-    );
-    assert!(rt; read(&mut files, through.as_str(), 8)?.as_slice() == b"share A\n".as_slice());
-    assert_eq!(rt; files.faults(), 0);
     fs::remove_dir_all(&rt, root.as_str())?;
     Ok(())
 }

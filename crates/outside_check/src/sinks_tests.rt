@@ -7,9 +7,9 @@ use jk_outside::{
     LineBuffer, LineRef, MemorySink, Part, PlaceRef, Sink, SinkFailed, StreamSink, print_line,
     print_next, print_none, write_line,
 };
+use std::alloc::Global;
 use std::io;
 use std::io::{ErrorKind, Write};
-use std::process::Abort;
 use std::test::Fail;
 
 /// Puts a line in each way, over one buffer.
@@ -153,96 +153,113 @@ fn a_writer_that_fails_is_a_fault(rt: HostRuntime) -> Result<(), Fail> {
     Ok(())
 }
 
+const STORE: &[u8] = b"store";
+
+const SEVEN: ThreadNo = ThreadNo(7);
+
+const PLACE: PlaceRef<'static> = PlaceRef::At {
+    path: "a/\u{e9}\u{10000}.class",
+    number: 40,
+};
+
+/// A line of each kind, with what is printed of it.
+const LINES: &[(LineRef<'static>, &[u8])] = &[
+    (
+        LineRef::Said {
+            domain: STORE,
+            text: &[0x41, 0x5c, 0x0a, 0xe9],
+        },
+        b"store: A\\\\\\u000a\\u00e9\n",
+    ),
+    (
+        LineRef::Loaded { domain: STORE },
+        b"* domain store loaded\n",
+    ),
+    (
+        LineRef::Refused {
+            domain: STORE,
+            rule: Rule::L1,
+            place: PlaceRef::Whole,
+        },
+        b"* domain store refused L1\n",
+    ),
+    (
+        LineRef::Refused {
+            domain: STORE,
+            rule: Rule::C27,
+            place: PLACE,
+        },
+        b"* domain store refused C27 a/\\u00e9\\ud800\\udc00.class 40\n",
+    ),
+    (
+        LineRef::Started {
+            thread: SEVEN,
+            domain: STORE,
+        },
+        b"* thread 7 started in store\n",
+    ),
+    (
+        LineRef::StartRefused {
+            domain: STORE,
+            number: 6,
+        },
+        b"* start store refused S6\n",
+    ),
+    (LineRef::Ended { thread: SEVEN }, b"* thread 7 ended\n"),
+    (
+        LineRef::EndedBy {
+            thread: SEVEN,
+            class: &[0x61, 0x2f, 0x42],
+        },
+        b"* thread 7 ended by a/B\n",
+    ),
+    (
+        LineRef::EndedByKill { thread: SEVEN },
+        b"* thread 7 ended by kill\n",
+    ),
+    (
+        LineRef::Killed { domain: STORE },
+        b"* domain store killed\n",
+    ),
+    (
+        LineRef::KillRefused { domain: STORE },
+        b"* kill store refused K1\n",
+    ),
+];
+
+fn is_printed(alloc: Global, line: LineRef<'_>, text: &[u8]) -> Result<bool, Fail> {
+    let mut sink = MemorySink::with_room(alloc, 100, &[])?;
+    print_line(line, &mut sink)?;
+    Ok(sink.bytes() == text)
+}
+
 #[test]
 fn prints_each_kind_of_line(rt: HostRuntime) -> Result<(), Fail> {
-    let domain = b"store".as_slice();
-    let thread = ThreadNo(7);
-    let place = PlaceRef::At {
-        path: "a/\u{e9}\u{10000}.class",
-        number: 40,
-    };
-    for (line, text) in [
-        (
-            LineRef::Said {
-                domain,
-                text: &[0x41, 0x5c, 0x0a, 0xe9],
-            },
-            b"store: A\\\\\\u000a\\u00e9\n".as_slice(),
-        ),
-        (
-            LineRef::Loaded { domain },
-            b"* domain store loaded\n".as_slice(),
-        ),
-        (
-            LineRef::Refused {
-                domain,
-                rule: Rule::L1,
-                place: PlaceRef::Whole,
-            },
-            b"* domain store refused L1\n".as_slice(),
-        ),
-        (
-            LineRef::Refused {
-                domain,
-                rule: Rule::C27,
-                place,
-            },
-            b"* domain store refused C27 a/\\u00e9\\ud800\\udc00.class 40\n".as_slice(),
-        ),
-        (
-            LineRef::Started { thread, domain },
-            b"* thread 7 started in store\n".as_slice(),
-        ),
-        (
-            LineRef::StartRefused { domain, number: 6 },
-            b"* start store refused S6\n".as_slice(),
-        ),
-        (LineRef::Ended { thread }, b"* thread 7 ended\n".as_slice()),
-        (
-            LineRef::EndedBy {
-                thread,
-                class: &[0x61, 0x2f, 0x42],
-            },
-            b"* thread 7 ended by a/B\n".as_slice(),
-        ),
-        (
-            LineRef::EndedByKill { thread },
-            b"* thread 7 ended by kill\n".as_slice(),
-        ),
-        (
-            LineRef::Killed { domain },
-            b"* domain store killed\n".as_slice(),
-        ),
-        (
-            LineRef::KillRefused { domain },
-            b"* kill store refused K1\n".as_slice(),
-        ),
-    ] {
-        let mut sink = MemorySink::with_room(rt.alloc(), 100, &[])?;
-        print_line(line, &mut sink)?;
-        assert!(rt; sink.bytes() == text);
+    for (i, (line, text)) in LINES.iter().enumerate() {
+        assert!(rt; is_printed(rt.alloc(), *line, text)?, "line {i}");
     }
     Ok(())
 }
 
+/// Prints three lines one after another, and says whether all went well.
+fn print_three(sink: &mut MemorySink) -> bool {
+    let killed = print_next(print_none(sink), LineRef::Killed { domain: b"a" }, sink);
+    let thread = ThreadNo(1);
+    let first = print_next(killed, LineRef::EndedByKill { thread }, sink);
+    let thread = ThreadNo(2);
+    print_next(first, LineRef::EndedByKill { thread }, sink).is_ok()
+}
+
 #[test]
 fn prints_no_more_after_a_failure(rt: HostRuntime) -> Result<(), Fail> {
-    let all = b"* domain a killed\n* thread 1 ended by kill\n* thread 2 ended by kill\n".as_slice();
+    let mut sink = MemorySink::with_room(rt.alloc(), 1000, &[])?;
+    assert!(rt; print_three(&mut sink));
+    let all = b"* domain a killed\n* thread 1 ended by kill\n* thread 2 ended by kill\n";
+    assert!(rt; sink.bytes() == all.as_slice());
     // The second line fails, and there is room for the third.
-    for (fails, wanted) in [(0, all), (2, b"* domain a killed\n".as_slice())] {
-        let mut sink = MemorySink::with_room(rt.alloc(), 1000, &[fails])?;
-        let killed = print_next(
-            print_none(&sink),
-            LineRef::Killed { domain: b"a" },
-            &mut sink,
-        );
-        let thread = ThreadNo(1);
-        let first = print_next(killed, LineRef::EndedByKill { thread }, &mut sink);
-        let thread = ThreadNo(2);
-        let last = print_next(first, LineRef::EndedByKill { thread }, &mut sink);
-        assert!(rt; last.is_err() == (fails == 2));
-        assert!(rt; sink.bytes().starts_with(wanted));
-        assert!(rt; !sink.bytes().ends_with(b"2 ended by kill\n") || fails == 0);
-    }
+    let mut sink = MemorySink::with_room(rt.alloc(), 1000, &[2])?;
+    assert!(rt; !print_three(&mut sink));
+    assert!(rt; sink.bytes().starts_with(b"* domain a killed\n"));
+    assert!(rt; !sink.bytes().ends_with(b"2 ended by kill\n"));
     Ok(())
 }

@@ -1,6 +1,7 @@
 //! Words of a command line, with what they call for.
 
 use command_words::{Call, CallError, call_of};
+use std::alloc::Global;
 use std::test::Fail;
 
 /// Words between spaces, and what they call for.
@@ -49,22 +50,26 @@ help -> usage\n\
 --version -> usage\n\
 -V -> usage";
 
+/// What words between spaces call for.
+fn called(alloc: Global, line: &str) -> Result<String, Fail> {
+    let mut words = Vec::new(alloc);
+    for word in line.split_whitespace() {
+        words.push(String::from_str(alloc, word)?)?;
+    }
+    match call_of(alloc, words.as_slice()) {
+        Ok(Call::Script { root, script }) => Ok(format!(in alloc; "script {root} {script}")?),
+        Ok(Call::Demo { seed }) => Ok(format!(in alloc; "demo {seed}")?),
+        Err(CallError::Usage) => Ok(String::from_str(alloc, "usage")?),
+        Err(CallError::OutOfMemory) => Err("out of memory".into()),
+    }
+}
+
 #[test]
 fn command_lines(rt: HostRuntime) -> Result<(), Fail> {
-    let alloc = rt.alloc();
     for row in LINES.lines() {
         let (line, wanted) = row.split_once("-> ").ok_or("a row")?;
-        let mut words = Vec::new(alloc);
-        for word in line.split_whitespace() {
-            words.push(String::from_str(alloc, word)?)?;
-        }
-        let found = match call_of(alloc, words.as_slice()) {
-            Ok(Call::Script { root, script }) => format!(in alloc; "script {root} {script}")?,
-            Ok(Call::Demo { seed }) => format!(in alloc; "demo {seed}")?,
-            Err(CallError::Usage) => format!(in alloc; "usage")?,
-            Err(CallError::OutOfMemory) => return Err("out of memory".into()),
-        };
-        assert_eq!(rt; found.as_str(), wanted, "of {line:?}");
+        let found = called(rt.alloc(), line)?;
+        assert!(rt; found.as_str() == wanted, "{line:?}: {found}");
     }
     Ok(())
 }
