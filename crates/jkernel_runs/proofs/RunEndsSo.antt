@@ -16,7 +16,7 @@ use Rattle.jkernel_runs.specs.declared.status.Status.TheVariants as statuses
 use Rattle.jkernel_runs.specs.declared.stop.Stop.{Stop}
 use Rattle.jkernel_runs.specs.declared.stop.Stop.TheVariants.{ReadFault, WriteFault, OutOfMemory}
 use Rattle.command_words.specs.CommandLine.{CallsScript, IsNoCall}
-use Rattle.jkernel_runs.specs.Ends.{end_of, EndsDemo, EndsSo, EndsRefused, HasText, IsMissing, ScriptEnds, AnswersFault, status_of}
+use Rattle.jkernel_runs.specs.Ends.{end_of, EndsDemo, EndsSo, EndsRefused, EndsWell, HasText, IsMissing, ScriptEnds, AnswersFault, status_of}
 use Rattle.jkernel_runs.specs.Asked.{ask_for_script}
 use Rattle.jkernel_runs.specs.Events.{AskedUpToFolder, Moment, RunEnds, RunAsks, RunsWhole, StopsAtDomain, StopsInLines}
 use Rattle.jkernel_runs.specs.Scripts.{IsScript, IsAtFault}
@@ -216,6 +216,15 @@ module _ (t : Option Tree) (words : List (List ℕ)) (root script : List ℕ) (e
     for_events = h.1;
     asks = all_asked h.0 h.2;
   })
+
+-- How the run of events ends that a script without fault has.
+pub well_of : (t : Option Tree) (root : List ℕ) (events : List Event) (before : ℕ) (b c : Moment) → NeverFalls before b.files_faults
+    → (r : Result (Unit {0}) Stop) → RunEnds t root (OpensFolder t root) events b c r
+    → EndsWell before c.files_faults b.out.faults c.out.faults (end_of r)
+well_of t root events before b c falls (Ok x) h = tt
+well_of t root events before b c falls (Err ReadFault) h = HasRisen-after before b.files_faults c.files_faults falls h.0
+well_of t root events before b c falls (Err WriteFault) h = h.0
+well_of t root events before b c falls (Err OutOfMemory) h = tt
 
 -- A script that gave no events was asked for, and nothing else.
 pub script_asks : (t : Option Tree) (words : List (List ℕ)) (root script : List ℕ) (old new : List Ask) → CallsScript words root script

@@ -8,7 +8,7 @@ ghost use Rattle.jkernel_runs.specs.declared.stop.Stop.TheVariants.{WriteFault};
 ghost use Rattle.jkernel_runs.specs.Ends.{EndsDemo, EndsSo};
 ghost use Rattle.jkernel_runs.specs.Events.{moment};
 
-use crate::ends::End;
+use crate::ends::{End, ended};
 use crate::events::run_events;
 use crate::stop::Stop;
 use jk_outside::Sink;
@@ -31,8 +31,5 @@ pub fn run_demo<S: Sink>(alloc: Global, seed: u32, out: &mut S) -> End
     let Ok(events) = demo_events(alloc, seed) else {
         return End::Stopped(Stop::OutOfMemory);
     };
-    match run_events(alloc, ROOT, events.as_slice(), &mut files, out) {
-        Ok(()) => End::Done,
-        Err(stop) => End::Stopped(stop),
-    }
+    ended(run_events(alloc, ROOT, events.as_slice(), &mut files, out))
 }

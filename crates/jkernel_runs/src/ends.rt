@@ -2,7 +2,7 @@
 
 ghost use Rattle.std.specs.Prelude.{◌≡◌, ◌++◌, ◌∷◌, [], OnOk, OnErr};
 ghost use Rattle.jk_model.specs.Outside.{Appends, AppendsPart, HasRisen};
-ghost use Rattle.jkernel_runs.specs.Ends.{message_of, status_of};
+ghost use Rattle.jkernel_runs.specs.Ends.{end_of, message_of, status_of};
 ghost use Rattle.jkernel_runs.specs.Messages.{kind_text, fault_text};
 
 use crate::status::Status;
@@ -11,7 +11,7 @@ use jk_model::{FaultKind, ScriptFault};
 use jk_outside::{Part, Sink, SinkFailed, write_line};
 
 /// How a run ends.
-#[derive(Clone, Copy, Debug, PartialEq, Eq)]
+#[derive(Clone, Copy)]
 pub enum End {
     Done,
     Usage,
@@ -33,6 +33,16 @@ impl End {
             End::Stopped(Stop::WriteFault) => Status::WriteFault,
             End::Stopped(Stop::OutOfMemory) => Status::OutOfMemory,
         }
+    }
+}
+
+/// How a run ends whose events came to this.
+pub fn ended(ran: Result<(), Stop>) -> End
+    ensures { result ≡ end_of ran }
+{
+    match ran {
+        Ok(()) => End::Done,
+        Err(stop) => End::Stopped(stop),
     }
 }
 

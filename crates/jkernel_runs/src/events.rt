@@ -1,9 +1,10 @@
 //! The events of a script, one by one and all of them.
 
-ghost use Rattle.std.specs.Prelude.{◌≡◌, ◌≤◌, length, true, Err, IsSome};
+ghost use Rattle.std.specs.Prelude.{◌≡◌, ◌≤◌, length, true, Err, IsSome, None};
 ghost use Rattle.std.specs.List.{AllByRecursion};
 ghost use Rattle.jk_model.specs.Outside.{NeverFalls};
 ghost use Rattle.jk_model.specs.ScriptGrammar.{is_name};
+ghost use Rattle.jk_model_machine_state.specs.Machines.{IsFirstMachine};
 ghost use Rattle.jk_model_runs.specs.Events.{Kills, Rounds, Turns};
 ghost use Rattle.jk_model_runs.specs.Starts.{Starts};
 ghost use Rattle.kernel_events.specs.KernelCalls.{MayDraw, steps_of};
@@ -165,6 +166,33 @@ fn happen<F: Files, S: Sink>(
     }
 }
 
+/// All events of a script, one after the other, on a machine without domains.
+fn all_happen<F: Files, S: Sink>(
+    kernel: &mut PlainKernel,
+    root: &str,
+    events: &[Event],
+    files: &mut F,
+    out: &mut S,
+) -> Result<(), Stop>
+    requires first { IsFirstMachine None None kernel.old }
+    requires of_script { AllByRecursion IsOfScript events.now }
+    requires few { length events.now ≤ 65536 }
+    ensures ends { RunEnds (F.tree files.old) root.now (OpensFolder (F.tree files.old) root.now) events.now
+        (moment (sink (S.bytes out.old) (S.pieces out.old) (S.faults out.old)) (F.asked files.old) (F.faults files.old))
+        (moment (sink (S.bytes out.new) (S.pieces out.new) (S.faults out.new)) (F.asked files.new) (F.faults files.new)) result }
+    ensures asks { RunAsks (F.tree files.old) root.now events.now (F.asked files.old) (F.asked files.new) }
+    ensures calm { (result ≡ Err Stop.ReadFault → ⊥) → IsSome (F.tree files.old) → F.faults files.new ≡ F.faults files.old }
+    ensures stays { F.tree files.new ≡ F.tree files.old }
+    ensures files_faults { NeverFalls (F.faults files.old) (F.faults files.new) }
+    ensures calm_out { (result ≡ Err Stop.WriteFault → ⊥) → S.faults out.new ≡ S.faults out.old }
+    ensures faults { NeverFalls (S.faults out.old) (S.faults out.new) }
+{
+    for event in events {
+        happen(kernel, root, event, files, out)?;
+    }
+    Ok(())
+}
+
 /// All events of a script, from the machine without domains.
 pub fn run_events<F: Files, S: Sink>(
     alloc: Global,
@@ -188,8 +216,5 @@ pub fn run_events<F: Files, S: Sink>(
     let Ok(mut kernel) = Kernel::new(alloc, PlainStore::new(alloc), PlainFrames::new(alloc)) else {
         return Err(Stop::OutOfMemory);
     };
-    for event in events {
-        happen(&mut kernel, root, event, files, out)?;
-    }
-    Ok(())
+    all_happen(&mut kernel, root, events, files, out)
 }

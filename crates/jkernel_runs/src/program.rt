@@ -13,7 +13,7 @@ ghost use Rattle.jkernel_runs.specs.Scripts.{IsScript, IsAtFault};
 ghost use Rattle.jkernel_runs.specs.Statuses.{HasFault, LacksScript, EndsDone, EndsForFiles, EndsForMemory, EndsInLines, IsUnread, Asks, Says, BeginsToSay};
 
 use crate::demo::run_demo;
-use crate::ends::{End, report};
+use crate::ends::{End, ended, report};
 use crate::events::run_events;
 use crate::scripts::script_at;
 use crate::status::Status;
@@ -51,10 +51,7 @@ fn run_script<F: Files, S: Sink>(
         Ok(events) => events,
         Err(end) => return end,
     };
-    match run_events(alloc, root, events.as_slice(), files, out) {
-        Ok(()) => End::Done,
-        Err(stop) => End::Stopped(stop),
-    }
+    ended(run_events(alloc, root, events.as_slice(), files, out))
 }
 
 /// Runs what is called for, and says nothing of it. What holds of it holds for all words that call for this.

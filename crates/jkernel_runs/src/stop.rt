@@ -1,7 +1,7 @@
 //! Why a run stops before its end.
 
 /// What stops a run.
-#[derive(Clone, Copy, Debug, PartialEq, Eq)]
+#[derive(Clone, Copy)]
 pub enum Stop {
     /// The files failed.
     ReadFault,

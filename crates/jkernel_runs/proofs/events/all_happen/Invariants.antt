@@ -7,7 +7,7 @@ use Rattle.jkernel_runs.specs.DomainEvents.{OpensFolder}
 use Rattle.jkernel_runs.specs.DrawnNumbers.{MOST_DRAWN}
 use Rattle.jkernel_runs.specs.Events.{moment}
 use Rattle.jkernel_runs.proofs.EventsInTurn.{RunsSoFar}
-use Rattle.jkernel_runs.proofs.events.run_events.Given as goal
+use Rattle.jkernel_runs.proofs.events.all_happen.Given as goal
 
 abbrev pub invariant-loop-event : goal.invariant-loop-event
 invariant-loop-event g l = record {
