@@ -31,6 +31,13 @@ returns-in_err-read_more-clause-well_long g c =
     let is : c.in_err-read_more.field-0.0 ≡ TooLong = search rules in
     LogsOnly-after GoesOn _ _ _ c.loop-turn.invariant.well (c.in_err-read_more.ensures.well_long (ap Err is))
 
+pub returns-then-branch-clause-log : goal.returns-then-branch-clause-log
+returns-then-branch-clause-log g c =
+    LogsOnly-after (λ (s : Step). s.asks ≡ Reads) _ _ _ c.loop-turn.invariant.log c.in_ok-read_more.ensures.log
+
+pub returns-then-branch-clause-well : goal.returns-then-branch-clause-well
+returns-then-branch-clause-well g c = LogsOnly-after GoesOn _ _ _ c.loop-turn.invariant.well c.in_ok-read_more.ensures.well
+
 pub loop-turn-preserved : goal.loop-turn-preserved
 loop-turn-preserved g c =
     let Is : Step → Type 0 = λ s. s.asks ≡ Reads in
