@@ -29,12 +29,26 @@ fn answer(alloc: Global, family: &str, size: u16, calls: bool) -> Option<usize> 
         "diamonds-added" => above::diamonds_added(alloc, size, calls),
         "chain" => above::chain(alloc, size, calls),
         "chain-fields" => layouts::chain_fields(alloc, size, calls),
+        "layouts" => layouts::children(alloc, size, calls),
+        _ => member_answer(alloc, family, size, calls),
+    }
+}
+
+/// The same of the families in which classes have many members.
+fn member_answer(alloc: Global, family: &str, size: u16, calls: bool) -> Option<usize> {
+    match family {
         "methods" => members::methods(alloc, size, calls),
         "fields" => members::fields(alloc, size, calls),
         "one-name" => adding::one_name(alloc, size, calls),
         "one-kind" => adding::one_kind(alloc, size, calls),
         "one-text" => adding::one_text(alloc, size, calls),
-        "layouts" => layouts::children(alloc, size, calls),
+        _ => sharing_answer(alloc, family, size, calls),
+    }
+}
+
+/// The same of those in which classes are brought in, offered and shared, or have stubs.
+fn sharing_answer(alloc: Global, family: &str, size: u16, calls: bool) -> Option<usize> {
+    match family {
         "imports" => imports::brought(alloc, size, calls),
         "offers" => shares::sorted(alloc, size, calls),
         "shares" => shares::judged(alloc, size, calls),
@@ -44,7 +58,7 @@ fn answer(alloc: Global, family: &str, size: u16, calls: bool) -> Option<usize> 
     }
 }
 
-/// The same of the families in which methods' codes are judged.
+/// The same of those in which methods' codes are judged.
 fn typing_answer(alloc: Global, family: &str, size: u16, calls: bool) -> Option<usize> {
     match family {
         "straight" => lines::straight(alloc, size, calls),
@@ -53,6 +67,13 @@ fn typing_answer(alloc: Global, family: &str, size: u16, calls: bool) -> Option<
         "small-methods" => lines::small_methods(alloc, size, calls),
         "handlers" => catches::handlers(alloc, size, calls),
         "nested" => catches::nested(alloc, size, calls),
+        _ => loop_answer(alloc, family, size, calls),
+    }
+}
+
+/// The same of those in whose codes locals rise.
+fn loop_answer(alloc: Global, family: &str, size: u16, calls: bool) -> Option<usize> {
+    match family {
         "rising" => loops::rising(alloc, size, calls),
         "ring" => loops::ring(alloc, size, calls),
         "ring-of-leaders" => loops::ring_of_leaders(alloc, size, calls),
