@@ -94,7 +94,7 @@ wide-above classes (true ∷ marks) [] (v ∷ vs) h = wide-above classes marks [
 wide-above classes (true ∷ marks) (w ∷ a) [] h = refl
 wide-above classes (true ∷ marks) (w ∷ a) (v ∷ vs) h = wide-above classes marks a vs h.1
 
-pub fits_long : (classes : List ClassRecord) (v : VType) → Fits classes v Long → v ≡ Long
+fits_long : (classes : List ClassRecord) (v : VType) → Fits classes v Long → v ≡ Long
 fits_long classes Unusable h = h
 fits_long classes Int h = h
 fits_long classes Long h = h
