@@ -15,10 +15,10 @@ use Rattle.jk_model_classes.specs.declared.records.ClassRecord.{ClassRecord}
 use Rattle.jk_model_classes.specs.declared.records.MethodRecord.{MethodRecord}
 use Rattle.jk_model_classes.specs.Classes.{superclasses}
 use Rattle.jk_model_classes.specs.Lookups.{FindsOn, IsUnlessAbstract, MethodIs, RunsFor, Selects}
-use Rattle.class_lemmas.proofs.OneMember.{one_on}
 use Rattle.class_lemmas.proofs.OneRecord.{one_method}
 use Rattle.jk_model_heaps.specs.CalledFrames.{call_head}
 use Rattle.jk_model_heaps.specs.Capabilities.{CapRange, Capability, OwnedCapability, capability_in, capability_numbered, has_number}
+use Rattle.jk_model_call_rows.proofs.OneSelected.{one_selected}
 use Rattle.jk_model_machine_state.specs.Machines.{DomainState, Machine, caps_of}
 use Rattle.jk_model_machine_state.specs.Places.{LiveDomain}
 use Rattle.jk_model_crossings.specs.RemoteCalls.{HasTarget, IsLive, IsOpen, Refuses, RemoteCall}
@@ -29,28 +29,6 @@ use Rattle.list_lemmas.proofs.ItemsOfLists.{Contains-at}
 use Rattle.list_lemmas.proofs.TestsAndOrders.{mapped_option}
 use Rattle.domain_crossing.specs.declared.callees.Callee.{Callee}
 use Rattle.domain_crossing.specs.CalleesFound.{FindsCallee, FindsHead}
-
--- ---- A call selects one method.
-
-module _ (Suits : MemberId → Type 0) (walk : List ClassId) where
-  one_found : (a b : Option MemberId) → FindsOn Suits walk a → FindsOn Suits walk b → a ≡ b
-  one_found None None h k = refl
-  one_found None (Some n) h k = absurd (h n.class (Contains-at walk k.place n.class k.visited) (n.index, k.member.suits))
-  one_found (Some m) None h k = absurd (k m.class (Contains-at walk h.place m.class h.visited) (m.index, h.member.suits))
-  one_found (Some m) (Some n) h k = ap (λ (x : MemberId). Some x) (one_on Suits walk m n h k)
-
-module _ (classes : List ClassRecord) where
-  one_unless : (found a b : Option MemberId) → IsUnlessAbstract classes found a → IsUnlessAbstract classes found b → a ≡ b
-  one_unless None a b h k = h ∙ sym k
-  one_unless (Some f) a b (inl h) (inl k) = h.1 ∙ sym k.1
-  one_unless (Some f) a b (inl h) (inr k) = absurd (k.0 h.0)
-  one_unless (Some f) a b (inr h) (inl k) = absurd (h.0 k.0)
-  one_unless (Some f) a b (inr h) (inr k) = h.1 ∙ sym k.1
-
-  one_selected : (receiver : ClassId) (m : MemberId) (a b : Option MemberId) → Selects classes receiver m a → Selects classes receiver m b → a ≡ b
-  one_selected receiver m a b h k =
-      let same : k.0 ≡ h.0 = one_found (RunsFor classes m) (superclasses classes receiver) k.0 h.0 k.1 h.1 in
-      one_unless h.0 a b h.2 (subst (λ (f : Option MemberId). IsUnlessAbstract classes f b) same k.2)
 
 -- ---- A capability by its number.
 

@@ -16,7 +16,7 @@ use Rattle.domain_crossing.specs.TakenSegments.{AreApart, TopStands}
 
 -- ---- One of a list passes a test.
 
-any_there : {X : Type 0} (test : X → Bool) (xs : List X) → list_any test xs ≡ true
+pub any_there : {X : Type 0} (test : X → Bool) (xs : List X) → list_any test xs ≡ true
     → (k : ℕ) × (x : X) × (slice_get xs k ≡ Some x) × (test x ≡ true)
 any_there test [] h = absurd cc
 any_there test (x ∷ xs) h = by (test x) refl h (any_there test xs)
@@ -27,7 +27,7 @@ any_there test (x ∷ xs) h = by (test x) refl h (any_there test xs)
     by true is h rest = (0, x, refl, is)
     by false is h rest = (let later = rest h in (suc later.0, later.1, later.2, later.3))
 
-any_is : {X : Type 0} (test : X → Bool) (xs : List X) (k : ℕ) (x : X) → slice_get xs k ≡ Some x → test x ≡ true → list_any test xs ≡ true
+pub any_is : {X : Type 0} (test : X → Bool) (xs : List X) (k : ℕ) (x : X) → slice_get xs k ≡ Some x → test x ≡ true → list_any test xs ≡ true
 any_is test [] k x at is = absurd cc
 any_is test (y ∷ xs) zero x at is = ap (λ (b : Bool). b || list_any test xs) (ap test (same_Some y x at) ∙ is)
 any_is test (y ∷ xs) (suc k) x at is = by (test y) (any_is test xs k x at is)

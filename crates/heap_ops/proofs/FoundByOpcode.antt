@@ -1,6 +1,6 @@
 -- What an instruction finds, by its opcode.
-use Rattle.std.proofs.Common.{◌≡◌, ◌⊎◌, ◌≤◌, ◌==◌, ◌||◌, inl, inr, ℕ, ℤ, pos, Bool, true, false, List, [], ◌∷◌, length, map, refl, sym, ap, subst, ◌∙◌, arith}
-use Rattle.std.proofs.lemmas.Bool.{eqb-true}
+use Rattle.std.proofs.Common.{◌≡◌, ◌⊎◌, ◌≤◌, ◌==◌, inl, inr, ℕ, ℤ, pos, Bool, true, false, List, [], ◌∷◌, length, map, refl, sym, ap, subst, ◌∙◌, arith}
+use Rattle.std.proofs.lemmas.Bool.{eqb-true, or_cases}
 use Rattle.jk_model.specs.declared.identifiers.ClassId.{ClassId}
 use Rattle.jk_model.specs.declared.identifiers.MemberId.{MemberId}
 use Rattle.jk_model.specs.declared.instructions.Instr.{Instr}
@@ -26,10 +26,6 @@ choose false A B = B
 
 -- ---- No store is a load.
 
-either : (a b : Bool) → (a || b) ≡ true → (a ≡ true) ⊎ (b ≡ true)
-either true b e = inl refl
-either false b e = inr e
-
 low : (k m n : ℕ) → k ≤ n → (m == k) ≡ true → m ≤ n
 low k m n h e = let same : m ≡ k = eqb-true m k e in omega (arith, same, h)
 
@@ -37,15 +33,15 @@ high : (k m n : ℕ) → n ≤ k → (m == k) ≡ true → n ≤ m
 high k m n h e = let same : m ≡ k = eqb-true m k e in omega (arith, same, h)
 
 load_low : (op : ℕ) → is_element_load op ≡ true → op ≤ 0x35
-load_low op e = elim (either _ _ e) [
+load_low op e = elim (or_cases _ _ e) [
   | inr h ↦ low 0x35 op 0x35 (omega arith) h
-  | inl e ↦ elim (either _ _ e) [
+  | inl e ↦ elim (or_cases _ _ e) [
     | inr h ↦ low 0x34 op 0x35 (omega arith) h
-    | inl e ↦ elim (either _ _ e) [
+    | inl e ↦ elim (or_cases _ _ e) [
       | inr h ↦ low 0x33 op 0x35 (omega arith) h
-      | inl e ↦ elim (either _ _ e) [
+      | inl e ↦ elim (or_cases _ _ e) [
         | inr h ↦ low 0x32 op 0x35 (omega arith) h
-        | inl e ↦ elim (either _ _ e) [
+        | inl e ↦ elim (or_cases _ _ e) [
           | inr h ↦ low 0x2f op 0x35 (omega arith) h
           | inl h ↦ low 0x2e op 0x35 (omega arith) h
         ]
@@ -55,15 +51,15 @@ load_low op e = elim (either _ _ e) [
 ]
 
 store_high : (op : ℕ) → is_element_store op ≡ true → 0x4f ≤ op
-store_high op e = elim (either _ _ e) [
+store_high op e = elim (or_cases _ _ e) [
   | inr h ↦ high 0x56 op 0x4f (omega arith) h
-  | inl e ↦ elim (either _ _ e) [
+  | inl e ↦ elim (or_cases _ _ e) [
     | inr h ↦ high 0x55 op 0x4f (omega arith) h
-    | inl e ↦ elim (either _ _ e) [
+    | inl e ↦ elim (or_cases _ _ e) [
       | inr h ↦ high 0x54 op 0x4f (omega arith) h
-      | inl e ↦ elim (either _ _ e) [
+      | inl e ↦ elim (or_cases _ _ e) [
         | inr h ↦ high 0x53 op 0x4f (omega arith) h
-        | inl e ↦ elim (either _ _ e) [
+        | inl e ↦ elim (or_cases _ _ e) [
           | inr h ↦ high 0x50 op 0x4f (omega arith) h
           | inl h ↦ high 0x4f op 0x4f (omega arith) h
         ]

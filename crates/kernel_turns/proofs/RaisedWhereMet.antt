@@ -19,7 +19,7 @@ use Rattle.machine_laws.specs.SoundMachines.{HasSoundClasses}
 use Rattle.machine_parts.specs.ChangedParts.{AreSegmentsApart}
 use Rattle.kernel_turns.specs.GoingDown.{IsRaisable}
 use Rattle.kernel_turns.proofs.RunsApart.{running_apart}
-use Rattle.kernel_turns.proofs.SegmentsApart.{sealed_apart}
+use Rattle.domain_crossing.proofs.PartsEntered.{sealed_apart}
 use Rattle.kernel_turns.proofs.SmallNumbers.{small_numbers}
 
 -- of that segment

@@ -19,7 +19,8 @@ use Rattle.kernel_turns.specs.SteppedParts.{IsPending, is_revoked, stops}
 use Rattle.domain_crossing.proofs.DomainsByPlace.{shared_found, shared_is_live, shared_there}
 use Rattle.kernel_turns.proofs.PlacedThreads.{own_at}
 use Rattle.kernel_turns.proofs.RunningFound.{top_numbered}
-use Rattle.kernel_turns.proofs.SegmentsApart.{apart_in_shared, sealed_apart}
+use Rattle.domain_crossing.proofs.PartsEntered.{sealed_apart}
+use Rattle.kernel_turns.proofs.SegmentsApart.{apart_in_shared}
 
 module _ (k : KernelContent) (x : Running) (ready : IsReady k x) where
   pub apart : AreApart k.shared.threads

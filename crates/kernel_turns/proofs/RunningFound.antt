@@ -1,39 +1,17 @@
 -- The segment of the number of a thread's top segment is that one.
-use Rattle.std.proofs.Common.{◌≡◌, ℕ, zero, suc, ◌==◌, Bool, true, false, List, [], ◌∷◌, find, slice_get, Option, Some, None, option_map, refl, sym, ap, ◌∙◌, eq-eqb}
-use Rattle.std.specs.Prelude.{option_and_then, ◌||◌}
+use Rattle.std.proofs.Common.{◌≡◌, ℕ, ◌==◌, Bool, true, false, List, find, slice_get, Option, Some, None, option_map, refl, sym, ap, ◌∙◌, eq-eqb}
+use Rattle.std.specs.Prelude.{option_and_then}
 use Rattle.std.specs.List.{list_any}
 use Rattle.std.proofs.lemmas.Bool.{eqb-true}
-use Rattle.std.proofs.lemmas.Option.{same_Some}
 use Rattle.jk_model.specs.declared.identifiers.SegmentNo.{SegmentNo}
 use Rattle.jk_model.specs.declared.identifiers.ThreadNo.{ThreadNo}
 use Rattle.jk_model_sharing.specs.Segments.{SharedSegment, SharedThread, is_numbered, placed_in, segment_numbered, shared_form, thread_numbered, thread_with, top_of, top_segment}
 use Rattle.list_lemmas.proofs.FoundItems.{Finds, finds}
 use Rattle.list_lemmas.proofs.ItemsOfLists.{place_of}
 use Rattle.list_lemmas.proofs.TestsAndOrders.{mapped_option}
+use Rattle.domain_crossing.proofs.SegmentsFound.{any_is, any_there}
 use Rattle.kernel_turns.specs.LiveThreads.{AreApart}
 use Rattle.kernel_turns.proofs.PlacedThreads.{top_is_there}
-
--- ---- One of a list passes a test.
-
-any_there : {X : Type 0} (test : X → Bool) (xs : List X) → list_any test xs ≡ true
-    → (k : ℕ) × (x : X) × (slice_get xs k ≡ Some x) × (test x ≡ true)
-any_there test [] h = absurd cc
-any_there test (x ∷ xs) h = by (test x) refl h (any_there test xs)
-  where
-    by : (b : Bool) → test x ≡ b → b || list_any test xs ≡ true
-        → (list_any test xs ≡ true → (k : ℕ) × (y : _) × (slice_get xs k ≡ Some y) × (test y ≡ true))
-        → (k : ℕ) × (y : _) × (slice_get (x ∷ xs) k ≡ Some y) × (test y ≡ true)
-    by true is h rest = (0, x, refl, is)
-    by false is h rest = (let later = rest h in (suc later.0, later.1, later.2, later.3))
-
-any_is : {X : Type 0} (test : X → Bool) (xs : List X) (k : ℕ) (x : X) → slice_get xs k ≡ Some x → test x ≡ true → list_any test xs ≡ true
-any_is test [] k x at is = absurd cc
-any_is test (y ∷ xs) zero x at is = ap (λ (b : Bool). b || list_any test xs) (ap test (same_Some y x at) ∙ is)
-any_is test (y ∷ xs) (suc k) x at is = by (test y) (any_is test xs k x at is)
-  where
-    by : (b : Bool) → list_any test xs ≡ true → b || list_any test xs ≡ true
-    by true h = refl
-    by false h = h
 
 -- ---- By number.
 

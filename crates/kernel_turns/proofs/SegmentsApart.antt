@@ -1,33 +1,12 @@
 -- Threads and segments have different numbers in the machine exactly where they have in what domains share.
-use Rattle.std.proofs.Common.{◌≡◌, ℕ, ◌==◌, inl, inr, Bool, true, false, cond, List, slice_get, Some, refl, sym, ap, ◌∙◌, arith}
-use Rattle.std.proofs.lemmas.Bool.{cases_lt}
+use Rattle.std.proofs.Common.{◌≡◌, ◌==◌, Bool, true, false, cond, List, slice_get, refl, sym, ap, ◌∙◌}
 use Rattle.jk_model.specs.declared.identifiers.SegmentNo.{SegmentNo}
-use Rattle.jk_model.specs.declared.identifiers.ThreadNo.{ThreadNo}
 use Rattle.jk_model_sharing.specs.Segments.{SharedSegment, SharedThread, shared_form, with_segment, with_segments, with_stacks}
-use Rattle.jk_model_machine_state.specs.Machines.{Machine, Segment, Thread}
-use Rattle.jk_model_runs.specs.Sealed.{IsSealed}
+use Rattle.jk_model_machine_state.specs.Machines.{Segment, Thread}
 use Rattle.list_lemmas.proofs.ItemsByPlace.{comes_from, mapped_at}
 use Rattle.machine_parts.specs.ChangedParts.{AreSegmentsApart}
 use Rattle.machine_parts.specs.MachineParts.{MachineParts, machine_of, segment_with_frames, thread_with_frames}
 use Rattle.kernel_turns.specs.LiveThreads.{AreApart}
-
--- ---- Numbers of a sealed machine.
-
-pub sealed_apart : (m : Machine) → IsSealed m → AreSegmentsApart m
-sealed_apart m sealed = record { threads = threads; segments = sealed.threads.segments_differ }
-  where
-    threads : (i j : ℕ) (a b : Thread) → slice_get m.threads i ≡ Some a → slice_get m.threads j ≡ Some b → a.number ≡ b.number → i ≡ j
-    threads i j a b at there same = elim (cases_lt i j) [
-      | inl below ↦
-          let n : a.number.0 ≡ b.number.0 = ap (λ (x : ThreadNo). x.0) same in
-          absurd (omega (arith, sealed.threads.rise i j a b below at there, n))
-      | inr above ↦ elim (cases_lt j i) [
-        | inl below ↦
-            let n : a.number.0 ≡ b.number.0 = ap (λ (x : ThreadNo). x.0) same in
-            absurd (omega (arith, sealed.threads.rise j i b a below there at, n))
-        | inr not ↦ omega (arith, above, not)
-      ]
-    ]
 
 -- ---- What domains share.
 

@@ -24,7 +24,7 @@ use Rattle.kernel_turns.proofs.ActsNeverRest.{OthersPay, no_rest}
 use Rattle.kernel_turns.proofs.KeptParts.{tidy_known}
 use Rattle.kernel_turns.proofs.PaidParts.{is_paid, known_after, parts_paid}
 use Rattle.kernel_turns.proofs.PlacedThreads.{own_at, place, stored}
-use Rattle.kernel_turns.proofs.SegmentsApart.{sealed_apart}
+use Rattle.domain_crossing.proofs.PartsEntered.{sealed_apart}
 
 never_both : (b : Bool) → b ≡ false → b ≡ true → ⊥
 never_both b off on = (let both : false ≡ true = sym off ∙ on in absurd cc)

@@ -8,7 +8,8 @@ use Rattle.machine_laws.specs.KnownMachines.{IsKnownMachine}
 use Rattle.segment_steps.specs.declared.meeting.Runs.{Runs}
 use Rattle.kernel_turns.specs.RestingThreads.{IsResting}
 use Rattle.kernel_turns.proofs.FramesOfThreads.{lives}
-use Rattle.kernel_turns.proofs.SegmentsApart.{apart_in_shared, sealed_apart}
+use Rattle.domain_crossing.proofs.PartsEntered.{sealed_apart}
+use Rattle.kernel_turns.proofs.SegmentsApart.{apart_in_shared}
 use Rattle.kernel_turns.proofs.WorkingThreads.{may_work}
 use Rattle.kernel_turns.proofs.frame_steps.steps_alone.Goals as goal
 

@@ -11,7 +11,8 @@ use Rattle.kernel_parts.specs.SoundKernels.{KernelContent, kernel_machine, parts
 use Rattle.machine_laws.specs.KnownMachines.{IsKnownMachine}
 use Rattle.kernel_turns.specs.RestingThreads.{IsResting}
 use Rattle.kernel_turns.proofs.FramesOfThreads.{lives, runs_at}
-use Rattle.kernel_turns.proofs.SegmentsApart.{apart_in_shared, sealed_apart}
+use Rattle.domain_crossing.proofs.PartsEntered.{sealed_apart}
+use Rattle.kernel_turns.proofs.SegmentsApart.{apart_in_shared}
 use Rattle.domain_ends.proofs.PrintedLines.{printed_none}
 use Rattle.kernel_turns.proofs.PrintedSteps.{failed_as}
 use Rattle.kernel_turns.proofs.RestsTold.{sink_failed, step_taken}
