@@ -1,34 +1,47 @@
 -- What a thread's top segment may rest on where it acts, or where something is raised in it, from what is known of the parts.
-use Rattle.std.proofs.Common.{◌≡◌, false, List, refl, ap, subst, ◌∙◌}
+use Rattle.std.proofs.Common.{◌≡◌, false, Contains, List, Some, refl, sym, ap, subst, ◌∙◌}
 use Rattle.std.specs.Prelude.{option_and_then}
+use Rattle.jk_model.specs.declared.identifiers.CapId.{CapId}
 use Rattle.jk_model.specs.declared.identifiers.ThreadNo.{ThreadNo}
+use Rattle.jk_model_classes.specs.declared.records.ClassRecord.{ClassRecord}
+use Rattle.jk_model_classes.specs.declared.sharing.Stub.{Stub}
 use Rattle.jk_model_heaps.specs.Capabilities.{CapRange, OwnedCapability, capability_numbered}
 use Rattle.jk_model_sealing.specs.FittingFrames.{FitsAsTop}
 use Rattle.jk_model_sealing.specs.SealedInsides.{Surroundings}
 use Rattle.jk_model_sealing.specs.SealedRuns.{IsSealedRun}
-use Rattle.jk_model_sharing.specs.SharedStates.{stub_for}
+use Rattle.jk_model_sharing.specs.SharedStates.{SharedDomain, SharedState, stub_for}
 use Rattle.jk_model_sharing.specs.SharedStates.{caps_of as shared_caps}
 use Rattle.jk_model_machine_state.specs.Machines.{caps_of}
 use Rattle.jk_model_machine_state.specs.Places.{run_of, setting_of}
 use Rattle.jk_model_runs.specs.Sealed.{surroundings}
+use Rattle.list_lemmas.proofs.ItemsByPlace.{comes_from}
 use Rattle.list_lemmas.proofs.ItemsOfLists.{Contains-at}
 use Rattle.heap_laws.specs.LaidOutObjects.{AreSmallNumbers}
 use Rattle.row_laws.proofs.StatesOfFrames.{states_there}
 use Rattle.machine_laws.proofs.RunningSegmentsFit.{acts_well}
 use Rattle.machine_laws.specs.KnownMachines.{IsKnownMachine}
 use Rattle.machine_laws.specs.SoundMachines.{HasSoundClasses}
-use Rattle.machine_parts.specs.FittingParts.{HaveOneList}
+use Rattle.machine_parts.specs.FittingParts.{HaveOneList, HaveStubs}
 use Rattle.row_laws.specs.KeptRuns.{ActsWell}
 use Rattle.step_contents.specs.Conditions.{KnowsDomain, SharesWell}
 use Rattle.step_contents.specs.Contents.{Holds}
 use Rattle.segment_steps.specs.ActingSegments.{MayAct}
-use Rattle.domain_crossing.proofs.CalleesMet.{stub_made}
+use Rattle.domain_crossing.proofs.CalleesMet.{created}
 use Rattle.domain_crossing.proofs.DomainsByPlace.{caps_are_shared, names_there, shared_found, shared_is_live, shared_there}
 use Rattle.domain_ends.specs.TidyParts.{AreTidyParts}
 use Rattle.kernel_parts.specs.SoundKernels.{KernelContent, kernel_machine, parts_of}
 use Rattle.kernel_turns.specs.RunningPlaces.{RunsAt, contents_at, here_in}
 use Rattle.kernel_turns.proofs.PlacedThreads.{home, own_at, place, stored}
 use Rattle.kernel_turns.proofs.SmallNumbers.{small_numbers}
+
+-- a capability that was given out has a stub
+stub_made : (classes : List ClassRecord) (s : SharedState) (k : CapId) (known : OwnedCapability) → HaveStubs classes s
+    → capability_numbered (shared_caps s) k ≡ Some known → (stub : Stub) × (stub_for s known.capability.class ≡ Some stub)
+stub_made classes s k known have is =
+    let at = created (shared_caps s) k known is in
+    let from = comes_from (λ (e : SharedDomain). e.caps) s.domains at.place at.range at.is_range in
+    have.made from.from known.capability (Contains-at s.domains at.place from.from from.there)
+    (subst (λ (r : CapRange). Contains r.made known.capability) (sym from.gives) at.made)
 
 module _ (k : KernelContent) (t : ThreadNo) (at : RunsAt k t) (tidy : AreTidyParts k) (sound : HasSoundClasses (kernel_machine k))
     (small : AreSmallNumbers (caps_of (kernel_machine k))) where
