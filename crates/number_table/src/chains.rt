@@ -122,7 +122,7 @@ impl Chains {
 
     /// As `move_top`, where no node of the other stack is looked for by its position, as of a stack of free nodes: the second
     /// link is the one below too, which costs nothing to find.
-    #[inline]
+    #[inline(always)]
     pub fn free_top(&mut self, from: usize, to: usize) -> usize
         requires from_there { from < stacks self.old }
         requires to_there { to < stacks self.old }

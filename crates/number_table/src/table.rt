@@ -62,6 +62,7 @@ impl NumberTable {
     }
 
     /// Enters a key that isn't there, where there is room.
+    #[inline(always)]
     pub fn insert(&mut self, key: u64, place: Place)
         requires new { place_of self.old key ≡ None }
         requires room { 0 < self.old.room }
