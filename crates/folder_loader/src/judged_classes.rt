@@ -18,6 +18,7 @@ use std::alloc::Global;
 
 /// Judges C20, C21 and C22 of the classes, which have no links yet.
 pub(crate) fn judge_links(
+    alloc: Global,
     t: &ClassTable,
     classes: &[FolderClass],
     placed: &Placed,
@@ -30,7 +31,7 @@ pub(crate) fn judge_links(
         → WhereUnlinked (files_of classes.now) placed.now t.now (λ w p. IsFirstOf w (files_of classes.now) p fault) }
 {
     let order = placed.order.as_slice();
-    match link_fault(t, classes, order, placed.first, &placed.names, links) {
+    match link_fault(alloc, t, classes, order, placed.first, &placed.names, links) {
         Some(fault) => Err(ClassFilesError::Broken(fault)),
         None => Ok(()),
     }

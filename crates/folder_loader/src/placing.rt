@@ -50,7 +50,7 @@ fn linked_classes(
         → (w : WorldRecord) (lines : AList ALine) (names : AList NamedClass)
         (s : StandsUnlinked w lines (files_of classes.now) names placed.now links world.old) → IsFirstOf w (files_of classes.now) s.0.placed fault }
 {
-    if let Err(e) = judge_links(world.classes(), classes, placed, links.as_slice()) {
+    if let Err(e) = judge_links(alloc, world.classes(), classes, placed, links.as_slice()) {
         return Err(e);
     }
     let _count = world.classes().len();

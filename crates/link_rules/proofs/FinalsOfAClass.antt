@@ -1,5 +1,5 @@
 -- The final methods of a class that another overrides are found by its name and type, one after the other.
-use Rattle.std.proofs.Common.{◌≡◌, ℕ, ◌+◌, ◌<◌, ◌≤◌, ◌⊎◌, inl, inr, Bool, true, false, List, length, Option, Some, None, sym, ap, ◌∙◌, subst, arith}
+use Rattle.std.proofs.Common.{◌≡◌, ℕ, ◌+◌, ◌<◌, ◌≤◌, ◌⊎◌, ◌↔◌, inl, inr, Bool, true, false, IsTrue, List, length, Option, Some, None, refl, sym, ap, ◌∙◌, subst, arith}
 use Rattle.std.specs.Prelude.{slice_get}
 use Rattle.std.specs.Option.{is_some}
 use Rattle.std.proofs.lemmas.Bool.{cases_eq, cases_lt, false≢true}
@@ -106,6 +106,13 @@ module _ (classes : List ClassRecord) (class : ClassId) where
       → {b : Bool} → b ≡ is_some found → b ≡ false → OverridesIn classes class d method → ⊥
   found_none_by d method None none is other = found_none d method none
   found_none_by d method (Some i) found is other = absurd (false≢true (sym other ∙ is))
+
+  pub told_by : (d : ClassId) (method : MethodRecord) (found : Option ℕ) → FindsFrom (IsFinalFor classes class method.name method.kind) d 0 found
+      → (b : Bool) → b ≡ is_some found → IsTrue b ↔ OverridesIn classes class d method
+  told_by d method None none false is = (λ t. absurd cc, λ over. absurd (found_none d method none over))
+  told_by d method None none true is = absurd cc
+  told_by d method (Some i) found true is = (λ t. found_here d method i found, λ over. refl)
+  told_by d method (Some i) found false is = absurd cc
 
   pub few_methods : (d : ClassId) (methods : List MethodRecord) → ((c : ClassId) (r : ClassRecord) → record_of classes c ≡ Some r
       → (length r.fields ≤ 65535) × (length r.methods ≤ 65535)) → HasMethods classes d methods → length methods ≤ 65535

@@ -2,9 +2,11 @@
 mod ClosedClasses
 mod FinalByLinks
 mod FinalsAbove
+mod FinalsMet
 mod FinalsOfAClass
 mod FirstPlaces
 mod MadeByLinks
+mod MetByKeys
 mod MethodsByRecord
 mod MissingByLinks
 mod RefusedByLinks

@@ -4,10 +4,9 @@ ghost use Rattle.std.specs.Prelude.{◌≡◌, ◌↔◌, ℕ, IsTrue, Some, len
 ghost use Rattle.std.specs.Option.{option_to_list};
 ghost use Rattle.jk_model_classes.specs.declared.records.MethodRecord.{MethodRecord as AMethod};
 ghost use Rattle.jk_model_classes.specs.Classes.{parents_of, record_of};
-ghost use Rattle.jk_model_classes.specs.LinkRules.{LinkScope, HasFinalOverridden, OverridesFinal};
+ghost use Rattle.jk_model_classes.specs.LinkRules.{OverridesFinal};
 ghost use Rattle.jk_model_classes.specs.Lookups.{FindsFrom, MethodIs};
-ghost use Rattle.link_rules.specs.FinalMethods.{HasMethods, IsFinalFor, IsFinalIn, IsFirstPlace, IsNamedAs, OverridesAt, OverridesIn, earlier_place, scope_of};
-ghost use Rattle.link_rules.specs.LinkFaults.{IsLeastNumber};
+ghost use Rattle.link_rules.specs.FinalMethods.{HasMethods, IsFinalFault, IsFinalFor, IsFinalIn, IsFirstPlace, IsInside, IsNamedAs, IsOutside, OverridesAt, OverridesIn, OverridesSo, OverridesWhere, earlier_place, scope_of};
 
 use class_table::{ClassTable, MethodKey};
 use jk_model::{AccessFlags, ClassId, MemberId, has};
@@ -17,44 +16,113 @@ use member_lookup::{method_record, overrides};
 /// The least number of a method of the class that overrides a final one of a class above; none where there is none. It takes
 /// no memory, and for each class above at most a search for each method of the class, or one in the class for each final
 /// method of the one above, whichever are fewer.
-pub fn final_fault(t: &ClassTable, class: ClassId) -> Option<u32>
-    ensures { (s : LinkScope) → s.classes ≡ t.now → s.self ≡ class → IsLeastNumber (HasFinalOverridden s) result }
+pub(crate) fn final_fault(t: &ClassTable, class: ClassId) -> Option<u32>
+    ensures { IsFinalFault t.now class result }
 {
+    t.ordered();
     match t.class(class) {
-        Some(r) => fault_of(t, class, r),
+        Some(r) => {
+            let place = first_overriding(t, class, class, r.methods.as_slice());
+            number_of(t, class, r, place)
+        }
         None => None,
     }
 }
 
-/// The least number of a method of the class that overrides a final one of a class above.
-fn fault_of(t: &ClassTable, class: ClassId, r: &ClassRecord) -> Option<u32>
-    requires { record_of t.now class ≡ Some r.now }
-    ensures { (s : LinkScope) → s.classes ≡ t.now → s.self ≡ class → IsLeastNumber (HasFinalOverridden s) result }
+/// The number of the first method of the class that overrides a final one, by its place.
+pub(crate) fn number_of(
+    t: &ClassTable,
+    class: ClassId,
+    r: &ClassRecord,
+    place: Option<usize>,
+) -> Option<u32>
+    requires class { record_of t.now class ≡ Some r.now }
+    requires first { IsFirstPlace (OverridesFinal (scope_of t.now class)) r.now.methods place }
+    ensures { IsFinalFault t.now class result }
 {
     t.ordered();
-    match first_overriding(t, class, r.methods.as_slice()) {
+    match place {
         Some(i) => Some((r.fields.len() + i + 1) as u32),
         None => None,
     }
 }
 
-/// The place of the first of the class's methods that overrides a final one of a class above.
-fn first_overriding(t: &ClassTable, class: ClassId, methods: &[MethodRecord]) -> Option<usize>
+/// The place of the first of the class's methods that overrides a final one of a class above which stands before this one.
+pub(crate) fn first_overriding(
+    t: &ClassTable,
+    class: ClassId,
+    before: ClassId,
+    methods: &[MethodRecord],
+) -> Option<usize>
     requires { HasMethods t.now class methods.now }
-    ensures { IsFirstPlace (OverridesFinal (scope_of t.now class)) methods.now result }
+    ensures { IsFirstPlace (OverridesWhere (IsOutside before) t.now class) methods.now result }
 {
     t.ordered();
     let mut best = None;
     let mut next = parent_of(t, class);
     while let Some(d) = next {
-        best = earlier(best, first_below(t, class, d, methods));
+        best = earlier(best, first_outside(t, class, before, d, methods));
         next = parent_of(t, d);
     }
     best
 }
 
+/// Whether a method of the class overrides a final one of a class above which doesn't stand before this one. It takes one search
+/// for each of these classes.
+pub(crate) fn overrides_from(
+    t: &ClassTable,
+    class: ClassId,
+    first: ClassId,
+    method: &MethodRecord,
+) -> bool
+    ensures { IsTrue result ↔ OverridesWhere (IsInside first) t.now class method.now }
+{
+    t.ordered();
+    let mut next = parent_of(t, class);
+    while let Some(d) = next {
+        if overrides_inside(t, class, first, d, method) {
+            return true;
+        }
+        next = parent_of(t, d);
+    }
+    false
+}
+
+/// The place of the first of the class's methods that overrides a final one of class d, where that stands before this one.
+fn first_outside(
+    t: &ClassTable,
+    class: ClassId,
+    before: ClassId,
+    d: ClassId,
+    methods: &[MethodRecord],
+) -> Option<usize>
+    requires { HasMethods t.now class methods.now }
+    ensures { IsFirstPlace (OverridesSo (IsOutside before) t.now class d) methods.now result }
+{
+    if d.0 >= before.0 {
+        return None;
+    }
+    first_below(t, class, d, methods)
+}
+
+/// Whether a method of the class overrides a final one of class d, where that doesn't stand before this one.
+fn overrides_inside(
+    t: &ClassTable,
+    class: ClassId,
+    first: ClassId,
+    d: ClassId,
+    method: &MethodRecord,
+) -> bool
+    ensures { IsTrue result ↔ OverridesSo (IsInside first) t.now class d method.now }
+{
+    if d.0 < first.0 {
+        return false;
+    }
+    own_final(t, class, d, method).is_some()
+}
+
 /// The earlier of two places.
-fn earlier(a: Option<usize>, b: Option<usize>) -> Option<usize>
+pub(crate) fn earlier(a: Option<usize>, b: Option<usize>) -> Option<usize>
     ensures { result ≡ earlier_place a b }
 {
     match (a, b) {

@@ -5,13 +5,16 @@
 mod access;
 mod final_fields;
 mod final_methods;
+mod folder_finals;
 mod made_classes;
 mod members;
+mod met_finals;
 mod missing_members;
 mod numbers;
 mod refused_entries;
+mod spans;
 mod wrong_members;
 
 pub use access::access_fault;
-pub use final_methods::final_fault;
+pub use folder_finals::FolderFinals;
 pub use members::member_fault;

@@ -1,12 +1,12 @@
 -- The order of a folder's classes has each file once.
-use Rattle.std.proofs.Common.{◌≡◌, ℕ, zero, suc, ◌<◌, ◌≤◌, List, Some, slice_get, inl, inr, refl, sym, subst, ◌∙◌, arith}
+use Rattle.std.proofs.Common.{◌≡◌, ℕ, List, Some, slice_get, inl, inr, sym, subst, ◌∙◌, arith}
 use Rattle.std.proofs.lemmas.Bool.{cases_lt}
 use Rattle.std.proofs.lemmas.Option.{same_Some}
 use Rattle.jk_model.specs.declared.class_file.ClassFile.{ClassFile}
 use Rattle.jk_model.specs.declared.class_file.PoolEntry.TheVariants.{Class}
 use Rattle.jk_model_classes.specs.Members.{TextAt}
 use Rattle.jk_model_classes.specs.References.{IsCalledClass}
-use Rattle.jk_model_folders.specs.ClassOrder.{ClimbsTo, ComesBefore, HasHeight, IsClassOrder, IsOfFiles}
+use Rattle.jk_model_folders.specs.ClassOrder.{ComesBefore, IsClassOrder}
 use Rattle.class_lemmas.proofs.OneText.{one_text}
 use Rattle.one_verdict.proofs.OneOrder.{never_both}
 

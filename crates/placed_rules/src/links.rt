@@ -15,7 +15,8 @@ use class_table::ClassTable;
 use domain_resolver::NameTable;
 use jk_model::{ClassId, List, Rule};
 use jk_model_classes::Link;
-use link_rules::{access_fault, final_fault, member_fault};
+use link_rules::{FolderFinals, access_fault, member_fault};
+use std::alloc::Global;
 
 /// One of C20, C21 and C22.
 #[derive(Clone, Copy)]
@@ -35,13 +36,14 @@ struct LinkedClasses<'a> {
     first: ClassId,
     names: &'a NameTable,
     links: &'a [List<Link>],
+    finals: &'a FolderFinals<'a>,
 }
 
 impl ClassRule for LinkedClasses<'_> {
     ghost order = { λ s. s.order.now };
 
     ghost is_ready = { λ s. AreReadClasses s.classes.now × IsClassOrder (files_of s.classes.now) s.order.now
-        × AreLinkedIn s.t.now s.names.now s.first s.order.now (files_of s.classes.now) s.links.now };
+        × AreLinkedIn s.t.now s.names.now s.first s.order.now (files_of s.classes.now) s.links.now × (s.finals.now ≡ s.t.now) };
 
     ghost breaks = { λ s. BreaksInFile s.order.now (files_of s.classes.now)
         (λ k c spot. HasLinkFault s.rule (scope_at s.t.now s.names.now (class_at s.first k)) c spot) };
@@ -56,7 +58,7 @@ impl ClassRule for LinkedClasses<'_> {
                 member_fault(self.t, class, &f.file, &f.texts, self.names, links)
             }
             LinkRule::Access => access_fault(self.t, class, &f.file, &f.texts, self.names, links),
-            LinkRule::Finals => final_fault(self.t, class),
+            LinkRule::Finals => self.finals.fault(class),
         }
     }
 }
@@ -65,8 +67,9 @@ impl ClassRule for LinkedClasses<'_> {
 /// number; none where they break none of them. The classes of the folder stand from `first` on in the table, in the order that
 /// `order` gives of the places of their files, and have no links there; `links` has those of each, in the same order.
 ///
-/// It takes no memory, and the time of each rule's own call for each class.
+/// It takes the time of each rule's own call for each class, and memory for C22 alone, which is judged without it too.
 pub fn link_fault(
+    alloc: Global,
     t: &ClassTable,
     classes: &[FolderClass],
     order: &[usize],
@@ -82,6 +85,7 @@ pub fn link_fault(
     ensures none { IfNone result ((w : WorldRecord) (p : PlacedFolder) → IsUnlinkedAs w p t.now names.now order.now first
         → NoneBroken link_rules (BreaksPlaced w (files_of classes.now) p)) }
 {
+    let finals = FolderFinals::new(alloc, t, first);
     let mut judged = LinkedClasses {
         rule: LinkRule::Members,
         t,
@@ -90,6 +94,7 @@ pub fn link_fault(
         first,
         names,
         links,
+        finals: &finals,
     };
     if let Some(fault) = first_broken(Rule::C20, &judged, order) {
         return Some(fault);

@@ -1,5 +1,5 @@
 -- The class at a place breaks one of the rules by what is answered of it.
-use Rattle.std.proofs.Common.{refl, arith}
+use Rattle.std.proofs.Common.{refl, sym, arith}
 use Rattle.placed_rules.specs.PlacedFaults.{HasLinkFault, class_at, scope_at}
 use Rattle.placed_rules.proofs.LinkedPlaces.{answered, class_within, its_class, its_texts, links_within}
 use Rattle.placed_rules.proofs.links.LinkedClassesClassRule.least_number.Goals as goal
@@ -76,5 +76,5 @@ returns-in-Finals c =
     let s = c.args.self.now in
     let r = c.requires.ready in
     answered s.classes.now s.order.now r.1 (λ k f spot. HasLinkFault s.rule (scope_at s.t.now s.names.now (class_at s.first k)) f spot) c.args.place
-    c.args.file c.requires.there c.index-self-file.result c.final_fault.result
-    (rw c.in-Finals.is (c.final_fault.ensures (scope_at s.t.now s.names.now (class_at s.first c.args.place)) refl refl))
+    c.args.file c.requires.there c.index-self-file.result c.fault.result
+    (rw c.in-Finals.is (c.fault.ensures (scope_at s.t.now s.names.now (class_at s.first c.args.place)) (sym r.3) refl))

@@ -1,0 +1,9 @@
+-- No `/` stands at the end or after it.
+use Rattle.std.proofs.Common.{◌≢◌, ℕ, ◌<◌, ◌≤◌, length, get_or}
+use Rattle.link_rules.proofs.met_finals.number_of_package.Given as goal
+
+abbrev pub invariant-loop-end : goal.invariant-loop-end
+invariant-loop-end l = (l.end ≤ length l.name) × ((k : ℕ) → l.end ≤ k → k < length l.name → get_or l.name k 0 ≢ 47)
+
+abbrev pub decreases-loop-end : goal.decreases-loop-end
+decreases-loop-end l = l.end
