@@ -2,6 +2,7 @@
 
 use crate::cases::Wanted::{At, Loads};
 use crate::cases::{Case, expect_answers};
+use crate::worlds::Domain;
 use jk_model::Rule;
 use std::test::Fail;
 
@@ -587,10 +588,54 @@ const FINALS: &[Case<'static>] = &[
     ),
 ];
 
+/// The same parent, offered by another domain.
+const OFFERED_PARENT: &[Domain<'static>] = &[("b", &[PARENT, ("resolver.txt", "share p/P")])];
+
+/// Methods below an imported class that has final ones.
+const IMPORTED_FINALS: &[Case<'static>] = &[
+    (
+        "imported-public-one",
+        &[
+            (
+                "q/C.class",
+                "class 0021 q/C p/P|method 0001 free ()V 0 1|return|end|method 0001 all ()V 0 1|return|end",
+            ),
+            ("resolver.txt", "import b p/P"),
+        ],
+        At(Rule::C22, "q/C.class", 2),
+    ),
+    (
+        "imported-protected-one-two-classes-above",
+        &[
+            ("q/C.class", "class 0021 q/C p/P"),
+            (
+                "q/E.class",
+                "class 0021 q/E q/C|method 0001 below ()V 0 1|return|end",
+            ),
+            ("resolver.txt", "import b p/P"),
+        ],
+        At(Rule::C22, "q/E.class", 1),
+    ),
+    // A package of the same name here is another one, so the package's own final method isn't overridden.
+    (
+        "nothing-imported-overridden",
+        &[
+            (
+                "p/C.class",
+                "class 0021 p/C p/P|method 0001 near ()V 0 1|return|end|method 0001 own ()V 0 1|return|end\
+                |method 0001 free ()V 0 1|return|end|method 0001 all (I)V 0 2|return|end",
+            ),
+            ("resolver.txt", "import b p/P"),
+        ],
+        Loads,
+    ),
+];
+
 #[test]
 fn members_of_classes(rt: HostRuntime) -> Result<(), Fail> {
     let alloc = rt.alloc();
     expect_answers(&rt, alloc, &[], NAMED)?;
     expect_answers(&rt, alloc, &[], ACCESS)?;
-    expect_answers(&rt, alloc, &[], FINALS)
+    expect_answers(&rt, alloc, &[], FINALS)?;
+    expect_answers(&rt, alloc, OFFERED_PARENT, IMPORTED_FINALS)
 }

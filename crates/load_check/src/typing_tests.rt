@@ -120,6 +120,23 @@ const FAR_LOCALS: &[Case<'static>] = &[
         )],
         At(Rule::C23, "A.class", 1),
     ),
+    // An instruction that counts a local reads it.
+    (
+        "far-local-is-counted",
+        &[(
+            "A.class",
+            "class 0021 A java/lang/Object|method 0009 m (JI)V 2 65535|iload 2|istore 2000|iinc 2000 1|iload 2000|pop|return|end",
+        )],
+        Loads,
+    ),
+    (
+        "counted-and-never-stored",
+        &[(
+            "A.class",
+            "class 0021 A java/lang/Object|method 0009 m (JI)V 2 65535|iinc 2000 1|return|end",
+        )],
+        At(Rule::C23, "A.class", 1),
+    ),
     // A long loses its second half, or its first one.
     (
         "second-half-is-stored-over",
