@@ -2,6 +2,7 @@
 
 use crate::cases::Wanted::{At, Loads};
 use crate::cases::{Case, expect_answers};
+use crate::worlds::Domain;
 use jk_model::Rule;
 use std::test::Fail;
 
@@ -587,10 +588,74 @@ const FINALS: &[Case<'static>] = &[
     ),
 ];
 
+const OTHER_DOMAIN: &[Domain<'static>] = &[("o", &[PARENT, ("resolver.txt", "share p/P")])];
+
+const IMPORT: (&str, &str) = ("resolver.txt", "import o p/P");
+
+/// A class of the folder below the imported one, with a final method of its own.
+const BETWEEN: (&str, &str) = (
+    "q/C.class",
+    "class 0021 q/C p/P|method 0011 more ()V 0 1|return|end",
+);
+
+/// The final methods of an imported class, and methods of the same name in a folder's classes below it.
+const IMPORTED_FINALS: &[Case<'static>] = &[
+    (
+        "below-an-imported-class",
+        &[
+            IMPORT,
+            (
+                "q/C.class",
+                "class 0021 q/C p/P|method 0001 free ()V 0 1|return|end|method 0001 all ()V 0 1|return|end",
+            ),
+        ],
+        At(Rule::C22, "q/C.class", 2),
+    ),
+    // The package is the other domain's.
+    (
+        "near-one-of-another-home",
+        &[
+            IMPORT,
+            (
+                "p/C.class",
+                "class 0021 p/C p/P|method 0001 near ()V 0 1|return|end",
+            ),
+        ],
+        Loads,
+    ),
+    // One of the imported class comes before one of the folder's own class, and after it.
+    (
+        "imported-one-first",
+        &[
+            IMPORT,
+            BETWEEN,
+            (
+                "q/E.class",
+                "class 0021 q/E q/C|method 0001 free ()V 0 1|return|end|method 0001 below ()V 0 1|return|end\
+                |method 0001 more ()V 0 1|return|end",
+            ),
+        ],
+        At(Rule::C22, "q/E.class", 2),
+    ),
+    (
+        "own-one-first",
+        &[
+            IMPORT,
+            BETWEEN,
+            (
+                "q/E.class",
+                "class 0021 q/E q/C|method 0001 more ()V 0 1|return|end|method 0001 all ()V 0 1|return|end",
+            ),
+        ],
+        At(Rule::C22, "q/E.class", 1),
+    ),
+];
+
 #[test]
 fn members_of_classes(rt: HostRuntime) -> Result<(), Fail> {
     let alloc = rt.alloc();
     expect_answers(&rt, alloc, &[], NAMED)?;
     expect_answers(&rt, alloc, &[], ACCESS)?;
-    expect_answers(&rt, alloc, &[], FINALS)
+    expect_answers(&rt, alloc, &[], FINALS)?;
+    expect_answers(&rt, alloc, OTHER_DOMAIN, IMPORTED_FINALS)
 }
