@@ -40,9 +40,10 @@ impl<'t> FolderFinals<'t> {
     ghost use Rattle.std.specs.Prelude.{◌≡◌};
     ghost use Rattle.link_rules.specs.FinalMethods.{IsFinalFault};
 
-    /// Judges the classes from `first` on. It takes time in proportion to n log n for their n methods, and for each class of
-    /// theirs and each one above that stands before them at most a search for each method; and memory in proportion to their
-    /// final methods. Where it finds no memory, `fault` judges each class by itself.
+    /// Judges the classes from `first` on. It takes time in proportion to n log n for their n methods, and to their names. For each
+    /// class it takes a step for each class above, or a search there where the class breaks the rule; and at most a search for each
+    /// of its methods in each class above that stands before `first`. It takes memory in proportion to the classes and their final
+    /// methods. Where it finds none, `fault` judges each class by itself.
     pub fn new(alloc: Global, t: &'t ClassTable, first: ClassId) -> FolderFinals<'t>
         ensures { result ≡ t.now }
     {

@@ -588,46 +588,66 @@ const FINALS: &[Case<'static>] = &[
     ),
 ];
 
-/// The same parent, offered by another domain.
-const OFFERED_PARENT: &[Domain<'static>] = &[("b", &[PARENT, ("resolver.txt", "share p/P")])];
+const OTHER_DOMAIN: &[Domain<'static>] = &[("o", &[PARENT, ("resolver.txt", "share p/P")])];
 
-/// Methods below an imported class that has final ones.
+const IMPORT: (&str, &str) = ("resolver.txt", "import o p/P");
+
+/// A class of the folder below the imported one, with a final method of its own.
+const BETWEEN: (&str, &str) = (
+    "q/C.class",
+    "class 0021 q/C p/P|method 0011 more ()V 0 1|return|end",
+);
+
+/// The final methods of an imported class, and methods of the same name in a folder's classes below it.
 const IMPORTED_FINALS: &[Case<'static>] = &[
     (
-        "imported-public-one",
+        "below-an-imported-class",
         &[
+            IMPORT,
             (
                 "q/C.class",
                 "class 0021 q/C p/P|method 0001 free ()V 0 1|return|end|method 0001 all ()V 0 1|return|end",
             ),
-            ("resolver.txt", "import b p/P"),
         ],
         At(Rule::C22, "q/C.class", 2),
     ),
+    // The package is the other domain's.
     (
-        "imported-protected-one-two-classes-above",
+        "near-one-of-another-home",
         &[
-            ("q/C.class", "class 0021 q/C p/P"),
-            (
-                "q/E.class",
-                "class 0021 q/E q/C|method 0001 below ()V 0 1|return|end",
-            ),
-            ("resolver.txt", "import b p/P"),
-        ],
-        At(Rule::C22, "q/E.class", 1),
-    ),
-    // A package of the same name here is another one, so the package's own final method isn't overridden.
-    (
-        "nothing-imported-overridden",
-        &[
+            IMPORT,
             (
                 "p/C.class",
-                "class 0021 p/C p/P|method 0001 near ()V 0 1|return|end|method 0001 own ()V 0 1|return|end\
-                |method 0001 free ()V 0 1|return|end|method 0001 all (I)V 0 2|return|end",
+                "class 0021 p/C p/P|method 0001 near ()V 0 1|return|end",
             ),
-            ("resolver.txt", "import b p/P"),
         ],
         Loads,
+    ),
+    // One of the imported class comes before one of the folder's own class, and after it.
+    (
+        "imported-one-first",
+        &[
+            IMPORT,
+            BETWEEN,
+            (
+                "q/E.class",
+                "class 0021 q/E q/C|method 0001 free ()V 0 1|return|end|method 0001 below ()V 0 1|return|end\
+                |method 0001 more ()V 0 1|return|end",
+            ),
+        ],
+        At(Rule::C22, "q/E.class", 2),
+    ),
+    (
+        "own-one-first",
+        &[
+            IMPORT,
+            BETWEEN,
+            (
+                "q/E.class",
+                "class 0021 q/E q/C|method 0001 more ()V 0 1|return|end|method 0001 all ()V 0 1|return|end",
+            ),
+        ],
+        At(Rule::C22, "q/E.class", 1),
     ),
 ];
 
@@ -637,5 +657,5 @@ fn members_of_classes(rt: HostRuntime) -> Result<(), Fail> {
     expect_answers(&rt, alloc, &[], NAMED)?;
     expect_answers(&rt, alloc, &[], ACCESS)?;
     expect_answers(&rt, alloc, &[], FINALS)?;
-    expect_answers(&rt, alloc, OFFERED_PARENT, IMPORTED_FINALS)
+    expect_answers(&rt, alloc, OTHER_DOMAIN, IMPORTED_FINALS)
 }

@@ -67,7 +67,8 @@ impl ClassRule for LinkedClasses<'_> {
 /// number; none where they break none of them. The classes of the folder stand from `first` on in the table, in the order that
 /// `order` gives of the places of their files, and have no links there; `links` has those of each, in the same order.
 ///
-/// It takes the time of each rule's own call for each class, and memory for C22 alone, which is judged without it too.
+/// It takes the time of `FolderFinals::new`, and of each rule's own call for each class. Memory is taken for C22 alone, which is
+/// judged where there is none too.
 pub fn link_fault(
     alloc: Global,
     t: &ClassTable,
