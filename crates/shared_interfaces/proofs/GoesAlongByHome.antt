@@ -10,6 +10,16 @@ use Rattle.jk_model_classes.specs.SharedRules.{GoesAlong}
 use Rattle.jk_model_classes.specs.Worlds.{WorldRecord, DomainRecord, domain_of, IsOfferedAs}
 use Rattle.shared_interfaces.specs.Shapes.{IsOfferedBy}
 
+-- a class that goes along with an offer to all goes along with each
+pub goes_with_each : (w : WorldRecord) (home : DomainId) (offers : List Offer) (to : Option (List ℕ)) (c : ClassId) → GoesAlong w home offers None c
+    → GoesAlong w home offers to c
+goes_with_each w home offers to c (r, at, inl none) = (r, at, inl none)
+goes_with_each w home offers to c (r, at, inr (d, of_home, from, these, offered)) = (r, at, inr (d, of_home, from, these, each to offered))
+  where
+    each : (t : Option (List ℕ)) → IsOfferedAs of_home c None → IsOfferedAs of_home c t
+    each None all = all
+    each (Some name) all = inl all
+
 module _ (w : WorldRecord) (home : DomainId) (offers : List Offer) (to : Option (List ℕ)) (c : ClassId) where
   pub no_class_goes : record_of w.classes c ≡ None → GoesAlong w home offers to c → ⊥
   no_class_goes none (r, at, h) = let no : None ≡ Some r = sym none ∙ at in cc

@@ -5,7 +5,7 @@ pub mod WalksOverItems
 pub mod MethodsCounted
 pub mod NumbersOfClasses
 pub mod GoesAlongByHome
-pub mod OffersOneByOne
+pub mod OffersClassByClass
 pub mod StaticFields
 pub mod SilentMethods
 pub mod RemoteInterfaces

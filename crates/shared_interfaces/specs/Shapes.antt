@@ -1,5 +1,5 @@
 -- The parts of C25, C26 and C27.
-use Rattle.std.specs.Prelude.{◌≡◌, ◌≢◌, ℕ, ◌+◌, ◌≤◌, IsTrue, List, Option, Some, slice_get}
+use Rattle.std.specs.Prelude.{◌≡◌, ◌≢◌, ℕ, ◌+◌, ◌<◌, ◌≤◌, IsTrue, List, length, Option, Some, slice_get}
 use Rattle.jk_model.specs.Flags.{has, STATIC}
 use Rattle.jk_model.specs.declared.identifiers.ClassId.{ClassId}
 use Rattle.jk_model.specs.declared.identifiers.DomainId.{DomainId}
@@ -17,15 +17,31 @@ use Rattle.jk_model_classes.specs.Worlds.{WorldRecord, IsOfferedAs}
 abbrev pub IsStaticAt : List FieldRecord → ℕ → Type 0
 IsStaticAt fields n = (i : ℕ) × (field : FieldRecord) × (slice_get fields i ≡ Some field) × IsTrue (has field.flags STATIC) × (n ≡ i + 1)
 
--- one of the classes doesn't go along with an offer to this domain, or to all
-abbrev pub ExposesAny : WorldRecord → DomainId → List Offer → Option (List ℕ) → List ClassId → Type 0
-ExposesAny w home offers to = HasItem (λ c. GoesAlong w home offers to c → ⊥)
+-- the offer at `start` and those up to `end` are of one class
+abbrev pub IsRun : List Offer → ℕ → ℕ → Type 0
+IsRun offers start end =
+    (start < end) × (end ≤ length offers)
+    × ((i : ℕ) (o : Offer) (p : Offer) → start ≤ i → i < end → slice_get offers i ≡ Some o → slice_get offers start ≡ Some p → o.class ≡ p.class)
+
+-- the class doesn't go along with one of the offers from `start` to `end`
+abbrev pub StaysBehind : WorldRecord → DomainId → List Offer → ℕ → ℕ → ClassId → Type 0
+StaysBehind w home offers start end c =
+    (i : ℕ) × (o : Offer) × (start ≤ i) × (i < end) × (slice_get offers i ≡ Some o) × (GoesAlong w home offers o.to c → ⊥)
+
+-- one of the classes doesn't go along with one of these offers
+abbrev pub ExposesAny : WorldRecord → DomainId → List Offer → ℕ → ℕ → List ClassId → Type 0
+ExposesAny w home offers start end = HasItem (StaysBehind w home offers start end)
+
+-- the class is one of the folder, and one to which it refers doesn't go along with one of these offers
+abbrev pub ExposesInRun : WorldRecord → DomainId → ClassId → List Offer → ℕ → ℕ → ClassId → Type 0
+ExposesInRun w home first offers start end c =
+    (first.0 ≤ c.0) × ((r : ClassRecord) × (record_of w.classes c ≡ Some r) × ExposesAny w home offers start end r.references)
 
 -- the offer is of a class of the folder, and a class to which that refers doesn't go along
 abbrev pub Exposes : WorldRecord → DomainId → ClassId → List Offer → Offer → Type 0
 Exposes w home first offers offer =
     (first.0 ≤ offer.class.0)
-    × ((r : ClassRecord) × (record_of w.classes offer.class ≡ Some r) × ExposesAny w home offers offer.to r.references)
+    × ((r : ClassRecord) × (record_of w.classes offer.class ≡ Some r) × HasItem (λ c. GoesAlong w home offers offer.to c → ⊥) r.references)
 
 -- one of the first so many offers exposes class c, which breaks C26 by itself and not by a member
 abbrev pub ExposedBefore : ℕ → WorldRecord → DomainId → ClassId → List Offer → ClassId → ℕ → Type 0

@@ -15,8 +15,11 @@ use jk_model_classes::{ClassFault, ClassRecord, FieldRecord};
 /// The first of C25 and C26 that the shared classes of a folder break, with the class whose file comes first and the least
 /// member; none where they break neither. The classes from `first` on are those of the folder, `home` is the number of the
 /// domain that is loaded, and `offers` is what it offers. It takes no memory, and time in proportion to the classes and
-/// fields of the folder, and to the offers times the references of the class that each offers, in each of which it makes a
-/// search in order.
+/// fields of the folder, to the offers, and to the references of each class that is offered, in each of which it makes a
+/// search in order. A reference that isn't of the system, nor offered to all, takes a search for each offer of the class
+/// that refers to it, up to the first with which it doesn't go along, which ends the search for that class. So a reference
+/// takes no more than the class has offers, and, where no two of these are the same, at most one more than the reference
+/// has itself.
 pub fn share_fault(
     w: &World,
     home: DomainId,
