@@ -7,4 +7,4 @@ mod steps;
 mod targets;
 
 pub use running::call_head;
-pub use steps::step;
+pub use steps::{Crossing, crossing_at, step};

@@ -1,9 +1,11 @@
 //! What an instruction of call does.
 
-ghost use Rattle.std.specs.Prelude.{◌≡◌, ◌≢◌, ℕ};
+ghost use Rattle.std.specs.Prelude.{◌≡◌, ◌≢◌, ℕ, IfSome};
 ghost use Rattle.jk_model.specs.declared.steps.After.TheVariants as Next;
 ghost use Rattle.jk_model_call_rows.specs.CallRows.{IsOfCalls};
 ghost use Rattle.jk_model_sharing.specs.SharedStates.{SharedState};
+ghost use Rattle.jk_model.specs.declared.identifiers.DomainId.{DomainId as ADomainId};
+ghost use Rattle.object_store.specs.HeapContents.{HeapContent};
 ghost use Rattle.class_init.specs.KeptStates.{KeptState};
 ghost use Rattle.step_contents.specs.Conditions.{MayDo};
 ghost use Rattle.step_contents.specs.Contents.{contents_of, here_at};
@@ -15,8 +17,9 @@ use crate::running::{run, run_static};
 use crate::targets::{Target, target_at};
 use domain_resolver::World;
 use frame_store::SegmentFrames;
-use jk_model::opcodes::INVOKESTATIC;
-use jk_model::{After, DomainId, Raise, SegmentNo};
+use jk_model::opcodes::{INVOKEINTERFACE, INVOKESTATIC};
+use jk_model::{After, CapId, DomainId, MemberId, Raise, SegmentNo, Value};
+use jk_model_heaps::system_classes::OBJECT;
 use member_lookup::method_record;
 use object_store::ObjectStore;
 use step_contents::{StandsAt, method_of};
@@ -62,5 +65,50 @@ pub fn step<'a, H: ObjectStore, F: SegmentFrames>(
         Target::Runs(m) => run(frames, t, s, m, arguments + 1, at),
         Target::Fails(c) => After::Raise(Raise::Fresh(c)),
         Target::Crosses(k) => After::Crossing(k, named),
+    }
+}
+
+/// A call through a capability.
+#[derive(Clone, Copy, Debug, PartialEq, Eq)]
+pub struct Crossing {
+    pub capability: CapId,
+    pub method: MemberId,
+}
+
+/// The capability and the method of the call at which the top frame of a segment stands, where it goes through a capability; none where it doesn't.
+/// As `step`, nothing changes then. Such a call is an `invokeinterface`.
+#[inline(always)]
+pub fn crossing_at<F: SegmentFrames>(
+    frames: &F,
+    w: &World,
+    s: SegmentNo,
+    at: &StandsAt<'_>,
+) -> Option<Crossing>
+    requires { (heaps : HeapContent) × (own : KeptState) × (shared : SharedState) × (d : ADomainId)
+        × MayDo (contents_of heaps (F.content frames.now) own) (here_at w.now shared d s) (place_of at.now) }
+    ensures kind { IfSome result (λ _. at.now.instr.now.op ≡ INVOKEINTERFACE) }
+    ensures call { IfSome result (λ crossing. (heaps : HeapContent) (own : KeptState) (shared : SharedState) (d : ADomainId)
+        → CallDone (contents_of heaps (F.content frames.now) own) (contents_of heaps (F.content frames.now) own) (here_at w.now shared d s)
+        (place_of at.now) (Next.Crossing crossing.capability crossing.method)) }
+{
+    if at.instr.op != INVOKEINTERFACE {
+        return None;
+    }
+    let t = w.classes();
+    let named = method_of(at);
+    if named.class == OBJECT {
+        return None;
+    }
+    let method = match method_record(t, named) {
+        Some(method) => method,
+        None => unreachable!(),
+    };
+    let arguments = method.params.get().len() as u16;
+    match frames.peek(s, arguments) {
+        Value::Cap(k) => Some(Crossing {
+            capability: k,
+            method: named,
+        }),
+        _ => None,
     }
 }

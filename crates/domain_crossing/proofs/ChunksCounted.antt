@@ -1,6 +1,6 @@
 -- How many chunks a domain uses where the segments of one thread are others, and where a thread is gone.
 use Rattle.std.proofs.Common.{◌≡◌, ◌≢◌, ℕ, zero, suc, ◌+◌, ◌==◌, Bool, true, false, not, cond, List, [], ◌∷◌, ◌++◌, append_assoc, filter, map, set, sum_by, slice_get, Some, refl, sym, ap, ◌∙◌, arith, eq-eqb}
-use Rattle.std.proofs.lemmas.Bool.{eqb-true}
+use Rattle.std.proofs.lemmas.Bool.{cond-true, eqb-true}
 use Rattle.std.proofs.lemmas.List.Sums.{sum_by-cons, sum_by_push}
 use Rattle.std.proofs.lemmas.Option.{same_Some}
 use Rattle.jk_model.specs.declared.identifiers.DomainId.{DomainId}
@@ -67,15 +67,11 @@ module _ (m : Machine) (t : ThreadNo) (r : RunningSegment m t) (apart : AreSegme
   one_place i x at same =
       apart.threads i place.0 x r.thread at place.1 (λ j. record { 0 = (eqb-true x.number.0 t.0 same ∙ sym place.2) j })
 
-  cond_if : {X : Type 0} (b : Bool) (x y : X) → b ≡ true → cond b x y ≡ x
-  cond_if true x y e = refl
-  cond_if false x y e = absurd cc
-
   threads_are : (next : List Segment) → map (set_segments t next) m.threads ≡ set m.threads place.0 (record r.thread { segments = next })
   threads_are next =
       one_changed (set_segments t next) m.threads place.0 r.thread place.1 (λ i x differ at. kept i x differ at (x.number.0 == t.0) refl)
       ∙ ap (set m.threads place.0)
-      (cond_if (r.thread.number.0 == t.0) (record r.thread { segments = next }) r.thread (eq-eqb r.thread.number.0 t.0 place.2))
+      (cond-true (r.thread.number.0 == t.0) (record r.thread { segments = next }) r.thread (eq-eqb r.thread.number.0 t.0 place.2))
     where
       kept : (i : ℕ) (x : Thread) → i ≢ place.0 → slice_get m.threads i ≡ Some x → (b : Bool) → (x.number.0 == t.0) ≡ b
           → cond b (record x { segments = next }) x ≡ x

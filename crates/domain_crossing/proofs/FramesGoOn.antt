@@ -1,6 +1,5 @@
 -- The top frame of a segment goes on after its call, with the answer on its stack.
 use Rattle.std.proofs.Common.{◌≡◌, ◌+◌, List, [], ◌∷◌, ◌++◌, append-nil, Option, Some, None, sym, subst}
-use Rattle.jk_model.specs.declared.frames.FrameHead.{FrameHead}
 use Rattle.jk_model.specs.declared.identifiers.ClassId.{ClassId}
 use Rattle.jk_model.specs.declared.identifiers.SegmentNo.{SegmentNo}
 use Rattle.jk_model.specs.declared.values.Value.{Value}
@@ -9,14 +8,12 @@ use Rattle.jk_model_heaps.specs.CalledFrames.{resumed}
 use Rattle.frame_store.specs.FrameContents.{FrameContent, SetsTop, TopFrame}
 use Rattle.number_ops.proofs.TopFrames.{then_sets, top_after}
 
-module _ (old mid : FrameContent) (s : SegmentNo) (f : FrameState) (head : FrameHead) (is : head ≡ f.head) (none : f.head.need ≡ None)
-    (goes : SetsTop old mid s (record f { head = record f.head { at = head.at + 1; need = None } })) where
+module _ (old mid : FrameContent) (s : SegmentNo) (f : FrameState) (none : f.head.need ≡ None)
+    (goes : SetsTop old mid s (record f { head = record f.head { at = f.head.at + 1; need = None } })) where
   gone_on : SetsTop old mid s (record f { head = record f.head { at = f.head.at + 1 } })
   gone_on =
       subst (λ (o : Option ClassId). SetsTop old mid s
-      (let g : FrameState = record f { head = record f.head { at = f.head.at + 1; need = o } } in g)) (sym none)
-      (subst (λ (k : FrameHead). SetsTop old mid s
-      (let g : FrameState = record f { head = record f.head { at = k.at + 1; need = None } } in g)) is goes)
+      (let g : FrameState = record f { head = record f.head { at = f.head.at + 1; need = o } } in g)) (sym none) goes
 
   pub goes_on_with_none : SetsTop old mid s (resumed None f)
   goes_on_with_none =

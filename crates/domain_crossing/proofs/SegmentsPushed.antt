@@ -1,6 +1,6 @@
 -- A segment with one frame comes on top of a thread: the store has the frames of all segments then, and counts what they cost.
 use Rattle.std.proofs.Common.{◌≡◌, ◌≢◌, ℕ, ◌+◌, ◌<◌, ◌≤◌, ◌==◌, inl, inr, Bool, true, false, cond, List, [], ◌∷◌, ◌++◌, length, map, set, sum_by, slice_get, Contains, Some, refl, sym, ap, subst, ◌∙◌, arith, eq-eqb}
-use Rattle.std.proofs.lemmas.Bool.{cases_eq, eqb-true}
+use Rattle.std.proofs.lemmas.Bool.{cases_eq, cond-true, eqb-true}
 use Rattle.std.proofs.lemmas.List.Sums.{sum_by_push}
 use Rattle.jk_model.specs.declared.identifiers.DomainId.{DomainId}
 use Rattle.jk_model.specs.declared.identifiers.SegmentNo.{SegmentNo}
@@ -80,12 +80,9 @@ module _ (p : MachineParts) (t : ThreadNo) (shared_apart : AreApart p.shared.thr
       by false e was gives = stays e s was (subst (λ (x : SharedThread). Contains x.segments s) (sym gives) in_it)
 
   pushed_thread : pushes top.thread ≡ with_segments (λ (segments : List SharedSegment). segments ++ drawn ∷ []) top.thread
-  pushed_thread = cond_if (top.thread.number.0 == t.0) (eq-eqb top.thread.number.0 t.0 (place p.shared.threads shared_apart t top).2)
-    where
-      cond_if : (b : Bool) → b ≡ true → cond b (with_segments (λ (segments : List SharedSegment). segments ++ drawn ∷ []) top.thread) top.thread
-          ≡ with_segments (λ (segments : List SharedSegment). segments ++ drawn ∷ []) top.thread
-      cond_if true e = refl
-      cond_if false e = absurd cc
+  pushed_thread =
+      cond-true (top.thread.number.0 == t.0) (with_segments (λ (segments : List SharedSegment). segments ++ drawn ∷ []) top.thread) top.thread
+      (eq-eqb top.thread.number.0 t.0 (place p.shared.threads shared_apart t top).2)
 
   no_others : (k : SegmentNo) (g : StoredSegment) → new.segment k ≡ Some g
       → (thread : SharedThread) × (s : SharedSegment) × Contains arrived.shared.threads thread × Contains thread.segments s × (s.number ≡ k)
@@ -175,14 +172,10 @@ module _ (m : Machine) (t : ThreadNo) (thread : Thread) (at : (i : ℕ) × (slic
   kept i x differ there false none = refl
   kept i x differ there true same = absurd (differ (once i x there (eqb-true x.number.0 t.0 same)))
 
-  cond_if : (b : Bool) (x y : Thread) → b ≡ true → cond b x y ≡ x
-  cond_if true x y e = refl
-  cond_if false x y e = absurd cc
-
   threads_are : map adds m.threads ≡ set m.threads at.0 higher
   threads_are =
       one_changed adds m.threads at.0 thread at.1 (λ i x differ there. kept i x differ there (x.number.0 == t.0) refl)
-      ∙ ap (set m.threads at.0) (cond_if (thread.number.0 == t.0) higher thread (eq-eqb thread.number.0 t.0 at.2))
+      ∙ ap (set m.threads at.0) (cond-true (thread.number.0 == t.0) higher thread (eq-eqb thread.number.0 t.0 at.2))
 
   more : (new stood all next own : ℕ) → new + stood ≡ all + next → next ≡ stood + own → new ≡ all + own
   more new stood all next own a b = omega arith

@@ -22,7 +22,7 @@ ghost use Rattle.domain_crossing.specs.MovedArguments.{Carries, FitsLocals, HasA
 ghost use Rattle.domain_crossing.specs.TakenSegments.{AreApart, TopStands};
 
 use crate::answers::Crossed;
-use crate::arguments::{carry, entries, names_object};
+use crate::arguments::{begin, carry, entries, names_object};
 use crate::callees::{Callee, find_callee};
 use domain_resolver::World;
 use frame_store::FrameStore;
@@ -261,5 +261,10 @@ fn arrive<F: FrameStore>(
         (F.content frames.new) }
 {
     let n = shared.push(t, callee.owner);
+    if caller.given == 0 {
+        let _capability = frames.pop_value(caller.segment);
+        begin(frames, n, callee);
+        return;
+    }
     carry(frames, caller.segment, n, callee, caller.given, copies);
 }

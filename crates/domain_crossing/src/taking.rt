@@ -7,7 +7,7 @@ ghost use Rattle.frame_store.specs.FrameContents.{Ends, IsThere};
 ghost use Rattle.domain_crossing.specs.AnsweredFrames.{TopMayResume, TopResumes};
 ghost use Rattle.domain_crossing.specs.TakenSegments.{AreApart, IsToldBelow, IsToldOf, TopStands};
 
-use frame_store::{FrameStore, OnSegment, SegmentFrames};
+use frame_store::FrameStore;
 use jk_model::{DomainId, SegmentNo, ThreadNo, Value};
 use thread_segments::Shared;
 
@@ -68,48 +68,13 @@ fn segment_below(shared: &Shared, t: ThreadNo, segment: SegmentNo) -> Option<Bel
     }
 }
 
-/// The top frame of a segment goes on after its call, with this value, or none, on its stack. The segment is looked up once.
+/// The top frame of a segment goes on after its call, with this value, or none, on its stack.
 #[inline(always)]
 pub(crate) fn resume<F: FrameStore>(frames: &mut F, s: SegmentNo, v: Option<Value>)
     requires { TopMayResume (F.content frames.old) s v }
     ensures { (f : AFrame) → TopResumes (F.content frames.old) (F.content frames.new) s f v }
 {
-    let mut going_on = GoingOn {
-        segment: s,
-        value: v,
-    };
-    frames.with_segment(s, &mut going_on, &mut (), &mut ());
-}
-
-/// The top frame of a segment goes on after its call, with this value, or none, on its stack.
-#[derive(Drop)]
-struct GoingOn {
-    segment: SegmentNo,
-    value: Option<Value>,
-}
-
-impl OnSegment<(), ()> for GoingOn {
-    ghost use Rattle.jk_model_frames.specs.Frames.{FrameState as AFrame};
-    ghost use Rattle.domain_crossing.specs.AnsweredFrames.{TopMayResume, TopResumes};
-
-    ghost may = { λ x a b frames. TopMayResume frames x.segment x.value };
-
-    ghost did = { λ x y a new_a b new_b frames new_frames. (f : AFrame) → TopResumes frames new_frames x.segment f x.value };
-
-    #[inline(always)]
-    fn run<T: SegmentFrames>(&mut self, frames: &mut T, _a: &mut (), _b: &mut ()) {
-        go_on(frames, self.segment, self.value);
-    }
-}
-
-/// The top frame of a segment goes on after its call, with this value, or none, on its stack.
-#[inline(always)]
-fn go_on<T: SegmentFrames>(frames: &mut T, s: SegmentNo, v: Option<Value>)
-    requires { TopMayResume (T.content frames.old) s v }
-    ensures { (f : AFrame) → TopResumes (T.content frames.old) (T.content frames.new) s f v }
-{
-    let head = frames.head(s);
-    frames.go(s, head.at + 1, None);
+    frames.go_on(s);
     if let Some(v) = v {
         frames.push_value(s, v);
     }

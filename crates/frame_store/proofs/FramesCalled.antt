@@ -254,6 +254,20 @@ module _ (d : DomainFrames) (caller frame many : ℕ) (may : MayGive d caller fr
 
 -- ---- The frame is on top.
 
+-- what was moved onto a segment is its top frame, also where the chains stay after that
+module _ (d e n : DomainFrames) (i frame : ℕ) (moves : MovesTop d.frames e.frames d.chunks i frame) (n_frames : n.frames ≡ e.frames) where
+  pub moved_top : frame ≡ top_number n i
+  moved_top =
+      let at : depth_of e i - 1 ≡ depth_of d i = omega (arith, moves.to_count) in
+      sym moves.lands ∙ ap (place e.frames i) (sym at) ∙ ap (λ (q : Chains). place q i (count q i - 1)) (sym n_frames)
+
+  pub moved_number : i < d.chunks → n.chunks ≡ d.chunks → IsFrameNumber n frame
+  moved_number within n_chunks =
+      let P : ℕ → Type 0 = λ k. IsFrameNumber n k in
+      let deep : depth_of n i ≡ depth_of e i = ap (λ (q : Chains). count q i) n_frames in
+      let here : HasTop n i = (omega (arith, within, n_chunks), omega (arith, deep, moves.to_count)) in
+      subst P (sym moved_top) (top_is_frame n i here)
+
 module _ (d e : DomainFrames) (i frame : ℕ) (head : FrameHead) (many used : ℕ) (top : HasTop d i) (has : HasGiven d i head many)
     (moves : MovesTop d.frames e.frames d.chunks i frame) (b : Becomes d e i (frames_of d i ++ new_frame head ∷ []) used)
     (small : head.max_locals < 2 ^ 16) (caller : ℕ) (caller_is : caller ≡ top_number d i) where
@@ -267,9 +281,7 @@ module _ (d e : DomainFrames) (i frame : ℕ) (head : FrameHead) (many used : �
   on_top = one_last (lower_of e i) (frames_of d i) (top_of e i) (new_frame head) (sym (frames_more e i top_there) ∙ b.becomes)
 
   pub frame_top : frame ≡ top_number e i
-  frame_top =
-      let at : depth_of e i - 1 ≡ depth_of d i = omega (arith, one_deeper) in
-      sym moves.lands ∙ ap (place e.frames i) (sym at)
+  frame_top = moved_top d e e i frame moves refl
 
   pub second : depth_of e i - 2 ≡ depth_of d i - 1
   second = omega (arith, one_deeper)
@@ -292,14 +304,10 @@ module _ (d e : DomainFrames) (i frame : ℕ) (head : FrameHead) (many used : �
   -- the frame is still on top where the chains stay
   module _ (n : DomainFrames) (n_frames : n.frames ≡ e.frames) (n_chunks : n.chunks ≡ d.chunks) where
     pub frame_last : frame ≡ top_number n i
-    frame_last = frame_top ∙ ap (λ (q : Chains). place q i (count q i - 1)) (sym n_frames)
+    frame_last = moved_top d e n i frame moves n_frames
 
     pub number_last : IsFrameNumber n frame
-    number_last =
-        let P : ℕ → Type 0 = λ k. IsFrameNumber n k in
-        let deep : depth_of n i ≡ depth_of e i = ap (λ (q : Chains). count q i) n_frames in
-        let here : HasTop n i = (let within = top.0 in omega (arith, n_chunks), omega (arith, deep, one_deeper)) in
-        subst P (sym frame_last) (top_is_frame n i here)
+    number_last = moved_number d e n i frame moves n_frames top.0 n_chunks
 
   module _ (below given : List Value) (stack : (top_of d i).stack ≡ below ++ given) (as_many : length given ≡ many) where
     pub same_given : has.1 ≡ given

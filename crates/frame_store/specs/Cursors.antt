@@ -15,6 +15,10 @@ pub record HasValuesAt (x : DomainFrames) (c : Cursor) : Type 0 where
   pub base : c.base ≡ start_of x c.frame + locals_at x c.frame
   pub room : c.room ≡ 20 - locals_at x c.frame
 
+-- the cursor at another slot of its domain
+abbrev pub at_slot : Cursor → ℕ → Cursor
+at_slot c slot = record c { place = record c.place { slot = slot } }
+
 -- A cursor at a segment of this domain is moved to the segment's top frame.
 pub record IsAimed (x : DomainFrames) (old new : Cursor) : Type 0 where
   pub segment : new.segment ≡ old.segment

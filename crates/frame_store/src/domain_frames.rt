@@ -34,7 +34,7 @@ impl DomainFrames {
     ghost use Rattle.jk_model_frames.specs.Frames.{FrameState as AFrame, called_frame, new_frame, head_chunks, frames_chunks};
     ghost use Rattle.number_table.specs.ChainMoves.{MovesTop, place};
     ghost use Rattle.frame_store.specs.FrameContents.{TwoFrames};
-    ghost use Rattle.frame_store.specs.Cursors.{HasValuesAt, IsAimed, AimsIfThere};
+    ghost use Rattle.frame_store.specs.Cursors.{HasValuesAt, IsAimed, AimsIfThere, at_slot};
     ghost use Rattle.frame_store.specs.DomainMoves.{MayGive, GivesTo, HasGiven, CallsOn, depth_of, frames_of, top_of, top_number, locals_at, lower_of, start_of, value_at, IsSlot, HasTop, IsTopOf, IsFrameNumber, IsFresh, Opens, Becomes, Begins, Ends, TakesTopEntry, DropsTopEntries, ExchangesTopEntries, GivesTopBack};
 
     /// A domain without segments, which may use so many chunks.
@@ -67,9 +67,17 @@ impl DomainFrames {
         self.chunks - self.used
     }
 
-    /// Begins a segment with one frame, in a slot.
-    pub(crate) fn begin(&mut self, number: u64, head: FrameHead) -> Result<u32, NoChunks>
-        ensures ok { IfOk result (λ slot. Begins self.old self.new number head slot) }
+    /// Begins a segment with one frame, in a slot. The cursor is at the segment's slot then, and at that frame.
+    #[inline(always)]
+    pub(crate) fn begin(
+        &mut self,
+        c: &mut Cursor,
+        number: u64,
+        head: FrameHead,
+    ) -> Result<(), NoChunks>
+        ensures ok { OnOk result (Begins self.old self.new number head c.new.place.slot) }
+        ensures aims { OnOk result (IsAimed self.new (at_slot c.old c.new.place.slot) c.new) }
+        ensures cursor { OnErr result (c.new ≡ c.old) }
         ensures err { OnErr result (self.new ≡ self.old) }
         ensures room { OnOk result (1 + head_chunks head ≤ self.old.chunks - self.old.used) }
         ensures no_room { OnErr result (self.old.chunks - self.old.used < 1 + head_chunks head) }
@@ -79,11 +87,14 @@ impl DomainFrames {
             return Err(NoChunks);
         }
         let slot = self.open(number);
-        let _added = self.add(slot, head, blocks);
-        Ok(slot)
+        let (frame, start) = self.add(slot, head, blocks);
+        c.place.slot = slot;
+        self.aim_at(c, frame, start);
+        Ok(())
     }
 
     /// Takes out a segment with its frames.
+    #[inline(always)]
     pub(crate) fn end(&mut self, slot: u32)
         requires { IsSlot self.old slot }
         ensures { Ends self.old self.new slot }
@@ -410,7 +421,7 @@ impl DomainFrames {
 
     /// Lets a top frame go on after its call.
     #[inline(always)]
-    fn go_on(&mut self, frame: usize)
+    pub(crate) fn go_on(&mut self, frame: usize)
         requires frame { IsFrameNumber self.old frame }
         requires place { (value_at self.old frame).head.at + 1 < 2 ^ 32 }
         ensures frames { self.new.frames ≡ self.old.frames }

@@ -120,6 +120,7 @@ pub(crate) fn take_blocks(
 }
 
 /// Gives back all blocks of a frame.
+#[inline(always)]
 pub(crate) fn give_blocks(parts: &mut Chains, last: usize, frame: usize)
     requires there { last < stacks parts.old }
     requires frame { frame < last }

@@ -55,6 +55,7 @@ impl<K: Lending> SegmentFrames for OneSegment<'_, K> {
         Ok(())
     }
 
+    #[inline(always)]
     fn pop(&mut self, _s: SegmentNo) {
         self.domain.pop_top(&mut self.at);
     }
@@ -72,6 +73,11 @@ impl<K: Lending> SegmentFrames for OneSegment<'_, K> {
     #[inline(always)]
     fn go(&mut self, _s: SegmentNo, at: u32, need: Option<ClassId>) {
         self.domain.go(self.at.frame, at, need);
+    }
+
+    #[inline(always)]
+    fn go_on(&mut self, _s: SegmentNo) {
+        self.domain.go_on(self.at.frame);
     }
 
     #[inline(always)]
@@ -137,9 +143,23 @@ pub(crate) fn lend<K: Lending, A, B, W: OnSegment<A, B>>(
 {
     let mut one: OneSegment<'_, K> = OneSegment {
         domain,
-        at: *cursor,
+        at: Cursor {
+            segment: cursor.segment,
+            place: cursor.place,
+            domain: cursor.domain,
+            frame: cursor.frame,
+            start: cursor.start,
+            base: cursor.base,
+            room: cursor.room,
+        },
         of: PhantomData,
     };
     work.run(&mut one, a, b);
-    *cursor = one.at;
+    cursor.segment = one.at.segment;
+    cursor.place = one.at.place;
+    cursor.domain = one.at.domain;
+    cursor.frame = one.at.frame;
+    cursor.start = one.at.start;
+    cursor.base = one.at.base;
+    cursor.room = one.at.room;
 }

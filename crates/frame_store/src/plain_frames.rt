@@ -165,6 +165,7 @@ impl PlainFrames {
     }
 
     /// Where a segment is, and its top frame, if it has one.
+    #[inline(always)]
     fn look_up(&self, s: SegmentNo) -> Cursor
         requires { IsThere (content_of self.now.domains self.now.places) s }
         ensures segment { result.segment ≡ s.0 }
@@ -308,6 +309,13 @@ impl SegmentFrames for PlainFrames {
     }
 
     #[inline(always)]
+    fn go_on(&mut self, s: SegmentNo) {
+        self.touch(s);
+        let (_, x) = self.domains.pair_mut(self.cursor.domain);
+        x.go_on(self.cursor.frame);
+    }
+
+    #[inline(always)]
     fn local(&self, s: SegmentNo, i: u16) -> Value {
         if self.is_at(s) {
             let domains = self.domains.as_slice();
@@ -393,13 +401,12 @@ impl FrameStore for PlainFrames {
         let domain = self.index_of(d.0);
         // The segment isn't in the table yet, so the cursor may be at it.
         self.cursor.segment = s.0;
+        self.cursor.place.domain = d.0;
+        self.cursor.domain = domain;
         let (_, x) = self.domains.pair_mut(domain);
-        let slot = x.begin(s.0, head)?;
-        let place = Place { domain: d.0, slot };
-        self.places.insert(s.0, place);
+        x.begin(&mut self.cursor, s.0, head)?;
+        self.places.insert(s.0, self.cursor.place);
         self.owed -= 1;
-        self.cursor = cursor_at(s.0, place, domain);
-        x.aim(&mut self.cursor);
         Ok(())
     }
 

@@ -1,6 +1,6 @@
 //! What each store of frames does, and what the calls on one of its segments do.
 
-ghost use Rattle.std.specs.Prelude.{◌≡◌, ◌≢◌, ◌+◌, ◌-◌, ◌*◌, ◌<◌, ◌≤◌, ◌⊎◌, ◌++◌, ◌∷◌, [], true, length, option_map, slice_get, slice_set, Some, None, Err, OnOk, OnErr};
+ghost use Rattle.std.specs.Prelude.{◌≡◌, ◌≢◌, ◌+◌, ◌-◌, ◌*◌, ◌^◌, ◌<◌, ◌≤◌, ◌⊎◌, ◌++◌, ◌∷◌, [], true, length, option_map, slice_get, slice_set, Some, None, Err, OnOk, OnErr};
 ghost use Rattle.jk_model.specs.declared.stores.AdmitError.TheVariants as Why;
 ghost use Rattle.jk_model_frames.specs.Frames.{FrameState as AFrame, head_chunks};
 ghost use Rattle.jk_model_frames.specs.Pools.{HasNoPlace};
@@ -51,6 +51,12 @@ pub trait SegmentFrames {
         requires { HasTop (content self.old) s }
         ensures { (f : AFrame) → TopFrame (content self.old) s f
             → SetsTop (content self.old) (content self.new) s (record f { head = record f.head { at = at; need = need } }) };
+
+    /// Lets the top frame go on after its call: its place is one more, and it needs no class.
+    fn go_on(&mut self, s: SegmentNo)
+        requires { (f : AFrame) × TopFrame (content self.old) s f × (f.head.at + 1 < 2 ^ 32) }
+        ensures { (f : AFrame) → TopFrame (content self.old) s f
+            → SetsTop (content self.old) (content self.new) s (record f { head = record f.head { at = f.head.at + 1; need = None } }) };
 
     /// A local of the top frame.
     fn local(&self, s: SegmentNo, i: u16) -> Value

@@ -236,6 +236,7 @@ impl Shared {
     }
 
     /// Puts a segment of a live domain, which has fewer segments than chunks, on top of a live thread, and answers its number.
+    #[inline(always)]
     pub fn push(&mut self, t: ThreadNo, d: DomainId) -> SegmentNo
         requires live { IsLiveDomain self.old d }
         requires thread { IsLiveThread self.old t }

@@ -66,7 +66,7 @@ pub(crate) fn new_slot(
     }
 }
 
-/// Where a segment stands, a marked one too; none where it isn't there. The last one, which a thread that runs mostly put on top, is found
+/// Where a segment stands, a marked one too; none where it isn't there. The last two, which a thread that runs mostly put on top, are found
 /// at once.
 pub(crate) fn place_of_segment(slots: &[Slot], s: SegmentNo) -> Option<usize>
     requires { AreRisingBy slot_key slots.now }
@@ -77,6 +77,12 @@ pub(crate) fn place_of_segment(slots: &[Slot], s: SegmentNo) -> Option<usize>
         let last = count - 1;
         if slots[last].number == s.0 {
             return Some(last);
+        }
+    }
+    if count > 1 {
+        let below = count - 2;
+        if slots[below].number == s.0 {
+            return Some(below);
         }
     }
     slots.binary_search_by(|slot| slot.number.cmp(&s.0)).ok()

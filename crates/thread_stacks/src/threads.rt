@@ -170,6 +170,7 @@ impl Threads {
     }
 
     /// Puts a segment of a domain on top of a live thread, where one more may live, and answers its number, which is the next one.
+    #[inline(always)]
     pub fn push(&mut self, t: ThreadNo, d: DomainId) -> SegmentNo
         requires thread { IsLive self.old.threads t }
         requires room { length (segments_in self.old.threads) < self.old.most_segments }
@@ -197,6 +198,7 @@ impl Threads {
 
     /// Takes the top segment off a live thread. Where it has none left, it has ended, and the answer is the domain in which it was
     /// started.
+    #[inline(always)]
     pub fn pop(&mut self, t: ThreadNo) -> Option<DomainId>
         requires { IsLive self.old.threads t }
         ensures popped { self.new ≡ record self.old { threads = live_threads (with_stack t without_top self.old.threads) } }

@@ -1,24 +1,36 @@
--- What is done to the segment alone is done in the store.
-use Rattle.std.proofs.Common.{Option, is_some, ap}
-use Rattle.jk_model_heaps.specs.CalledFrames.{resumed}
-use Rattle.frame_store.specs.FrameContents.{StoredSegment}
-use Rattle.frame_store.proofs.SegmentsAlone.{set_in_store, top_alone}
+-- By the value.
+use Rattle.std.proofs.Common.{length, sym, ap, subst, arith, Option}
+use Rattle.jk_model.specs.declared.values.Value.{Value}
+use Rattle.jk_model_frames.specs.Frames.{FrameState}
+use Rattle.jk_model_heaps.specs.CalledFrames.{as_entries, resumed}
+use Rattle.frame_store.specs.FrameContents.{SetsTop}
+use Rattle.number_ops.proofs.TopFrames.{top_after}
+use Rattle.domain_crossing.proofs.FramesGoOn.{goes_on_with, goes_on_with_none}
 use Rattle.domain_crossing.proofs.taking.resume.Goals as goal
 
-pub with_segment-requires-clause-there : goal.with_segment-requires-clause-there
-with_segment-requires-clause-there g c = ap (λ (o : Option StoredSegment). is_some o) c.requires.1.is_there
+pub go_on-requires : goal.go_on-requires
+go_on-requires g c = (c.requires.0, c.requires.1, c.requires.2.place)
 
-pub with_segment-requires-clause-may : goal.with_segment-requires-clause-may
-with_segment-requires-clause-may g c = λ one was. (
-  c.requires.0,
-  top_alone (g.F.SegmentFrames.content c.args.frames.now) one c.args.s was c.requires.0 c.requires.1,
-  c.requires.2,
-)
+pub push_value-requires : goal.push_value-requires
+push_value-requires g c =
+    let f : FrameState = c.requires.0 in
+    let many = ap (λ (o : Option Value). length (as_entries o)) c.in-Some.is in (
+      _,
+      top_after (g.F.SegmentFrames.content c.args.frames.now) (g.F.SegmentFrames.content c.go_on.new.self) c.args.s _ (c.go_on.ensures f c.requires.1),
+      omega (arith, c.requires.2.room, many),
+    )
 
-pub returns : goal.returns
-returns g c = λ f top none.
+pub returns-in-Some : goal.returns-in-Some
+returns-in-Some g c = λ f top none.
     let old = g.F.SegmentFrames.content c.args.frames.now in
-    let new = g.F.SegmentFrames.content c.with_segment.new.self in
-    let did = c.with_segment.ensures.did in
-    set_in_store old did.0 c.args.s did.2 new did.1 did.3 c.with_segment.ensures.keeps (resumed c.args.v f)
-    (did.4 f (top_alone old did.0 c.args.s did.2 f top) none)
+    let mid = g.F.SegmentFrames.content c.go_on.new.self in
+    let new = g.F.SegmentFrames.content c.push_value.new.self in
+    subst (λ (o : Option Value). SetsTop old new c.args.s (resumed o f)) (sym c.in-Some.is)
+    (goes_on_with old mid c.args.s f none (c.go_on.ensures f top) new c.in-Some.v c.push_value.ensures)
+
+pub returns-in_default : goal.returns-in_default
+returns-in_default g c = λ f top none.
+    let old = g.F.SegmentFrames.content c.args.frames.now in
+    let mid = g.F.SegmentFrames.content c.go_on.new.self in
+    subst (λ (o : Option Value). SetsTop old mid c.args.s (resumed o f)) (sym c.in_default.is)
+    (goes_on_with_none old mid c.args.s f none (c.go_on.ensures f top))

@@ -1,4 +1,4 @@
--- The search goes by the numbers of the segments, which rise. Where the last has the number, no other has.
+-- The search goes by the numbers of the segments, which rise. Where the last or the one before it has the number, no other has.
 use Rattle.std.proofs.Common.{◌∙◌, ◌-◌, ap, arith, length, rules, sym}
 use Rattle.std.specs.Ordering.{nat_cmp}
 use Rattle.std.proofs.lemmas.Fn.{always_returns_same}
@@ -15,6 +15,13 @@ returns-then-slots-last c =
     let (x, at) = item_there slots (length slots - 1) (omega (arith, c.if-count-gt0.true)) in
     let here = get_or_from_slice_get slots (length slots - 1) x _ at in
     only_at slot_key slots (length slots - 1) c.args.s.0 x c.requires at (ap slot_key (sym here) ∙ c.if-slots-last.true)
+
+pub returns-then-slots-below : goal.returns-then-slots-below
+returns-then-slots-below c =
+    let slots = c.args.slots.now in
+    let (x, at) = item_there slots (length slots - 2) (omega (arith, c.if-count-gt1.true)) in
+    let here = get_or_from_slice_get slots (length slots - 2) x _ at in
+    only_at slot_key slots (length slots - 2) c.args.s.0 x c.requires at (ap slot_key (sym here) ∙ c.if-slots-below.true)
 
 pub returns : goal.returns
 returns c =
