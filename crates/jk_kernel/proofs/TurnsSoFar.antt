@@ -1,5 +1,5 @@
 -- So many steps of a thread were done and printed.
-use Rattle.std.proofs.Common.{◌≡◌, ℕ, ◌+◌, ◌-◌, ◌<◌, ◌≤◌, List, [], ◌++◌, Ok, Err, refl, subst, arith}
+use Rattle.std.proofs.Common.{◌≡◌, ℕ, ◌+◌, ◌-◌, ◌<◌, ◌≤◌, Bool, false, true, List, [], ◌++◌, Result, Ok, Err, refl, sym, ap, subst, ◌∙◌, arith}
 use Rattle.std.proofs.lemmas.List.{append-nil}
 use Rattle.jk_model.specs.declared.identifiers.ThreadNo.{ThreadNo}
 use Rattle.jk_model.specs.declared.output.Line.{Line}
@@ -13,6 +13,8 @@ use Rattle.kernel_events.specs.StepsInTurn.{Rests, StopsAt, TurnsApart, TurnsBef
 use Rattle.machine_laws.specs.KnownMachines.{IsKnownMachine}
 use Rattle.machine_laws.specs.MachinesOfRuns.{TurnsGoOn}
 use Rattle.kernel_events.proofs.NumbersOfEvents.{rises_more}
+use Rattle.kernel_turns.specs.declared.frame_steps.Ran.{Ran}
+use Rattle.kernel_turns.specs.SegmentRuns.{RanSo, RunsOn}
 use Rattle.jk_kernel.specs.SoundMachines.{IsSoundMachine, StepsAreApart, StepsKeepSound}
 use Rattle.jk_kernel.proofs.LinesJoined.{Fits, printed_both, printed_none}
 use Rattle.jk_kernel.proofs.MachinesStaySound.{whole_machine}
@@ -24,6 +26,20 @@ pub all_apart : StepsKeepSound → StepsAreApart → (n : ℕ) (t : ThreadNo) (m
 all_apart keep apart n t m new lines sound turns =
     ways_as (StepOf t) (TurnsOf t) (turns_repeat t) (ApartOf t) (AllApartOf t) (apart_repeat t) IsSoundMachine
     (λ x last said kept one. (keep x last t said kept one, apart x last t said kept one)) n m new lines sound turns
+
+-- what holds of the machine holds after so many steps
+pub turns_sound : StepsKeepSound → (n : ℕ) (t : ThreadNo) (m new : Machine) (lines : List Line) → IsSoundMachine m → Turns n t m lines new
+    → IsSoundMachine new
+turns_sound keep n t m new lines sound turns =
+    ways_keep (StepOf t) (TurnsOf t) (turns_repeat t) IsSoundMachine (λ x last said kept one. keep x last t said kept one) n m new lines sound turns
+
+-- and after what a thread's top segment did
+pub run_sound : StepsKeepSound → (t : ThreadNo) (steps : ℕ) (left : Bool) (m new : Machine) (lines : List Line) → IsSoundMachine m
+    → RunsOn m t steps left lines new → IsSoundMachine new
+run_sound keep t steps true m new lines sound run =
+    keep run.mid new t lines (turns_sound keep run.alone t m run.mid [] sound run.turns) run.last
+run_sound keep t steps false m new lines sound run =
+    subst IsSoundMachine (sym run.last.1) (turns_sound keep run.alone t m run.mid [] sound run.turns)
 
 -- So many steps of a thread lead from the first machine to this one, and their lines went out.
 pub record Went (t : ThreadNo) (done : ℕ) (first now : Machine) (a b : SinkState) : Type 0 where
@@ -58,6 +74,69 @@ went_more t done first now next a b c lines went out step sound = record {
   before = went.before;
   sound = sound;
 }
+
+-- what a thread's top segment did, whose lines went out
+module _ (t : ThreadNo) (done steps : ℕ) (first now next : Machine) (a b c : SinkState) (lines : List Line) (went : Went t done first now a b)
+    (out : Prints {E = SinkFailed} b c (Ok tt) lines) (sound : IsSoundMachine next) where
+  alone_so_far : (left : Bool) (run : RunsOn now t steps left lines next) → Turns (done + run.alone) t first went.lines run.mid
+  alone_so_far left run =
+      subst (λ (ls : List Line). Turns (done + run.alone) t first ls run.mid) (append-nil went.lines)
+      (ways_join (StepOf t) (TurnsOf t) (turns_repeat t) done run.alone first now run.mid went.lines [] went.turns run.turns)
+
+  run_turns : (left : Bool) → RunsOn now t steps left lines next → Turns (done + steps) t first (went.lines ++ lines) next
+  run_turns true run =
+      let count : (done + run.alone) + 1 ≡ done + steps = omega (arith, run.count) in
+      subst (λ (n : ℕ). Turns n t first (went.lines ++ lines) next) count
+      (ways_more (StepOf t) (TurnsOf t) (turns_repeat t) (done + run.alone) first run.mid next went.lines lines (alone_so_far true run) run.last
+      (whole_machine next sound))
+  run_turns false run =
+      let count : done + run.alone ≡ done + steps = omega (arith, run.count) in
+      subst (λ (n : ℕ). Turns n t first (went.lines ++ lines) next) count
+      (subst (λ (m : Machine). Turns (done + run.alone) t first (went.lines ++ lines) m) (sym run.last.1)
+      (subst (λ (ls : List Line). Turns (done + run.alone) t first ls run.mid) (sym (append-nil went.lines) ∙ ap (λ (ls : List Line). went.lines ++ ls)
+      (sym run.last.0)) (alone_so_far false run)))
+
+  pub went_run : (left : Bool) → RunsOn now t steps left lines next → Went t (done + steps) first next a c
+  went_run left run = record {
+    lines = went.lines ++ lines;
+    turns = run_turns left run;
+    prints = printed_both a b c went.lines lines (Ok tt) went.prints out;
+    before = went.before;
+    sound = sound;
+  }
+
+-- before the step by which a thread left its segment
+pub went_before : StepsKeepSound → (t : ThreadNo) (done steps : ℕ) (first now next : Machine) (a b : SinkState) (lines : List Line)
+    → Went t done first now a b → (run : RunsOn now t steps true lines next) → Went t (done + run.alone) first run.mid a b
+went_before keep t done steps first now next a b lines went run =
+    went_on t done run.alone first now run.mid a b went run.turns (turns_sound keep run.alone t now run.mid [] went.sound run.turns)
+
+-- ---- As the answer tells of what a thread's top segment did.
+
+module _ (m new : Machine) (t : ThreadNo) (most : ℕ) (ran : Ran) (lines : List Line) (so : RanSo {E = SinkFailed} m t most (Ok ran) lines new) where
+  pub told_few : ran.steps ≤ most
+  told_few = subst (λ (r : Ran). r.steps ≤ most) (sym so.told) so.few
+
+  pub told_runs : RunsOn m t ran.steps ran.left lines new
+  told_runs = subst (λ (r : Ran). RunsOn m t r.steps r.left lines new) (sym so.told) so.runs
+
+  -- a step by which the thread left its segment is one of them
+  pub told_some : ran.left ≡ true → 0 < ran.steps
+  told_some left =
+      let run = subst (λ (b : Bool). RunsOn m t ran.steps b lines new) left told_runs in
+      omega (arith, run.count)
+
+abbrev Same_run : Result Ran SinkFailed → Result Ran SinkFailed → Type 0
+Same_run x y = x ≡ y
+
+same_run : {x y : Ran} → Same_run (Ok x) (Ok y) → x ≡ y
+same_run e = cc
+
+pub none_told : (ran : Ran) → Same_run (Ok ran) (Ok (record { steps = 0; left = false })) → ran.steps ≡ 0
+none_told ran is = ap (λ (r : Ran). r.steps) (same_run is)
+
+pub failed_not_none : (e : SinkFailed) (ran : Ran) → Same_run (Err e) (Ok ran) → ⊥
+failed_not_none e ran is = cc
 
 -- no more than these are left
 pub went_rises : NumbersRiseInEvents → (t : ThreadNo) (done : ℕ) (first now : Machine) (a b : SinkState) → Went t done first now a b
@@ -131,8 +210,23 @@ failed_rises law t done steps first now next a b lines less went step sound =
     let some = ways_more (StepOf t) (TurnsOf t) (turns_repeat t) done first now next went.lines lines went.turns step (whole_machine next sound) in
     rises_more first next (done + 1) steps (omega (arith, less)) (law.turns (done + 1) t first next (went.lines ++ lines) some)
 
--- what holds of the machine holds after so many steps
-pub turns_sound : StepsKeepSound → (n : ℕ) (t : ThreadNo) (m new : Machine) (lines : List Line) → IsSoundMachine m → Turns n t m lines new
-    → IsSoundMachine new
-turns_sound keep n t m new lines sound turns =
-    ways_keep (StepOf t) (TurnsOf t) (turns_repeat t) IsSoundMachine (λ x last said kept one. keep x last t said kept one) n m new lines sound turns
+-- The lines of the step by which the thread left its segment didn't all go out.
+module _ (keep : StepsKeepSound) (t : ThreadNo) (done steps : ℕ) (first now next : Machine) (a b : SinkState) (lines : List Line) (e : SinkFailed)
+    (few : done < steps) (went : Went t done first now a b) (so : RanSo {E = SinkFailed} now t (steps - done) (Err e) lines next)
+    (sound : IsSoundMachine next) where
+  run_so : RunsOn now t so.ran.steps true lines next
+  run_so = subst (λ (left : Bool). RunsOn now t so.ran.steps left lines next) so.told so.runs
+
+  less_before : done + run_so.alone < steps
+  less_before = omega (arith, few, so.few, run_so.count)
+
+  before_last : Went t (done + run_so.alone) first run_so.mid a b
+  before_last = went_before keep t done so.ran.steps first now next a b lines went run_so
+
+  pub run_failed : StepsAreApart → TurnsGoOn IsKnownMachine → (c : SinkState) → Prints b c (Err e) lines → Stopped t steps first next a c
+  run_failed apart law c out =
+      went_failed keep apart law t (done + run_so.alone) steps first run_so.mid next a b c lines e less_before before_last out run_so.last sound
+
+  pub run_failed_rises : NumbersRiseInEvents → Rises first steps next
+  run_failed_rises law =
+      failed_rises law t (done + run_so.alone) steps first run_so.mid next a b lines less_before before_last run_so.last sound

@@ -9,6 +9,7 @@ ghost use Rattle.kernel_events.specs.KernelCalls.{MayDraw};
 ghost use Rattle.kernel_events.specs.PrintedLines.{as_done, sink};
 ghost use Rattle.kernel_events.specs.StepsInTurn.{NumbersRise, Rests, StepsApart, StopsAt, TurnsApart, TurnsBefore};
 ghost use Rattle.kernel_turns.specs.RestingThreads.{IsResting};
+ghost use Rattle.kernel_turns.specs.SegmentRuns.{RanSo, as_run};
 ghost use Rattle.jk_kernel.specs.SoundMachines.{IsSoundMachine};
 
 use crate::kernel::Kernel;
@@ -17,7 +18,7 @@ use frame_store::FrameStore;
 use jk_model::ThreadNo;
 use jk_outside::{Sink, SinkFailed};
 use kernel_events::laws::numbers_rise;
-use kernel_turns::steps_alone;
+use kernel_turns::{Ran, run_segment};
 use object_store::ObjectStore;
 
 impl<H: ObjectStore + Drop, F: FrameStore + Drop> Kernel<H, F> {
@@ -67,9 +68,14 @@ impl<H: ObjectStore + Drop, F: FrameStore + Drop> Kernel<H, F> {
         self.is_sound();
         let mut done = 0;
         while done < steps {
-            done += self.steps_alone(ThreadNo(thread), steps - done);
+            let ran = self.run_segment(ThreadNo(thread), steps - done, out)?;
+            done += ran.steps;
             if done == steps {
                 return Ok(true);
+            }
+            // The thread runs elsewhere, so it is looked up again where.
+            if ran.left {
+                continue;
             }
             if !self.step(ThreadNo(thread), out)? {
                 return Ok(done > 0);
@@ -94,14 +100,22 @@ impl<H: ObjectStore + Drop, F: FrameStore + Drop> Kernel<H, F> {
         kernel_turns::step(&mut self.parts, t, out)
     }
 
-    /// At most so many steps of a thread that its top segment does alone, and how many they were.
-    fn steps_alone(&mut self, t: ThreadNo, most: u32) -> u32
-        ensures few { result ≤ most }
-        ensures event { Turns result t self.old [] self.new }
-        ensures resting { IsResting self.old t → result ≡ 0 }
+    /// At most so many steps of a thread that its top segment does alone, and the one by which the thread leaves it.
+    fn run_segment<S: Sink>(
+        &mut self,
+        t: ThreadNo,
+        most: u32,
+        out: &mut S,
+    ) -> Result<Ran, SinkFailed>
+        requires numbers { MayDraw self.old 1 }
+        ensures event { (lines : List Line)
+            × PrintsLines (S.bytes out.old) (S.bytes out.new) (S.pieces out.old) (S.pieces out.new) (S.faults out.old) (S.faults out.new)
+            (as_run result) lines
+            × RanSo self.old t most result lines self.new }
+        ensures resting { IsResting self.old t → result ≡ Ok (record { steps = 0; left = false }) }
         ensures sound { IsSoundMachine self.old × IsSoundMachine self.new }
     {
         machines_stay_sound();
-        steps_alone(&mut self.parts, t, most)
+        run_segment(&mut self.parts, t, most, out)
     }
 }

@@ -17,6 +17,9 @@ use Rattle.step_contents.specs.Settings.{IsSetting}
 use Rattle.exception_unwind.proofs.FramesChanged.{segment_of}
 use Rattle.segment_steps.specs.ActingSegments.{MayAct}
 use Rattle.segment_steps.specs.StepsInTurn.{StepsLead}
+use Rattle.segment_steps.specs.StepsThatLeave.{StepsComeTo, StepsLeave}
+use Rattle.segment_steps.specs.declared.went.Went.{Went}
+use Rattle.segment_steps.specs.declared.went.Went.TheVariants as Goes
 use Rattle.kernel_turns.specs.ActingAlone.{IsActing}
 
 -- what the domain has inside, with its frames somewhere
@@ -121,10 +124,25 @@ module _ (w : WorldRecord) (shared : SharedState) (d : DomainId) (s : SegmentNo)
       leads_in_store t count lead = λ x may set.
           let led = lead x (may_alone may) (set_alone may x set) in (led.0, led.1, becomes_in_store may led.0 led.2)
 
+      leave_in_store : (t : ThreadNo) (count : ℕ) (went : Went) → StepsLeave alone (contents_of new_heap then new_own) here t count went
+          → StepsLeave in_store (contents_of new_heap n new_own) here t count went
+      leave_in_store t count went leave = λ x may set.
+          let led = leave x (may_alone may) (set_alone may x set) in
+          (led.0, led.1, (led.2.0, led.2.1, led.2.2, led.2.3, becomes_in_store may led.2.1 led.2.4))
+
+      pub come_in_store : (t : ThreadNo) (count : ℕ) (went : Went) → StepsComeTo alone (contents_of new_heap then new_own) here t count went
+          → StepsComeTo in_store (contents_of new_heap n new_own) here t count went
+      come_in_store t count Goes.GoesOn come = leads_in_store t count come
+      come_in_store t count (Goes.Returned v) come = leave_in_store t count (Goes.Returned v) come
+      come_in_store t count (Goes.Left a) come = absurd come
+      come_in_store t count (Goes.Crosses k m) come = leave_in_store t count (Goes.Crosses k m) come
+      come_in_store t count Goes.Terminates come = absurd come
+
   -- as a store says what was done on a segment that it lent
-  pub led_in_store : (c n : FrameContent) → KeepsOthers c n s → (heap new_heap : HeapContent) (own new_own : KeptState) (t : ThreadNo) (count most : ℕ)
+  pub come_to_store : (c n : FrameContent) → KeepsOthers c n s → (heap new_heap : HeapContent) (own new_own : KeptState) (t : ThreadNo) (count most : ℕ)
+      (went : Went)
       → ((was is : FrameContent) × IsOnly c s was × IsOnly n s is
-      × ((count ≤ most) × StepsLead (contents_of heap was own) (contents_of new_heap is new_own) here t count))
-      → (count ≤ most) × StepsLead (contents_of heap c own) (contents_of new_heap n new_own) here t count
-  led_in_store c n keeps heap new_heap own new_own t count most (was, is, before, after, done) =
-      (done.0, leads_in_store c was before heap own n is after keeps new_heap new_own t count done.1)
+      × ((count ≤ most) × StepsComeTo (contents_of heap was own) (contents_of new_heap is new_own) here t count went))
+      → (count ≤ most) × StepsComeTo (contents_of heap c own) (contents_of new_heap n new_own) here t count went
+  come_to_store c n keeps heap new_heap own new_own t count most went (was, is, before, after, done) =
+      (done.0, come_in_store c was before heap own n is after keeps new_heap new_own t count went done.1)

@@ -28,6 +28,7 @@ mod RunningFound
 mod RunsApart
 mod SegmentsApart
 mod SegmentsMayAct
+mod SegmentsRun
 mod SegmentsThatRan
 mod SettingsOfPlaces
 mod SmallNumbers

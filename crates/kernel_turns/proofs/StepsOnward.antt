@@ -26,6 +26,9 @@ use Rattle.segment_steps.specs.ActingSegments.{MayAct}
 use Rattle.segment_steps.specs.StandingTops.{WaitsForNone}
 use Rattle.segment_steps.specs.StepsAlone.{IsWent, Stepped, Steps}
 use Rattle.segment_steps.specs.StepsInTurn.{HaveRooms, StepsInTurn, StepsLead, WaitsForNoClass, none, one_more, set_after}
+use Rattle.segment_steps.specs.LeavingSegments.{IsLeaving}
+use Rattle.segment_steps.specs.StepsThatLeave.{StepsComeTo, StepsLeave}
+use Rattle.segment_steps.specs.declared.went.Went.{Went}
 use Rattle.segment_steps.specs.declared.went.Went.TheVariants as Goes
 use Rattle.segment_steps.proofs.ChangesInTurn.{becomes_then, holds_after}
 use Rattle.segment_steps.proofs.KnownAfterwards.{IsKept, known_after, rooms_after}
@@ -190,6 +193,19 @@ module _ (old : Contents) (here : Here) (t : ThreadNo) (acting : IsActing old he
   pub none_lead : StepsLead old old here t 0
   none_lead = λ x may set. (may.run, none x may.run, becomes_same old here may.run may.domain may.holds old.frames (same_frames old.frames))
 
+  waits_for_none : WaitsForNone old.frames here.world.classes here.segment old.own.state t → (x : Setting) (may : MayAct old here)
+      → IsSetting old here x → WaitsForNoClass x.classes t may.run
+  waits_for_none free x may set = λ top k needs elsewhere.
+      free top.frame k
+      (record {
+        segment = record { domain = here.domain; frames = may.run.frames };
+        is_there = may.holds.frames;
+        lower = top.callers;
+        frames = top.are_frames;
+      })
+      (subst (λ (cs : List ClassRecord). FrameNeeds cs top.frame k) set.classes needs)
+      (subst (λ (i : Inside). IsInProgressElsewhere i.own t k) may.holds.inside elsewhere)
+
   pub one_leads : LocalStepsKeep → (new : Contents) → WaitsForNone old.frames here.world.classes here.segment old.own.state t
       → ((l : Literal) → Contains new.own.state.literals l → Contains new.own.rooms l.text) → Steps old new here t Goes.GoesOn
       → StepsLead old new here t 1
@@ -203,25 +219,13 @@ module _ (old : Contents) (here : Here) (t : ThreadNo) (acting : IsActing old he
       let kept : KeepsRun (around acting.may.domain) x t may.run done.run Way.GoesOn =
       keep (around acting.may.domain) x t may.run done.run Way.GoesOn well step in (
         done.run,
-        one_step t old.own.rooms x may.run done.run (waits x may set) step
+        one_step t old.own.rooms x may.run done.run (waits_for_none free x may set) step
             (λ l has.
             subst (λ (rooms : List (List ℕ)). Contains rooms l.text) done.becomes.inside.rooms
             (literals l (subst (λ (i : Inside). Contains i.own.literals l) done.becomes.inside.is_inside has)))
             kept.chunks,
         done.becomes,
       )
-    where
-      waits : (x : Setting) (may : MayAct old here) → IsSetting old here x → WaitsForNoClass x.classes t may.run
-      waits x may set top k needs elsewhere =
-          free top.frame k
-          (record {
-            segment = record { domain = here.domain; frames = may.run.frames };
-            is_there = may.holds.frames;
-            lower = top.callers;
-            frames = top.are_frames;
-          })
-          (subst (λ (cs : List ClassRecord). FrameNeeds cs top.frame k) set.classes needs)
-          (subst (λ (i : Inside). IsInProgressElsewhere i.own t k) may.holds.inside elsewhere)
 
   pub then_lead : (mid new : Contents) (n m : ℕ) → StepsLead old mid here t n → IsActing mid here t → StepsLead mid new here t m
       → StepsLead old new here t (n + m)
@@ -245,11 +249,66 @@ module _ (old : Contents) (here : Here) (t : ThreadNo) (acting : IsActing old he
             (subst (λ (r : Run). Becomes mid new here r next.0) is_run next.2),
       )
 
+  pub domains_kept_leaving : (new : Contents) (n : ℕ) (went : Went) → StepsLeave old new here t n went → KeepsDomains old.frames new.frames
+  domains_kept_leaving new n went leave =
+      let some = a_setting old here acting.may.domain in
+      (leave some.0 acting.may some.1).2.4.frames.changes.domains
+
   -- the pool and the domains are as before
   pub domains_kept : (new : Contents) (n : ℕ) → StepsLead old new here t n → KeepsDomains old.frames new.frames
   domains_kept new n lead =
       let some = a_setting old here acting.may.domain in
       (lead some.0 acting.may some.1).2.frames.changes.domains
+
+-- ---- Steps, and one by which the thread leaves the segment.
+
+module _ (old : Contents) (here : Here) (t : ThreadNo) (acting : IsActing old here t) where
+  pub then_leave : LocalStepsKeep → (mid new : Contents) (n : ℕ) (went : Went) → StepsLead old mid here t n → IsActing mid here t
+      → WaitsForNone mid.frames here.world.classes here.segment mid.own.state t
+      → ((l : Literal) → Contains new.own.state.literals l → Contains new.own.rooms l.text) → Steps mid new here t went
+      → StepsLeave old new here t (n + 1) went
+  then_leave keep mid new n went first acts free literals steps = λ x may set.
+      let led = first x may set in
+      let same : acting.may.run ≡ may.run = one_run old here acting.may.run may.run acting.may.holds may.holds in
+      let fits = all_fit t old.own.rooms n x may.run led.0 led.1 in
+      let y : Setting = set_after x may.run led.0 in
+      let set_mid : IsSetting mid here y =
+      subst (λ (r : Run). (b : Becomes old mid here r led.0) → frames_chunks led.0.frames ≤ frames_chunks r.frames + x.chunks
+      → IsSetting mid here (set_after x r led.0)) same (λ b f. set_then old here t acting mid led.0 b x set f) led.2 fits in
+      let is_run : acts.may.run ≡ led.0 =
+      one_run mid here acts.may.run led.0 acts.may.holds (holds_after old mid here may.run led.0 led.2) in
+      let done : Stepped y t acts.may new went = steps y acts.may set_mid in
+      let kept : KeepsRun (around acts.may.domain) y t acts.may.run done.run done.way =
+      keep (around acts.may.domain) y t acts.may.run done.run done.way (acts_well_in mid here t acts y set_mid) done.steps in
+      let count : n + 1 ≡ suc n = omega arith in (
+        n,
+        count,
+        (
+          led.0,
+          done.run,
+          led.1,
+          record {
+            waits = subst (λ (r : Run). WaitsForNoClass y.classes t r) is_run (waits_for_none mid here t acts free y acts.may set_mid);
+            way = done.way;
+            step = subst (λ (r : Run). LocalStep y t r done.run done.way) is_run done.steps;
+            is_went = done.is_went;
+            have_rooms = λ l has.
+                subst (λ (rooms : List (List ℕ)). Contains rooms l.text) (done.becomes.inside.rooms ∙ led.2.inside.rooms)
+                (literals l (subst (λ (i : Inside). Contains i.own.literals l) done.becomes.inside.is_inside has));
+            chunks = subst (λ (r : Run). frames_chunks done.run.frames ≤ frames_chunks r.frames + y.chunks) is_run kept.chunks;
+          },
+          becomes_then old mid new here may.run led.0 done.run led.2 (subst (λ (r : Run). Becomes mid new here r done.run) is_run done.becomes),
+        ),
+      )
+
+-- what is known of a step by which the thread leaves, where it is told how
+pub comes_to : (old new : Contents) (here : Here) (t : ThreadNo) (n : ℕ) (went : Went) → IsLeaving went → StepsLeave old new here t n went
+    → StepsComeTo old new here t n went
+comes_to old new here t n Goes.GoesOn is leave = absurd is
+comes_to old new here t n (Goes.Returned v) is leave = leave
+comes_to old new here t n (Goes.Left a) is leave = absurd is
+comes_to old new here t n (Goes.Crosses k m) is leave = leave
+comes_to old new here t n Goes.Terminates is leave = absurd is
 
 -- ---- As the loop goes.
 
@@ -273,6 +332,15 @@ module _ (keep : LocalStepsKeep) (first : Contents) (here : Here) (t : ThreadNo)
         → ((l : Literal) → Contains new.own.state.literals l → Contains new.own.rooms l.text) → Steps now new here t Goes.GoesOn
         → Onward first here t new (done + 1)
     onward_by_one new free literals steps = onward_by new 1 (one_leads now here t far.acting keep new free literals steps)
+
+    -- the thread leaves the segment by one more
+    module _ (new : Contents) (went : Went) (free : WaitsForNone now.frames here.world.classes here.segment now.own.state t)
+        (literals : (l : Literal) → Contains new.own.state.literals l → Contains new.own.rooms l.text) (steps : Steps now new here t went) where
+      pub leaves_by : StepsLeave first new here t (done + 1) went
+      leaves_by = then_leave first here t acting keep now new done went far.leads far.acting free literals steps
+
+      pub pools_kept_leaving : KeepsDomains first.frames new.frames
+      pools_kept_leaving = domains_kept_leaving first here t acting new (done + 1) went leaves_by
 
     pub pools_kept : KeepsDomains first.frames now.frames
     pools_kept = domains_kept first here t acting now done far.leads

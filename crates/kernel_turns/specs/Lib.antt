@@ -5,6 +5,7 @@ pub mod LiveThreads
 pub mod PaidSteps
 pub mod RestingThreads
 pub mod RunningPlaces
+pub mod SegmentRuns
 pub mod SteppedParts
 pub mod StepsOfThreads
 pub mod WorkingSegments

@@ -59,7 +59,7 @@ pub(crate) fn finish<H: ObjectStore, F: FrameStore, S: Sink>(
 /// What follows a step of a thread's top segment. Where the sink fails, all of it has happened. It takes no memory but the words of copies,
 /// and time in proportion to what it copies, to the frames and segments that are left, and to what a domain that ends has.
 #[inline(always)]
-fn follow<H: ObjectStore, F: FrameStore, S: Sink>(
+pub(crate) fn follow<H: ObjectStore, F: FrameStore, S: Sink>(
     w: &mut World,
     owns: &mut Vec<Option<Own>>,
     shared: &mut Shared,

@@ -48,6 +48,9 @@ pub(crate) fn go_down<H: ObjectStore, F: FrameStore, S: Sink>(
         × ((n : ℕ) × ComesOf (kernel_machine (content_of w.now owns.old.items shared.old (H.content heap.old) (F.content frames.old) main)) t left n after
         (kernel_machine (content_of w.now owns.new.items shared.new (H.content heap.new) (F.content frames.new) main)))) }
 {
+    if let Left::Delivered = left {
+        return Ok(());
+    }
     let mut left = left;
     while let Left::Raised(raise) = left {
         left = raise_once(w, owns, shared, heap, frames, t, raise);

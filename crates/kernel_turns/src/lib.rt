@@ -16,5 +16,5 @@ mod running;
 mod stepping;
 mod whole_steps;
 
-pub use frame_steps::steps_alone;
+pub use frame_steps::{Ran, run_segment};
 pub use whole_steps::step;

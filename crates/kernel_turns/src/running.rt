@@ -16,6 +16,7 @@ pub(crate) struct Running {
 }
 
 /// Where a thread runs; none where it isn't live. It takes time in proportion to log n for n live threads.
+#[inline(always)]
 pub(crate) fn run_of(shared: &Shared, thread: ThreadNo) -> Option<Running>
     requires { AreApart shared.now.threads }
     ensures some { IfSome result (λ x. IsRunning shared.now.threads thread x) }

@@ -9,7 +9,7 @@ use Rattle.jk_model_frames.specs.Frames.{FrameState}
 use Rattle.jk_model_heaps.specs.Workings.{GoesOn, Raises, Returns, Setting, Working}
 use Rattle.jk_model_sharing.specs.SharedStates.{SharedState}
 use Rattle.class_init.specs.KeptStates.{KeptState}
-use Rattle.frame_store.specs.FrameContents.{FrameContent, GivesBack, MayGiveBack, SetsTop, TopFrame}
+use Rattle.frame_store.specs.FrameContents.{FrameContent, GivesBack, MayGiveBack, Pops, SetsTop, TopFrame}
 use Rattle.heap_laws.specs.RaisableObjects.{MayBeRaised}
 use Rattle.number_ops.specs.NumberSteps.{DoesNumbers}
 use Rattle.object_store.specs.HeapContents.{HeapContent}
@@ -25,7 +25,7 @@ use Rattle.segment_steps.specs.declared.meeting.Runs.{Runs}
 use Rattle.segment_steps.specs.declared.went.Went.{Went}
 use Rattle.segment_steps.specs.declared.went.Went.TheVariants as Goes
 use Rattle.segment_steps.proofs.FramesReturn.{may_return, returned}
-use Rattle.segment_steps.proofs.GivingBack.{HasBelow, below_goes_on, below_on_top, may_give_back, some_below}
+use Rattle.segment_steps.proofs.GivingBack.{HasBelow, all_ended, below_goes_on, below_on_top, may_give_back, some_below, top_there}
 use Rattle.segment_steps.proofs.InstructionsLeave.{goes_at, may_raise, raisable, raised_at}
 use Rattle.segment_steps.proofs.NumbersDone.{becomes, executes, head_stays, kept, left, left_working}
 use Rattle.segment_steps.proofs.PaidFrames.{paid_after}
@@ -100,6 +100,17 @@ module _ (heaps : HeapContent) (frames mid : FrameContent) (own : KeptState) (wo
           (head_stays old world shared r at st mid (Next.Return v) did) (becomes old world shared r at st mid (Next.Return v) did may) v
           (kept old world shared r at st mid (Next.Return v) did may x is (Returns v) refl).1 x is new went
           (executes old world shared r at st mid (Next.Return v) did may x is (Returns v) refl) back
+
+      -- ---- It initialised no class, and there is no caller: no frame is left.
+
+      pub last_there : TopFrame mid r.segment w.frame
+      last_there = top_there heaps mid own h st.top.lower w v returning
+
+      pub none_left : at.head.initialises ≡ None → st.top.lower ≡ [] → PaysFrames frames r.segment → (popped : FrameContent)
+          → Pops mid popped r.segment → Stepped x r.thread may (contents_of heaps popped own) (Goes.Returned v)
+      none_left none empty pays popped pops =
+          given_back (contents_of heaps popped own) (Goes.Returned v)
+          (all_ended heaps mid own h st.top.lower w v returning (paid pays) popped pops x (ap (λ (k : FrameHead). k.initialises) head_is ∙ none) empty)
 
       -- ---- It initialised no class, and there are callers: it gives back to the frame below.
 

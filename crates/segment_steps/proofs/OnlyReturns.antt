@@ -1,5 +1,5 @@
 -- An instruction on numbers whose opcode is in the range of returns returns; and below the top one of two frames or more there are callers.
-use Rattle.std.proofs.Common.{inl, inr, ◌≡◌, ◌≢◌, ℕ, ◌<◌, ◌≤◌, ◌⊎◌, Bool, ℤ, List, [], ◌∷◌, ◌++◌, length, Option, option_map, refl, ap, ◌∙◌, lit<, arith}
+use Rattle.std.proofs.Common.{inl, inr, ◌≡◌, ◌≢◌, ℕ, ◌+◌, ◌<◌, ◌≤◌, ◌⊎◌, Bool, ℤ, List, [], ◌∷◌, ◌++◌, length, length-append, Option, option_map, refl, ap, ◌∙◌, lit<, arith}
 use Rattle.std.specs.List.{AllByRecursion}
 use Rattle.std.proofs.lemmas.Grind.{common_steps}
 use Rattle.std.proofs.lemmas.Option.{same_Some}
@@ -112,7 +112,7 @@ module _ (s : CodeScope) (i : Instr) where
   only_returns place f g after (returns v h rep) from to never = never _ refl
   only_returns place f g after (returns_nothing op same) from to never = never _ refl
 
--- ---- A segment of two frames or more has callers of its top frame.
+-- ---- A segment of two frames or more has callers of its top frame, and one of fewer has none.
 
 pub has_callers : (c : FrameContent) (s : SegmentNo) (f : FrameState) (top : TopFrame c s f) (n : ℕ) → HasDepth c s n → 2 ≤ n → top.lower ≢ []
 has_callers c s f top n depth many none =
@@ -120,3 +120,17 @@ has_callers c s f top n depth many none =
     same_Some n (length top.segment.frames) (depth ∙ ap (option_map (λ (g : StoredSegment). length g.frames)) top.is_there) in
     let one : length top.segment.frames ≡ length (f ∷ []) = ap length (top.frames ∙ ap (λ (l : List FrameState). l ++ f ∷ []) none) in
     omega (arith, is, one, many)
+
+pub no_callers_below : (c : FrameContent) (s : SegmentNo) (f : FrameState) (top : TopFrame c s f) (n : ℕ) → HasDepth c s n → n < 2 → top.lower ≡ []
+no_callers_below c s f top n depth few = by top.lower refl
+  where
+    by : (lower : List FrameState) → top.lower ≡ lower → top.lower ≡ []
+    by [] is = is
+    by (g ∷ lower) is =
+        let all : n ≡ length top.segment.frames =
+        same_Some n (length top.segment.frames) (depth ∙ ap (option_map (λ (g : StoredSegment). length g.frames)) top.is_there) in
+        let more : length top.segment.frames ≡ length ((g ∷ lower) ++ f ∷ []) =
+        ap length (top.frames ∙ ap (λ (l : List FrameState). l ++ f ∷ []) is) in
+        let longer : length ((g ∷ lower) ++ f ∷ []) ≡ length (g ∷ lower) + 1 = length-append (g ∷ lower) (f ∷ []) in
+        let some : 1 ≤ length (g ∷ lower) = omega arith in
+        absurd (omega (arith, all, more, longer, some, few))

@@ -1,9 +1,10 @@
 -- The class that an instruction needs is ready, as it was looked at: so a frame that stands there waits for none.
-use Rattle.std.proofs.Common.{inl, inr, ◌≡◌, ◌≢◌, ◌⊎◌, List, sym, ap, subst, ◌∙◌}
+use Rattle.std.proofs.Common.{inl, inr, ◌≡◌, ◌≢◌, ◌⊎◌, List, sym, ap, subst, ◌∙◌, arith}
 use Rattle.std.proofs.lemmas.Option.{none-some}
 use Rattle.jk_model.specs.declared.frames.FrameHead.{FrameHead}
 use Rattle.jk_model.specs.declared.identifiers.ClassId.{ClassId}
 use Rattle.jk_model.specs.declared.identifiers.ThreadNo.{ThreadNo}
+use Rattle.jk_model.specs.declared.instructions.Instr.{Instr}
 use Rattle.jk_model_classes.specs.declared.records.ClassRecord.{ClassRecord}
 use Rattle.jk_model_domains.specs.declared.states.ClassState.{ClassState}
 use Rattle.jk_model_domains.specs.declared.states.ClassState.TheVariants as State
@@ -13,6 +14,7 @@ use Rattle.jk_model_domains.specs.OwnStates.{IsLook, OwnState, state_of}
 use Rattle.jk_model_frames.specs.Frames.{FrameState}
 use Rattle.jk_model_heaps.specs.RunningCode.{InstrNeeds}
 use Rattle.jk_model_running.specs.Initialising.{FrameNeeds, IsReady}
+use Rattle.jk_model_typing.specs.Scopes.{CodeScope}
 use Rattle.frame_store.specs.FrameContents.{FrameContent}
 use Rattle.number_ops.proofs.TopFrames.{same_top}
 use Rattle.jk_model_running.proofs.NeededClasses.{one_instr_need}
@@ -34,6 +36,14 @@ not_elsewhere : (s : ClassState) (t other : ThreadNo) → (s ≡ State.Done) ⊎
 not_elsewhere s t other (inl done) by differs = absurd cc
 not_elsewhere s t other (inr mine) by differs = differs cc
 
+-- invokeinterface needs no class
+interface_needs_none : (s : CodeScope) (i : Instr) → i.op ≡ 0xb9 → (c : ClassId) → InstrNeeds s i c → ⊥
+interface_needs_none s i interface c needs = elim needs [
+  | inl field ↦ elim field.0 [ inl a ↦ absurd (omega (arith, interface, a)) | inr b ↦ absurd (omega (arith, interface, b)) ]
+  | inr (inl method) ↦ absurd (omega (arith, interface, method.0))
+  | inr (inr named) ↦ absurd (omega (arith, interface, named.0))
+]
+
 module _ (frames : FrameContent) (classes : List ClassRecord) (own : OwnState) (r : Runs) (at : PlaceInCode) where
   pub stands_ready : StandsThere frames classes r.segment at → ((c : ClassId) → InstrNeeds at.scope at.instr c → IsReady own r.thread c)
       → StandsReady frames classes own r at
@@ -45,6 +55,9 @@ module _ (frames : FrameContent) (classes : List ClassRecord) (own : OwnState) (
     place = st.place;
     ready = ready;
   }
+
+  pub interface_ready : StandsThere frames classes r.segment at → at.instr.op ≡ 0xb9 → StandsReady frames classes own r at
+  interface_ready st interface = stands_ready st (λ c needs. absurd (interface_needs_none at.scope at.instr interface c needs))
 
   pub waits_for_none : StandsReady frames classes own r at → WaitsForNone frames classes r.segment own r.thread
   waits_for_none st = λ f c top needs elsewhere.

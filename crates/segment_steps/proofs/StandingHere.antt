@@ -18,6 +18,7 @@ use Rattle.step_contents.specs.Conditions.{KnowsDomain, MayDo, working}
 use Rattle.step_contents.specs.Contents.{Becomes, Contents, Here, Holds, InsideBecomes, contents_of, here_at, with_frame}
 use Rattle.step_contents.specs.PlacesInCode.{PlaceInCode}
 use Rattle.step_contents.specs.Settings.{IsSetting}
+use Rattle.step_contents.specs.StandingTops.{StandsThere}
 use Rattle.exception_unwind.proofs.InsidesChanged.{nothing_changed}
 use Rattle.segment_steps.specs.ActingSegments.{MayAct}
 use Rattle.segment_steps.specs.StepsAlone.{IsWent, StandsReady, Stepped}
@@ -48,6 +49,23 @@ same_frames frames = record {
 }
 
 -- ---- The instruction.
+
+-- it may be done wherever the top frame stands, whatever class it needs
+pub may_do_there : (old : Contents) (world : WorldRecord) (shared : SharedState) (r : Runs) (at : PlaceInCode)
+    → StandsThere old.frames world.classes r.segment at → MayAct old (here_at world shared r.domain r.segment)
+    → MayDo old (here_at world shared r.domain r.segment) at
+may_do_there old world shared r at st may = record {
+  domain = may.domain;
+  run = may.run;
+  holds = may.holds;
+  sealed = may.sealed;
+  callers = st.top.lower;
+  frame = st.frame;
+  are_frames = are_frames old (here_at world shared r.domain r.segment) may.run may.holds st.frame st.top;
+  head = st.head;
+  no_need = st.no_need;
+  place = st.place;
+}
 
 module _ (old : Contents) (world : WorldRecord) (shared : SharedState) (r : Runs) (at : PlaceInCode)
     (st : StandsReady old.frames world.classes old.own.state r at) where

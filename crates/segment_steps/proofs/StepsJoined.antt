@@ -16,7 +16,7 @@ set_same x a b same =
     let free : x.chunks + frames_chunks a.frames - frames_chunks b.frames ≡ x.chunks = omega (arith, same) in
     ap (λ (n : ℕ). with_free x n) free
 
-set_twice : (x : Setting) (a b c : Run) → frames_chunks b.frames ≤ frames_chunks a.frames + x.chunks
+pub set_twice : (x : Setting) (a b c : Run) → frames_chunks b.frames ≤ frames_chunks a.frames + x.chunks
     → set_after (set_after x a b) b c ≡ set_after x a c
 set_twice x a b c fits =
     let free : x.chunks + frames_chunks a.frames - frames_chunks b.frames + frames_chunks b.frames - frames_chunks c.frames

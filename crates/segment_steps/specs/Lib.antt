@@ -4,9 +4,11 @@ pub mod CallsOnSystem
 pub mod FollowedCalls
 pub mod InFrameTurns
 pub mod Initialisers
+pub mod LeavingSegments
 pub mod Meetings
 pub mod RaisingHere
 pub mod Returning
 pub mod StandingTops
 pub mod StepsAlone
 pub mod StepsInTurn
+pub mod StepsThatLeave

@@ -7,6 +7,7 @@ mod acting;
 mod falling_needs;
 mod in_frame;
 mod instructions;
+mod leaving;
 mod meeting;
 mod needed_classes;
 mod raising;
@@ -16,6 +17,7 @@ mod working;
 
 pub use acting::act;
 pub use in_frame::{run_in_frame, stand};
+pub use leaving::leave;
 pub use meeting::{Meeting, Runs, meet};
 pub use raising::raise_here;
 pub use went::Went;

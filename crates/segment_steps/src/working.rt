@@ -71,6 +71,7 @@ pub fn work<'a, H: ObjectStore, F: SegmentFrames>(
     requires paid { PaysFrames (F.content frames.old) r.segment }
     ensures undone { result ≡ Work.Undone → (H.content heap.new ≡ H.content heap.old) × (F.content frames.new ≡ F.content frames.old)
         × (own.new ≡ own.old) }
+    ensures stays { result ≡ Work.Undone → at.new ≡ at.old }
     ensures free { result ≢ Work.Undone → WaitsForNone (F.content frames.old) w.now.classes r.segment own.old.state r.thread }
     ensures steps { result ≢ Work.Undone → Steps (contents_of (H.content heap.old) (F.content frames.old) own.old)
         (contents_of (H.content heap.new) (F.content frames.new) own.new) (here_at w.now shared.now r.domain r.segment) r.thread Goes.GoesOn }
@@ -116,6 +117,7 @@ fn work_on_heap<'a, H: ObjectStore, F: SegmentFrames>(
     requires kind { IsOfHeaps (scope_of at.old.code) at.old.instr.now }
     ensures undone { result ≡ Work.Undone → (H.content heap.new ≡ H.content heap.old) × (F.content frames.new ≡ F.content frames.old)
         × (own.new ≡ own.old) }
+    ensures stays { result ≡ Work.Undone → at.new ≡ at.old }
     ensures steps { result ≢ Work.Undone → Steps (contents_of (H.content heap.old) (F.content frames.old) own.old)
         (contents_of (H.content heap.new) (F.content frames.new) own.new) (here_at w.now shared.now r.domain r.segment) r.thread Goes.GoesOn }
     ensures stands { result ≡ Work.AtInstruction → StandsThere (F.content frames.new) w.now.classes r.segment (place_of at.new) }
@@ -156,6 +158,7 @@ fn catch_raised<'a, H: ObjectStore, F: SegmentFrames>(
     requires raise { MayBeRaised w.now.classes ((H.content heap.now).heap r.domain) raise }
     requires stands { StandsThere (F.content frames.old) w.now.classes r.segment (place_of at.old) }
     ensures undone { result ≡ Work.Undone → F.content frames.new ≡ F.content frames.old }
+    ensures stays { result ≡ Work.Undone → at.new ≡ at.old }
     ensures caught { result ≢ Work.Undone → (own : KeptState) (shared : SharedState)
         → RaisedHere (contents_of (H.content heap.now) (F.content frames.old) own) (contents_of (H.content heap.now) (F.content frames.new) own)
         (here_at w.now shared r.domain r.segment) raise Goes.GoesOn }
@@ -190,6 +193,7 @@ fn call<'a, H: ObjectStore, F: SegmentFrames>(
         × StandsReady (F.content frames.old) w.now.classes own.state r (place_of at.old) }
     requires kind { IsOfCalls at.old.instr.now }
     ensures undone { result ≡ Work.Undone → F.content frames.new ≡ F.content frames.old }
+    ensures stays { result ≡ Work.Undone → at.new ≡ at.old }
     ensures steps { result ≢ Work.Undone → (own : KeptState) (shared : SharedState)
         → StandsReady (F.content frames.old) w.now.classes own.state r (place_of at.old)
         → Steps (contents_of (H.content heap.now) (F.content frames.old) own) (contents_of (H.content heap.now) (F.content frames.new) own)
@@ -215,6 +219,7 @@ fn return_below<'a, F: SegmentFrames>(
     requires stands { StandsThere (F.content frames.old) w.now.classes r.segment (place_of at.old) }
     requires paid { PaysFrames (F.content frames.old) r.segment }
     ensures undone { result ≡ Work.Undone → F.content frames.new ≡ F.content frames.old }
+    ensures stays { result ≡ Work.Undone → at.new ≡ at.old }
     ensures free { result ≢ Work.Undone → (own : AOwnState) → WaitsForNone (F.content frames.old) w.now.classes r.segment own r.thread }
     ensures steps { result ≢ Work.Undone → (heaps : HeapContent) (own : KeptState) (shared : SharedState)
         → Steps (contents_of heaps (F.content frames.old) own) (contents_of heaps (F.content frames.new) own)
